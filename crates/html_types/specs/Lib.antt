@@ -1,0 +1,6 @@
+pub mod Text
+pub mod Words
+pub mod Names
+pub mod Attributes
+pub mod Operations
+pub mod Numbers

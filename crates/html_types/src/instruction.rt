@@ -1,0 +1,215 @@
+//! What a row of tree construction (13.2.6) is made of.
+
+use crate::operation::NodeId;
+use crate::word::Word;
+
+/// The insertion modes (13.2.4.1).
+#[derive(Clone, Copy, Debug, PartialEq, Eq)]
+pub enum Mode {
+    Initial,
+    BeforeHtml,
+    BeforeHead,
+    InHead,
+    AfterHead,
+    InBody,
+    /// The mode "text".
+    InText,
+    AfterBody,
+    AfterAfterBody,
+}
+
+/// How the tokenizer reads on behind a start tag.
+#[derive(Clone, Copy, Debug, PartialEq, Eq)]
+pub enum Reading {
+    Rcdata,
+    Rawtext,
+    ScriptData,
+    Plaintext,
+}
+
+/// Where "has an element in scope" stops (13.2.4.2).
+#[derive(Clone, Copy, Debug, PartialEq, Eq)]
+pub enum Scope {
+    Default,
+    ListItem,
+    Button,
+    Table,
+    Select,
+}
+
+/// Sets of names that the rules speak of.
+#[derive(Clone, Copy, Debug, PartialEq, Eq)]
+pub enum Group {
+    /// h1 to h6
+    Headings,
+    /// dd and dt
+    DefinitionItems,
+    /// The special category (13.2.4.2).
+    Special,
+    /// The elements whose end tag is generated (13.2.6.3).
+    ClosedImplicitly,
+    /// Where "clear the stack back to a table context" stops (13.2.6.4.9).
+    TableContext,
+    /// The targets from which a node is foster parented (13.2.6.1).
+    FosterTargets,
+    /// The special elements at which the search for a list item goes on.
+    PassedItems,
+}
+
+/// Which elements an instruction means.
+#[derive(Clone, Copy, Debug, PartialEq, Eq)]
+pub enum Who {
+    /// Those with the token's own name.
+    Own,
+    The(Word),
+    Any(Group),
+    Nobody,
+}
+
+/// A question about the open state.
+#[derive(Clone, Copy, Debug, PartialEq, Eq)]
+pub enum Test {
+    InScope(Scope, Who),
+    Current(Who),
+    OnStack(Who),
+    /// An entry of the list of active formatting elements behind the last marker.
+    Listed(Who),
+    Quirks,
+    /// The second element of the stack is a body.
+    SecondIsBody,
+    FramesetOk,
+    /// The doctype token's name isn't html, or its force-quirks flag is set.
+    QuirkyDoctype,
+}
+
+/// An instruction of a row. One that leaves the row stands last.
+#[derive(Clone, Copy, Debug, PartialEq, Eq)]
+pub enum Instr {
+    /// Only where the test holds is the token looked at any further.
+    Need(Test),
+    /// Only where it doesn't hold.
+    Forbid(Test),
+    /// The next instruction counts only where the test holds.
+    When(Test),
+    /// Only where it doesn't hold.
+    Unless(Test),
+
+    /// An element for the token, at the appropriate place, is pushed.
+    Insert,
+    /// The same for a start tag of that name without attributes.
+    InsertA(Word),
+    /// The html element for the token into the Document, pushed.
+    InsertRoot,
+    /// The same for a start tag `html` without attributes.
+    InsertRootA,
+    /// An element for the token, which is not left on the stack.
+    Void,
+    /// The character at the appropriate place.
+    InsertText,
+    /// The comment at the appropriate place.
+    InsertComment,
+    /// The comment at the end of the Document.
+    CommentToPage,
+    /// The comment at the end of the first element of the stack.
+    CommentToRoot,
+    /// The doctype into the Document.
+    AppendDoctype,
+
+    Pop,
+    /// Popped until one of these is popped.
+    Until(Who),
+    /// Popped while the current node is none of these.
+    PopTo(Group),
+    /// Implied end tags.
+    Implied,
+    ImpliedBut(Who),
+    /// Where one of these is in scope: implied end tags but it, then until it.
+    Close(Scope, Who),
+    /// From the current node up to one of these, or to a special element that is no address, div or p.
+    CloseItem(Who),
+    /// "Any other end tag" of "in body".
+    AnyOtherEnd,
+
+    /// Reconstruct the active formatting elements (13.2.4.3).
+    Reconstruct,
+    /// The current node is pushed onto the list of active formatting elements for the token.
+    List,
+    Marker,
+    ClearToMarker,
+
+    /// The frameset-ok flag is "not ok".
+    NotOk,
+    /// The document is in quirks mode.
+    BecomeQuirky,
+    /// The next token is left out where it is a line feed.
+    SkipLineFeed,
+    /// The head element pointer is the current node.
+    PointHead,
+    /// The node that the head element pointer names is pushed.
+    PushHead,
+    /// It is taken off the stack, wherever it stands there.
+    TakeHeadOff,
+    /// The token's attributes that the first element of the stack lacks are added to it.
+    AddToFirst,
+    /// The same for the second element.
+    AddToSecond,
+    Enter(Mode),
+    /// The mode is the original mode again.
+    Restore,
+
+    /// An element for the token, whose text the tokenizer reads in another way: the original mode is kept, the mode is "text".
+    Read(Reading),
+    /// The tokenizer reads on in another way.
+    Switch(Reading),
+    /// The token is processed by the rules of another mode.
+    Using(Mode),
+    /// The token is processed once more, by the mode as it is now.
+    Again,
+    /// The current node, a script, is popped, and the parser stops at it.
+    StopAtScript,
+    /// Parsing stops (13.2.7).
+    Finish,
+    /// The row isn't there yet.
+    Missing,
+}
+
+/// What is asked of the caller once a token's row is at its end.
+#[derive(Clone, Copy, Debug, PartialEq, Eq)]
+pub enum Next {
+    Done,
+    /// Once more, by the mode as it is now.
+    Again,
+    /// By the rules of that mode.
+    Using(Mode),
+    /// The tokenizer reads on in that way.
+    Switch(Reading),
+    /// The end tag of that script element was met.
+    Script(NodeId),
+    /// An element more than 512 would be open; it isn't made.
+    Deep,
+    Finished,
+    /// The row isn't there yet.
+    Missing,
+}
+
+/// How a row goes on behind an instruction.
+#[derive(Clone, Copy, Debug, PartialEq, Eq)]
+pub enum Flow {
+    On,
+    /// The next instruction is left out.
+    Skip,
+    Leave(Next),
+}
+
+/// Why the parser stops in a text.
+#[derive(Clone, Copy, Debug, PartialEq, Eq)]
+pub enum Stop {
+    /// All text is used.
+    InputEnd,
+    /// At the end tag of that script element.
+    Script(NodeId),
+    /// At a push that would open element 513.
+    Deep,
+    /// At a row that isn't there yet.
+    Missing,
+}

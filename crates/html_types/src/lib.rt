@@ -1,0 +1,34 @@
+//! The plain data that the parser's parts hand to one another, and that the definitions speak of:
+//! texts, names, tags, tokens, the tokenizer's states, instructions, operations, the open state, nodes.
+//! A contract sees each of them as plain data: a text is the list of its characters.
+#![tactic(auto)]
+
+pub mod attributes;
+pub mod children;
+pub mod class;
+pub mod instruction;
+pub mod memory;
+pub mod name;
+pub mod open;
+pub mod operation;
+pub mod script;
+pub mod state;
+pub mod text;
+pub mod token;
+pub mod tree;
+pub mod word;
+
+pub use attributes::{Attribute, Attributes};
+pub use children::Children;
+pub use class::Class;
+pub use instruction::{Flow, Group, Instr, Mode, Next, Reading, Scope, Stop, Test, Who};
+pub use memory::NoMemory;
+pub use name::Name;
+pub use open::{Format, Formats, Open, OpenElement, Stack};
+pub use operation::{NodeId, Op, Ops, Place};
+pub use script::{Ending, Line, Lines, Statement, Why};
+pub use state::{RawText, TagState, TextState, TokState, eq_state};
+pub use text::{Text, char_at};
+pub use token::{PartialTag, Quote, Tag, TagKind, Token, Tokens};
+pub use tree::{Kind, Node};
+pub use word::Word;

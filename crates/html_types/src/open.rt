@@ -1,0 +1,251 @@
+//! The open state of tree construction (13.2.4): it names elements by their ids.
+
+ghost use Rattle.std.specs.Prelude.{◌≡◌, ◌↔◌, ◌∷◌, ◌++◌, [], length, reverse, IsTrue, IfOk, OnOk, OnErr, IfSome, IfNone};
+
+use crate::instruction::Mode;
+use crate::memory::NoMemory;
+use crate::name::Name;
+use crate::operation::NodeId;
+use crate::token::Tag;
+use std::alloc::Global;
+use std::marker::Model;
+
+/// An open element.
+#[derive(Drop)]
+pub struct OpenElement {
+    pub id: NodeId,
+    pub name: Name,
+}
+
+impl OpenElement {
+    /// A copy.
+    pub fn copy(&self, alloc: Global) -> Result<OpenElement, NoMemory>
+        ensures { IfOk result (λ e. e ≡ self.now) }
+    {
+        let name = self.name.copy(alloc)?;
+        Ok(OpenElement { id: self.id, name })
+    }
+
+    /// Whether two are the same.
+    pub fn same(&self, other: &OpenElement) -> bool
+        ensures { IsTrue result ↔ (self.now ≡ other.now) }
+    {
+        self.id == other.id && self.name.same(&other.name)
+    }
+}
+
+/// The stack of open elements (13.2.4.2). Contracts see the list that begins with the current node.
+#[derive(Drop)]
+pub struct Stack {
+    items: Vec<OpenElement>,
+}
+
+impl Model for Stack {
+    ghost use Rattle.std.specs.Prelude.{List, reverse};
+    ghost use Rattle.html_types.specs.declared.open.OpenElement.{OpenElement};
+
+    ghost Value = { List OpenElement };
+
+    ghost view = { λ s. reverse s.items.items };
+}
+
+impl Stack {
+    /// No open elements, which take no memory.
+    pub fn new(alloc: Global) -> Stack
+        ensures { result ≡ [] }
+    {
+        Stack {
+            items: Vec::new(alloc),
+        }
+    }
+
+    /// How many elements are open.
+    pub fn len(&self) -> usize
+        ensures { result ≡ length self.now }
+    {
+        self.items.len()
+    }
+
+    /// Opens an element, which is then the current node.
+    pub fn push(&mut self, element: OpenElement) -> Result<(), NoMemory>
+        ensures ok { OnOk result (self.new ≡ element ∷ self.old) }
+        ensures err { OnErr result (self.new ≡ self.old) }
+    {
+        self.items.push(element)?;
+        Ok(())
+    }
+
+    /// Takes the current node off.
+    pub fn pop(&mut self) -> Option<OpenElement>
+        ensures some { IfSome result (λ e. self.old ≡ e ∷ self.new) }
+        ensures none { IfNone result (self.old ≡ []) }
+        ensures empty { IfNone result (self.new ≡ []) }
+    {
+        self.items.pop()
+    }
+
+    /// The elements, the current node last.
+    pub fn as_slice(&self) -> &[OpenElement]
+        ensures { reverse result.now ≡ self.now }
+    {
+        self.items.as_slice()
+    }
+
+    /// A copy.
+    pub fn copy(&self, alloc: Global) -> Result<Stack, NoMemory>
+        ensures { IfOk result (λ s. s ≡ self.now) }
+    {
+        let mut items = Vec::new(alloc);
+        for element in &self.items {
+            items.push(element.copy(alloc)?)?;
+        }
+        Ok(Stack { items })
+    }
+
+    /// Whether two stacks are the same.
+    pub fn same(&self, other: &Stack) -> bool
+        ensures { IsTrue result ↔ (self.now ≡ other.now) }
+    {
+        if self.items.len() != other.items.len() {
+            return false;
+        }
+        for i in 0..self.items.len() {
+            if !self.items[i].same(&other.items[i]) {
+                return false;
+            }
+        }
+        true
+    }
+}
+
+/// An entry of the list of active formatting elements: a marker, or an element with the tag that it was made for.
+#[derive(Drop)]
+pub enum Format {
+    Marker,
+    Element { id: NodeId, tag: Tag },
+}
+
+impl Format {
+    /// A copy.
+    pub fn copy(&self, alloc: Global) -> Result<Format, NoMemory>
+        ensures { IfOk result (λ f. f ≡ self.now) }
+    {
+        match self {
+            Format::Marker => Ok(Format::Marker),
+            Format::Element { id, tag } => {
+                let tag = tag.copy(alloc)?;
+                Ok(Format::Element { id: *id, tag })
+            }
+        }
+    }
+
+    /// Whether two are the same.
+    pub fn same(&self, other: &Format) -> bool
+        ensures { IsTrue result ↔ (self.now ≡ other.now) }
+    {
+        match (self, other) {
+            (Format::Marker, Format::Marker) => true,
+            (Format::Element { id: i, tag: s }, Format::Element { id: j, tag: t }) => {
+                *i == *j && s.same(t)
+            }
+            _ => false,
+        }
+    }
+}
+
+/// The list of active formatting elements (13.2.4.3). Contracts see the list that begins with the latest entry.
+#[derive(Drop)]
+pub struct Formats {
+    items: Vec<Format>,
+}
+
+impl Model for Formats {
+    ghost use Rattle.std.specs.Prelude.{List, reverse};
+    ghost use Rattle.html_types.specs.declared.open.Format.{Format};
+
+    ghost Value = { List Format };
+
+    ghost view = { λ f. reverse f.items.items };
+}
+
+impl Formats {
+    /// No entries, which take no memory.
+    pub fn new(alloc: Global) -> Formats
+        ensures { result ≡ [] }
+    {
+        Formats {
+            items: Vec::new(alloc),
+        }
+    }
+
+    /// Adds an entry at the end.
+    pub fn push(&mut self, entry: Format) -> Result<(), NoMemory>
+        ensures ok { OnOk result (self.new ≡ entry ∷ self.old) }
+        ensures err { OnErr result (self.new ≡ self.old) }
+    {
+        self.items.push(entry)?;
+        Ok(())
+    }
+
+    /// Takes the latest entry off.
+    pub fn pop(&mut self) -> Option<Format>
+        ensures some { IfSome result (λ e. self.old ≡ e ∷ self.new) }
+        ensures none { IfNone result (self.old ≡ []) }
+        ensures empty { IfNone result (self.new ≡ []) }
+    {
+        self.items.pop()
+    }
+
+    /// The entries, the latest last.
+    pub fn as_slice(&self) -> &[Format]
+        ensures { reverse result.now ≡ self.now }
+    {
+        self.items.as_slice()
+    }
+
+    /// A copy.
+    pub fn copy(&self, alloc: Global) -> Result<Formats, NoMemory>
+        ensures { IfOk result (λ f. f ≡ self.now) }
+    {
+        let mut items = Vec::new(alloc);
+        for entry in &self.items {
+            items.push(entry.copy(alloc)?)?;
+        }
+        Ok(Formats { items })
+    }
+
+    /// Whether two lists are the same.
+    pub fn same(&self, other: &Formats) -> bool
+        ensures { IsTrue result ↔ (self.now ≡ other.now) }
+    {
+        if self.items.len() != other.items.len() {
+            return false;
+        }
+        for i in 0..self.items.len() {
+            if !self.items[i].same(&other.items[i]) {
+                return false;
+            }
+        }
+        true
+    }
+}
+
+/// The open state (13.2.4).
+#[derive(Drop)]
+pub struct Open {
+    pub stack: Stack,
+    pub formats: Formats,
+    /// The head element pointer.
+    pub head: Option<NodeId>,
+    pub mode: Mode,
+    /// The original insertion mode, in the mode "text" alone.
+    pub original: Option<Mode>,
+    pub frameset_ok: bool,
+    pub quirks: bool,
+    /// The next token is left out where it is a line feed.
+    pub skip_line_feed: bool,
+    /// Foster parenting is on.
+    pub foster: bool,
+    /// The id of the next element that is made.
+    pub next: NodeId,
+}

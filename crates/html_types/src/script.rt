@@ -1,0 +1,101 @@
+//! How a page ends, the statements of scripts, and what a parse has to say.
+
+ghost use Rattle.std.specs.Prelude.{◌≡◌, ◌∷◌, ◌++◌, [], OnOk, OnErr};
+
+use crate::memory::NoMemory;
+use crate::text::Text;
+use std::alloc::Global;
+use std::marker::Model;
+
+/// How the bytes of a page end.
+#[derive(Clone, Copy, Debug, PartialEq, Eq)]
+pub enum Ending {
+    /// At the end of the file.
+    End,
+    /// At bytes that aren't UTF-8.
+    Bad,
+    /// At the limit of a page, behind which there are more bytes.
+    Long,
+    /// At a read that failed.
+    Fault,
+}
+
+/// Why a parse is refused.
+#[derive(Clone, Copy, Debug, PartialEq, Eq)]
+pub enum Why {
+    BadUtf8,
+    /// More than 512 open elements.
+    Depth,
+    /// More than 1,048,576 characters written by scripts.
+    Writes,
+    /// A page of more than 1,073,741,824 bytes.
+    Page,
+    /// A read that failed.
+    Fault,
+    /// A row, a statement or a kind of script that isn't there yet.
+    Unready,
+}
+
+/// A statement of a script. A text in it is the value of its JSON string.
+#[derive(Drop)]
+pub enum Statement {
+    /// `document.write("V");`
+    Write(Text),
+    /// `document.getElementById("V").remove();`
+    Remove(Text),
+    /// `console.log(document.getElementById("V").outerHTML);`
+    LogById(Text),
+    /// `console.log(document.documentElement.outerHTML);`
+    LogRoot,
+}
+
+/// A line that a script gives. The number is that of the executing script, counted from 1.
+#[derive(Drop)]
+pub enum Line {
+    Log(u64, Text),
+    Throw(u64),
+    Syntax(u64),
+    Miss(Text),
+}
+
+/// Lines in order: a contract sees the list of them.
+#[derive(Drop)]
+pub struct Lines {
+    list: Vec<Line>,
+}
+
+impl Model for Lines {
+    ghost use Rattle.std.specs.Prelude.{List};
+    ghost use Rattle.html_types.specs.declared.script.Line.{Line};
+
+    ghost Value = { List Line };
+
+    ghost view = { λ l. l.list.items };
+}
+
+impl Lines {
+    /// No lines, which take no memory.
+    pub fn new(alloc: Global) -> Lines
+        ensures { result ≡ [] }
+    {
+        Lines {
+            list: Vec::new(alloc),
+        }
+    }
+
+    /// Adds a line at the end.
+    pub fn push(&mut self, line: Line) -> Result<(), NoMemory>
+        ensures ok { OnOk result (self.new ≡ self.old ++ line ∷ []) }
+        ensures err { OnErr result (self.new ≡ self.old) }
+    {
+        self.list.push(line)?;
+        Ok(())
+    }
+
+    /// The lines as a slice.
+    pub fn as_slice(&self) -> &[Line]
+        ensures { result.now ≡ self.now }
+    {
+        self.list.as_slice()
+    }
+}

@@ -1,0 +1,242 @@
+//! The tokenizer's states (13.2.5), in groups. A state holds only what its rows, or those of states reached from it, can
+//! still read, so equal states are equal data.
+
+ghost use Rattle.std.specs.Prelude.{◌≡◌, ◌↔◌, IsTrue, IfOk};
+
+use crate::attributes::Attribute;
+use crate::memory::NoMemory;
+use crate::text::Text;
+use crate::token::{PartialTag, Quote};
+use crate::word::Word;
+use std::alloc::Global;
+
+/// How the text of an element is read, up to its own end tag.
+#[derive(Clone, Copy, Debug, PartialEq, Eq)]
+pub enum RawText {
+    /// Character references are read.
+    Rcdata,
+    Rawtext,
+    ScriptData,
+}
+
+/// The states of text. `Option<Word>` is the name of the last start tag, which an end tag must have to end the text.
+#[derive(Drop)]
+pub enum TextState {
+    /// 13.2.5.1 Data state
+    Data,
+    /// 13.2.5.2 to 13.2.5.4 RCDATA, RAWTEXT and script data state
+    Raw(RawText, Option<Word>),
+    /// 13.2.5.5 PLAINTEXT state
+    Plaintext,
+    /// 13.2.5.9, 13.2.5.12, 13.2.5.15 less-than sign state of each
+    RawLessThan(RawText, Option<Word>),
+    /// 13.2.5.10, 13.2.5.13, 13.2.5.16 end tag open state of each
+    RawEndTagOpen(RawText, Option<Word>),
+    /// 13.2.5.11, 13.2.5.14, 13.2.5.17 end tag name state of each: the name as it was written so far
+    RawEndTagName(RawText, Option<Word>, Text),
+}
+
+/// The states of tags and their attributes.
+#[derive(Drop)]
+pub enum TagState {
+    /// 13.2.5.6 Tag open state
+    TagOpen,
+    /// 13.2.5.7 End tag open state
+    EndTagOpen,
+    /// 13.2.5.8 Tag name state
+    TagName(PartialTag),
+    /// 13.2.5.32 Before attribute name state
+    BeforeAttributeName(PartialTag),
+    /// 13.2.5.33 Attribute name state: the name so far
+    AttributeName(PartialTag, Text),
+    /// 13.2.5.34 After attribute name state: the name that was read, or none where the tag has that name
+    AfterAttributeName(PartialTag, Option<Text>),
+    /// 13.2.5.35 Before attribute value state
+    BeforeAttributeValue(PartialTag, Option<Text>),
+    /// 13.2.5.36, 13.2.5.37 Attribute value (double-quoted), (single-quoted) state: none where the value is dropped
+    AttributeValueQuoted(PartialTag, Option<Attribute>, Quote),
+    /// 13.2.5.38 Attribute value (unquoted) state
+    AttributeValueUnquoted(PartialTag, Option<Attribute>),
+    /// 13.2.5.39 After attribute value (quoted) state
+    AfterAttributeValueQuoted(PartialTag),
+    /// 13.2.5.40 Self-closing start tag state
+    SelfClosingStartTag(PartialTag),
+}
+
+/// The tokenizer's state.
+#[derive(Drop)]
+pub enum TokState {
+    Text(TextState),
+    Tag(TagState),
+}
+
+fn same_name(a: &Option<Text>, b: &Option<Text>) -> bool
+    ensures { IsTrue result ↔ (a.now ≡ b.now) }
+{
+    match (a, b) {
+        (None, None) => true,
+        (Some(x), Some(y)) => x.same(y),
+        _ => false,
+    }
+}
+
+fn same_attribute(a: &Option<Attribute>, b: &Option<Attribute>) -> bool
+    ensures { IsTrue result ↔ (a.now ≡ b.now) }
+{
+    match (a, b) {
+        (None, None) => true,
+        (Some(x), Some(y)) => x.same(y),
+        _ => false,
+    }
+}
+
+fn copy_name(held: &Option<Text>, alloc: Global) -> Result<Option<Text>, NoMemory>
+    ensures { IfOk result (λ h. h ≡ held.now) }
+{
+    match held {
+        None => Ok(None),
+        Some(name) => Ok(Some(name.copy(alloc)?)),
+    }
+}
+
+fn copy_attribute(held: &Option<Attribute>, alloc: Global) -> Result<Option<Attribute>, NoMemory>
+    ensures { IfOk result (λ h. h ≡ held.now) }
+{
+    match held {
+        None => Ok(None),
+        Some(attribute) => Ok(Some(attribute.copy(alloc)?)),
+    }
+}
+
+impl TextState {
+    /// A copy.
+    pub fn copy(&self, alloc: Global) -> Result<TextState, NoMemory>
+        ensures { IfOk result (λ s. s ≡ self.now) }
+    {
+        match self {
+            TextState::Data => Ok(TextState::Data),
+            TextState::Raw(raw, last) => Ok(TextState::Raw(*raw, *last)),
+            TextState::Plaintext => Ok(TextState::Plaintext),
+            TextState::RawLessThan(raw, last) => Ok(TextState::RawLessThan(*raw, *last)),
+            TextState::RawEndTagOpen(raw, last) => Ok(TextState::RawEndTagOpen(*raw, *last)),
+            TextState::RawEndTagName(raw, last, written) => {
+                Ok(TextState::RawEndTagName(*raw, *last, written.copy(alloc)?))
+            }
+        }
+    }
+
+    /// Whether two states are the same.
+    pub fn same(&self, other: &TextState) -> bool
+        ensures { IsTrue result ↔ (self.now ≡ other.now) }
+    {
+        match (self, other) {
+            (TextState::Data, TextState::Data) => true,
+            (TextState::Raw(r, m), TextState::Raw(s, n)) => *r == *s && *m == *n,
+            (TextState::Plaintext, TextState::Plaintext) => true,
+            (TextState::RawLessThan(r, m), TextState::RawLessThan(s, n)) => *r == *s && *m == *n,
+            (TextState::RawEndTagOpen(r, m), TextState::RawEndTagOpen(s, n)) => {
+                *r == *s && *m == *n
+            }
+            (TextState::RawEndTagName(r, m, v), TextState::RawEndTagName(s, n, w)) => {
+                *r == *s && *m == *n && v.same(w)
+            }
+            _ => false,
+        }
+    }
+}
+
+impl TagState {
+    /// A copy.
+    pub fn copy(&self, alloc: Global) -> Result<TagState, NoMemory>
+        ensures { IfOk result (λ s. s ≡ self.now) }
+    {
+        match self {
+            TagState::TagOpen => Ok(TagState::TagOpen),
+            TagState::EndTagOpen => Ok(TagState::EndTagOpen),
+            TagState::TagName(tag) => Ok(TagState::TagName(tag.copy(alloc)?)),
+            TagState::BeforeAttributeName(tag) => {
+                Ok(TagState::BeforeAttributeName(tag.copy(alloc)?))
+            }
+            TagState::AttributeName(tag, name) => {
+                Ok(TagState::AttributeName(tag.copy(alloc)?, name.copy(alloc)?))
+            }
+            TagState::AfterAttributeName(tag, held) => Ok(TagState::AfterAttributeName(
+                tag.copy(alloc)?,
+                copy_name(held, alloc)?,
+            )),
+            TagState::BeforeAttributeValue(tag, held) => Ok(TagState::BeforeAttributeValue(
+                tag.copy(alloc)?,
+                copy_name(held, alloc)?,
+            )),
+            TagState::AttributeValueQuoted(tag, held, quote) => Ok(TagState::AttributeValueQuoted(
+                tag.copy(alloc)?,
+                copy_attribute(held, alloc)?,
+                *quote,
+            )),
+            TagState::AttributeValueUnquoted(tag, held) => Ok(TagState::AttributeValueUnquoted(
+                tag.copy(alloc)?,
+                copy_attribute(held, alloc)?,
+            )),
+            TagState::AfterAttributeValueQuoted(tag) => {
+                Ok(TagState::AfterAttributeValueQuoted(tag.copy(alloc)?))
+            }
+            TagState::SelfClosingStartTag(tag) => {
+                Ok(TagState::SelfClosingStartTag(tag.copy(alloc)?))
+            }
+        }
+    }
+
+    /// Whether two states are the same.
+    pub fn same(&self, other: &TagState) -> bool
+        ensures { IsTrue result ↔ (self.now ≡ other.now) }
+    {
+        match (self, other) {
+            (TagState::TagOpen, TagState::TagOpen) => true,
+            (TagState::EndTagOpen, TagState::EndTagOpen) => true,
+            (TagState::TagName(s), TagState::TagName(t)) => s.same(t),
+            (TagState::BeforeAttributeName(s), TagState::BeforeAttributeName(t)) => s.same(t),
+            (TagState::AttributeName(s, m), TagState::AttributeName(t, n)) => {
+                s.same(t) && m.same(n)
+            }
+            (TagState::AfterAttributeName(s, m), TagState::AfterAttributeName(t, n)) => {
+                s.same(t) && same_name(m, n)
+            }
+            (TagState::BeforeAttributeValue(s, m), TagState::BeforeAttributeValue(t, n)) => {
+                s.same(t) && same_name(m, n)
+            }
+            (TagState::AttributeValueQuoted(s, m, p), TagState::AttributeValueQuoted(t, n, q)) =>
+                s.same(t) && same_attribute(m, n) && *p == *q,
+            (TagState::AttributeValueUnquoted(s, m), TagState::AttributeValueUnquoted(t, n)) => {
+                s.same(t) && same_attribute(m, n)
+            }
+            (TagState::AfterAttributeValueQuoted(s), TagState::AfterAttributeValueQuoted(t)) => {
+                s.same(t)
+            }
+            (TagState::SelfClosingStartTag(s), TagState::SelfClosingStartTag(t)) => s.same(t),
+            _ => false,
+        }
+    }
+}
+
+impl TokState {
+    /// A copy.
+    pub fn copy(&self, alloc: Global) -> Result<TokState, NoMemory>
+        ensures { IfOk result (λ s. s ≡ self.now) }
+    {
+        match self {
+            TokState::Text(state) => Ok(TokState::Text(state.copy(alloc)?)),
+            TokState::Tag(state) => Ok(TokState::Tag(state.copy(alloc)?)),
+        }
+    }
+}
+
+/// Whether two states are the same.
+pub fn eq_state(a: &TokState, b: &TokState) -> bool
+    ensures { IsTrue result ↔ (a.now ≡ b.now) }
+{
+    match (a, b) {
+        (TokState::Text(s), TokState::Text(t)) => s.same(t),
+        (TokState::Tag(s), TokState::Tag(t)) => s.same(t),
+        _ => false,
+    }
+}
