@@ -1,0 +1,214 @@
+-- What each instruction of a row does to the open state (13.2.4), and which operations it asks for (13.2.6.1 to 13.2.6.3).
+use Rattle.std.specs.Prelude.{Bool, true, false, not, ◌||◌, nat_lt, if◌then◌else◌, List, [], ◌∷◌, ◌++◌, Option, Some, None, length, reverse}
+use Rattle.html_types.specs.Operations.{later}
+use Rattle.html_types.specs.declared.word.Word.{Word}
+use Rattle.html_types.specs.declared.word.Word.TheVariants as word
+use Rattle.html_types.specs.declared.instruction.Instr.{Instr}
+use Rattle.html_types.specs.declared.instruction.Instr.TheVariants as ins
+use Rattle.html_types.specs.declared.instruction.Test.{Test}
+use Rattle.html_types.specs.declared.instruction.Test.TheVariants.{InScope, Current, OnStack, Listed, Quirks, SecondIsBody, FramesetOk, QuirkyDoctype}
+use Rattle.html_types.specs.declared.instruction.Mode.{Mode}
+use Rattle.html_types.specs.declared.instruction.Mode.TheVariants as mode
+use Rattle.html_types.specs.declared.instruction.Who.TheVariants as who
+use Rattle.html_types.specs.declared.instruction.Flow.{Flow}
+use Rattle.html_types.specs.declared.instruction.Flow.TheVariants.{On, Skip, Leave}
+use Rattle.html_types.specs.declared.instruction.Next.TheVariants as next
+use Rattle.html_types.specs.Names.{name_of}
+use Rattle.html_types.specs.declared.name.Name.{Name}
+use Rattle.html_types.specs.declared.name.Name.TheVariants.{Known}
+use Rattle.html_types.specs.declared.token.Tag.{Tag}
+use Rattle.html_types.specs.declared.token.Token.{Token}
+use Rattle.html_types.specs.declared.token.Token.TheVariants.{StartTag, EndTag, Character, Comment, Doctype}
+use Rattle.html_types.specs.declared.operation.NodeId.{NodeId}
+use Rattle.html_types.specs.declared.operation.Place.{Place}
+use Rattle.html_types.specs.declared.operation.Place.TheVariants.{Page, Inside}
+use Rattle.html_types.specs.declared.operation.Op.{Op}
+use Rattle.html_types.specs.declared.operation.Op.TheVariants as op
+use Rattle.html_types.specs.declared.open.OpenElement.{OpenElement}
+use Rattle.html_types.specs.declared.open.Format.{Format}
+use Rattle.html_types.specs.declared.open.Format.TheVariants.{Marker, Element}
+use Rattle.html_types.specs.declared.open.Open.{Open}
+use Rattle.standard.specs.Elements.{is_word, is_meant, is_one_of}
+use Rattle.standard.specs.Stack.{in_scope, on_stack, current_is, current_id, pop, until, pop_to, implied, close, close_item, other_end, place, first_open, second_open, is_the, without_open}
+use Rattle.standard.specs.Formatting.{listed, clear_to_marker, kept, lost}
+
+-- the open state, the operations so far, and how to go on
+pub record Config : Type 0 where
+  pub open_state : Open
+  pub ops : List Op
+  pub flow : Flow
+
+abbrev pub config : Open → List Op → Flow → Config
+config b o f = record { open_state = b; ops = o; flow = f }
+
+abbrev pub on : Open → List Op → Config
+on b o = config b o On
+
+-- ---- tests
+
+-- a document of this doctype is in quirks mode
+abbrev pub is_quirky : Token → Bool
+is_quirky (Doctype name force) = force || not (is_word word.Html (name_of name))
+is_quirky _ = false
+
+abbrev pub holds : Test → Token → Open → Bool
+holds (InScope s w) t b = in_scope s (is_meant w t) b.stack
+holds (Current w) t b = current_is (is_meant w t) b.stack
+holds (OnStack w) t b = on_stack (is_meant w t) b.stack
+holds (Listed w) t b = listed (is_meant w t) b.formats
+holds Quirks t b = b.quirks
+holds SecondIsBody t b = is_the word.Body (second_open b.stack)
+holds FramesetOk t b = b.frameset_ok
+holds QuirkyDoctype t b = is_quirky t
+
+-- ---- elements
+
+-- another element may be opened: at most 512 are
+abbrev pub room : Open → Bool
+room b = nat_lt (length b.stack) 512
+
+-- the operations that make an element and put it at a place
+abbrev pub made : Place → Tag → Open → List Op → List Op
+made p tag b o = o ++ op.Make b.next tag.name tag.attributes ∷ [] ++ op.Put b.next p ∷ []
+
+abbrev pub pushed : Tag → Open → Open
+pushed tag b = record b { stack = record { id = b.next; name = tag.name } ∷ b.stack; next = later 1 b.next }
+
+-- insert an element: made, put there and pushed
+abbrev pub insert_at : Place → Tag → Open → List Op → Config
+insert_at p tag b o = if room b then on (pushed tag b) (made p tag b o) else config b o (Leave next.Deep)
+
+-- the appropriate place for inserting a node (13.2.6.1)
+abbrev pub here : Open → Place
+here b = place b.foster b.stack
+
+abbrev pub insert : Tag → Open → List Op → Config
+insert tag b o = insert_at (here b) tag b o
+
+abbrev pub insert_root : Tag → Open → List Op → Config
+insert_root tag b o = insert_at Page tag b o
+
+-- inserted, and popped at once
+abbrev pub void : Tag → Open → List Op → Config
+void tag b o = if room b then on (record b { next = later 1 b.next }) (made (here b) tag b o) else config b o (Leave next.Deep)
+
+-- a start tag of that name without attributes
+abbrev pub tag_of : Word → Tag
+tag_of w = record { name = Known w; attributes = []; self_closing = false }
+
+-- an instruction that makes something of the token's tag does nothing at another token
+abbrev pub for_tag : (Tag → Open → List Op → Config) → Token → Open → List Op → Config
+for_tag f (StartTag tag) b o = f tag b o
+for_tag f (EndTag tag) b o = f tag b o
+for_tag f _ b o = on b o
+
+-- ---- reconstruct the active formatting elements (13.2.4.3)
+
+-- an entry that was lost from the stack is opened again, and stands last in the list
+abbrev pub reopen : Tag → Open → List Op → Config
+reopen tag b o =
+    if room b then on (record (pushed tag b) { formats = Element b.next tag ∷ b.formats }) (made (here b) tag b o)
+    else config b o (Leave next.Deep)
+
+abbrev pub reopen_all : List Tag → Config → Config
+reopen_all [] c = c
+reopen_all (tag ∷ tags) c =
+    elim c.flow as (λ _. Config) [ On ↦ reopen_all tags (reopen tag c.open_state c.ops) | Skip ↦ c | Leave n ↦ c ]
+
+abbrev pub reconstruct : Open → List Op → Config
+reconstruct b o = reopen_all (reverse (lost b.stack b.formats)) (on (record b { formats = kept b.stack b.formats }) o)
+
+-- ---- other insertions
+
+abbrev pub insert_text : Token → Open → List Op → Config
+insert_text (Character c) b o = on b (o ++ op.Text (here b) (c ∷ []) ∷ [])
+insert_text _ b o = on b o
+
+abbrev pub insert_comment : Place → Token → Open → List Op → Config
+insert_comment p (Comment text) b o = on b (o ++ op.Note p text ∷ [])
+insert_comment p _ b o = on b o
+
+abbrev pub append_doctype : Token → Open → List Op → Config
+append_doctype (Doctype name force) b o = on b (o ++ op.Doctype name ∷ [])
+append_doctype _ b o = on b o
+
+-- the end of an element, or of the Document where there is none
+abbrev pub end_of : Option OpenElement → Place
+end_of None = Page
+end_of (Some e) = Inside e.id
+
+-- the tag's attributes, where the element lacks them
+abbrev pub add_attributes : Option OpenElement → Tag → Open → List Op → Config
+add_attributes None tag b o = on b o
+add_attributes (Some e) tag b o = on b (o ++ op.AddAttributes e.id tag.attributes ∷ [])
+
+-- ---- pointers and modes
+
+abbrev pub push_head : Option NodeId → Open → List Op → Config
+push_head None b o = on b o
+push_head (Some i) b o =
+    if room b then on (record b { stack = record { id = i; name = Known word.Head } ∷ b.stack }) o else config b o (Leave next.Deep)
+
+abbrev pub original_or : Mode → Option Mode → Mode
+original_or m None = m
+original_or m (Some original) = original
+
+-- the script is popped, and the parser stops at it
+abbrev pub stop_at_script : List OpenElement → Open → List Op → Config
+stop_at_script [] b o = config b o (Leave next.Done)
+stop_at_script (e ∷ es) b o = config (record b { stack = es }) o (Leave (next.Script e.id))
+
+-- ---- the instructions
+
+abbrev pub step : Instr → Token → Open → List Op → Config
+step (ins.Need c) t b o = config b o (if holds c t b then On else Leave next.Done)
+step (ins.Forbid c) t b o = config b o (if holds c t b then Leave next.Done else On)
+step (ins.When c) t b o = config b o (if holds c t b then On else Skip)
+step (ins.Unless c) t b o = config b o (if holds c t b then Skip else On)
+step ins.Insert t b o = for_tag insert t b o
+step (ins.InsertA w) t b o = insert (tag_of w) b o
+step ins.InsertRoot t b o = for_tag insert_root t b o
+step ins.InsertRootA t b o = insert_root (tag_of word.Html) b o
+step ins.Void t b o = for_tag void t b o
+step ins.InsertText t b o = insert_text t b o
+step ins.InsertComment t b o = insert_comment (here b) t b o
+step ins.CommentToPage t b o = insert_comment Page t b o
+step ins.CommentToRoot t b o = insert_comment (end_of (first_open b.stack)) t b o
+step ins.AppendDoctype t b o = append_doctype t b o
+step ins.Pop t b o = on (record b { stack = pop b.stack }) o
+step (ins.Until w) t b o = on (record b { stack = until (is_meant w t) b.stack }) o
+step (ins.PopTo g) t b o = on (record b { stack = pop_to (is_one_of g) b.stack }) o
+step ins.Implied t b o = on (record b { stack = implied (is_meant who.Nobody t) b.stack }) o
+step (ins.ImpliedBut w) t b o = on (record b { stack = implied (is_meant w t) b.stack }) o
+step (ins.Close s w) t b o = on (record b { stack = close s (is_meant w t) b.stack }) o
+step (ins.CloseItem w) t b o = on (record b { stack = close_item (is_meant w t) b.stack }) o
+step ins.AnyOtherEnd t b o = on (record b { stack = other_end (is_meant who.Own t) b.stack }) o
+step ins.Reconstruct t b o = reconstruct b o
+step ins.Marker t b o = on (record b { formats = Marker ∷ b.formats }) o
+step ins.ClearToMarker t b o = on (record b { formats = clear_to_marker b.formats }) o
+step ins.NotOk t b o = on (record b { frameset_ok = false }) o
+step ins.BecomeQuirky t b o = on (record b { quirks = true }) o
+step ins.SkipLineFeed t b o = on (record b { skip_line_feed = true }) o
+step ins.PointHead t b o = on (record b { head = current_id b.stack }) o
+step ins.PushHead t b o = push_head b.head b o
+step ins.TakeHeadOff t b o = on (record b { stack = without_open b.head b.stack }) o
+step ins.AddToFirst t b o = for_tag (add_attributes (first_open b.stack)) t b o
+step ins.AddToSecond t b o = for_tag (add_attributes (second_open b.stack)) t b o
+step (ins.Enter m) t b o = on (record b { mode = m }) o
+step ins.KeepMode t b o = on (record b { original = Some b.mode }) o
+step ins.Restore t b o = on (record b { mode = original_or b.mode b.original; original = None }) o
+step (ins.Switch r) t b o = config b o (Leave (next.Switch r))
+step (ins.Using m) t b o = config b o (Leave (next.Using m))
+step ins.Again t b o = config b o (Leave next.Again)
+step ins.StopAtScript t b o = stop_at_script b.stack b o
+step ins.Finish t b o = config b o (Leave next.Finished)
+step ins.Missing t b o = config b o (Leave next.Missing)
+
+-- one instruction of a row: left out where the one before said so, or the token is done
+abbrev pub turn : Token → Config → Instr → Config
+turn t c i = elim c.flow as (λ _. Config) [ On ↦ step i t c.open_state c.ops | Skip ↦ on c.open_state c.ops | Leave n ↦ c ]
+
+-- a row
+unfoldable pub run : Token → Config → List Instr → Config
+run t c [] = c
+run t c (i ∷ is) = run t (turn t c i) is

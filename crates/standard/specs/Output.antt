@@ -1,0 +1,39 @@
+-- What the program writes, in bytes.
+use Rattle.std.specs.Prelude.{ℕ, List, [], ◌∷◌, ◌++◌, flat_map, decimal, encode_utf8_all, codes}
+use Rattle.json.specs.Print.{quoted}
+use Rattle.html_types.specs.declared.script.Why.{Why}
+use Rattle.html_types.specs.declared.script.Why.TheVariants as why
+use Rattle.html_types.specs.declared.script.Line.{Line}
+use Rattle.html_types.specs.declared.script.Line.TheVariants.{Log, Throw, Syntax, Miss}
+use Rattle.standard.specs.Tree.{Nodes}
+use Rattle.standard.specs.Outer.{document_text}
+use Rattle.standard.specs.Serial.{Result, finished, refused, Outcome}
+
+-- the text as serde_json writes a string
+abbrev pub json_string : List ℕ → List ℕ
+json_string t = quoted (encode_utf8_all t)
+
+abbrev pub line_text : Line → List ℕ
+line_text (Log n t) = codes "log " ++ decimal n ++ codes " " ++ json_string t ++ codes "\n"
+line_text (Throw n) = codes "throw " ++ decimal n ++ codes "\n"
+line_text (Syntax n) = codes "syntax " ++ decimal n ++ codes "\n"
+line_text (Miss t) = codes "miss " ++ json_string t ++ codes "\n"
+
+abbrev pub refusal_text : Why → List ℕ
+refusal_text why.BadUtf8 = codes "refused bad-utf8\n"
+refusal_text why.Depth = codes "refused depth\n"
+refusal_text why.Writes = codes "refused writes\n"
+refusal_text why.Page = codes "refused page\n"
+refusal_text why.Fault = []
+refusal_text why.Unready = []
+
+abbrev pub tree_text : Nodes → List ℕ
+tree_text t = codes "tree " ++ json_string (document_text t) ++ codes "\n"
+
+abbrev pub result_text : Result → Nodes → List ℕ
+result_text finished t = tree_text t
+result_text (refused w) t = refusal_text w
+
+-- the lines of the scripts in order, then what the parse came to
+unfoldable pub output : Outcome → List ℕ
+output o = flat_map line_text o.last.side.lines ++ result_text o.result o.last.side.doc.tree

@@ -1,0 +1,188 @@
+-- Tree construction (13.2.6): the row of a mode for a token, and what processing a token comes to.
+use Rattle.std.specs.Prelude.{ℕ, Bool, true, false, ◌==◌, ◌||◌, ◌&&◌, if◌then◌else◌, List, [], ◌∷◌}
+use Rattle.std.proofs.Common.{zero, suc}
+use Rattle.html_types.specs.declared.word.Word.{Word}
+use Rattle.html_types.specs.declared.name.Name.{Name}
+use Rattle.html_types.specs.declared.name.Name.TheVariants.{Known, Other}
+use Rattle.html_types.specs.declared.instruction.Instr.{Instr}
+use Rattle.html_types.specs.declared.instruction.Instr.TheVariants as ins
+use Rattle.html_types.specs.declared.instruction.Mode.{Mode}
+use Rattle.html_types.specs.declared.instruction.Mode.TheVariants.{Initial, BeforeHtml, BeforeHead, InHead, AfterHead, InBody, InText, AfterBody, AfterAfterBody}
+use Rattle.html_types.specs.declared.instruction.Flow.{Flow}
+use Rattle.html_types.specs.declared.instruction.Flow.TheVariants.{On, Skip, Leave}
+use Rattle.html_types.specs.declared.instruction.Next.{Next}
+use Rattle.html_types.specs.declared.instruction.Next.TheVariants as next
+use Rattle.html_types.specs.declared.token.Token.{Token}
+use Rattle.html_types.specs.declared.token.Token.TheVariants.{StartTag, EndTag, Character, Comment, Doctype, EndOfFile, Missing}
+use Rattle.html_types.specs.declared.operation.Op.{Op}
+use Rattle.html_types.specs.declared.open.Open.{Open}
+use Rattle.standard.specs.Rows.{row_for}
+use Rattle.standard.specs.Instructions.{Config, config, on, run}
+use Rattle.standard.specs.RulesHead.{initial_doctype, initial_anything, before_html_start, before_html_end, before_html_anything, before_head_start, before_head_end, before_head_anything, in_head_start, in_head_end, in_head_anything, after_head_start, after_head_end, after_head_anything}
+use Rattle.standard.specs.RulesBody.{in_body_space, in_body_character, in_body_start, in_body_any_start, in_body_end, in_body_any_end, in_text_end_of_file, in_text_end, in_text_any_end, after_body_start, after_body_end, after_body_anything, after_after_body_start, after_after_body_anything}
+
+-- ---- the table
+
+-- TAB, LF, FF, CR, SPACE
+abbrev pub is_space : ℕ → Bool
+is_space c = c == 9 || c == 10 || c == 12 || c == 13 || c == 32
+
+-- what a rule tells apart among characters
+abbrev pub character_row : Mode → ℕ → List Instr
+character_row Initial c = if is_space c then [] else initial_anything
+character_row BeforeHtml c = if is_space c then [] else before_html_anything
+character_row BeforeHead c = if is_space c then [] else before_head_anything
+character_row InHead c = if is_space c then ins.InsertText ∷ [] else in_head_anything
+character_row AfterHead c = if is_space c then ins.InsertText ∷ [] else after_head_anything
+character_row InBody c = if c == 0 then [] else (if is_space c then in_body_space else in_body_character)
+character_row InText c = ins.InsertText ∷ []
+character_row AfterBody c = if is_space c then ins.Using InBody ∷ [] else after_body_anything
+character_row AfterAfterBody c = if is_space c then ins.Using InBody ∷ [] else after_after_body_anything
+
+abbrev pub known_start_row : Mode → Word → List Instr
+known_start_row Initial w = initial_anything
+known_start_row BeforeHtml w = row_for before_html_start before_html_anything w
+known_start_row BeforeHead w = row_for before_head_start before_head_anything w
+known_start_row InHead w = row_for in_head_start in_head_anything w
+known_start_row AfterHead w = row_for after_head_start after_head_anything w
+known_start_row InBody w = row_for in_body_start in_body_any_start w
+known_start_row InText w = []
+known_start_row AfterBody w = row_for after_body_start after_body_anything w
+known_start_row AfterAfterBody w = row_for after_after_body_start after_after_body_anything w
+
+-- a start tag that the rules don't name
+abbrev pub other_start_row : Mode → List Instr
+other_start_row Initial = initial_anything
+other_start_row BeforeHtml = before_html_anything
+other_start_row BeforeHead = before_head_anything
+other_start_row InHead = in_head_anything
+other_start_row AfterHead = after_head_anything
+other_start_row InBody = in_body_any_start
+other_start_row InText = []
+other_start_row AfterBody = after_body_anything
+other_start_row AfterAfterBody = after_after_body_anything
+
+abbrev pub known_end_row : Mode → Word → List Instr
+known_end_row Initial w = initial_anything
+known_end_row BeforeHtml w = row_for before_html_end [] w
+known_end_row BeforeHead w = row_for before_head_end [] w
+known_end_row InHead w = row_for in_head_end [] w
+known_end_row AfterHead w = row_for after_head_end [] w
+known_end_row InBody w = row_for in_body_end in_body_any_end w
+known_end_row InText w = row_for in_text_end in_text_any_end w
+known_end_row AfterBody w = row_for after_body_end after_body_anything w
+known_end_row AfterAfterBody w = after_after_body_anything
+
+-- an end tag that the rules don't name
+abbrev pub other_end_row : Mode → List Instr
+other_end_row Initial = initial_anything
+other_end_row BeforeHtml = []
+other_end_row BeforeHead = []
+other_end_row InHead = []
+other_end_row AfterHead = []
+other_end_row InBody = in_body_any_end
+other_end_row InText = in_text_any_end
+other_end_row AfterBody = after_body_anything
+other_end_row AfterAfterBody = after_after_body_anything
+
+-- where a mode says nothing of comments they go to the appropriate place
+abbrev pub comment_row : Mode → List Instr
+comment_row Initial = ins.CommentToPage ∷ []
+comment_row BeforeHtml = ins.CommentToPage ∷ []
+comment_row AfterBody = ins.CommentToRoot ∷ []
+comment_row AfterAfterBody = ins.CommentToPage ∷ []
+comment_row _ = ins.InsertComment ∷ []
+
+-- everywhere but at the beginning a doctype is left out
+abbrev pub doctype_row : Mode → List Instr
+doctype_row Initial = initial_doctype
+doctype_row _ = []
+
+abbrev pub end_of_file_row : Mode → List Instr
+end_of_file_row Initial = initial_anything
+end_of_file_row BeforeHtml = before_html_anything
+end_of_file_row BeforeHead = before_head_anything
+end_of_file_row InHead = in_head_anything
+end_of_file_row AfterHead = after_head_anything
+end_of_file_row InBody = ins.Finish ∷ []
+end_of_file_row InText = in_text_end_of_file
+end_of_file_row AfterBody = ins.Finish ∷ []
+end_of_file_row AfterAfterBody = ins.Finish ∷ []
+
+abbrev pub start_row : Mode → Name → List Instr
+start_row m (Known w) = known_start_row m w
+start_row m (Other t) = other_start_row m
+
+abbrev pub end_row : Mode → Name → List Instr
+end_row m (Known w) = known_end_row m w
+end_row m (Other t) = other_end_row m
+
+-- the row of a mode for a token
+unfoldable pub row : Mode → Token → List Instr
+row m (StartTag tag) = start_row m tag.name
+row m (EndTag tag) = end_row m tag.name
+row m (Character c) = character_row m c
+row m (Comment text) = comment_row m
+row m (Doctype name force) = doctype_row m
+row m EndOfFile = end_of_file_row m
+row m Missing = ins.Missing ∷ []
+
+-- ---- processing a token
+
+-- the open state, the operations so far, and what comes next
+pub record Answer : Type 0 where
+  pub open_state : Open
+  pub ops : List Op
+  pub next : Next
+
+abbrev pub answer : Open → List Op → Next → Answer
+answer b o n = record { open_state = b; ops = o; next = n }
+
+-- what a row asks of its caller
+abbrev pub next_of : Flow → Next
+next_of On = next.Done
+next_of Skip = next.Done
+next_of (Leave n) = n
+
+abbrev pub answer_of : Config → Answer
+answer_of c = answer c.open_state c.ops (next_of c.flow)
+
+-- by the rules of a mode
+unfoldable pub by_mode : Mode → Token → Open → List Op → Answer
+by_mode m t b o = answer_of (run t (on b o) (row m t))
+
+-- the rules that the token is to go by once more, or what comes next
+pub data Round : Type 0 where
+  once : Mode → Round
+  stop : Next → Round
+
+abbrev pub round_after : Open → Next → Round
+round_after b next.Again = once b.mode
+round_after b (next.Using m) = once m
+round_after b n = stop n
+
+-- what the round comes to; `more` is processing the token by the rules of a mode
+abbrev pub go_round : (Mode → Answer) → Open → List Op → Round → Answer
+go_round more b o (once m) = more m
+go_round more b o (stop x) = answer b o x
+
+-- by the rules of a mode, and of those that it is then to go by, at most so many times
+unfoldable pub process : ℕ → Mode → Token → Open → List Op → Answer
+process zero m t b o = answer b o next.Missing
+process (suc n) m t b o =
+    let a : Answer = by_mode m t b o in
+    go_round (λ m'. process n m' t a.open_state a.ops) a.open_state a.ops (round_after a.open_state a.next)
+
+-- no token goes by more rules than this
+abbrev pub rounds : ℕ
+rounds = 16
+
+abbrev pub is_line_feed : Token → Bool
+is_line_feed (Character c) = c == 10
+is_line_feed _ = false
+
+-- a token: a line feed is left out where the one before asks for that
+unfoldable pub construct : Token → Open → List Op → Answer
+construct t b o =
+    let b' : Open = record b { skip_line_feed = false } in
+    if b.skip_line_feed && is_line_feed t then answer b' o next.Done else process rounds b.mode t b' o

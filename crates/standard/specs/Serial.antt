@@ -1,0 +1,253 @@
+-- The serial parse of a page: its characters one by one (13.2.3, 13.2.5), and its scripts where their end tags are met
+-- (13.2.6.4.8, the document.write() steps). What isn't there yet refuses it with Unready.
+use Rattle.std.specs.Prelude.{◌≡◌, ℕ, zero, suc, ◌+◌, ◌-◌, nat_le, Bool, true, false, List, [], ◌∷◌, ◌++◌, length, take, drop, Option, Some, None, option_and_then}
+use Rattle.html_types.specs.declared.operation.NodeId.{NodeId}
+use Rattle.html_types.specs.declared.script.Ending.{Ending}
+use Rattle.html_types.specs.declared.script.Ending.TheVariants as ending
+use Rattle.html_types.specs.declared.script.Why.{Why}
+use Rattle.html_types.specs.declared.script.Why.TheVariants as why
+use Rattle.html_types.specs.declared.script.Statement.{Statement}
+use Rattle.html_types.specs.declared.script.Statement.TheVariants as statement
+use Rattle.html_types.specs.declared.script.Line.{Line}
+use Rattle.html_types.specs.declared.script.Line.TheVariants as line
+use Rattle.html_types.specs.declared.instruction.Stop.{Stop}
+use Rattle.html_types.specs.declared.instruction.Stop.TheVariants as stop
+use Rattle.html_types.specs.declared.instruction.Finish.TheVariants as finale
+use Rattle.standard.specs.Entities.{Entities}
+use Rattle.standard.specs.Act.{Doc, new_doc, acts, node_of}
+use Rattle.standard.specs.Prepare.{Prepared, still, inline, external, prepare}
+use Rattle.standard.specs.Statements.{statements}
+use Rattle.standard.specs.Parser.{Parser, new_parser, Took, took, take_character, Finished, finish}
+
+-- ---- what a parse is given
+
+-- the characters of a page, and how its bytes end
+pub record Page : Type 0 where
+  pub text : List ℕ
+  pub ending : Ending
+
+-- what stays the same over a parse
+pub record World : Type 0 where
+  pub entities : Entities
+
+-- ---- the state
+
+-- what the document's side holds
+pub record Side : Type 0 where
+  pub doc : Doc
+  -- the script nesting level
+  pub level : ℕ
+  -- the characters written and the scripts executed so far
+  pub written : ℕ
+  pub executed : ℕ
+  pub lines : List Line
+
+pub record Serial : Type 0 where
+  pub input : List ℕ
+  -- the insertion point: how many characters of the input stand after it
+  pub point : ℕ
+  pub parser : Parser
+  pub side : Side
+
+pub data Result : Type 0 where
+  finished : Result
+  refused : Why → Result
+
+-- the result, and the state in which the parse ended, whose lines and tree are those that are written
+pub record Outcome : Type 0 where
+  pub result : Result
+  pub last : Serial
+
+abbrev pub refusal : Why → Serial → Outcome
+refusal w s = record { result = refused w; last = s }
+
+abbrev pub first : Page → Serial
+first page = record {
+  input = page.text; point = 0; parser = new_parser 0;
+  side = record { doc = new_doc; level = 0; written = 0; executed = 0; lines = [] };
+}
+
+-- A part of the parse goes on, or refuses, or runs out of fuel.
+pub data Flow : Type 0 where
+  goes : Serial → Flow
+  refuses : Why → Serial → Flow
+  starved : Flow
+
+infixl 20 ◌then◌
+abbrev pub ◌then◌ : Flow → (Serial → Flow) → Flow
+(goes s) then f = f s
+(refuses w s) then f = refuses w s
+starved then f = starved
+
+abbrev pub with_line : Line → Serial → Serial
+with_line l s = record s { side = record s.side { lines = s.side.lines ++ l ∷ [] } }
+
+-- ---- the parser takes characters one by one, and each operation is done at once, up to a stop
+
+pub data Advanced : Type 0 where
+  advanced : Parser → Doc → List ℕ → Stop → Advanced
+
+-- a character's operations are done, and then the rest is read, unless the parser stops there
+abbrev pub done_then : Took → Doc → List ℕ → (Parser → Doc → Advanced) → Advanced
+done_then (took ops p stop.InputEnd) d cs rest = rest p (acts d ops)
+done_then (took ops p s) d cs rest = advanced p (acts d ops) cs s
+
+unfoldable pub advance : Entities → Parser → Doc → List ℕ → Advanced
+advance es p d [] = advanced p d [] stop.InputEnd
+advance es p d (c ∷ cs) = done_then (take_character es p c) d cs (λ p' d'. advance es p' d' cs)
+
+abbrev pub before_point : Serial → List ℕ
+before_point s = take (length s.input - s.point) s.input
+
+abbrev pub after_point : Serial → List ℕ
+after_point s = drop (length s.input - s.point) s.input
+
+abbrev pub moved : Parser → Doc → List ℕ → Serial → Serial
+moved p d rest s = record s { input = rest ++ after_point s; parser = p; side = record s.side { doc = d } }
+
+-- ---- scripts
+
+-- the characters that all scripts of a page may write
+abbrev pub write_limit : ℕ
+write_limit = 1048576
+
+-- the text stands in the input just before the insertion point
+abbrev pub insert : List ℕ → Serial → Serial
+insert t s = record s { input = before_point s ++ t ++ after_point s; side = record s.side { written = s.side.written + length t } }
+
+abbrev pub at_level : ℕ → Serial → Serial
+at_level k s = record s { side = record s.side { level = k } }
+
+abbrev pub at_point : ℕ → Serial → Serial
+at_point n s = record s { point = n }
+
+abbrev pub one_more_executed : Serial → Serial
+one_more_executed s = record s { side = record s.side { executed = suc s.side.executed } }
+
+-- the level and the insertion point are again those of s
+abbrev pub back_at : Serial → Serial → Serial
+back_at s t = at_level s.side.level (at_point s.point t)
+
+-- one level up, with the insertion point just before the next input character
+abbrev pub inside : Serial → Serial
+inside s = at_level (suc s.side.level) (at_point (length s.input) s)
+
+-- Each function takes the value that it goes by as an argument, and the fuel first.
+unfoldable mutual
+  -- a text runs: the statements of its language, or none
+  pub execute : ℕ → World → Option (List Statement) → Serial → Flow
+  execute zero w text s = starved
+  execute (suc n) w None s = goes (with_line (line.Syntax (suc s.side.executed)) (one_more_executed s))
+  execute (suc n) w (Some list) s = run_statements n w list (one_more_executed s)
+
+  pub run_statements : ℕ → World → List Statement → Serial → Flow
+  run_statements zero w list s = starved
+  run_statements (suc n) w [] s = goes s
+  run_statements (suc n) w (statement.Write t ∷ list) s =
+      write n w (nat_le (s.side.written + length t) write_limit) t s then λ s'. run_statements n w list s'
+  run_statements (suc n) w (statement.Remove v ∷ list) s = refuses why.Unready s
+  run_statements (suc n) w (statement.LogById v ∷ list) s = refuses why.Unready s
+  run_statements (suc n) w (statement.LogRoot ∷ list) s = refuses why.Unready s
+
+  -- the written text is parsed up to the insertion point
+  pub write : ℕ → World → Bool → List ℕ → Serial → Flow
+  write zero w fits t s = starved
+  write (suc n) w false t s = refuses why.Writes s
+  write (suc n) w true t s = go_on n w (insert t s)
+
+  pub go_on : ℕ → World → Serial → Flow
+  go_on zero w s = starved
+  go_on (suc n) w s = stopped n w s (advance w.entities s.parser s.side.doc (before_point s))
+
+  -- the parser took the characters before the insertion point, or those up to a stop
+  pub stopped : ℕ → World → Serial → Advanced → Flow
+  stopped zero w s a = starved
+  stopped (suc n) w s (advanced p d rest stop.InputEnd) = goes (moved p d rest s)
+  stopped (suc n) w s (advanced p d rest stop.Deep) = refuses why.Depth (moved p d rest s)
+  stopped (suc n) w s (advanced p d rest _) = refuses why.Unready (moved p d rest s)
+
+-- a script whose end tag was met, as it was prepared
+abbrev pub run_prepared : ℕ → World → Prepared → Serial → Flow
+run_prepared n w still s = goes s
+run_prepared n w (inline t) s = execute n w (statements t) s
+run_prepared n w (external name) s = refuses why.Unready s
+
+-- ---- the moments at level 0
+
+pub data Moment : Type 0 where
+  -- between two characters
+  reading : Serial → Moment
+  -- a script end tag was met
+  tag_ended : NodeId → Serial → Moment
+  over : Outcome → Moment
+
+abbrev pub why_of : Ending → Why
+why_of ending.Bad = why.BadUtf8
+why_of ending.Long = why.Page
+why_of ending.Fault = why.Fault
+why_of ending.End = why.Unready
+
+-- at level 0 the insertion point is at the end of the input
+abbrev pub taken : Parser → Doc → List ℕ → Serial → Serial
+taken p d cs s = record s { input = cs; parser = p; side = record s.side { doc = d } }
+
+abbrev pub at_end : Serial → Finished → Outcome
+at_end s f =
+    let last = taken f.parser (acts s.side.doc f.ops) [] s in
+    elim f.finish [ finale.Finished ↦ record { result = finished; last = last } | finale.Deep ↦ refusal why.Depth last | finale.Missing ↦ refusal why.Unready last ]
+
+-- the input is used: the page's ending is applied
+abbrev pub ended : Entities → Ending → Serial → Outcome
+ended es ending.End s = at_end s (finish es s.parser)
+ended es e s = refusal (why_of e) s
+
+-- one character was taken
+abbrev pub after_character : Serial → List ℕ → Took → Moment
+after_character s cs (took ops p stop.InputEnd) = reading (taken p (acts s.side.doc ops) cs s)
+after_character s cs (took ops p (stop.Script i)) = tag_ended i (taken p (acts s.side.doc ops) cs s)
+after_character s cs (took ops p stop.Deep) = over (refusal why.Depth (taken p (acts s.side.doc ops) cs s))
+after_character s cs (took ops p stop.Missing) = over (refusal why.Unready (taken p (acts s.side.doc ops) cs s))
+
+abbrev pub after_script : Serial → Flow → Option Moment
+after_script s (goes t) = Some (reading (back_at s t))
+after_script s (refuses w t) = Some (over (refusal w t))
+after_script s starved = None
+
+abbrev pub read_next : Entities → Ending → Serial → List ℕ → Moment
+read_next es e s [] = over (ended es e s)
+read_next es e s (c ∷ cs) = after_character s cs (take_character es s.parser c)
+
+-- the script of that id, prepared on the tree as it is
+abbrev pub prepared : NodeId → Serial → Prepared
+prepared i s = prepare s.side.doc.tree (node_of s.side.doc.bound i)
+
+-- the moment after this one, with fuel for the script that runs between them
+unfoldable pub moment_after : ℕ → Ending → World → Moment → Option Moment
+moment_after n e w (reading s) = Some (read_next w.entities e s s.input)
+moment_after n e w (tag_ended i s) = after_script s (run_prepared n w (prepared i s) (inside s))
+moment_after n e w (over o) = Some (over o)
+
+-- k moments on from m
+abbrev pub moments_on : ℕ → ℕ → Ending → World → Moment → Option Moment
+moments_on zero n e w m = Some m
+moments_on (suc k) n e w m = option_and_then (λ m'. moments_on k n e w m') (moment_after n e w m)
+
+abbrev pub outcome_in : Moment → Option Outcome
+outcome_in (over o) = Some o
+outcome_in _ = None
+
+-- with fuel for the moments and as much for each script
+unfoldable pub serial_with : ℕ → Page → World → Option Outcome
+serial_with n page w = option_and_then outcome_in (moments_on n n page.ending w (reading (first page)))
+
+-- what the parse of the page comes to
+abbrev pub IsSerial : Page → World → Outcome → Type 0
+IsSerial page w o = (n : ℕ) × (serial_with n page w ≡ Some o)
+
+-- some moments on from the first comes the second
+abbrev pub Leads : Ending → World → Moment → Moment → Type 0
+Leads e w m m' = (k : ℕ) × (n : ℕ) × (moments_on k n e w m ≡ Some m')
+
+-- a moment that the parse of the page passes through
+abbrev pub Passes : Page → World → Moment → Type 0
+Passes page w m = Leads page.ending w (reading (first page)) m

@@ -1,0 +1,84 @@
+-- The states of text (13.2.5.1 to 13.2.5.5) and those in which the end tag of RCDATA, RAWTEXT and script data is sought
+-- (13.2.5.9 to 13.2.5.17).
+use Rattle.std.specs.Prelude.{ℕ, Bool, false, List, [], ◌∷◌, ◌++◌, Option, Some, None, if◌then◌else◌, map}
+use Rattle.std.specs.Char.{to_ascii_lowercase}
+use Rattle.html_types.specs.Text.{same_text}
+use Rattle.html_types.specs.Words.{word_text}
+use Rattle.html_types.specs.declared.word.Word.{Word}
+use Rattle.html_types.specs.declared.token.PartialTag.{PartialTag}
+use Rattle.html_types.specs.declared.token.TagKind.TheVariants as kind
+use Rattle.html_types.specs.declared.token.Token.TheVariants.{Character}
+use Rattle.html_types.specs.declared.state.RawText.{RawText}
+use Rattle.html_types.specs.declared.state.RawText.TheVariants.{Rcdata, Rawtext, ScriptData}
+use Rattle.html_types.specs.declared.state.TextState.{TextState}
+use Rattle.html_types.specs.declared.state.TextState.TheVariants.{Data, Raw, Plaintext, RawLessThan, RawEndTagOpen, RawEndTagName}
+use Rattle.html_types.specs.declared.state.TagState.TheVariants.{TagOpen, BeforeAttributeName, SelfClosingStartTag}
+use Rattle.html_types.specs.declared.class.Class.{Class}
+use Rattle.html_types.specs.declared.class.Class.TheVariants.{Space, Bang, Ampersand, Slash, Less, Greater, Alpha, InputEnd}
+use Rattle.standard.specs.Class.{shown}
+use Rattle.standard.specs.Step.{Step, in_text, in_tag, emit, to, emit_again, again, finish, missing, new_tag, emit_tag}
+
+-- 13.2.5.1 Data state
+abbrev pub data_row : Class → ℕ → Step
+data_row Ampersand c = missing
+data_row Less c = to (in_tag TagOpen)
+data_row InputEnd c = finish
+data_row _ c = emit (Character c ∷ []) (in_text Data)
+
+-- 13.2.5.2 RCDATA state, 13.2.5.3 RAWTEXT state, 13.2.5.4 Script data state
+abbrev pub raw_row : RawText → Option Word → Class → ℕ → Step
+raw_row Rcdata last Ampersand c = missing
+raw_row raw last Less c = to (in_text (RawLessThan raw last))
+raw_row raw last InputEnd c = finish
+raw_row raw last _ c = emit (Character (shown c) ∷ []) (in_text (Raw raw last))
+
+-- 13.2.5.5 PLAINTEXT state
+abbrev pub plaintext_row : Class → ℕ → Step
+plaintext_row InputEnd c = finish
+plaintext_row _ c = emit (Character (shown c) ∷ []) (in_text Plaintext)
+
+-- 13.2.5.9 RCDATA, 13.2.5.12 RAWTEXT, 13.2.5.15 Script data less-than sign state
+abbrev pub raw_less_than_row : RawText → Option Word → Class → ℕ → Step
+raw_less_than_row raw last Slash c = to (in_text (RawEndTagOpen raw last))
+raw_less_than_row ScriptData last Bang c = missing
+raw_less_than_row raw last _ c = emit_again (Character 60 ∷ []) (in_text (Raw raw last))
+
+-- 13.2.5.10 RCDATA, 13.2.5.13 RAWTEXT, 13.2.5.16 Script data end tag open state
+abbrev pub raw_end_tag_open_row : RawText → Option Word → Class → ℕ → Step
+raw_end_tag_open_row raw last Alpha c = again (in_text (RawEndTagName raw last []))
+raw_end_tag_open_row raw last _ c = emit_again (Character 60 ∷ Character 47 ∷ []) (in_text (Raw raw last))
+
+-- an appropriate end tag token: its name is that of the last start tag
+abbrev pub is_appropriate : Option Word → List ℕ → Bool
+is_appropriate None name = false
+is_appropriate (Some last) name = same_text name (word_text last)
+
+abbrev pub in_lower_case : List ℕ → List ℕ
+in_lower_case written = map to_ascii_lowercase written
+
+abbrev pub end_tag_named : List ℕ → PartialTag
+end_tag_named written = new_tag kind.End (in_lower_case written)
+
+-- what was read is no end tag: it is text
+abbrev pub no_end_tag : RawText → Option Word → List ℕ → Step
+no_end_tag raw last written = emit_again (Character 60 ∷ Character 47 ∷ map Character written) (in_text (Raw raw last))
+
+abbrev pub if_appropriate : RawText → Option Word → List ℕ → Step → Step
+if_appropriate raw last written step = if is_appropriate last (in_lower_case written) then step else no_end_tag raw last written
+
+-- 13.2.5.11 RCDATA, 13.2.5.14 RAWTEXT, 13.2.5.17 Script data end tag name state
+abbrev pub raw_end_tag_name_row : RawText → Option Word → List ℕ → Class → ℕ → Step
+raw_end_tag_name_row raw last written Space c = if_appropriate raw last written (to (in_tag (BeforeAttributeName (end_tag_named written))))
+raw_end_tag_name_row raw last written Slash c = if_appropriate raw last written (to (in_tag (SelfClosingStartTag (end_tag_named written))))
+raw_end_tag_name_row raw last written Greater c = if_appropriate raw last written (emit_tag (end_tag_named written))
+raw_end_tag_name_row raw last written Alpha c = to (in_text (RawEndTagName raw last (written ++ c ∷ [])))
+raw_end_tag_name_row raw last written _ c = no_end_tag raw last written
+
+-- the rows of these states
+abbrev pub text_row : TextState → Class → ℕ → Step
+text_row Data = data_row
+text_row (Raw raw last) = raw_row raw last
+text_row Plaintext = plaintext_row
+text_row (RawLessThan raw last) = raw_less_than_row raw last
+text_row (RawEndTagOpen raw last) = raw_end_tag_open_row raw last
+text_row (RawEndTagName raw last written) = raw_end_tag_name_row raw last written
