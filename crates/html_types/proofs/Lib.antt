@@ -1,2 +1,4 @@
 pub mod TextLemmas
 pub mod CharLemmas
+pub mod WordLemmas
+pub mod ListLemmas
