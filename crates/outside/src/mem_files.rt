@@ -1,0 +1,108 @@
+// Files in memory, where the calls that a list names fail.
+ghost use Rattle.std.specs.Prelude.{◌≡◌, ◌↔◌, ◌<◌, ◌≤◌, ◌+◌, ◌-◌, ◌^◌, [], Some, None, min, length, take, drop, if◌then◌else◌, IsTrue, IsErr, IfOk, IfSome, IsSome, OnOk, OnErr, Contains};
+ghost use Rattle.std.specs.Bool.{OnTrue, OnFalse};
+ghost use Rattle.std.specs.Str.{bytes_eq};
+ghost use Rattle.outside.specs.ByPort.{at_port};
+ghost use Rattle.outside.specs.Memory.{files_of, left_of, absences_of};
+ghost use Rattle.outside.specs.Outside.{Rose, NeverFall, OthersStay};
+ghost use Rattle.outside.specs.MemFiles.{files_in, failing, number_at};
+
+use crate::by_port::ByPort;
+use crate::{Failed, NeverFails, Outside, Port};
+use std::alloc::{AllocError, Global};
+
+/// Files in memory, with calls that fail: of each pair of a port and a number n in its list,
+/// the n-th `begin` or `read` at that port, counted from 1.
+#[derive(Drop)]
+pub struct MemFiles {
+    files: NeverFails,
+    fail: Vec<(Port, u64)>,
+    calls: ByPort<u64>,
+    faults: ByPort<u64>,
+}
+
+fn is_listed(calls: &[(Port, u64)], port: Port, number: u64) -> bool
+    ensures { IsTrue result ↔ Contains calls.now (port, number) }
+{
+    for call in calls {
+        if call.0 == port && call.1 == number {
+            return true;
+        }
+    }
+    false
+}
+
+impl MemFiles {
+    /// No file, nothing begun, and the list of the calls that are to fail.
+    pub fn new(alloc: Global, fail: &[(Port, u64)]) -> Result<Self, AllocError>
+        ensures files { IfOk result (λ all. (path : _) → files_in all path ≡ None) }
+        ensures failing { IfOk result (λ all. failing all ≡ fail.now) }
+        ensures number { IfOk result (λ all. (port : _) → number_at all port ≡ 1) }
+    {
+        Ok(MemFiles {
+            files: NeverFails::new(alloc),
+            fail: fail.to_vec(alloc)?,
+            calls: ByPort::all(0),
+            faults: ByPort::all(0),
+        })
+    }
+
+    /// Adds a file. A path that is there gets the new bytes.
+    pub fn add(&mut self, path: &str, bytes: &[u8]) -> Result<(), AllocError>
+        ensures ok { OnOk result ((other : _) → files_in self.new other
+            ≡ (if bytes_eq path.now other then Some bytes.now else files_in self.old other)) }
+        ensures err { OnErr result (files_in self.new ≡ files_in self.old) }
+    {
+        self.files.add(path, bytes)
+    }
+
+    /// Counts a call at the port, and says whether it is to fail.
+    fn fails(&mut self, port: Port) -> bool
+        ensures fails { IsTrue result ↔ Contains (failing self.old) (port, number_at self.old port) }
+        ensures failing { failing self.new ≡ failing self.old }
+        ensures number { number_at self.new port ≡ min (number_at self.old port + 1) (2 ^ 64 - 1) }
+        ensures files { self.new.files ≡ self.old.files }
+        ensures faults { self.new.faults ≡ self.old.faults }
+    {
+        let number = self.calls.get(port).saturating_add(1);
+        self.calls.set(port, number);
+        is_listed(&self.fail, port, number)
+    }
+
+    fn count_fault(&mut self, port: Port)
+        ensures files { self.new.files ≡ self.old.files }
+        ensures rose { Rose (at_port self.old.faults port) (at_port self.new.faults port) }
+        ensures others { OthersStay port (at_port self.old.faults) (at_port self.new.faults) }
+        ensures faults { NeverFall (at_port self.old.faults) (at_port self.new.faults) }
+    {
+        let faults = self.faults.get(port);
+        self.faults.set(port, faults.saturating_add(1));
+    }
+}
+
+impl Outside for MemFiles {
+    ghost files = { λ all. Some (files_of all.files) };
+
+    ghost left = { λ all port. Some (left_of all.files port) };
+
+    ghost faults = { λ all. at_port all.faults };
+
+    ghost absences = { λ all. absences_of all.files };
+
+    fn begin(&mut self, port: Port, path: &str) -> Result<bool, Failed> {
+        if self.fails(port) {
+            self.count_fault(port);
+            self.files.close(port);
+            return Err(Failed);
+        }
+        self.files.begin(port, path)
+    }
+
+    fn read(&mut self, port: Port, into: &mut [u8]) -> Result<usize, Failed> {
+        if self.fails(port) {
+            self.count_fault(port);
+            return Err(Failed);
+        }
+        self.files.read(port, into)
+    }
+}
