@@ -3,9 +3,8 @@ ghost use Rattle.std.specs.Prelude.{◌≡◌, ◌↔◌, ◌<◌, ◌≤◌, �
 ghost use Rattle.std.specs.Bool.{OnTrue, OnFalse};
 ghost use Rattle.std.specs.Str.{bytes_eq};
 ghost use Rattle.outside.specs.ByPort.{at_port};
-ghost use Rattle.outside.specs.Memory.{files_of, left_of, absences_of};
-ghost use Rattle.outside.specs.Outside.{Rose, NeverFall, OthersStay};
-ghost use Rattle.outside.specs.MemFiles.{files_in, failing, number_at};
+ghost use Rattle.outside.specs.Outside.{Rose, NeverFall, OthersStay, KeepsOthers};
+ghost use Rattle.outside.specs.MemFiles.{files_in, left_in, faults_in, absences_in, shown, failing, number_at};
 
 use crate::by_port::ByPort;
 use crate::{Failed, NeverFails, Outside, Port};
@@ -70,6 +69,8 @@ impl MemFiles {
     }
 
     fn count_fault(&mut self, port: Port)
+        ensures failing { failing self.new ≡ failing self.old }
+        ensures number { self.new.calls ≡ self.old.calls }
         ensures files { self.new.files ≡ self.old.files }
         ensures rose { Rose (at_port self.old.faults port) (at_port self.new.faults port) }
         ensures others { OthersStay port (at_port self.old.faults) (at_port self.new.faults) }
@@ -81,15 +82,29 @@ impl MemFiles {
 }
 
 impl Outside for MemFiles {
-    ghost files = { λ all. Some (files_of all.files) };
+    ghost files = { λ all. Some (files_in all) };
 
-    ghost left = { λ all port. Some (left_of all.files port) };
+    ghost left = { λ all port. Some (left_in all port) };
 
-    ghost faults = { λ all. at_port all.faults };
+    ghost faults = { faults_in };
 
-    ghost absences = { λ all. absences_of all.files };
+    ghost absences = { absences_in };
 
-    fn begin(&mut self, port: Port, path: &str) -> Result<bool, Failed> {
+    fn begin(&mut self, port: Port, path: &str) -> Result<bool, Failed>
+        // It fails exactly where the list names it.
+        ensures fails { IsErr result ↔ Contains (failing self.old) (port, number_at self.old port) }
+        ensures failing { failing self.new ≡ failing self.old }
+        ensures number { number_at self.new port ≡ min (number_at self.old port + 1) (2 ^ 64 - 1) }
+
+        ensures found { IfOk result (λ there. OnTrue there (
+            IsSome (files_in self.old path.now) × (Some (left_in self.new port) ≡ files_in self.old path.now))) }
+        ensures absent { IfOk result (λ there. OnFalse there (files_in self.old path.now ≡ None)) }
+        ensures none_left { IfOk result (λ there. OnFalse there (left_in self.new port ≡ [])) }
+        ensures none_left_failed { OnErr result (left_in self.new port ≡ []) }
+        ensures absences_rose { IfOk result (λ there. OnFalse there (Rose (absences_in self.old port) (absences_in self.new port))) }
+        ensures faults_rose { OnErr result (Rose (faults_in self.old port) (faults_in self.new port)) }
+        ensures others { KeepsOthers port (shown self.old) (shown self.new) }
+    {
         if self.fails(port) {
             self.count_fault(port);
             self.files.close(port);
@@ -98,7 +113,21 @@ impl Outside for MemFiles {
         self.files.begin(port, path)
     }
 
-    fn read(&mut self, port: Port, into: &mut [u8]) -> Result<usize, Failed> {
+    fn read(&mut self, port: Port, into: &mut [u8]) -> Result<usize, Failed>
+        // It fails exactly where the list names it.
+        ensures fails { IsErr result ↔ Contains (failing self.old) (port, number_at self.old port) }
+        ensures failing { failing self.new ≡ failing self.old }
+        ensures number { number_at self.new port ≡ min (number_at self.old port + 1) (2 ^ 64 - 1) }
+
+        ensures count { IfOk result (λ n. n ≤ length into.old) }
+        ensures moved { IfOk result (λ n. (n ≤ length (left_in self.old port))
+            × (take n into.new ≡ take n (left_in self.old port)) × (left_in self.new port ≡ drop n (left_in self.old port))) }
+        ensures end { IfOk result (λ n. n ≡ 0 → 0 < length into.old → left_in self.old port ≡ []) }
+        ensures failed { OnErr result (left_in self.new port ≡ left_in self.old port) }
+        ensures faults_rose { OnErr result (Rose (faults_in self.old port) (faults_in self.new port)) }
+        ensures absences { absences_in self.new ≡ absences_in self.old }
+        ensures others { KeepsOthers port (shown self.old) (shown self.new) }
+    {
         if self.fails(port) {
             self.count_fault(port);
             return Err(Failed);
