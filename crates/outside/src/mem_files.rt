@@ -60,6 +60,7 @@ impl MemFiles {
         ensures fails { IsTrue result ↔ Contains (failing self.old) (port, number_at self.old port) }
         ensures failing { failing self.new ≡ failing self.old }
         ensures number { number_at self.new port ≡ min (number_at self.old port + 1) (2 ^ 64 - 1) }
+        ensures other_numbers { OthersStay port (number_at self.old) (number_at self.new) }
         ensures files { self.new.files ≡ self.old.files }
         ensures faults { self.new.faults ≡ self.old.faults }
     {
@@ -95,6 +96,7 @@ impl Outside for MemFiles {
         ensures fails { IsErr result ↔ Contains (failing self.old) (port, number_at self.old port) }
         ensures failing { failing self.new ≡ failing self.old }
         ensures number { number_at self.new port ≡ min (number_at self.old port + 1) (2 ^ 64 - 1) }
+        ensures other_numbers { OthersStay port (number_at self.old) (number_at self.new) }
 
         ensures found { IfOk result (λ there. OnTrue there (
             IsSome (files_in self.old path.now) × (Some (left_in self.new port) ≡ files_in self.old path.now))) }
@@ -118,6 +120,7 @@ impl Outside for MemFiles {
         ensures fails { IsErr result ↔ Contains (failing self.old) (port, number_at self.old port) }
         ensures failing { failing self.new ≡ failing self.old }
         ensures number { number_at self.new port ≡ min (number_at self.old port + 1) (2 ^ 64 - 1) }
+        ensures other_numbers { OthersStay port (number_at self.old) (number_at self.new) }
 
         ensures count { IfOk result (λ n. n ≤ length into.old) }
         ensures moved { IfOk result (λ n. (n ≤ length (left_in self.old port))

@@ -1,5 +1,5 @@
-use Rattle.std.proofs.Common.{ap, sym, rules, ◌≡◌}
-use Rattle.outside.specs.MemFiles.{failing, number_at}
+use Rattle.std.proofs.Common.{rules, ◌≡◌}
+use Rattle.outside.specs.MemFiles.{number_at}
 use Rattle.outside.proofs.mem_files.MemFiles.fails.Goals as goal
 
 pub returns-clause-fails : goal.returns-clause-fails
