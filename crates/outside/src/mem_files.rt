@@ -8,7 +8,8 @@ ghost use Rattle.outside.specs.MemFiles.{files_in, left_in, faults_in, absences_
 
 use crate::by_port::ByPort;
 use crate::{Failed, NeverFails, Outside, Port};
-use std::alloc::{AllocError, Global};
+use html_types::NoMemory;
+use std::alloc::Global;
 
 /// Files in memory, with calls that fail: of each pair of a port and a number n in its list,
 /// the n-th `begin` or `read` at that port, counted from 1.
@@ -33,7 +34,7 @@ fn is_listed(calls: &[(Port, u64)], port: Port, number: u64) -> bool
 
 impl MemFiles {
     /// No file, nothing begun, and the list of the calls that are to fail.
-    pub fn new(alloc: Global, fail: &[(Port, u64)]) -> Result<Self, AllocError>
+    pub fn new(alloc: Global, fail: &[(Port, u64)]) -> Result<Self, NoMemory>
         ensures files { IfOk result (λ all. (path : _) → files_in all path ≡ None) }
         ensures failing { IfOk result (λ all. failing all ≡ fail.now) }
         ensures number { IfOk result (λ all. (port : _) → number_at all port ≡ 1) }
@@ -47,7 +48,7 @@ impl MemFiles {
     }
 
     /// Adds a file. A path that is there gets the new bytes.
-    pub fn add(&mut self, path: &str, bytes: &[u8]) -> Result<(), AllocError>
+    pub fn add(&mut self, path: &str, bytes: &[u8]) -> Result<(), NoMemory>
         ensures ok { OnOk result ((other : _) → files_in self.new other
             ≡ (if bytes_eq path.now other then Some bytes.now else files_in self.old other)) }
         ensures err { OnErr result (files_in self.new ≡ files_in self.old) }
