@@ -1,0 +1,2 @@
+mod OnLiterals
+mod Rows
