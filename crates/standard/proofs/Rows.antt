@@ -1,5 +1,5 @@
 -- Worked pages: what is written for each, by computation. Where nothing is written the page meets a row that isn't there yet.
-use Rattle.std.proofs.Common.{◌≡◌, ℕ, List, [], Option, Some, option_map, refl, codes}
+use Rattle.std.proofs.Common.{◌≡◌, ℕ, zero, suc, ◌++◌, List, [], Option, Some, option_map, refl, codes}
 use Prim.Native.String.{String}
 use Rattle.std.specs.Prelude.{encode_utf8_all}
 use Rattle.html_types.specs.declared.script.Ending.{Ending}
@@ -9,8 +9,11 @@ use Rattle.standard.specs.Output.{output}
 use Rattle.standard.proofs.OnLiterals.{serial_on_literals}
 
 -- what is written for a page of this text and ending
+abbrev written_for : List ℕ → Ending → Option (List ℕ)
+written_for text ending = option_map output (serial_with 10000 (record { text = text; ending = ending }) (record { entities = [] }))
+
 abbrev written : String → Ending → Option (List ℕ)
-written page ending = option_map output (serial_with 10000 (record { text = codes page; ending = ending }) (record { entities = [] }))
+written page ending = written_for (codes page) ending
 
 abbrev wants : String → Option (List ℕ)
 wants s = Some (encode_utf8_all (codes s))
@@ -282,3 +285,19 @@ object_end = refl
 noscript : written "<noscript><p>a</noscript><body><noscript><p>b</noscript>c" ending.End ≡ wants "tree \"<html><head><noscript><p>a</noscript></head><body><noscript><p>b</noscript>c</body></html>\"\n"
 unfolding serial_on_literals
 noscript = refl
+
+abbrev times : ℕ → List ℕ → List ℕ
+times zero t = []
+times (suc n) t = t ++ times n t
+
+pub open_elements_up_to_the_limit : written_for (times 510 (codes "<div>")) ending.Bad ≡ wants "refused bad-utf8\n"
+unfolding serial_on_literals
+open_elements_up_to_the_limit = refl
+
+pub one_open_element_more : written_for (times 511 (codes "<div>")) ending.Bad ≡ wants "refused depth\n"
+unfolding serial_on_literals
+one_open_element_more = refl
+
+pub void_element_beyond_the_limit : written_for (times 510 (codes "<div>") ++ codes "<br>") ending.Bad ≡ wants "refused depth\n"
+unfolding serial_on_literals
+void_element_beyond_the_limit = refl
