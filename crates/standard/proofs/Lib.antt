@@ -1,2 +1,3 @@
 mod OnLiterals
 mod Rows
+pub mod Fuel
