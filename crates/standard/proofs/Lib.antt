@@ -1,3 +1,4 @@
 mod OnLiterals
 mod Rows
 pub mod Fuel
+pub mod Total
