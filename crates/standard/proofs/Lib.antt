@@ -2,3 +2,4 @@ mod OnLiterals
 mod Rows
 pub mod Fuel
 pub mod Total
+pub mod Parse
