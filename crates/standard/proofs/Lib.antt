@@ -3,3 +3,5 @@ mod Rows
 pub mod Fuel
 pub mod Total
 pub mod Parse
+pub mod Batch
+pub mod Passing

@@ -1,11 +1,13 @@
 -- What is proved of the serial parse itself.
-use Rattle.std.specs.Prelude.{◌≡◌, ℕ, ◌+◌, List, ◌++◌, drop}
+use Rattle.std.specs.Prelude.{◌≡◌, ℕ, ◌+◌, List, [], ◌++◌, length, drop}
+use Rattle.html_types.specs.declared.script.Ending.{Ending}
+use Rattle.html_types.specs.declared.script.Why.TheVariants as why
 use Rattle.html_types.specs.declared.instruction.Stop.{Stop}
 use Rattle.html_types.specs.declared.instruction.Stop.TheVariants as stop
 use Rattle.standard.specs.Entities.{Entities}
 use Rattle.standard.specs.Act.{Doc, acts}
 use Rattle.standard.specs.Parser.{Parser, Parsed, parse}
-use Rattle.standard.specs.Serial.{Page, World, Outcome, IsSerial, Advanced, advanced, advance}
+use Rattle.standard.specs.Serial.{Page, World, Outcome, IsSerial, Advanced, advanced, advance, Serial, Moment, reading, tag_ended, over, refusal, taken, ended, Leads}
 
 -- ---- outcomes
 
@@ -39,3 +41,38 @@ executed d text r = advanced r.parser (acts d r.ops) (drop r.used text) r.stop
 -- it makes no difference whether each operation is done at once or all of them after the text
 abbrev pub AdvancesByParse : Type 0
 AdvancesByParse = (es : Entities) (p : Parser) (d : Doc) (text : List ℕ) → advance es p d text ≡ executed d text (parse es p text)
+
+-- ---- a front of the page
+
+-- where the parse of a front of the input comes to from s: the parser, the document and the input are then those
+abbrev pub moment_at : Serial → Parser → Doc → List ℕ → Stop → Moment
+moment_at s p d input stop.InputEnd = reading (taken p d input s)
+moment_at s p d input (stop.Script i) = tag_ended i (taken p d input s)
+moment_at s p d input stop.Deep = over (refusal why.Depth (taken p d input s))
+moment_at s p d input stop.Missing = over (refusal why.Unready (taken p d input s))
+
+-- What a parser that stood at p has made of the text x, on the document d: where it then stands, the document with its
+-- operations done, the characters that it didn't use, and why it stopped.
+pub record HasParsed (es : Entities) (p : Parser) (d : Doc) (x : List ℕ) (p' : Parser) (d' : Doc) (x' : List ℕ) (stopped : Stop) : Type 0 where
+  pub parser : p' ≡ (parse es p x).parser
+  pub doc : d' ≡ acts d (parse es p x).ops
+  pub left : x' ≡ drop (parse es p x).used x
+  pub stop : stopped ≡ (parse es p x).stop
+
+-- a parse leaves nothing of its text unless it stops
+abbrev pub LeavesNothing : Type 0
+LeavesNothing = (es : Entities) (p p' : Parser) (d d' : Doc) (x left : List ℕ) → HasParsed es p d x p' d' left stop.InputEnd → left ≡ []
+
+-- What is parsed of a front x of the input leads from one moment of the serial parse to another.
+abbrev pub BatchesLead : Type 0
+BatchesLead = (e : Ending) (w : World) (m : Moment) (s : Serial) (x rest : List ℕ) (p : Parser) (d : Doc) (left : List ℕ) (stopped : Stop) →
+    Leads e w m (reading s) → s.input ≡ x ++ rest → HasParsed w.entities s.parser s.side.doc x p d left stopped → Leads e w m (moment_at s p d (left ++ rest) stopped)
+
+-- The same where the parser uses all of x.
+abbrev pub WholeBatchesLead : Type 0
+WholeBatchesLead = (e : Ending) (w : World) (m : Moment) (s : Serial) (x rest : List ℕ) (p : Parser) (d : Doc) (left : List ℕ) →
+    Leads e w m (reading s) → s.input ≡ x ++ rest → HasParsed w.entities s.parser s.side.doc x p d left stop.InputEnd → Leads e w m (reading (taken p d rest s))
+
+-- where the input is used the parse is over
+abbrev pub EndLeads : Type 0
+EndLeads = (e : Ending) (w : World) (m : Moment) (s : Serial) → Leads e w m (reading s) → s.input ≡ [] → Leads e w m (over (ended w.entities e s))
