@@ -5,3 +5,4 @@ pub mod Total
 pub mod Parse
 pub mod Batch
 pub mod Passing
+pub mod Scripts

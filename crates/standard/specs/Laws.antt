@@ -1,13 +1,20 @@
 -- What is proved of the serial parse itself.
-use Rattle.std.specs.Prelude.{◌≡◌, ℕ, ◌+◌, List, [], ◌++◌, length, drop}
+use Rattle.std.specs.Prelude.{◌≡◌, ℕ, suc, ◌+◌, ◌≤◌, ◌<◌, List, [], ◌∷◌, ◌++◌, length, drop, Option, Some, None}
+use Rattle.html_types.specs.declared.operation.NodeId.{NodeId}
 use Rattle.html_types.specs.declared.script.Ending.{Ending}
+use Rattle.html_types.specs.declared.script.Why.{Why}
 use Rattle.html_types.specs.declared.script.Why.TheVariants as why
+use Rattle.html_types.specs.declared.script.Statement.{Statement}
+use Rattle.html_types.specs.declared.script.Statement.TheVariants as statement
+use Rattle.html_types.specs.declared.script.Line.TheVariants as line
 use Rattle.html_types.specs.declared.instruction.Stop.{Stop}
 use Rattle.html_types.specs.declared.instruction.Stop.TheVariants as stop
 use Rattle.standard.specs.Entities.{Entities}
 use Rattle.standard.specs.Act.{Doc, acts}
+use Rattle.standard.specs.Statements.{statements}
+use Rattle.standard.specs.Prepare.{still, inline, external}
 use Rattle.standard.specs.Parser.{Parser, Parsed, parse}
-use Rattle.standard.specs.Serial.{Page, World, Outcome, IsSerial, Advanced, advanced, advance, Serial, Moment, reading, tag_ended, over, refusal, taken, ended, Leads}
+use Rattle.standard.specs.Serial.{Page, World, Outcome, IsSerial, Advanced, advanced, advance, Serial, Flow, goes, refuses, with_line, write_limit, one_more_executed, back_at, inside, run_statements, run_prepared, prepared, Moment, reading, tag_ended, over, refusal, taken, ended, Leads}
 
 -- ---- outcomes
 
@@ -76,3 +83,90 @@ WholeBatchesLead = (e : Ending) (w : World) (m : Moment) (s : Serial) (x rest : 
 -- where the input is used the parse is over
 abbrev pub EndLeads : Type 0
 EndLeads = (e : Ending) (w : World) (m : Moment) (s : Serial) → Leads e w m (reading s) → s.input ≡ [] → Leads e w m (over (ended w.entities e s))
+
+-- ---- scripts
+
+-- what the statements come to on s, with enough fuel
+abbrev pub StatementsComeTo : World → List Statement → Serial → Flow → Type 0
+StatementsComeTo w list s f = (n : ℕ) × (run_statements n w list s ≡ f)
+
+-- what a script whose end tag was met comes to
+abbrev pub ScriptComesTo : World → NodeId → Serial → Flow → Type 0
+ScriptComesTo w i s f = (n : ℕ) × (run_prepared n w (prepared i s) (inside s) ≡ f)
+
+-- The moment behind a script: it comes to that moment, or the parse is over.
+abbrev pub ScriptLeads : Type 0
+ScriptLeads = (e : Ending) (w : World) (m : Moment) (i : NodeId) (s t : Serial) →
+    Leads e w m (tag_ended i s) → ScriptComesTo w i s (goes t) → Leads e w m (reading (back_at s t))
+
+abbrev pub ScriptRefuses : Type 0
+ScriptRefuses = (e : Ending) (w : World) (m : Moment) (i : NodeId) (s t : Serial) (r : Why) →
+    Leads e w m (tag_ended i s) → ScriptComesTo w i s (refuses r t) → Leads e w m (over (refusal r t))
+
+-- a script that doesn't run
+abbrev pub StillScripts : Type 0
+StillScripts = (w : World) (i : NodeId) (s : Serial) → prepared i s ≡ still → ScriptComesTo w i s (goes (inside s))
+
+-- a script that isn't there yet
+abbrev pub ExternalScripts : Type 0
+ExternalScripts = (w : World) (i : NodeId) (s : Serial) (name : List ℕ) → prepared i s ≡ external name → ScriptComesTo w i s (refuses why.Unready (inside s))
+
+-- a text that isn't in the language
+abbrev pub SyntaxErrors : Type 0
+SyntaxErrors = (w : World) (i : NodeId) (s : Serial) (t : List ℕ) → prepared i s ≡ inline t → statements t ≡ None →
+    ScriptComesTo w i s (goes (with_line (line.Syntax (suc s.side.executed)) (one_more_executed (inside s))))
+
+-- a text in the language comes to what its statements come to
+abbrev pub ScriptsRun : Type 0
+ScriptsRun = (w : World) (i : NodeId) (s : Serial) (t : List ℕ) (list : List Statement) (f : Flow) → prepared i s ≡ inline t → statements t ≡ Some list →
+    StatementsComeTo w list (one_more_executed (inside s)) f → ScriptComesTo w i s f
+
+-- ---- statements
+
+-- all text that was written is used
+abbrev pub IsIdle : Serial → Type 0
+IsIdle s = s.point ≡ length s.input
+
+-- a text was written, and the parser went over it
+abbrev pub wrote : Parser → Doc → List ℕ → Serial → Serial
+wrote p d t s = record s { parser = p; side = record s.side { doc = d; written = s.side.written + length t } }
+
+-- the same where it stopped, with that part of the text left
+abbrev pub wrote_part : Parser → Doc → List ℕ → List ℕ → Serial → Serial
+wrote_part p d t left s = record (wrote p d t s) { input = left ++ s.input }
+
+-- no statement is left
+abbrev pub StatementsEnd : Type 0
+StatementsEnd = (w : World) (s : Serial) → StatementsComeTo w [] s (goes s)
+
+-- A write whose text the parser takes whole: the other statements follow.
+abbrev pub WritesGoOn : Type 0
+WritesGoOn = (w : World) (t : List ℕ) (list : List Statement) (s : Serial) (p : Parser) (d : Doc) (left : List ℕ) (f : Flow) →
+    IsIdle s → s.side.written + length t ≤ write_limit → HasParsed w.entities s.parser s.side.doc t p d left stop.InputEnd →
+    StatementsComeTo w list (wrote p d t s) f → StatementsComeTo w (statement.Write t ∷ list) s f
+
+-- why a stop in a text that is written refuses the page
+abbrev pub why_at : Stop → Option Why
+why_at stop.InputEnd = None
+why_at (stop.Script i) = Some why.Unready
+why_at stop.Deep = Some why.Depth
+why_at stop.Missing = Some why.Unready
+
+-- A write in whose text the parser stops.
+abbrev pub WritesRefuse : Type 0
+WritesRefuse = (w : World) (t : List ℕ) (list : List Statement) (s : Serial) (p : Parser) (d : Doc) (left : List ℕ) (stopped : Stop) (r : Why) →
+    IsIdle s → s.side.written + length t ≤ write_limit → HasParsed w.entities s.parser s.side.doc t p d left stopped → why_at stopped ≡ Some r →
+    StatementsComeTo w (statement.Write t ∷ list) s (refuses r (wrote_part p d t left s))
+
+-- a write of more than scripts may write
+abbrev pub LongWritesRefuse : Type 0
+LongWritesRefuse = (w : World) (t : List ℕ) (list : List Statement) (s : Serial) → write_limit < s.side.written + length t →
+    StatementsComeTo w (statement.Write t ∷ list) s (refuses why.Writes s)
+
+-- the statements that aren't there yet
+abbrev pub IsUnready : Statement → Type 0
+IsUnready (statement.Write t) = ⊥
+IsUnready _ = Unit {0}
+
+abbrev pub OthersRefuse : Type 0
+OthersRefuse = (w : World) (a : Statement) (list : List Statement) (s : Serial) → IsUnready a → StatementsComeTo w (a ∷ list) s (refuses why.Unready s)
