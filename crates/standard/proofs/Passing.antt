@@ -4,14 +4,17 @@ use Rattle.std.proofs.Math.Seq.{drop-length}
 use Rattle.std.proofs.lemmas.Option.{none-some, same_Some}
 use Rattle.std.specs.Prelude.{⊤}
 use Rattle.html_types.specs.declared.script.Ending.{Ending}
+use Rattle.html_types.specs.declared.script.Ending.TheVariants as ending
 use Rattle.html_types.specs.declared.script.Why.TheVariants as why
 use Rattle.html_types.specs.declared.instruction.Stop.{Stop}
 use Rattle.html_types.specs.declared.instruction.Stop.TheVariants as stop
+use Rattle.html_types.specs.declared.instruction.Finish.{Finish}
+use Rattle.html_types.specs.declared.instruction.Finish.TheVariants as finale
 use Rattle.standard.specs.Entities.{Entities}
 use Rattle.standard.specs.Act.{Doc, acts}
-use Rattle.standard.specs.Parser.{Parser, Took, took, take_character, Parsed, after_character, and_rest, parse}
-use Rattle.standard.specs.Serial.{World, Page, Outcome, Serial, Moment, reading, tag_ended, over, refusal, first, taken, ended, read_next, moment_after, moments_on, Leads, Passes, IsSerial}
-use Rattle.standard.specs.Laws.{moment_at, HasParsed, LeavesNothing, BatchesLead, WholeBatchesLead, EndLeads}
+use Rattle.standard.specs.Parser.{Parser, Took, took, take_character, Parsed, after_character, and_rest, parse, Finished, finish}
+use Rattle.standard.specs.Serial.{World, Page, Outcome, Serial, Moment, reading, tag_ended, over, refusal, first, finished, taken, at_end, ended, read_next, moment_after, moments_on, Leads, Passes, IsSerial}
+use Rattle.standard.specs.Laws.{moment_at, HasParsed, LeavesNothing, BatchesLead, WholeBatchesLead, EndLeads, HasFinished, outcome_at, FinishLeads, OverIsSerial}
 use Rattle.standard.proofs.Fuel.{moments_on-by, over-by, over-serial}
 use Rattle.standard.proofs.Batch.{moment_behind, reading-batch}
 
@@ -50,7 +53,7 @@ pub leads-then : (e : Ending) (w : World) (m0 m m' : Moment) → Leads e w m0 m 
 leads-then e w m0 m m' p (j, n, q) = leads-on e w m0 j n m m' p q
 
 -- the moment in which the parse is over has its outcome
-pub passes-over : (page : Page) (w : World) (o : Outcome) → Passes page w (over o) → IsSerial page w o
+pub passes-over : OverIsSerial
 passes-over page w o (k, n, p) =
     let c : n + k ≡ k + n = omega arith in
     let more : moments_on (k + n) (k + n) page.ending w (reading (first page)) ≡ Some (over o) =
@@ -107,3 +110,20 @@ leads-whole_batch e w m s x rest p d left h q b =
 pub leads-end : EndLeads
 unfolding moment_after
 leads-end e w m0 s p h = leads-next e w m0 0 (reading s) _ p (ap (λ t. Some (read_next w.entities e s t)) h)
+
+finished-at : (s : Serial) (f : Finished) → at_end s f ≡ outcome_at s f.parser (acts s.side.doc f.ops) f.finish
+finished-at s f = by_finish f.finish
+  where
+    by_finish : (k : Finish) → (let last = taken f.parser (acts s.side.doc f.ops) [] s in
+        (elim k as (λ _. Outcome) [ finale.Finished ↦ record { result = finished; last = last } | finale.Deep ↦ refusal why.Depth last | finale.Missing ↦ refusal why.Unready last ]))
+        ≡ outcome_at s f.parser (acts s.side.doc f.ops) k
+    by_finish finale.Finished = refl
+    by_finish finale.Deep = refl
+    by_finish finale.Missing = refl
+
+-- the last operations are executed
+pub leads-finish : FinishLeads
+leads-finish w m s p d f h q b =
+    let over_there : Leads ending.End w m (over (at_end s (finish w.entities s.parser))) = leads-end ending.End w m s h q in
+    let o : outcome_at s p d f ≡ at_end s (finish w.entities s.parser) = rw (b.parser, b.doc, b.finish) (sym (finished-at s (finish w.entities s.parser))) in
+    rw (← o) at over_there

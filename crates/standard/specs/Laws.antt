@@ -2,6 +2,7 @@
 use Rattle.std.specs.Prelude.{◌≡◌, ℕ, suc, ◌+◌, ◌≤◌, ◌<◌, List, [], ◌∷◌, ◌++◌, length, drop, Option, Some, None}
 use Rattle.html_types.specs.declared.operation.NodeId.{NodeId}
 use Rattle.html_types.specs.declared.script.Ending.{Ending}
+use Rattle.html_types.specs.declared.script.Ending.TheVariants as ending
 use Rattle.html_types.specs.declared.script.Why.{Why}
 use Rattle.html_types.specs.declared.script.Why.TheVariants as why
 use Rattle.html_types.specs.declared.script.Statement.{Statement}
@@ -9,12 +10,14 @@ use Rattle.html_types.specs.declared.script.Statement.TheVariants as statement
 use Rattle.html_types.specs.declared.script.Line.TheVariants as line
 use Rattle.html_types.specs.declared.instruction.Stop.{Stop}
 use Rattle.html_types.specs.declared.instruction.Stop.TheVariants as stop
+use Rattle.html_types.specs.declared.instruction.Finish.{Finish}
+use Rattle.html_types.specs.declared.instruction.Finish.TheVariants as finale
 use Rattle.standard.specs.Entities.{Entities}
 use Rattle.standard.specs.Act.{Doc, acts}
 use Rattle.standard.specs.Statements.{statements}
 use Rattle.standard.specs.Prepare.{still, inline, external}
-use Rattle.standard.specs.Parser.{Parser, Parsed, parse}
-use Rattle.standard.specs.Serial.{Page, World, Outcome, IsSerial, Advanced, advanced, advance, Serial, Flow, goes, refuses, with_line, write_limit, one_more_executed, back_at, inside, run_statements, run_prepared, prepared, Moment, reading, tag_ended, over, refusal, taken, ended, Leads}
+use Rattle.standard.specs.Parser.{Parser, Parsed, parse, finish}
+use Rattle.standard.specs.Serial.{Page, World, Outcome, IsSerial, Advanced, advanced, advance, Serial, Flow, goes, refuses, with_line, write_limit, one_more_executed, back_at, inside, run_statements, run_prepared, prepared, Moment, reading, tag_ended, over, finished, refusal, taken, ended, Leads, Passes}
 
 -- ---- outcomes
 
@@ -80,9 +83,31 @@ abbrev pub WholeBatchesLead : Type 0
 WholeBatchesLead = (e : Ending) (w : World) (m : Moment) (s : Serial) (x rest : List ℕ) (p : Parser) (d : Doc) (left : List ℕ) →
     Leads e w m (reading s) → s.input ≡ x ++ rest → HasParsed w.entities s.parser s.side.doc x p d left stop.InputEnd → Leads e w m (reading (taken p d rest s))
 
+-- ---- the end of the page
+
 -- where the input is used the parse is over
 abbrev pub EndLeads : Type 0
 EndLeads = (e : Ending) (w : World) (m : Moment) (s : Serial) → Leads e w m (reading s) → s.input ≡ [] → Leads e w m (over (ended w.entities e s))
+
+-- What a parser that stood at p has made of the end of the input, on the document d.
+pub record HasFinished (es : Entities) (p : Parser) (d : Doc) (p' : Parser) (d' : Doc) (finished : Finish) : Type 0 where
+  pub parser : p' ≡ (finish es p).parser
+  pub doc : d' ≡ acts d (finish es p).ops
+  pub finish : finished ≡ (finish es p).finish
+
+-- what the parse comes to at the end of a page that ends well
+abbrev pub outcome_at : Serial → Parser → Doc → Finish → Outcome
+outcome_at s p d finale.Finished = record { result = finished; last = taken p d [] s }
+outcome_at s p d finale.Deep = refusal why.Depth (taken p d [] s)
+outcome_at s p d finale.Missing = refusal why.Unready (taken p d [] s)
+
+abbrev pub FinishLeads : Type 0
+FinishLeads = (w : World) (m : Moment) (s : Serial) (p : Parser) (d : Doc) (f : Finish) →
+    Leads ending.End w m (reading s) → s.input ≡ [] → HasFinished w.entities s.parser s.side.doc p d f → Leads ending.End w m (over (outcome_at s p d f))
+
+-- the parse of a page comes to the outcome of the moment at which it is over
+abbrev pub OverIsSerial : Type 0
+OverIsSerial = (page : Page) (w : World) (o : Outcome) → Passes page w (over o) → IsSerial page w o
 
 -- ---- scripts
 
