@@ -21,3 +21,4 @@ pub mod Prepare
 pub mod Parser
 pub mod Serial
 pub mod Output
+pub mod Laws
