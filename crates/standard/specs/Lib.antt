@@ -21,3 +21,5 @@ pub mod Prepare
 pub mod Parser
 pub mod Serial
 pub mod Output
+pub mod Naming
+pub mod NamingLaws
