@@ -1,1 +1,3 @@
 pub mod Framing
+pub mod FreshnessWalks
+pub mod Freshness
