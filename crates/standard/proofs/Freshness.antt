@@ -1,5 +1,5 @@
 -- Operations name ids that are bound, and elements are made under ids that aren't.
-use Rattle.std.proofs.Common.{◌≡◌, refl, sym, ap, ◌∙◌, subst, ℕ, zero, suc, ◌+◌, ◌==◌, Bool, true, false, ◌||◌, ◌&&◌, List, [], ◌∷◌, ◌++◌, reverse, Option, Some, None, arith}
+use Rattle.std.proofs.Common.{◌≡◌, refl, sym, ap, ◌∙◌, subst, ℕ, zero, suc, Bool, true, false, ◌||◌, ◌&&◌, List, [], ◌∷◌, ◌++◌, reverse, Option, Some, None, arith}
 use Rattle.std.specs.Prelude.{if◌then◌else◌, IsTrue}
 use Rattle.html_types.specs.Operations.{same_id, later}
 use Rattle.html_types.specs.declared.word.Word.TheVariants as word
@@ -16,17 +16,17 @@ use Rattle.html_types.specs.declared.token.Token.{Token}
 use Rattle.html_types.specs.declared.token.Token.TheVariants.{StartTag, EndTag, Character, Comment, Doctype, EndOfFile, Missing}
 use Rattle.html_types.specs.declared.operation.NodeId.{NodeId}
 use Rattle.html_types.specs.declared.operation.Place.{Place}
-use Rattle.html_types.specs.declared.operation.Place.TheVariants.{Page, Inside}
+use Rattle.html_types.specs.declared.operation.Place.TheVariants.{Page}
 use Rattle.html_types.specs.declared.operation.Op.{Op}
 use Rattle.html_types.specs.declared.operation.Op.TheVariants as op
 use Rattle.html_types.specs.declared.open.OpenElement.{OpenElement}
 use Rattle.html_types.specs.declared.open.Format.TheVariants.{Element}
 use Rattle.html_types.specs.declared.open.Open.{Open}
 use Rattle.standard.specs.Elements.{is_meant, is_one_of}
-use Rattle.standard.specs.Stack.{pop, first_open, second_open}
+use Rattle.standard.specs.Stack.{first_open, second_open}
 use Rattle.standard.specs.Formatting.{kept, lost}
-use Rattle.standard.specs.Instructions.{Config, config, on, holds, room, made, pushed, insert_at, here, insert, insert_root, void, tag_of, for_tag, reopen, reopen_all, reconstruct, insert_text, insert_comment, append_doctype, end_of, add_attributes, push_head, stop_at_script, step, turn, run}
-use Rattle.standard.specs.Rules.{Answer, answer, answer_of, next_of, row, by_mode, Round, once, stop, round_after, go_round, process, rounds, is_line_feed, construct}
+use Rattle.standard.specs.Instructions.{Config, config, on, holds, room, made, pushed, insert_at, here, insert, insert_root, void, tag_of, for_tag, reopen, reopen_all, insert_text, insert_comment, append_doctype, end_of, add_attributes, push_head, stop_at_script, step, turn, run}
+use Rattle.standard.specs.Rules.{Answer, answer, next_of, row, by_mode, round_after, go_round, process, rounds, is_line_feed, construct}
 use Rattle.standard.specs.Act.{IsPlaceBound, IsOpBound, AreOpsBound, known_after}
 use Rattle.standard.specs.Naming.{AreOpenBound, IsBoundIfAny, Holds, known_after_all, IsNextBound}
 use Rattle.standard.proofs.FreshnessWalks.{IsElementBound, pop-bound, until-bound, pop_to-bound, implied-bound, close-bound, close_item-bound, other_end-bound, without_open-bound, current_id-bound, first_open-bound, second_open-bound, place-bound, clear_to_marker-bound, kept-bound, open-more, formats-more, head-more, place-more}

@@ -1,5 +1,5 @@
 -- What is taken of the stack and of the list of formatting elements is bound where they are.
-use Rattle.std.proofs.Common.{◌≡◌, refl, ℕ, Bool, true, false, not, ◌&&◌, List, [], ◌∷◌, Option, Some, None}
+use Rattle.std.proofs.Common.{Bool, true, false, not, ◌&&◌, List, [], ◌∷◌, Option, Some, None}
 use Rattle.std.specs.Prelude.{if◌then◌else◌, IsTrue}
 use Rattle.html_types.specs.Operations.{same_id}
 use Rattle.html_types.specs.declared.word.Word.TheVariants as word

@@ -1,5 +1,5 @@
 -- States and operations beside others: behind other operations, and with ids that are bound.
-use Rattle.std.specs.Prelude.{◌≡◌, ℕ, ◌+◌, ◌<◌, Bool, false, IsTrue, List, [], ◌∷◌, ◌++◌, Option, Some, None}
+use Rattle.std.specs.Prelude.{◌≡◌, ℕ, ◌<◌, Bool, false, IsTrue, List, [], ◌∷◌, ◌++◌, Option, Some, None}
 use Rattle.html_types.specs.Operations.{later}
 use Rattle.html_types.specs.declared.operation.NodeId.{NodeId}
 use Rattle.html_types.specs.declared.operation.Op.{Op}
@@ -53,13 +53,9 @@ AreFresh known next = (k : ℕ) → known (later k next) ≡ false
 abbrev pub CameBefore : (NodeId → Bool) → NodeId → Type 0
 CameBefore known next = (id : NodeId) → IsTrue (known id) → (id.realm ≡ next.realm) × (id.n < next.n)
 
--- all ids that an open state holds are bound, and none that it gives from now on
-abbrev pub Serves : (NodeId → Bool) → Open → Type 0
-Serves known b = Holds AreFresh known b.stack b.formats b.head b.next
-
--- all ids that an open state holds are bound, and the bound ones are those of its realm that came before
-abbrev pub ServesAlone : (NodeId → Bool) → Open → Type 0
-ServesAlone known b = Holds CameBefore known b.stack b.formats b.head b.next
+-- all ids that an open state holds are bound
+abbrev pub Serves : ((NodeId → Bool) → NodeId → Type 0) → (NodeId → Bool) → Open → Type 0
+Serves Coming known b = Holds Coming known b.stack b.formats b.head b.next
 
 -- which ids are bound once the operations are done
 unfoldable pub known_after_all : (NodeId → Bool) → List Op → NodeId → Bool
