@@ -6,3 +6,8 @@ pub mod Parse
 pub mod Batch
 pub mod Passing
 pub mod Scripts
+pub mod Framing
+pub mod FreshnessWalks
+pub mod Freshness
+pub mod FreshnessTexts
+pub mod FreshnessDocs

@@ -22,3 +22,5 @@ pub mod Parser
 pub mod Serial
 pub mod Output
 pub mod Laws
+pub mod Naming
+pub mod NamingLaws
