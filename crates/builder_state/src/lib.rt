@@ -5,7 +5,9 @@ mod formatting;
 mod insert;
 mod machine;
 mod places;
+mod space;
 mod state;
 mod walks;
 
+pub use space::is_space;
 pub use state::{Builder, Pushed};

@@ -1,6 +1,7 @@
 //! What each instruction of a row does, and the row as a whole.
 
-ghost use Rattle.std.specs.Prelude.{◌≡◌, ◌≤◌, length, IfOk, None};
+ghost use Rattle.std.specs.Prelude.{◌≡◌, ◌≤◌, length, IfOk, None, if◌then◌else◌};
+ghost use Rattle.html_types.specs.declared.instruction.Flow.TheVariants.{On};
 ghost use Rattle.standard.specs.Stack.{without_open};
 ghost use Rattle.standard.specs.Instructions.{config, on, holds, is_quirky, original_or, stop_at_script, step, run};
 
@@ -75,6 +76,13 @@ fn stop_at(state: &mut Open, ops: &Ops) -> Flow
     }
 }
 
+/// The row goes on where it may, and else as said.
+fn on_or(may: bool, other: Flow) -> Flow
+    ensures { result ≡ (if may then On else other) }
+{
+    if may { Flow::On } else { other }
+}
+
 /// One instruction.
 fn exec(
     alloc: Global,
@@ -88,34 +96,16 @@ fn exec(
     ensures bounded { length state.new.stack ≤ 512 }
 {
     match instr {
-        Instr::Need(test) => {
-            return Ok(if test_holds(state, test, token) {
-                Flow::On
-            } else {
-                Flow::Leave(Next::Done)
-            });
-        }
-        Instr::Forbid(test) => {
-            return Ok(if test_holds(state, test, token) {
-                Flow::Leave(Next::Done)
-            } else {
-                Flow::On
-            });
-        }
-        Instr::When(test) => {
-            return Ok(if test_holds(state, test, token) {
-                Flow::On
-            } else {
-                Flow::Skip
-            });
-        }
-        Instr::Unless(test) => {
-            return Ok(if test_holds(state, test, token) {
-                Flow::Skip
-            } else {
-                Flow::On
-            });
-        }
+        Instr::Need(test) => return Ok(on_or(
+            test_holds(state, test, token),
+            Flow::Leave(Next::Done),
+        )),
+        Instr::Forbid(test) => return Ok(on_or(
+            !test_holds(state, test, token),
+            Flow::Leave(Next::Done),
+        )),
+        Instr::When(test) => return Ok(on_or(test_holds(state, test, token), Flow::Skip)),
+        Instr::Unless(test) => return Ok(on_or(!test_holds(state, test, token), Flow::Skip)),
         Instr::Insert => return insert_for(alloc, state, token, ops),
         Instr::InsertA(word) => return insert_bare(alloc, state, word, ops),
         Instr::InsertRoot => return insert_root_for(alloc, state, token, ops),

@@ -2,13 +2,14 @@
 
 ghost use Rattle.std.specs.Prelude.{◌≡◌, ◌↔◌, IsTrue, IfOk, false};
 ghost use Rattle.standard.specs.Instructions.{config, on, here, reconstruct, run};
+ghost use Rattle.standard.specs.Rules.{answer, answer_of, next_of};
 ghost use Rattle.standard.specs.Parser.{opening};
 ghost use Rattle.builder_state.specs.Push.{opened};
 
 use crate::insert::{LIMIT, place_now, reopen_lost};
 use crate::machine::run_row;
 use html_types::{
-    Flow, Formats, Instr, Mode, NoMemory, NodeId, Open, OpenElement, Ops, Place, Stack, Token,
+    Flow, Formats, Instr, Mode, Next, NoMemory, NodeId, Open, OpenElement, Ops, Place, Stack, Token,
 };
 use std::alloc::Global;
 use std::marker::Model;
@@ -72,6 +73,20 @@ impl Builder {
         ensures { IfOk result (λ flow. config self.new ops.new flow ≡ run token.now (on self.old ops.old) program.now) }
     {
         run_row(alloc, &mut self.state, program, token, ops)
+    }
+
+    /// Does the same, and says what is asked of the caller then.
+    pub fn answer_row(
+        &mut self,
+        alloc: Global,
+        program: &[Instr],
+        token: &Token,
+        ops: &mut Ops,
+    ) -> Result<Next, NoMemory>
+        ensures { IfOk result (λ next. answer self.new ops.new next ≡ answer_of (run token.now (on self.old ops.old) program.now)) }
+    {
+        let flow = self.run(alloc, program, token, ops)?;
+        Ok(asked(flow))
     }
 
     /// Reconstructs the active formatting elements (13.2.4.3).
@@ -160,6 +175,16 @@ impl Builder {
             && self.state.formats.same(&other.state.formats)
             && same_modes(&self.state, &other.state)
             && same_flags(&self.state, &other.state)
+    }
+}
+
+/// What a row asks of its caller.
+fn asked(flow: Flow) -> Next
+    ensures { result ≡ next_of flow }
+{
+    match flow {
+        Flow::On | Flow::Skip => Next::Done,
+        Flow::Leave(next) => next,
     }
 }
 
