@@ -1,0 +1,4 @@
+pub mod SettleLemmas
+pub mod FeedLemmas
+pub mod TokenizerLaws
+pub mod TokenizerRows
