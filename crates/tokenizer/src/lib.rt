@@ -1,13 +1,8 @@
-// A library with one function.
+//! The tokenizer (13.2.5) over a text that comes in pieces.
 #![tactic(auto)]
 
-ghost use Rattle.std.specs.Prelude.{◌≡◌};
-ghost use Rattle.tokenizer.specs.Echo.{echo_of};
+pub mod laws;
+pub mod reading;
+pub mod run;
 
-// The `ensures` clause is the contract: what `echo` returns is `echo_of` of its argument, a definition
-// in `specs/Echo.antt`, which a caller's clause can cite too.
-pub fn echo(x: usize) -> usize
-    ensures { result ≡ echo_of x }
-{
-    x
-}
+pub use run::{Pause, Ran, Tokenizer};
