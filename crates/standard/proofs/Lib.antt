@@ -11,3 +11,7 @@ pub mod FreshnessWalks
 pub mod Freshness
 pub mod FreshnessTexts
 pub mod FreshnessDocs
+pub mod SettleLemmas
+pub mod FeedLemmas
+pub mod TokenizerLaws
+pub mod TokenizerRows

@@ -4,6 +4,7 @@ pub mod Step
 pub mod TextStates
 pub mod TagStates
 pub mod Tokenizer
+pub mod TokenizerLaws
 pub mod Rows
 pub mod Groups
 pub mod Elements
