@@ -109,3 +109,5 @@ pub fn documents_serve()
     ensures ends { DocsServeEnds AreFresh }
     ensures ends_alone { DocsServeEnds CameBefore }
 {}
+//! The definitions that the contracts of the parser cite, each beside the section of the standard that it restates.
+#![tactic(auto)]
