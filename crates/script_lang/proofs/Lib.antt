@@ -1,0 +1,6 @@
+pub mod White
+pub mod Words
+pub mod Ends
+pub mod Utf8Ends
+pub mod JsonStrings
+pub mod WorkedScripts
