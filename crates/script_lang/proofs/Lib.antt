@@ -3,4 +3,5 @@ pub mod Words
 pub mod Ends
 pub mod Utf8Ends
 pub mod JsonStrings
+pub mod Values
 pub mod WorkedScripts

@@ -1,11 +1,11 @@
 //! The strings of a script, which are JSON strings.
 
-ghost use Rattle.std.specs.Prelude.{◌≡◌, Option, option_map, drop, take, IfOk, IfSome, false, encode_utf8_all};
+ghost use Rattle.std.specs.Prelude.{◌≡◌, List, ℕ, option_map, option_and_then, IfOk, IfSome, false};
 ghost use Rattle.std.specs.Str.{chars, IsCharBoundary};
-
-ghost use Rattle.json.specs.Text.{content, plain};
-ghost use Rattle.standard.specs.Statements.{string_end, string_value, behind};
-ghost use Rattle.script_lang.specs.Parts.{cut};
+ghost use Rattle.serde_json.specs.Find.{as_str};
+ghost use Rattle.serde_json.specs.Read.{read};
+ghost use Rattle.standard.specs.Statements.{string_end, string_value};
+ghost use Rattle.script_lang.specs.Parts.{cut, parted};
 
 use html_types::{NoMemory, Text};
 use serde_json::Value;
@@ -27,4 +27,39 @@ fn string_end(text: &str) -> Option<usize>
         }
     }
     None
+}
+
+/// The value of a JSON string, which is given with its quotes; none where it is no JSON string.
+fn json_value(alloc: Global, quoted: &str) -> Result<Option<Text>, NoMemory>
+    ensures { IfOk result
+        (λ value. value ≡ option_map chars (option_and_then as_str (read quoted.now))) }
+{
+    match Value::from_str(alloc, quoted) {
+        Ok(value) => match value.as_str() {
+            Some(text) => Ok(Some(Text::from_str(alloc, text)?)),
+            None => Ok(None),
+        },
+        Err(error) if error.is_memory() => Err(NoMemory),
+        Err(_) => Ok(None),
+    }
+}
+
+/// The value of the string with which the text begins, and the text behind that string; none where it begins with none.
+pub fn string_value<'a>(
+    alloc: Global,
+    text: &'a str,
+) -> Result<Option<(Text, &'a str)>, NoMemory>
+    ensures { IfOk result (λ found. option_map parted found ≡ string_value (chars text.now)) }
+{
+    let Some(inside) = text.strip_prefix('"') else {
+        return Ok(None);
+    };
+    let Some(end) = string_end(inside) else {
+        return Ok(None);
+    };
+    let (quoted, rest) = text.split_at(end + 1);
+    match json_value(alloc, quoted)? {
+        Some(value) => Ok(Some((value, rest))),
+        None => Ok(None),
+    }
 }
