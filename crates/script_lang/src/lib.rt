@@ -6,4 +6,5 @@ mod script;
 mod string;
 
 
+pub use reading::read;
 pub use script::Script;

@@ -1,7 +1,7 @@
 //! The strings of a script, which are JSON strings.
 
 ghost use Rattle.std.specs.Prelude.{◌≡◌, List, ℕ, option_map, option_and_then, IfOk, IfSome, false};
-ghost use Rattle.std.specs.Str.{chars, IsCharBoundary};
+ghost use Rattle.std.specs.Str.{chars, IsCharBoundary, IsUtf8};
 ghost use Rattle.serde_json.specs.Find.{as_str};
 ghost use Rattle.serde_json.specs.Read.{read};
 ghost use Rattle.standard.specs.Statements.{string_end, string_value};
@@ -49,7 +49,9 @@ pub fn string_value<'a>(
     alloc: Global,
     text: &'a str,
 ) -> Result<Option<(Text, &'a str)>, NoMemory>
-    ensures { IfOk result (λ found. option_map parted found ≡ string_value (chars text.now)) }
+    ensures value { IfOk result
+        (λ found. option_map parted found ≡ string_value (chars text.now)) }
+    ensures rest_is_text { IfOk result (λ found. IfSome found (λ string. IsUtf8 string.1.now)) }
 {
     let Some(inside) = text.strip_prefix('"') else {
         return Ok(None);

@@ -49,13 +49,17 @@ string_value t = do
   value ← content plain (encode_utf8_all parts.0)
   Some (chars value, parts.1)
 
--- the statement that the text begins with, which stands between `before` and `after` with a string there, and what stands behind it
-unfoldable pub with_string : (List ℕ → Statement) → String → String → List ℕ → Option (Statement × List ℕ)
-with_string of before after t = do
-  at_string ← behind (codes before) t
+-- the value of the string that stands between these two words at the front of the text, and what stands behind them
+unfoldable pub string_between : List ℕ → List ℕ → List ℕ → Option (List ℕ × List ℕ)
+string_between before after t = do
+  at_string ← behind before t
   string ← string_value at_string
-  rest ← behind (codes after) string.1
-  Some (of string.0, rest)
+  rest ← behind after string.1
+  Some (string.0, rest)
+
+-- a statement with a string, and what stands behind it
+abbrev pub with_string : (List ℕ → Statement) → String → String → List ℕ → Option (Statement × List ℕ)
+with_string of before after t = option_map (λ string. (of string.0, string.1)) (string_between (codes before) (codes after) t)
 
 abbrev pub or_else : {A : Type 0} → Option A → Option A → Option A
 or_else (Some a) b = Some a
@@ -82,5 +86,5 @@ statements_within (suc n) t = elim (skip_white t) [
 
 -- the statements of a script's text; none where the text isn't a list of statements
 unfoldable pub statements : List ℕ → Option (List Statement)
-unfolding string_value with_string statement
+unfolding string_value string_between statement
 statements t = statements_within (suc (length t)) t
