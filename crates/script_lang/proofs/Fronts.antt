@@ -1,8 +1,14 @@
 -- The statement at the front of a text, a case at a time.
-use Rattle.std.proofs.Common.{◌≡◌, ℕ, List, [], ◌∷◌, Option, Some, None, option_map, refl, sym, ap, ◌∙◌, codes}
+use Rattle.std.proofs.Common.{◌≡◌, ℕ, List, [], ◌∷◌, Option, Some, None, option_map, MatchOption, true, refl, sym, ap, ◌∙◌, codes}
+use Rattle.std.specs.Char.{encode_utf8}
+use Rattle.std.specs.Str.{chars, is_utf8, IsUtf8}
+use Rattle.std.specs.Str.Pattern.{FindsTextPrefix, StripsPrefix}
+use Rattle.std.proofs.lemmas.Str.{IsUtf8-from_is_utf8}
+use denote.Ref.{Bor}
 use Rattle.html_types.specs.declared.script.Statement.{Statement}
 use Rattle.html_types.specs.declared.script.Statement.TheVariants.{Write, Remove, LogById, LogRoot}
 use Rattle.standard.specs.Statements.{behind, string_value, string_between, with_string, statement}
+use Rattle.script_lang.proofs.Words.{behind-stripped}
 
 module _ (before after t : List ℕ) where
   pub string_between-no_front : None ≡ behind before t → None ≡ string_between before after t
@@ -34,6 +40,16 @@ log_by_id t = string_between (codes "console.log(document.getElementById(") (cod
 
 abbrev log_root : List ℕ → Option (List ℕ)
 log_root t = behind (codes "console.log(document.documentElement.outerHTML);") t
+
+log_root_is_ascii : is_utf8 (codes "console.log(document.documentElement.outerHTML);") ≡ true
+unfolding is_utf8 chars encode_utf8
+log_root_is_ascii = refl
+
+-- stripped off the front of a text, by its bytes
+pub log_root-stripped : (s : List ℕ) (r : Option (Bor (List ℕ))) → IsUtf8 s → MatchOption r (FindsTextPrefix (codes "console.log(document.documentElement.outerHTML);") s None) (λ x. StripsPrefix (FindsTextPrefix (codes "console.log(document.documentElement.outerHTML);")) s x.now)
+    → option_map (λ x. chars x.now) r ≡ log_root (chars s)
+unfolding chars
+log_root-stripped s r u h = behind-stripped (codes "console.log(document.documentElement.outerHTML);") s r (IsUtf8-from_is_utf8 _ log_root_is_ascii) u h
 
 module _ (t : List ℕ) where
   pub statement-write : (v rest : List ℕ) → Some (v, rest) ≡ write t → Some (Write v, rest) ≡ statement t
