@@ -5,4 +5,6 @@ pub mod Utf8Ends
 pub mod JsonStrings
 pub mod Values
 pub mod Fronts
+pub mod Shorter
+pub mod Rests
 pub mod WorkedScripts

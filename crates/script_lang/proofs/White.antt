@@ -19,10 +19,10 @@ FindsWhite s r = (k : ℕ → Bool) → ((c : ℕ) → char_set_contains whites 
 white_is : (c : ℕ) → char_set_contains whites c ≡ is_white c
 white_is c = grind (arith, nat_tests)
 
-skipped : (c : ℕ) (cs : List ℕ) → is_white c ≡ true → skip_white (c ∷ cs) ≡ skip_white cs
+pub skipped : (c : ℕ) (cs : List ℕ) → is_white c ≡ true → skip_white (c ∷ cs) ≡ skip_white cs
 skipped c cs e = ap (λ b. elim b as (λ _. List ℕ) [ true ↦ skip_white cs | false ↦ c ∷ cs ]) e
 
-kept : (c : ℕ) (cs : List ℕ) → is_white c ≡ false → skip_white (c ∷ cs) ≡ c ∷ cs
+pub kept : (c : ℕ) (cs : List ℕ) → is_white c ≡ false → skip_white (c ∷ cs) ≡ c ∷ cs
 kept c cs e = ap (λ b. elim b as (λ _. List ℕ) [ true ↦ skip_white cs | false ↦ c ∷ cs ]) e
 
 -- one character that is cut off
