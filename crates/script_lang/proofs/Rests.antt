@@ -1,6 +1,10 @@
 -- The statements of a text, one at a time.
-use Rattle.std.proofs.Common.{◌≡◌, ℕ, zero, suc, ◌+◌, ◌<◌, ◌≤◌, Bool, true, false, List, [], ◌∷◌, ◌++◌, length, Option, Some, None, option_map, option_and_then, refl, sym, ap, ◌∙◌, subst, arith}
+use Rattle.std.proofs.Common.{◌≡◌, ℕ, zero, suc, ◌+◌, ◌<◌, ◌≤◌, Bool, true, false, List, [], ◌∷◌, ◌++◌, length, Option, Some, None, option_map, option_and_then, refl, sym, ap, ◌∙◌, subst, arith, ◌==◌, eq-eqb}
+use Rattle.std.specs.Str.{chars, IsUtf8}
+use Rattle.std.proofs.Math.Utf8.{encodes}
+use Rattle.std.proofs.lemmas.Bool.{eqb-true, true≢false}
 use Rattle.std.proofs.lemmas.List.{append_assoc, append-nil}
+use Rattle.std.proofs.lemmas.Str.{chars-nil, encodes-chars}
 use Rattle.html_types.specs.declared.script.Statement.{Statement}
 use Rattle.standard.specs.Statements.{is_white, skip_white, statement, statements_within, statements}
 use Rattle.script_lang.proofs.White.{skipped, kept}
@@ -132,3 +136,13 @@ rest_shorter rest next p e skip =
     let skips = skip_white-shorter p.1 in
     let same = ap length skip in
     omega arith
+
+-- a text without bytes is one without characters
+pub chars-empty : (t : List ℕ) → true ≡ (length t == 0) → chars t ≡ []
+chars-empty [] e = chars-nil
+chars-empty (b ∷ bs) e = let none = eqb-true (length (b ∷ bs)) 0 (sym e) in absurd (omega arith)
+
+pub chars-some : (t : List ℕ) → IsUtf8 t → false ≡ (length t == 0) → chars t ≡ [] → ⊥
+chars-some t u e none =
+    let same : t ≡ [] = sym (encodes-chars t u) ∙ ap encodes none in
+    true≢false (sym (eq-eqb (length t) 0 (ap length same)) ∙ sym e)
