@@ -109,7 +109,7 @@ no_front (Some ss) = refl
 pub Reads-begin : (whole rest : List ℕ) → rest ≡ skip_white whole → Reads whole rest []
 Reads-begin whole rest e = record {
   all = sym (ap statements e ∙ statements-skip_white whole) ∙ no_front (statements rest);
-  front = ap skip_white e ∙ skip_white-skip_white whole ∙ sym e
+  front = ap skip_white e ∙ skip_white-skip_white whole ∙ sym e;
 }
 
 regroup : (so_far : List Statement) (s : Statement) (o : Option (List Statement)) → option_map (λ more. so_far ++ more) (option_map (λ ss. s ∷ ss) o) ≡ option_map (λ more. (so_far ++ s ∷ []) ++ more) o
@@ -120,7 +120,7 @@ pub Reads-more : (whole rest next : List ℕ) (so_far : List Statement) (p : Sta
 Reads-more whole rest next so_far p was e skip = record {
   all = was.all ∙ ap (option_map (λ more. so_far ++ more)) (statements-some rest p was.front e) ∙ regroup so_far p.0 (statements p.1)
       ∙ ap (option_map (λ more. (so_far ++ p.0 ∷ []) ++ more)) (sym (ap statements skip ∙ statements-skip_white p.1));
-  front = ap skip_white skip ∙ skip_white-skip_white p.1 ∙ sym skip
+  front = ap skip_white skip ∙ skip_white-skip_white p.1 ∙ sym skip;
 }
 
 pub Reads-none : (whole rest : List ℕ) (so_far : List Statement) → Reads whole rest so_far → (rest ≡ [] → ⊥) → None ≡ statement rest → None ≡ statements whole

@@ -4,7 +4,8 @@
 mod reading;
 mod script;
 mod string;
-
+#[cfg(test)]
+mod tests;
 
 pub use reading::read;
 pub use script::Script;

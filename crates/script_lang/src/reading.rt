@@ -35,23 +35,26 @@ fn skip_white(text: &str) -> &str
 }
 
 /// The statement that the text begins with, and the text behind it; none where it begins with none.
-fn statement<'a>(
-    alloc: Global,
-    text: &'a str,
-) -> Result<Option<(Statement, &'a str)>, NoMemory>
+fn statement<'a>(alloc: Global, text: &'a str) -> Result<Option<(Statement, &'a str)>, NoMemory>
     ensures { IfOk result (λ found. option_map parted found ≡ statement (chars text.now)) }
 {
     if let Some((value, rest)) = string_between(alloc, text, "document.write(", ");")? {
         return Ok(Some((Statement::Write(value), rest)));
     }
-    if let Some((value, rest)) =
-        string_between(alloc, text, "document.getElementById(", ").remove();")?
-    {
+    if let Some((value, rest)) = string_between(
+        alloc,
+        text,
+        "document.getElementById(",
+        ").remove();",
+    )? {
         return Ok(Some((Statement::Remove(value), rest)));
     }
-    if let Some((value, rest)) =
-        string_between(alloc, text, "console.log(document.getElementById(", ").outerHTML);")?
-    {
+    if let Some((value, rest)) = string_between(
+        alloc,
+        text,
+        "console.log(document.getElementById(",
+        ").outerHTML);",
+    )? {
         return Ok(Some((Statement::LogById(value), rest)));
     }
     match text.strip_prefix("console.log(document.documentElement.outerHTML);") {

@@ -18,7 +18,7 @@ loop-rest-smaller c =
 pub loop-rest-preserved : goal.loop-rest-preserved
 loop-rest-preserved c = record {
   text = c.skip_white-rest-in-loop-rest.utf8;
-  reads = rw c.in_ok-push.ensures.ok (Reads-more _ _ _ _ _ c.loop-rest.invariant.reads (sym c.in_ok-statement.ensures ∙ ap (option_map parted) c.in-Some.is) c.skip_white-rest-in-loop-rest.ensures)
+  reads = rw c.in_ok-push.ensures.ok (Reads-more _ _ _ _ _ c.loop-rest.invariant.reads (sym c.in_ok-statement.ensures ∙ ap (option_map parted) c.in-Some.is) c.skip_white-rest-in-loop-rest.ensures);
 }
 
 pub returns : goal.returns
