@@ -110,4 +110,5 @@ pub fn documents_serve()
     ensures ends_alone { DocsServeEnds CameBefore }
 {}
 //! The definitions that the contracts of the parser cite, each beside the section of the standard that it restates.
+//! What the parts of the parser are to do, as definitions in `specs/` that are read beside the WHATWG HTML Standard.
 #![tactic(auto)]
