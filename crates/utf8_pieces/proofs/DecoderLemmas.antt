@@ -1,12 +1,12 @@
 -- What a decoder keeps.
-use Rattle.std.proofs.Common.{◌≡◌, ℕ, ◌<◌, ◌≤◌, ◌+◌, ◌-◌, ◌^◌, List, [], ◌∷◌, ◌++◌, Bool, true, false, Option, Some, None, refl, sym, ap, ◌∙◌, append_assoc, arith, length, take, drop, length-drop, length-append, length-take, eq-eqb, ⊎_elim}
+use Rattle.std.proofs.Common.{◌≡◌, ℕ, ◌<◌, ◌≤◌, ◌+◌, ◌-◌, List, [], ◌∷◌, ◌++◌, Bool, true, false, Option, Some, None, refl, sym, ap, ◌∙◌, append_assoc, arith, length, take, drop, length-drop, length-append, length-take, eq-eqb, ⊎_elim}
 use Rattle.std.specs.Prelude.{IsUtf8, is_none, is_some, encode_utf8, encode_utf8_all, if◌then◌else◌, ◌==◌, ◌&&◌, nat_lt, min}
 use Rattle.std.specs.Str.{chars}
 use Rattle.std.specs.Str.Lossy.{utf8_valid_len, utf8_error_len}
 use Rattle.std.proofs.Math.Seq.{drop-length, take-append-add}
 use Rattle.std.proofs.lemmas.Bool.Decides.{nat_tests, leb_tells}
 use Rattle.std.proofs.lemmas.List.{take_all}
-use Rattle.std.proofs.lemmas.Bool.{ltb-true, ltb-false, eqb-true, eqb-false}
+use Rattle.std.proofs.lemmas.Bool.{ltb-false, eqb-true, eqb-false}
 use Rattle.std.proofs.lemmas.Str.{IsUtf8-nil, utf8_valid_len-IsUtf8, utf8_valid_len_le, chars-append, chars-nil, chars_past_char, encodes-chars}
 use Rattle.utf8_pieces.specs.declared.decoder.Decoder.{Decoder}
 use Rattle.html_types.specs.declared.script.Ending.{Ending}

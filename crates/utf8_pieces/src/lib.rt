@@ -3,6 +3,8 @@
 
 mod bytes;
 mod decoder;
+#[cfg(test)]
+mod tests;
 
 pub use decoder::{Decoder, Fed};
 pub use html_types::Ending;

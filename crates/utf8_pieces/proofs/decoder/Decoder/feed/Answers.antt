@@ -1,4 +1,4 @@
-use Rattle.std.proofs.Common.{◌≡◌, ℕ, ◌+◌, ◌-◌, ◌^◌, ◌++◌, List, ap, append-nil, refl, sym, ◌∙◌, length, take, subst, arith}
+use Rattle.std.proofs.Common.{◌≡◌, ℕ, ◌+◌, ◌-◌, ◌++◌, List, ap, append-nil, refl, sym, ◌∙◌, length, take, subst, arith}
 use Rattle.std.proofs.lemmas.List.{take-take}
 use Rattle.std.specs.Prelude.{min}
 use Rattle.utf8_pieces.specs.declared.decoder.Decoder.{Decoder}
