@@ -25,3 +25,4 @@ pub mod Output
 pub mod Laws
 pub mod Naming
 pub mod NamingLaws
+pub mod Page

@@ -111,4 +111,6 @@ pub fn documents_serve()
 {}
 //! The definitions that the contracts of the parser cite, each beside the section of the standard that it restates.
 //! What the parts of the parser are to do, as definitions in `specs/` that are read beside the WHATWG HTML Standard.
+//! The definitions that the parser is proved against, to be read beside the WHATWG HTML Standard. They stand in
+//! `specs/`; each file says which sections it restates.
 #![tactic(auto)]
