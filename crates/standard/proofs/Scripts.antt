@@ -102,7 +102,7 @@ write-goes_on w t list s p d left f h le b (n, q) =
     raised f (rw c at more)
   where
     whole : (k : ℕ) → run_statements (suc (suc (suc (suc k)))) w (statement.Write t ∷ list) s ≡ run_statements (suc (suc (suc k))) w list (wrote p d t s)
-    whole k = 
+    whole k =
         let none : left ≡ [] = parse-left w.entities s.parser p s.side.doc d t left b in
         ap (λ x. write (suc (suc (suc k))) w x t s then λ u. run_statements (suc (suc (suc k))) w list u) (le-leb _ _ le)
         ∙ (ap (λ (x : Flow). x then λ u. run_statements (suc (suc (suc k))) w list u) (write-flow k w t s p d left stop.InputEnd h b)
@@ -115,10 +115,12 @@ write-goes_on w t list s p d left f h le b (n, q) =
 
 pub write-refuses : WritesRefuse
 unfolding execute
-write-refuses w t list s p d left k r h le b why =
-    (4, ap (λ x. write 3 w x t s then λ u. run_statements 3 w list u) (le-leb _ _ le)
-    ∙ (ap (λ (x : Flow). x then λ u. run_statements 3 w list u) (write-flow 0 w t s p d left k h b)
-    ∙ ap (λ o. (elim o as (λ _. Flow) [ None ↦ goes (wrote_part p d t left s) | Some r ↦ refuses r (wrote_part p d t left s) ]) then λ u. run_statements 3 w list u) why))
+write-refuses w t list s p d left k r h le b why = (
+  4,
+  ap (λ x. write 3 w x t s then λ u. run_statements 3 w list u) (le-leb _ _ le)
+      ∙ (ap (λ (x : Flow). x then λ u. run_statements 3 w list u) (write-flow 0 w t s p d left k h b)
+      ∙ ap (λ o. (elim o as (λ _. Flow) [ None ↦ goes (wrote_part p d t left s) | Some r ↦ refuses r (wrote_part p d t left s) ]) then λ u. run_statements 3 w list u) why),
+)
 
 pub long-write-refuses : LongWritesRefuse
 unfolding execute

@@ -19,10 +19,10 @@ pub mod Act
 pub mod Outer
 pub mod Statements
 pub mod Prepare
+pub mod Page
 pub mod Parser
 pub mod Serial
 pub mod Output
 pub mod Laws
 pub mod Naming
 pub mod NamingLaws
-pub mod Page

@@ -79,9 +79,9 @@ statements_within zero t = None
 statements_within (suc n) t = elim (skip_white t) [
   | [] ↦ Some []
   | c ∷ cs ↦ do
-      first ← statement (c ∷ cs)
-      more ← statements_within n first.1
-      Some (first.0 ∷ more)
+    first ← statement (c ∷ cs)
+    more ← statements_within n first.1
+    Some (first.0 ∷ more)
 ]
 
 -- the statements of a script's text; none where the text isn't a list of statements
