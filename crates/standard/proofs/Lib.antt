@@ -3,3 +3,7 @@ pub mod FreshnessWalks
 pub mod Freshness
 pub mod FreshnessTexts
 pub mod FreshnessDocs
+pub mod RenamingWalks
+pub mod RenamingGrowth
+pub mod Renaming
+pub mod RenamingTexts
