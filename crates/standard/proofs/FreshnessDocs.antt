@@ -1,5 +1,5 @@
 -- Which ids are bound in a document once operations are executed on it.
-use Rattle.std.proofs.Common.{◌≡◌, refl, sym, ap, ◌∙◌, subst, true≢false, ℕ, ◌==◌, nat_lt, cond, Bool, true, false, ◌||◌, ◌&&◌, List, [], ◌∷◌, Option, Some, arith}
+use Rattle.std.proofs.Common.{IsTrue, ◌≡◌, refl, sym, ap, ◌∙◌, subst, true≢false, ℕ, ◌==◌, nat_lt, cond, Bool, true, false, ◌||◌, ◌&&◌, List, [], ◌∷◌, Option, Some, arith}
 use Rattle.std.proofs.Math.Path.{fun_ext}
 use Rattle.std.specs.Prelude.{is_some}
 use Rattle.std.specs.Ordering.{nat_cmp, ordering_then, match_ordering, is_eq}
@@ -16,6 +16,7 @@ use Rattle.standard.specs.Act.{id_cmp, Bound, bound_to, is_bound, Doc, act, acts
 use Rattle.standard.specs.Naming.{Serves, AreFresh, CameBefore, known_after_all, IsStopBound}
 use Rattle.standard.specs.NamingLaws.{StaysBound, StaysServed, ActsBind, NewDocServes, DocsServeTexts, DocsServeEnds}
 use Rattle.standard.proofs.Freshness.{Follows}
+use Rattle.standard.proofs.FreshnessWalks.{open-more, formats-more, head-more}
 use Rattle.standard.proofs.FreshnessTexts.{texts-bound, ends-bound}
 
 -- ---- two ids are at the same place exactly if they are the same
@@ -129,3 +130,34 @@ new-serves realm = record { stack_bound = tt; formats_bound = tt; head_bound = t
 
 pub new-serves_alone : NewDocServes CameBefore
 new-serves_alone realm = record { stack_bound = tt; formats_bound = tt; head_bound = tt; coming = λ id h. absurd (true≢false (sym h)) }
+
+-- ---- where more is bound
+
+-- what was bound stays bound
+pub known-grows : (known : NodeId → Bool) (ops : List Op) (id : NodeId) → IsTrue (known id) → IsTrue (known_after_all known ops id)
+unfolding known_after_all
+known-grows known [] id h = h
+known-grows known (o ∷ os) id h = known-grows (known_after known o) os id (one o)
+  where
+    or-true : (v : Bool) → IsTrue (v || known id)
+    or-true true = refl
+    or-true false = h
+
+    one : (x : Op) → IsTrue (known_after known x id)
+    one (op.Make i name attributes) = or-true (same_id id i)
+    one (op.Put i place) = h
+    one (op.Text place text) = h
+    one (op.Note place text) = h
+    one (op.Doctype name) = h
+    one (op.Detach i) = h
+    one (op.AddAttributes i attributes) = h
+
+-- an open state is still served where others have bound ids of theirs
+pub serves-more : (Coming : (NodeId → Bool) → NodeId → Type 0) (known known' : NodeId → Bool) (b : Open) → ((id : NodeId) → IsTrue (known id) → IsTrue (known' id)) → Coming known' b.next
+    → Serves Coming known b → Serves Coming known' b
+serves-more Coming known known' b more c s = record {
+  stack_bound = open-more known known' more b.stack s.stack_bound;
+  formats_bound = formats-more known known' more b.formats s.formats_bound;
+  head_bound = head-more known known' more b.head s.head_bound;
+  coming = c;
+}

@@ -15,3 +15,7 @@ pub mod SettleLemmas
 pub mod FeedLemmas
 pub mod TokenizerLaws
 pub mod TokenizerRows
+pub mod RenamingWalks
+pub mod RenamingGrowth
+pub mod Renaming
+pub mod RenamingTexts

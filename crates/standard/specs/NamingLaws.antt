@@ -6,12 +6,12 @@ use Rattle.html_types.specs.declared.token.Token.{Token}
 use Rattle.html_types.specs.declared.operation.Op.{Op}
 use Rattle.html_types.specs.declared.operation.NodeId.{NodeId}
 use Rattle.html_types.specs.declared.open.Open.{Open}
-use Rattle.standard.specs.Instructions.{on, run}
+use Rattle.standard.specs.Instructions.{Config, on, run}
 use Rattle.standard.specs.Rules.{Answer, by_mode, process, construct}
 use Rattle.standard.specs.Entities.{Entities}
 use Rattle.standard.specs.Parser.{opening, Parser, Took, took, take_character, Finished, finish, Parsed, parse}
 use Rattle.standard.specs.Act.{AreOpsBound, Doc, new_doc, is_bound, acts}
-use Rattle.standard.specs.Naming.{config_behind, answer_behind, Serves, known_after_all, IsNextBound, IsStopBound}
+use Rattle.standard.specs.Naming.{config_behind, answer_behind, Serves, known_after_all, IsNextBound, IsStopBound, Renames, IsLater, rename_ops, rename_open, rename_config, rename_answer, rename_parser, rename_took, rename_finished, rename_parsed}
 
 -- ---- operations are only appended: what is asked for depends on nothing that was asked for before
 
@@ -82,3 +82,49 @@ DocsServeEnds Coming =
     (d : Doc) (es : Entities) (p : Parser) → Serves Coming (is_bound d.bound) p.open_state →
     let f : Finished = finish es p in
     StaysServed Coming d f.ops f.parser.open_state
+
+-- ---- which ids the elements have makes no difference
+
+abbrev pub RowsRename : Type 0
+RowsRename = (r : NodeId → NodeId) (t : Token) (c : Config) (row : List Instr) → Renames r c.open_state.next → run t (rename_config r c) row ≡ rename_config r (run t c row)
+
+abbrev pub TokensRename : Type 0
+TokensRename =
+    (r : NodeId → NodeId) (t : Token) (b : Open) (o : List Op) → Renames r b.next →
+    construct t (rename_open r b) (rename_ops r o) ≡ rename_answer r (construct t b o)
+
+abbrev pub CharactersRename : Type 0
+CharactersRename =
+    (r : NodeId → NodeId) (es : Entities) (p : Parser) (c : ℕ) → Renames r p.open_state.next →
+    take_character es (rename_parser r p) c ≡ rename_took r (take_character es p c)
+
+abbrev pub EndsRename : Type 0
+EndsRename =
+    (r : NodeId → NodeId) (es : Entities) (p : Parser) → Renames r p.open_state.next →
+    finish es (rename_parser r p) ≡ rename_finished r (finish es p)
+
+abbrev pub TextsRename : Type 0
+TextsRename =
+    (r : NodeId → NodeId) (es : Entities) (p : Parser) (text : List ℕ) → Renames r p.open_state.next →
+    parse es (rename_parser r p) text ≡ rename_parsed r (parse es p text)
+
+-- a renaming for the ids from one on is one for those from a later one on
+abbrev pub LaterRenames : Type 0
+LaterRenames = (r : NodeId → NodeId) (next id : NodeId) → Renames r next → IsLater next id → Renames r id
+
+-- ---- the next id only grows
+
+abbrev pub TokensGrow : Type 0
+TokensGrow = (t : Token) (b : Open) (o : List Op) → IsLater b.next (construct t b o).open_state.next
+
+abbrev pub parser_of : Took → Parser
+parser_of (took ops p why) = p
+
+abbrev pub CharactersGrow : Type 0
+CharactersGrow = (es : Entities) (p : Parser) (c : ℕ) → IsLater p.open_state.next (parser_of (take_character es p c)).open_state.next
+
+abbrev pub EndsGrow : Type 0
+EndsGrow = (es : Entities) (p : Parser) → IsLater p.open_state.next (finish es p).parser.open_state.next
+
+abbrev pub TextsGrow : Type 0
+TextsGrow = (es : Entities) (p : Parser) (text : List ℕ) → IsLater p.open_state.next (parse es p text).parser.open_state.next

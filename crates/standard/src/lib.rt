@@ -64,6 +64,8 @@ ghost use Rattle.standard.specs.Naming.{AreFresh, CameBefore};
 ghost use Rattle.standard.specs.NamingLaws.{RowsAppend, RulesAppend, RoundsAppend, TokensAppend};
 ghost use Rattle.standard.specs.NamingLaws.{TokensStayBound, CharactersStayBound, EndsStayBound, TextsStayBound};
 ghost use Rattle.standard.specs.NamingLaws.{ActsBind, NewDocServes, DocsServeTexts, DocsServeEnds};
+ghost use Rattle.standard.specs.NamingLaws.{RowsRename, TokensRename, CharactersRename, EndsRename, TextsRename, LaterRenames};
+ghost use Rattle.standard.specs.NamingLaws.{TokensGrow, CharactersGrow, EndsGrow, TextsGrow};
 
 // ---- What holds whatever the rows are (specs/NamingLaws): laws, on functions that do nothing.
 
@@ -101,4 +103,22 @@ pub fn documents_serve()
     ensures texts_alone { DocsServeTexts CameBefore }
     ensures ends { DocsServeEnds AreFresh }
     ensures ends_alone { DocsServeEnds CameBefore }
+{}
+
+/// Which ids the elements have makes no difference: under other ids, where those to come stay in order, all is the same.
+pub fn renames()
+    ensures rows { RowsRename }
+    ensures tokens { TokensRename }
+    ensures characters { CharactersRename }
+    ensures ends { EndsRename }
+    ensures texts { TextsRename }
+    ensures later { LaterRenames }
+{}
+
+/// The next id is never an earlier one.
+pub fn ids_grow()
+    ensures tokens { TokensGrow }
+    ensures characters { CharactersGrow }
+    ensures ends { EndsGrow }
+    ensures texts { TextsGrow }
 {}
