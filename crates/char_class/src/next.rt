@@ -82,11 +82,7 @@ pub fn new_tag(alloc: Global, kind: TagKind, name: Text) -> PartialTag
 }
 
 /// Emits the tag, its self-closing flag set or not, and switches to the data state.
-pub fn emit_tag_as(
-    closing: bool,
-    partial: PartialTag,
-    out: &mut Tokens,
-) -> Result<Next, NoMemory>
+pub fn emit_tag_as(closing: bool, partial: PartialTag, out: &mut Tokens) -> Result<Next, NoMemory>
     ensures { IfOk result (Follows (steps.emit_tag_as closing partial) out.old out.new) }
 {
     let PartialTag {

@@ -1,6 +1,6 @@
 -- Laws of `feed` and `onward`: a text character by character, and in parts.
 use Rattle.std.proofs.Common.{◌≡◌, ℕ, ◌<◌, List, [], ◌∷◌, ◌++◌, length, take, drop, refl, sym, ap, ◌∙◌, append_assoc, append-nil, arith}
-use Rattle.std.proofs.lemmas.List.{take-append-drop}
+use Rattle.std.proofs.lemmas.List.{take-append-drop, length_push}
 use Rattle.std.proofs.lemmas.Str.{chars-nil, chars-append, IsUtf8-take}
 use Rattle.std.specs.Str.{chars, IsUtf8, IsCharBoundary}
 use Rattle.html_types.specs.declared.token.Token.{Token}
@@ -59,6 +59,27 @@ onward-plain es from m before now k c s h e f none same r =
     let read_it = ap (λ (t : TokState). after_tokens m.tokens (reading es t k c)) (sym same) ∙ ap (after_tokens m.tokens) (reading-emit es s s (Character c ∷ []) k c r) in
     let came = sym (onward-read es from m before now k c h e f) ∙ read_it in
     (ap (λ (x : Reached). x.tokens) came ∙ rw none refl, ap (λ (x : Reached). x.state) came ∙ same)
+
+append-none : (xs ys : List Token) → xs ++ ys ≡ [] → xs ≡ []
+append-none [] ys e = refl
+append-none (x ∷ xs) ys e = absurd (cc)
+
+-- what a front of a text makes comes first: where the text makes no token, its front makes none
+pub onward-front : (es : Entities) (m : Reached) (xs ys : List ℕ) → (onward es m (xs ++ ys)).tokens ≡ [] → (onward es m xs).tokens ≡ []
+onward-front es m xs ys e =
+    let first = onward es m xs in
+    append-none first.tokens (feed es first.state ys).tokens (ap (λ (x : Reached). x.tokens) (sym (onward-append es m xs ys)) ∙ e)
+
+-- and so what stands before its last character makes none
+pub onward-before : (es : Entities) (m : Reached) (text : List ℕ) → (onward es m text).tokens ≡ [] → (x : List ℕ) (c : ℕ) → text ≡ x ++ c ∷ [] → (onward es m x).tokens ≡ []
+onward-before es m text e x c split = onward-front es m x (c ∷ []) (ap (λ (t : List ℕ). (onward es m t).tokens) (sym split) ∙ e)
+
+-- an empty text has no last character
+pub no_last : (x : List ℕ) (c : ℕ) → chars [] ≡ x ++ c ∷ [] → ⊥
+no_last x c e =
+    let none : [] ≡ x ++ c ∷ [] = sym chars-nil ∙ e in
+    let lengths = ap length none in
+    omega (arith, lengths, length_push x c)
 
 pub same_reached : (m n : Reached) → m.tokens ≡ n.tokens → m.state ≡ n.state → m ≡ n
 same_reached m n a b =

@@ -8,10 +8,7 @@ use html_types::{Attribute, NoMemory, PartialTag, Text};
 use std::alloc::Global;
 
 /// The tag with the attribute that was held, if one was.
-pub fn with_attribute(
-    mut tag: PartialTag,
-    held: Option<Attribute>,
-) -> Result<PartialTag, NoMemory>
+pub fn with_attribute(mut tag: PartialTag, held: Option<Attribute>) -> Result<PartialTag, NoMemory>
     ensures { IfOk result (λ t. t ≡ rows.with_attribute tag held) }
 {
     if let Some(attribute) = held {
@@ -34,11 +31,7 @@ pub fn bare(alloc: Global, held: Option<Text>) -> Option<Attribute>
 }
 
 /// The tag with the attribute whose name is held, with an empty value.
-pub fn with_bare(
-    alloc: Global,
-    tag: PartialTag,
-    held: Option<Text>,
-) -> Result<PartialTag, NoMemory>
+pub fn with_bare(alloc: Global, tag: PartialTag, held: Option<Text>) -> Result<PartialTag, NoMemory>
     ensures { IfOk result (λ t. t ≡ rows.with_bare tag held) }
 {
     with_attribute(tag, bare(alloc, held))

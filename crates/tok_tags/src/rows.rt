@@ -153,7 +153,10 @@ fn attribute_name_row(
         }
         Class::Equals => {
             let held = fresh(&tag, name);
-            to(TokState::Tag(TagState::BeforeAttributeValue(tag, held)), out)
+            to(
+                TokState::Tag(TagState::BeforeAttributeValue(tag, held)),
+                out,
+            )
         }
         _ => {
             name.push(name_char(c))?;
@@ -179,7 +182,10 @@ fn after_attribute_name_row(
             let tag = with_bare(alloc, tag, held)?;
             to(TokState::Tag(TagState::SelfClosingStartTag(tag)), out)
         }
-        Class::Equals => to(TokState::Tag(TagState::BeforeAttributeValue(tag, held)), out),
+        Class::Equals => to(
+            TokState::Tag(TagState::BeforeAttributeValue(tag, held)),
+            out,
+        ),
         Class::Greater => emit_tag(with_bare(alloc, tag, held)?, out),
         Class::InputEnd => finish(out),
         _ => {
@@ -202,7 +208,10 @@ fn before_attribute_value_row(
     ensures { IfOk result (Follows (rows.before_attribute_value_row tag held class c) out.old out.new) }
 {
     match class {
-        Class::Space => to(TokState::Tag(TagState::BeforeAttributeValue(tag, held)), out),
+        Class::Space => to(
+            TokState::Tag(TagState::BeforeAttributeValue(tag, held)),
+            out,
+        ),
         Class::DoubleQuote => {
             let value = bare(alloc, held);
             let state = TagState::AttributeValueQuoted(tag, value, Quote::Double);
@@ -216,7 +225,10 @@ fn before_attribute_value_row(
         Class::Greater => emit_tag(with_bare(alloc, tag, held)?, out),
         _ => {
             let value = bare(alloc, held);
-            again(TokState::Tag(TagState::AttributeValueUnquoted(tag, value)), out)
+            again(
+                TokState::Tag(TagState::AttributeValueUnquoted(tag, value)),
+                out,
+            )
         }
     }
 }
@@ -241,7 +253,10 @@ fn quoted_row(
         (_, Class::InputEnd) => finish(out),
         _ => {
             let longer = longer_value(held, c)?;
-            to(TokState::Tag(TagState::AttributeValueQuoted(tag, longer, quote)), out)
+            to(
+                TokState::Tag(TagState::AttributeValueQuoted(tag, longer, quote)),
+                out,
+            )
         }
     }
 }
@@ -266,7 +281,10 @@ fn unquoted_row(
         Class::InputEnd => finish(out),
         _ => {
             let longer = longer_value(held, c)?;
-            to(TokState::Tag(TagState::AttributeValueUnquoted(tag, longer)), out)
+            to(
+                TokState::Tag(TagState::AttributeValueUnquoted(tag, longer)),
+                out,
+            )
         }
     }
 }

@@ -170,7 +170,7 @@ fn appropriate_tag(
         (λ tag. MatchOption tag
         (rows.is_appropriate last (rows.in_lower_case written.now) ≡ false)
         (λ t. (rows.is_appropriate last (rows.in_lower_case written.now) ≡ true)
-            × (t ≡ rows.end_tag_named written.now))) }
+        × (t ≡ rows.end_tag_named written.now))) }
 {
     let name = written.lower(alloc)?;
     if is_appropriate(last, &name) {

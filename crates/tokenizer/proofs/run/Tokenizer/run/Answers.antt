@@ -2,7 +2,7 @@ use Rattle.std.proofs.Common.{◌∙◌, List, sym, ap}
 use Rattle.std.proofs.lemmas.Str.{IsCharBoundary-start}
 use Rattle.html_types.specs.declared.token.Token.{Token}
 use Rattle.standard.specs.Tokenizer.{Reached}
-use Rattle.standard.proofs.FeedLemmas.{onward-none, onward-read, onward-plain}
+use Rattle.standard.proofs.FeedLemmas.{onward-none, onward-read, onward-plain, onward-before, no_last}
 use Rattle.tokenizer.proofs.run.Tokenizer.run.Goals as goal
 
 pub returns-in-Some-clause-boundary : goal.returns-in-Some-clause-boundary
@@ -42,3 +42,9 @@ loop-c-preserved c =
           ∙ c.self-in-Some-char_at-2.view_is ∙ c.in_ok-read_class.ensures es
           ∙ onward-read es c.args.self.now c.loop-c.self _ _ c.class_of-class.result c.in-Some-char_at.c c.class_of-class.ensures (c.loop-c.invariant.fed es) c.in-Some-char_at.ensures.read;
     }
+
+pub returns-in-Some-clause-first : goal.returns-in-Some-clause-first
+returns-in-Some-clause-first c = λ es x d split. absurd (no_last x d split)
+
+pub returns-clause-first : goal.returns-clause-first
+returns-clause-first c = λ es. onward-before es c.args.self.now _ (ap (λ (m : Reached). m.tokens) (sym (c.loop-c.invariant.fed es)) ∙ c.loop-c.invariant.none)
