@@ -9,7 +9,9 @@ use html_types::word::Word::{Body, Br, Head, Html};
 use html_types::{Instr, Mode, Name, Test, Token, Word};
 
 const NO_DOCTYPE: &[Instr] = &[BecomeQuirky, Enter(Mode::BeforeHtml), Again];
+
 const NO_HTML: &[Instr] = &[InsertRootA, Enter(Mode::BeforeHead), Again];
+
 const NO_HEAD: &[Instr] = &[InsertA(Head), PointHead, Enter(Mode::InHead), Again];
 
 /// "initial"
@@ -18,13 +20,7 @@ pub fn initial(token: &Token) -> &'static [Instr]
     ensures { result.now ≡ row Mode.Initial token.now }
 {
     match token {
-        Token::Character(c) => {
-            if is_space(*c) {
-                &[]
-            } else {
-                NO_DOCTYPE
-            }
-        }
+        Token::Character(c) => { if is_space(*c) { &[] } else { NO_DOCTYPE } }
         Token::Comment(_) => &[CommentToPage],
         Token::Doctype {
             name: _,
@@ -46,13 +42,7 @@ pub fn before_html(token: &Token) -> &'static [Instr]
     ensures { result.now ≡ row Mode.BeforeHtml token.now }
 {
     match token {
-        Token::Character(c) => {
-            if is_space(*c) {
-                &[]
-            } else {
-                NO_HTML
-            }
-        }
+        Token::Character(c) => { if is_space(*c) { &[] } else { NO_HTML } }
         Token::StartTag(tag) => match &tag.name {
             Name::Known(word) => before_html_start(*word),
             Name::Other(_) => NO_HTML,
@@ -95,13 +85,7 @@ pub fn before_head(token: &Token) -> &'static [Instr]
     ensures { result.now ≡ row Mode.BeforeHead token.now }
 {
     match token {
-        Token::Character(c) => {
-            if is_space(*c) {
-                &[]
-            } else {
-                NO_HEAD
-            }
-        }
+        Token::Character(c) => { if is_space(*c) { &[] } else { NO_HEAD } }
         Token::StartTag(tag) => match &tag.name {
             Name::Known(word) => before_head_start(*word),
             Name::Other(_) => NO_HEAD,
