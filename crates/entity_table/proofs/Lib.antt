@@ -1,1 +1,5 @@
 pub mod Reading
+pub mod Fronts
+pub mod Longest
+pub mod Narrowing
+pub mod Pushing
