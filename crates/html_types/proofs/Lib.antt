@@ -1,2 +1,5 @@
 pub mod TextLemmas
 pub mod CharLemmas
+pub mod WordLemmas
+pub mod ListLemmas
+mod Examples

@@ -21,7 +21,7 @@ impl Name {
     pub fn from_text(text: Text) -> Name
         ensures { result ≡ name_of text }
     {
-        for word in Word::of_length(text.as_str().len()) {
+        for word in Word::of_length(text.len()) {
             if text.is(word.text()) {
                 return Name::Known(*word);
             }

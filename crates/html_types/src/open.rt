@@ -106,16 +106,22 @@ impl Stack {
     pub fn same(&self, other: &Stack) -> bool
         ensures { IsTrue result ↔ (self.now ≡ other.now) }
     {
-        if self.items.len() != other.items.len() {
+        same_elements(self.as_slice(), other.as_slice())
+    }
+}
+
+fn same_elements(a: &[OpenElement], b: &[OpenElement]) -> bool
+    ensures { IsTrue result ↔ (a.now ≡ b.now) }
+{
+    if a.len() != b.len() {
+        return false;
+    }
+    for i in 0..a.len() {
+        if !a[i].same(&b[i]) {
             return false;
         }
-        for i in 0..self.items.len() {
-            if !self.items[i].same(&other.items[i]) {
-                return false;
-            }
-        }
-        true
     }
+    true
 }
 
 /// An entry of the list of active formatting elements: a marker, or an element with the tag that it was made for.
@@ -218,16 +224,22 @@ impl Formats {
     pub fn same(&self, other: &Formats) -> bool
         ensures { IsTrue result ↔ (self.now ≡ other.now) }
     {
-        if self.items.len() != other.items.len() {
+        same_entries(self.as_slice(), other.as_slice())
+    }
+}
+
+fn same_entries(a: &[Format], b: &[Format]) -> bool
+    ensures { IsTrue result ↔ (a.now ≡ b.now) }
+{
+    if a.len() != b.len() {
+        return false;
+    }
+    for i in 0..a.len() {
+        if !a[i].same(&b[i]) {
             return false;
         }
-        for i in 0..self.items.len() {
-            if !self.items[i].same(&other.items[i]) {
-                return false;
-            }
-        }
-        true
     }
+    true
 }
 
 /// The open state (13.2.4).

@@ -1,6 +1,6 @@
 //! What the builder asks of the tree. It names elements by ids, which it gives out itself.
 
-ghost use Rattle.std.specs.Prelude.{◌≡◌, ◌↔◌, ◌+◌, ◌<◌, ◌^◌, ◌++◌, ◌∷◌, [], IsTrue, OnOk};
+ghost use Rattle.std.specs.Prelude.{◌≡◌, ◌↔◌, ◌+◌, ◌<◌, ◌^◌, ◌++◌, ◌∷◌, [], IsTrue, IsFalse, IfOk, OnOk, OnErr};
 ghost use Rattle.html_types.specs.Operations.{same_id, later, same_place, spelled, spelled_one};
 ghost use Rattle.html_types.specs.declared.operation.Op.TheVariants as op;
 
@@ -32,7 +32,8 @@ impl NodeId {
 
     /// Whether two ids are the same.
     pub fn same(self, other: NodeId) -> bool
-        ensures { result ≡ same_id self other }
+        ensures value { result ≡ same_id self other }
+        ensures exact { IsTrue result ↔ (self ≡ other) }
     {
         self.realm == other.realm && self.n == other.n
     }
@@ -49,6 +50,24 @@ pub enum Place {
     Contents(NodeId),
     /// Just before the table where it has a parent, else the end of the element above it in the stack.
     Foster { table: NodeId, above: NodeId },
+}
+
+impl Place {
+    /// Whether two places are the same.
+    pub fn same(self, other: Place) -> bool
+        ensures value { result ≡ same_place self other }
+        ensures exact { IsTrue result ↔ (self ≡ other) }
+    {
+        match (self, other) {
+            (Place::Page, Place::Page) => true,
+            (Place::Inside(a), Place::Inside(b)) => a.same(b),
+            (Place::Contents(a), Place::Contents(b)) => a.same(b),
+            (Place::Foster { table: a, above: b }, Place::Foster { table: c, above: d }) => {
+                a.same(c) && b.same(d)
+            }
+            _ => false,
+        }
+    }
 }
 
 /// An operation.
@@ -90,6 +109,26 @@ pub enum Op {
     },
 }
 
+impl Op {
+    /// Adds the character to the text that this inserts at that place, and says whether it does insert text there.
+    fn join(&mut self, place: Place, c: char) -> Result<bool, NoMemory>
+        ensures joined { IfOk result (λ r. IsTrue r → spelled_one self.new ≡ spelled_one self.old ++ op.Text place (c ∷ []) ∷ []) }
+        ensures kept { IfOk result (λ r. IsFalse r → self.new ≡ self.old) }
+        ensures err { OnErr result (self.new ≡ self.old) }
+    {
+        match self {
+            Op::Text { place: at, text } => {
+                if !at.same(place) {
+                    return Ok(false);
+                }
+                text.push(c)?;
+                Ok(true)
+            }
+            _ => Ok(false),
+        }
+    }
+}
+
 /// Operations in order. A contract sees the list of them with each text spelled out, an operation a character.
 #[derive(Drop)]
 pub struct Ops {
@@ -118,7 +157,8 @@ impl Ops {
 
     /// Adds an operation at the end.
     pub fn push(&mut self, op: Op) -> Result<(), NoMemory>
-        ensures { OnOk result (self.new ≡ self.old ++ spelled_one op) }
+        ensures ok { OnOk result (self.new ≡ self.old ++ spelled_one op) }
+        ensures err { OnErr result (self.new ≡ self.old) }
     {
         self.list.push(op)?;
         Ok(())
@@ -126,17 +166,29 @@ impl Ops {
 
     /// Adds the insertion of a character at the end: it joins the text that the last operation inserts at that place.
     pub fn push_character(&mut self, alloc: Global, place: Place, c: char) -> Result<(), NoMemory>
-        ensures { OnOk result (self.new ≡ self.old ++ op.Text place (c ∷ []) ∷ []) }
+        ensures ok { OnOk result (self.new ≡ self.old ++ op.Text place (c ∷ []) ∷ []) }
+        ensures err { OnErr result (self.new ≡ self.old) }
     {
-        if let Some(Op::Text { place: last, text }) = self.list.last_mut() {
-            if *last == place {
-                return text.push(c);
-            }
+        if self.join_last(place, c)? {
+            return Ok(());
         }
         let mut text = Text::new(alloc);
         text.push(c)?;
-        self.list.push(Op::Text { place, text })?;
-        Ok(())
+        self.push(Op::Text { place, text })
+    }
+
+    /// Adds the character to the text that the last operation inserts at that place, and says whether it does insert text there.
+    fn join_last(&mut self, place: Place, c: char) -> Result<bool, NoMemory>
+        ensures joined { IfOk result (λ r. IsTrue r → self.new ≡ self.old ++ op.Text place (c ∷ []) ∷ []) }
+        ensures kept { IfOk result (λ r. IsFalse r → self.new ≡ self.old) }
+        ensures err { OnErr result (self.new ≡ self.old) }
+    {
+        if let Some(last) = self.list.last_mut() {
+            if last.join(place, c)? {
+                return Ok(true);
+            }
+        }
+        Ok(false)
     }
 
     /// The operations as they are kept, a text in one.

@@ -70,6 +70,16 @@ pub enum TokState {
     Tag(TagState),
 }
 
+fn same_word(a: &Option<Word>, b: &Option<Word>) -> bool
+    ensures { IsTrue result ↔ (a.now ≡ b.now) }
+{
+    match (a, b) {
+        (None, None) => true,
+        (Some(v), Some(w)) => v.same(*w),
+        _ => false,
+    }
+}
+
 fn same_name(a: &Option<Text>, b: &Option<Text>) -> bool
     ensures { IsTrue result ↔ (a.now ≡ b.now) }
 {
@@ -131,14 +141,15 @@ impl TextState {
     {
         match (self, other) {
             (TextState::Data, TextState::Data) => true,
-            (TextState::Raw(r, m), TextState::Raw(s, n)) => *r == *s && *m == *n,
+            (TextState::Raw(r, m), TextState::Raw(s, n)) => *r == *s && same_word(m, n),
             (TextState::Plaintext, TextState::Plaintext) => true,
-            (TextState::RawLessThan(r, m), TextState::RawLessThan(s, n)) => *r == *s && *m == *n,
+            (TextState::RawLessThan(r, m), TextState::RawLessThan(s, n)) => *r == *s
+                && same_word(m, n),
             (TextState::RawEndTagOpen(r, m), TextState::RawEndTagOpen(s, n)) => {
-                *r == *s && *m == *n
+                *r == *s && same_word(m, n)
             }
             (TextState::RawEndTagName(r, m, v), TextState::RawEndTagName(s, n, w)) => {
-                *r == *s && *m == *n && v.same(w)
+                *r == *s && same_word(m, n) && v.same(w)
             }
             _ => false,
         }

@@ -90,6 +90,13 @@ impl Text {
         self.string.as_str() == word
     }
 
+    /// How many characters it has.
+    pub fn len(&self) -> usize
+        ensures { result ≡ length self.now }
+    {
+        self.string.as_str().chars().count()
+    }
+
     /// Whether it has no characters.
     pub fn is_empty(&self) -> bool
         ensures { IsTrue result ↔ (self.now ≡ []) }

@@ -1,6 +1,7 @@
 //! The element names that the rules of tree construction speak of.
 
-ghost use Rattle.std.specs.Prelude.{◌≡◌};
+ghost use Rattle.std.specs.Prelude.{◌≡◌, ◌↔◌, IsTrue};
+ghost use Rattle.std.specs.Str.{chars};
 ghost use Rattle.html_types.specs.Words.{word_text, words_of_length, same_word};
 
 /// A name that the rules speak of.
@@ -117,6 +118,13 @@ pub enum Word {
 impl Word {
     /// The name as it is written, in lower case.
     pub fn text(self) -> &'static str
+        ensures bytes { result.now ≡ word_text self }
+        ensures spelled { chars result.now ≡ word_text self }
+    {
+        self.written()
+    }
+
+    fn written(self) -> &'static str
         ensures { result.now ≡ word_text self }
     {
         match self {
@@ -231,7 +239,8 @@ impl Word {
 
     /// Whether two words are the same.
     pub fn same(self, other: Word) -> bool
-        ensures { result ≡ same_word self other }
+        ensures value { result ≡ same_word self other }
+        ensures exact { IsTrue result ↔ (self ≡ other) }
     {
         self == other
     }
