@@ -3,3 +3,4 @@ pub mod Fronts
 pub mod Longest
 pub mod Narrowing
 pub mod Pushing
+pub mod Examples

@@ -25,7 +25,7 @@ pub struct Cursor {
 }
 
 /// What a character makes of the text that is held.
-#[derive(Clone, Copy)]
+#[derive(Clone, Copy, Debug, PartialEq, Eq)]
 pub enum Step {
     /// Some name begins with the text.
     More,
@@ -80,6 +80,7 @@ impl Cursor {
     ghost use Rattle.standard.specs.Entities.{Entities, begins_some, longest};
     ghost use Rattle.entity_table.specs.Held.{Holds, StopTells};
     ghost use Rattle.entity_table.specs.Matches.{Tells};
+    ghost use Rattle.std.specs.Str.{chars};
 
     /// A cursor over the table that holds the empty text.
     pub fn new(table: &Table) -> Cursor
@@ -93,6 +94,17 @@ impl Cursor {
             depth: 0,
             best: None,
         }
+    }
+
+    /// A cursor over the table that holds this text.
+    pub fn over(table: &Table, text: &str) -> Cursor
+        ensures { Holds table.now result (chars text.now) }
+    {
+        let mut cursor = Cursor::new(table);
+        for c in text.chars() {
+            let _ = cursor.push(table, c);
+        }
+        cursor
     }
 
     /// Holds one more character. The time doesn't depend on the text, and grows with the logarithm of the table's size.

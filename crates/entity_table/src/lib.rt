@@ -5,6 +5,8 @@ pub mod cursor;
 mod read;
 pub mod row;
 pub mod table;
+#[cfg(test)]
+mod tests;
 
 pub use cursor::{Cursor, Step};
 pub use row::{Characters, Match};
