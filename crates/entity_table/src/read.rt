@@ -2,25 +2,21 @@
 
 ghost use Rattle.std.specs.Prelude.{◌≡◌, Some, None, IfOk, IfErr, option_map};
 ghost use Rattle.std.specs.Prelude.{string_bytes};
-ghost use Rattle.standard.specs.Entities.{ends_in_semicolon as ends_in, is_name as is_named, code_point as code_in, inner as inside, one_or_two as one_or_two_of, characters_of, entity_of, entities_in, entities_of};
+ghost use Rattle.standard.specs.Entities.{is_name as is_named, code_point as code_in, inner as inside, one_or_two as one_or_two_of, characters_of, entity_of, entities_in, entities_of};
 ghost use Rattle.std.specs.Prelude.{IsUtf8};
 ghost use Rattle.std.specs.List.{list_all};
 ghost use Rattle.std.specs.Char.{is_ascii_alphanumeric};
 ghost use Rattle.serde_json.specs.Find.{as_object};
 ghost use Rattle.serde_json.specs.Read.{read};
 ghost use Rattle.serde_json.specs.View.{view, items_view, members_view};
+ghost use Rattle.entity_table.specs.Order.{AreNames};
+ghost use Rattle.entity_table.specs.Parts.{row_names};
 ghost use Rattle.entity_table.specs.View.{characters_in, entity_in, rows_in};
 
-use crate::row::{Characters, Row};
+use crate::row::{Characters, Row, ends_in_semicolon};
 use crate::table::TableFault;
 use serde_json::{Map, Value};
 use std::alloc::Global;
-
-fn ends_in_semicolon(name: &[u8]) -> bool
-    ensures { result ≡ ends_in name.now }
-{
-    name.last() == Some(&b';')
-}
 
 fn inner(key: &[u8]) -> &[u8]
     ensures { result.now ≡ inside key.now }
@@ -90,6 +86,7 @@ fn rows_of(alloc: Global, members: Map<String, Value>) -> Result<Vec<Row>, Table
         (λ v. entities_in (members_view members.entries) ≡ Some (rows_in v.items)) }
     ensures no_rows { result ≡ Err TableFault.NotTable
         → entities_in (members_view members.entries) ≡ None }
+    ensures names { IfOk result (λ v. AreNames (row_names v.items)) }
 {
     let mut rows = Vec::new(alloc);
     for (name, value) in members {
@@ -127,6 +124,7 @@ fn json(alloc: Global, bytes: &[u8]) -> Result<Value, TableFault>
 pub(crate) fn rows(alloc: Global, bytes: &[u8]) -> Result<Vec<Row>, TableFault>
     ensures rows { IfOk result (λ v. entities_of bytes.now ≡ Some (rows_in v.items)) }
     ensures no_rows { result ≡ Err TableFault.NotTable → entities_of bytes.now ≡ None }
+    ensures names { IfOk result (λ v. AreNames (row_names v.items)) }
 {
     let value = json(alloc, bytes)?;
     let members = members_of(value).ok_or(TableFault::NotTable)?;

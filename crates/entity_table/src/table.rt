@@ -2,6 +2,9 @@
 
 ghost use Rattle.std.specs.Prelude.{◌≡◌, Some, None, IfOk, IfErr};
 ghost use Rattle.standard.specs.Entities.{entities_of};
+ghost use Rattle.entity_table.specs.Order.{AreNames};
+ghost use Rattle.entity_table.specs.Parts.{row_names};
+ghost use Rattle.entity_table.specs.View.{rows_in};
 
 use crate::read;
 use crate::row::Row;
@@ -49,11 +52,15 @@ pub struct Table {
 impl Model for Table {
     ghost use Rattle.std.specs.Arc.{arc_value};
     ghost use Rattle.standard.specs.Entities.{Entities};
+    ghost use Rattle.entity_table.specs.Order.{AreNames};
+    ghost use Rattle.entity_table.specs.Parts.{row_names};
     ghost use Rattle.entity_table.specs.View.{rows_in};
 
     ghost Value = { Entities };
 
     ghost view = { λ t. rows_in (arc_value t.rows).items };
+
+    ghost invariant = { λ t. AreNames (row_names (arc_value t.rows).items) };
 }
 
 impl Table {
@@ -67,6 +74,14 @@ impl Table {
         let rows = read::rows(alloc, bytes)?;
         let rows = Arc::new(alloc, rows)?;
         Ok(Table { rows })
+    }
+
+    /// All rows, in the order of their names.
+    pub(crate) fn rows(&self) -> &[Row]
+        ensures rows { rows_in result.now ≡ self.now }
+        ensures names { AreNames (row_names result.now) }
+    {
+        self.rows.as_slice()
     }
 
     /// Another owner of the same table.
