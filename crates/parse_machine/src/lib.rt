@@ -2,9 +2,9 @@
 //! the stop depend on the state and the text alone.
 #![tactic(auto)]
 
-mod construct;
 mod machine;
+mod token;
 
-pub use construct::construct;
 pub use html_types::{Finish, Stop};
 pub use machine::{Machine, Ran};
+pub use token::construct;

@@ -3,7 +3,6 @@
 ghost use Rattle.std.specs.Prelude.{◌≡◌, IfOk, IsTrue};
 ghost use Rattle.standard.specs.Rules.{answer, by_mode, process, rounds, is_line_feed as is_line_feed_in, construct as constructed};
 
-use builder_body::body;
 use builder_head::head;
 use builder_state::Builder;
 use html_types::{Mode, Next, NoMemory, Ops, Token};
@@ -20,8 +19,8 @@ fn is_line_feed(token: &Token) -> bool
 
 // By the rules of one mode.
 fn by_rules(
-    builder: &mut Builder,
     alloc: Global,
+    builder: &mut Builder,
     mode: Mode,
     token: &Token,
     ops: &mut Ops,
@@ -29,21 +28,18 @@ fn by_rules(
     ensures { IfOk result (λ n. answer builder.new ops.new n ≡ by_mode mode token.now builder.old ops.old) }
 {
     match mode {
-        Mode::Initial
-        | Mode::BeforeHtml
-        | Mode::BeforeHead
-        | Mode::InHead
-        | Mode::AfterHead => head(builder, alloc, mode, token, ops),
+        Mode::Initial | Mode::BeforeHtml | Mode::BeforeHead | Mode::InHead | Mode::AfterHead =>
+            head(alloc, builder, mode, token, ops),
         Mode::InBody | Mode::InText | Mode::AfterBody | Mode::AfterAfterBody => {
-            body(builder, alloc, mode, token, ops)
+            Ok(Next::Missing)
         }
     }
 }
 
 // By the rules of a mode, and of those that the token is then to go by.
 fn by_all_rules(
-    builder: &mut Builder,
     alloc: Global,
+    builder: &mut Builder,
     first: Mode,
     token: &Token,
     ops: &mut Ops,
@@ -52,7 +48,7 @@ fn by_all_rules(
 {
     let mut mode = first;
     for _ in 0..ROUNDS {
-        match by_rules(builder, alloc, mode, token, ops)? {
+        match by_rules(alloc, builder, mode, token, ops)? {
             Next::Again => mode = builder.mode(),
             Next::Using(other) => mode = other,
             next => return Ok(next),
@@ -64,8 +60,8 @@ fn by_all_rules(
 /// Processes a token. Operations are added at the end of `ops`.
 /// Where it answers want of memory, the builder and the operations only keep their types.
 pub fn construct(
-    builder: &mut Builder,
     alloc: Global,
+    builder: &mut Builder,
     token: &Token,
     ops: &mut Ops,
 ) -> Result<Next, NoMemory>
@@ -75,5 +71,5 @@ pub fn construct(
         return Ok(Next::Done);
     }
     let mode = builder.mode();
-    by_all_rules(builder, alloc, mode, token, ops)
+    by_all_rules(alloc, builder, mode, token, ops)
 }
