@@ -6,3 +6,5 @@ pub mod Parse
 pub mod Batch
 pub mod Passing
 pub mod Scripts
+pub mod Kept
+pub mod Lines

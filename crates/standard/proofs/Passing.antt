@@ -111,7 +111,7 @@ pub leads-end : EndLeads
 unfolding moment_after
 leads-end e w m0 s p h = leads-next e w m0 0 (reading s) _ p (ap (λ t. Some (read_next w.entities e s t)) h)
 
-finished-at : (s : Serial) (f : Finished) → at_end s f ≡ outcome_at s f.parser (acts s.side.doc f.ops) f.finish
+pub finished-at : (s : Serial) (f : Finished) → at_end s f ≡ outcome_at s f.parser (acts s.side.doc f.ops) f.finish
 finished-at s f = by_finish f.finish
   where
     by_finish : (k : Finish) → (let last = taken f.parser (acts s.side.doc f.ops) [] s in
