@@ -9,7 +9,7 @@ use Rattle.html_types.specs.declared.instruction.Finish.{Finish}
 use Rattle.html_types.specs.declared.instruction.Finish.TheVariants as finale
 use Rattle.standard.specs.Act.{Doc, acts}
 use Rattle.standard.specs.Parser.{Parser, Took, took, take_character, Finished, finish}
-use Rattle.standard.specs.Serial.{World, Page, Outcome, Serial, Flow, goes, refuses, starved, inside, back_at, prepared, Moment, reading, tag_ended, over, at_end, after_character, after_script, read_next, moment_after, moments_on, first, Passes, IsSerial}
+use Rattle.standard.specs.Serial.{World, Outcome, Serial, Flow, goes, refuses, starved, inside, prepared, Moment, reading, tag_ended, over, at_end, after_character, after_script, read_next, moment_after, moments_on, first}
 use Rattle.standard.specs.Output.{line_text, result_text, output}
 use Rattle.standard.specs.Laws.{outcome_at, lines_of, GoesOnFrom, LinesBegin, OutputBegins}
 use Rattle.standard.proofs.Kept.{Kept, Grows, Grows-steps, run_prepared-kept}
@@ -88,6 +88,7 @@ pub passed-output : OutputBegins
 unfolding output
 passed-output page w m o p q =
     let (more, e) = passed-lines page w m o p q in
-    let tail : List ℕ = result_text o.result o.last.side.doc.tree in
-    (flat_map line_text more ++ tail,
-    ap (λ k. flat_map line_text k ++ tail) e ∙ (ap (λ k. k ++ tail) (flat_map-append line_text (lines_of m) more) ∙ append_assoc (flat_map line_text (lines_of m)) (flat_map line_text more) tail))
+    let tail : List ℕ = result_text o.result o.last.side.doc.tree in (
+      flat_map line_text more ++ tail,
+      ap (λ k. flat_map line_text k ++ tail) e ∙ (ap (λ k. k ++ tail) (flat_map-append line_text (lines_of m) more) ∙ append_assoc (flat_map line_text (lines_of m)) (flat_map line_text more) tail),
+    )

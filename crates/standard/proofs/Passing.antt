@@ -11,10 +11,10 @@ use Rattle.html_types.specs.declared.instruction.Stop.TheVariants as stop
 use Rattle.html_types.specs.declared.instruction.Finish.{Finish}
 use Rattle.html_types.specs.declared.instruction.Finish.TheVariants as finale
 use Rattle.standard.specs.Entities.{Entities}
-use Rattle.standard.specs.Act.{Doc, acts}
-use Rattle.standard.specs.Parser.{Parser, Took, took, take_character, Parsed, after_character, and_rest, parse, Finished, finish}
-use Rattle.standard.specs.Serial.{World, Page, Outcome, Serial, Moment, reading, tag_ended, over, refusal, first, finished, taken, at_end, ended, read_next, moment_after, moments_on, Leads, Passes, IsSerial}
-use Rattle.standard.specs.Laws.{moment_at, HasParsed, LeavesNothing, BatchesLead, WholeBatchesLead, EndLeads, HasFinished, outcome_at, FinishLeads, OverIsSerial}
+use Rattle.standard.specs.Act.{acts}
+use Rattle.standard.specs.Parser.{Parser, Took, took, take_character, Parsed, and_rest, parse, Finished, finish}
+use Rattle.standard.specs.Serial.{World, Page, Outcome, Serial, Moment, reading, over, refusal, first, finished, taken, at_end, read_next, moment_after, moments_on, Leads, Passes}
+use Rattle.standard.specs.Laws.{LeavesNothing, BatchesLead, WholeBatchesLead, EndLeads, outcome_at, FinishLeads, OverIsSerial}
 use Rattle.standard.proofs.Fuel.{moments_on-by, over-by, over-serial}
 use Rattle.standard.proofs.Batch.{moment_behind, reading-batch}
 

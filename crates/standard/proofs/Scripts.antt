@@ -1,10 +1,8 @@
 -- A script, statement by statement, and the moment behind it.
-use Rattle.std.proofs.Common.{◌≡◌, ℕ, zero, suc, ◌+◌, ◌-◌, ◌≤◌, ◌<◌, Bool, true, false, List, [], ◌∷◌, ◌++◌, Option, Some, None, refl, length, take, drop, sym, ◌∙◌, ap, nat_le, length-append, arith}
+use Rattle.std.proofs.Common.{◌≡◌, ℕ, suc, ◌+◌, ◌-◌, ◌≤◌, true, List, [], ◌∷◌, ◌++◌, Some, None, refl, length, take, drop, ◌∙◌, ap, length-append, arith}
 use Rattle.std.proofs.Math.Seq.{take-append_seam, drop-append_seam}
 use Rattle.std.proofs.lemmas.Bool.{le-leb, lt-leb}
 use Rattle.html_types.specs.declared.operation.NodeId.{NodeId}
-use Rattle.html_types.specs.declared.script.Ending.{Ending}
-use Rattle.html_types.specs.declared.script.Why.{Why}
 use Rattle.html_types.specs.declared.script.Statement.{Statement}
 use Rattle.html_types.specs.declared.script.Statement.TheVariants as statement
 use Rattle.html_types.specs.declared.instruction.Stop.{Stop}
@@ -13,8 +11,8 @@ use Rattle.standard.specs.Act.{Doc}
 use Rattle.standard.specs.Statements.{statements}
 use Rattle.standard.specs.Prepare.{inline}
 use Rattle.standard.specs.Parser.{Parser}
-use Rattle.standard.specs.Serial.{World, Serial, Flow, goes, refuses, starved, ◌then◌, Advanced, advanced, advance, before_point, after_point, moved, inside, back_at, insert, with_line, one_more_executed, write_limit, execute, run_statements, write, go_on, stopped, run_prepared, prepared, tag_ended, after_script, moment_after}
-use Rattle.standard.specs.Laws.{executed, HasParsed, StatementsComeTo, ScriptComesTo, ScriptLeads, ScriptRefuses, StillScripts, ExternalScripts, SyntaxErrors, ScriptsRun, ScriptStands, IsIdle, wrote, wrote_part, StatementsEnd, WritesGoOn, why_at, WritesRefuse, LongWritesRefuse, IsUnready, OthersRefuse}
+use Rattle.standard.specs.Serial.{World, Serial, Flow, goes, refuses, starved, ◌then◌, advanced, advance, before_point, after_point, moved, inside, insert, one_more_executed, write_limit, execute, run_statements, write, go_on, stopped, run_prepared, prepared, tag_ended, after_script, moment_after}
+use Rattle.standard.specs.Laws.{HasParsed, StatementsComeTo, ScriptComesTo, ScriptLeads, ScriptRefuses, StillScripts, ExternalScripts, SyntaxErrors, ScriptsRun, ScriptStands, IsIdle, wrote, wrote_part, StatementsEnd, WritesGoOn, why_at, WritesRefuse, LongWritesRefuse, OthersRefuse}
 use Rattle.standard.proofs.Fuel.{Refines, Refines-by, run_statements-more}
 use Rattle.standard.proofs.Parse.{advance-parse}
 use Rattle.standard.proofs.Passing.{leads-next, parse-left}
@@ -105,7 +103,7 @@ write-goes_on w t list s p d left f h le b (n, q) =
     raised f (rw c at more)
   where
     whole : (k : ℕ) → run_statements (suc (suc (suc (suc k)))) w (statement.Write t ∷ list) s ≡ run_statements (suc (suc (suc k))) w list (wrote p d t s)
-    whole k = 
+    whole k =
         let none : left ≡ [] = parse-left w.entities s.parser p s.side.doc d t left b in
         ap (λ x. write (suc (suc (suc k))) w x t s then λ u. run_statements (suc (suc (suc k))) w list u) (le-leb _ _ le)
         ∙ (ap (λ (x : Flow). x then λ u. run_statements (suc (suc (suc k))) w list u) (write-flow k w t s p d left stop.InputEnd h b)
@@ -118,10 +116,12 @@ write-goes_on w t list s p d left f h le b (n, q) =
 
 pub write-refuses : WritesRefuse
 unfolding execute
-write-refuses w t list s p d left k r h le b why =
-    (4, ap (λ x. write 3 w x t s then λ u. run_statements 3 w list u) (le-leb _ _ le)
-    ∙ (ap (λ (x : Flow). x then λ u. run_statements 3 w list u) (write-flow 0 w t s p d left k h b)
-    ∙ ap (λ o. (elim o as (λ _. Flow) [ None ↦ goes (wrote_part p d t left s) | Some r ↦ refuses r (wrote_part p d t left s) ]) then λ u. run_statements 3 w list u) why))
+write-refuses w t list s p d left k r h le b why = (
+  4,
+  ap (λ x. write 3 w x t s then λ u. run_statements 3 w list u) (le-leb _ _ le)
+      ∙ (ap (λ (x : Flow). x then λ u. run_statements 3 w list u) (write-flow 0 w t s p d left k h b)
+      ∙ ap (λ o. (elim o as (λ _. Flow) [ None ↦ goes (wrote_part p d t left s) | Some r ↦ refuses r (wrote_part p d t left s) ]) then λ u. run_statements 3 w list u) why),
+)
 
 pub long-write-refuses : LongWritesRefuse
 unfolding execute

@@ -10,20 +10,17 @@ ghost use Rattle.standard.specs.Laws.{HasOneOutcome, ParsesInPieces, AdvancesByP
 /// Every page has exactly one outcome.
 pub fn has_one_outcome()
     ensures { HasOneOutcome }
-{
-}
+{}
 
 /// A text may come in two pieces: it is parsed as the first and then the second, unless the parser stops in the first.
 pub fn parse_of_a_cut_text()
     ensures { ParsesInPieces }
-{
-}
+{}
 
 /// Characters one by one, each operation done at once, come to the operations of the whole text done after it.
 pub fn advance_by_parse()
     ensures { AdvancesByParse }
-{
-}
+{}
 
 /// What is parsed of a front of the input leads from one moment of the serial parse to another: over the front, or to a stop
 /// in it.
@@ -31,23 +28,20 @@ pub fn batch_leads()
     ensures leads { BatchesLead }
     ensures whole { WholeBatchesLead }
     ensures nothing_left { LeavesNothing }
-{
-}
+{}
 
 /// Where the input is used the page's ending is applied, and the parse is over.
 pub fn end_leads()
     ensures ending { EndLeads }
     ensures finish { FinishLeads }
     ensures outcome { OverIsSerial }
-{
-}
+{}
 
 /// What a script comes to leads to the moment behind it.
 pub fn script_leads()
     ensures goes_on { ScriptLeads }
     ensures refuses { ScriptRefuses }
-{
-}
+{}
 
 /// What a script whose end tag was met comes to, by how it was prepared.
 pub fn script_begins()
@@ -55,8 +49,7 @@ pub fn script_begins()
     ensures external { ExternalScripts }
     ensures syntax { SyntaxErrors }
     ensures runs { ScriptsRun }
-{
-}
+{}
 
 /// What statements come to, by the first of them. A written text is parsed whole.
 pub fn statements_run()
@@ -65,13 +58,11 @@ pub fn statements_run()
     ensures stop { WritesRefuse }
     ensures long { LongWritesRefuse }
     ensures other { OthersRefuse }
-{
-}
+{}
 
 /// The lines of every moment that a parse passes through begin those of its outcome, and what is written for them begins
 /// what is written for the page.
 pub fn lines_begin()
     ensures lines { LinesBegin }
     ensures output { OutputBegins }
-{
-}
+{}
