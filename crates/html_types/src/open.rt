@@ -1,6 +1,6 @@
 //! The open state of tree construction (13.2.4): it names elements by their ids.
 
-ghost use Rattle.std.specs.Prelude.{◌≡◌, ◌↔◌, ◌∷◌, ◌++◌, [], length, reverse, IsTrue, IfOk, OnOk, OnErr, IfSome, IfNone};
+ghost use Rattle.std.specs.Prelude.{◌≡◌, ◌↔◌, ◌∷◌, ◌++◌, ◌<◌, [], length, reverse, remove, IsTrue, IfOk, OnOk, OnErr, IfSome, IfNone};
 
 use crate::instruction::Mode;
 use crate::memory::NoMemory;
@@ -82,6 +82,14 @@ impl Stack {
         ensures empty { IfNone result (self.new ≡ []) }
     {
         self.items.pop()
+    }
+
+    /// Takes an element out, wherever it stands: the first element of the stack has place 0.
+    pub fn take_out(&mut self, place: usize)
+        requires { place < length self.old }
+        ensures { self.new ≡ reverse (remove (reverse self.old) place) }
+    {
+        let _ = self.items.remove(place);
     }
 
     /// The elements, the current node last.

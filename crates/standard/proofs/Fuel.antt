@@ -8,7 +8,8 @@ use Rattle.html_types.specs.declared.script.Statement.TheVariants as statement
 use Rattle.html_types.specs.declared.instruction.Stop.TheVariants as stop
 use Rattle.standard.specs.Statements.{statements}
 use Rattle.standard.specs.Prepare.{Prepared, still, inline, external}
-use Rattle.standard.specs.Serial.{World, Page, Outcome, Serial, Flow, goes, refuses, starved, ◌then◌, Advanced, advanced, advance, before_point, inside, insert, one_more_executed, prepared, execute, run_statements, write, go_on, stopped, run_prepared, first, Moment, reading, tag_ended, over, after_script, moment_after, moments_on, outcome_in, serial_with, IsSerial}
+use Rattle.standard.specs.Page.{Page}
+use Rattle.standard.specs.Serial.{World, Outcome, Serial, Flow, goes, refuses, starved, ◌then◌, Advanced, advanced, advance, before_point, inside, insert, one_more_executed, prepared, execute, run_statements, write, go_on, stopped, run_prepared, first, Moment, reading, tag_ended, over, after_script, moment_after, moments_on, outcome_in, serial_with, IsSerial}
 
 -- g is f, unless f ran out of fuel
 abbrev pub Refines : Flow → Flow → Type 0

@@ -8,3 +8,12 @@ pub mod Passing
 pub mod Scripts
 pub mod Kept
 pub mod Lines
+pub mod Framing
+pub mod FreshnessWalks
+pub mod Freshness
+pub mod FreshnessTexts
+pub mod FreshnessDocs
+pub mod SettleLemmas
+pub mod FeedLemmas
+pub mod TokenizerLaws
+pub mod TokenizerRows

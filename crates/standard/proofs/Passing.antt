@@ -13,7 +13,8 @@ use Rattle.html_types.specs.declared.instruction.Finish.TheVariants as finale
 use Rattle.standard.specs.Entities.{Entities}
 use Rattle.standard.specs.Act.{acts}
 use Rattle.standard.specs.Parser.{Parser, Took, took, take_character, Parsed, and_rest, parse, Finished, finish}
-use Rattle.standard.specs.Serial.{World, Page, Outcome, Serial, Moment, reading, over, refusal, first, finished, taken, at_end, read_next, moment_after, moments_on, Leads, Passes}
+use Rattle.standard.specs.Page.{Page}
+use Rattle.standard.specs.Serial.{World, Outcome, Serial, Moment, reading, over, refusal, first, finished, taken, at_end, read_next, moment_after, moments_on, Leads, Passes}
 use Rattle.standard.specs.Laws.{LeavesNothing, BatchesLead, WholeBatchesLead, EndLeads, outcome_at, FinishLeads, OverIsSerial}
 use Rattle.standard.proofs.Fuel.{moments_on-by, over-by, over-serial}
 use Rattle.standard.proofs.Batch.{moment_behind, reading-batch}

@@ -18,7 +18,8 @@ use Rattle.standard.specs.Act.{Doc, acts}
 use Rattle.standard.specs.Statements.{statements}
 use Rattle.standard.specs.Prepare.{still, inline, external}
 use Rattle.standard.specs.Parser.{Parser, Parsed, parse, finish}
-use Rattle.standard.specs.Serial.{Page, World, Outcome, IsSerial, Advanced, advanced, advance, Serial, Flow, goes, refuses, with_line, write_limit, one_more_executed, back_at, inside, run_statements, run_prepared, prepared, Moment, reading, tag_ended, over, finished, refusal, taken, ended, Leads, Passes}
+use Rattle.standard.specs.Page.{Page}
+use Rattle.standard.specs.Serial.{World, Outcome, IsSerial, Advanced, advanced, advance, Serial, Flow, goes, refuses, with_line, write_limit, one_more_executed, back_at, inside, run_statements, run_prepared, prepared, Moment, reading, tag_ended, over, finished, refusal, taken, ended, Leads, Passes}
 use Rattle.standard.specs.Output.{line_text, output}
 
 -- ---- outcomes

@@ -1,0 +1,93 @@
+//! The rows of "after head" (13.2.6.4.6).
+
+ghost use Rattle.std.specs.Prelude.{◌≡◌};
+ghost use Rattle.standard.specs.Rules.{row, known_start_row, known_end_row};
+
+use builder_state::is_space;
+use html_types::instruction::Instr::*;
+use html_types::word::Word::{
+    Base, Basefont, Bgsound, Body, Br, Frameset, Head, Html, Link, Meta, Noframes, Script, Style,
+    Template, Title,
+};
+use html_types::{Instr, Mode, Name, Reading, Token, Word};
+
+const OTHERWISE: &[Instr] = &[InsertA(Body), Enter(Mode::InBody), Again];
+
+/// "after head"
+#[tactic(auto, unfolding(standard::specs::Rules::row))]
+pub fn after_head(token: &Token) -> &'static [Instr]
+    ensures { result.now ≡ row Mode.AfterHead token.now }
+{
+    match token {
+        Token::Character(c) => {
+            if is_space(*c) {
+                &[InsertText]
+            } else {
+                OTHERWISE
+            }
+        }
+        Token::StartTag(tag) => match &tag.name {
+            Name::Known(word) => start(*word),
+            Name::Other(_) => OTHERWISE,
+        },
+        Token::EndTag(tag) => match &tag.name {
+            Name::Known(word) => end(*word),
+            Name::Other(_) => &[],
+        },
+        Token::Comment(_) => &[InsertComment],
+        Token::Doctype {
+            name: _,
+            force_quirks: _,
+        } => &[],
+        Token::EndOfFile => OTHERWISE,
+        Token::Missing => &[Missing],
+    }
+}
+
+// What goes into the head is pushed on its node, which leaves the stack at once.
+fn start(word: Word) -> &'static [Instr]
+    ensures { result.now ≡ known_start_row Mode.AfterHead word }
+{
+    match word {
+        Html => &[Using(Mode::InBody)],
+        Body => &[Insert, NotOk, Enter(Mode::InBody)],
+        Base | Basefont | Bgsound | Link | Meta => &[PushHead, Void, TakeHeadOff],
+        Title => &[
+            PushHead,
+            Insert,
+            TakeHeadOff,
+            KeepMode,
+            Enter(Mode::InText),
+            Switch(Reading::Rcdata),
+        ],
+        Noframes | Style => &[
+            PushHead,
+            Insert,
+            TakeHeadOff,
+            KeepMode,
+            Enter(Mode::InText),
+            Switch(Reading::Rawtext),
+        ],
+        Script => &[
+            PushHead,
+            Insert,
+            TakeHeadOff,
+            KeepMode,
+            Enter(Mode::InText),
+            Switch(Reading::ScriptData),
+        ],
+        Frameset | Template => &[Missing],
+        Head => &[],
+        _ => OTHERWISE,
+    }
+}
+
+fn end(word: Word) -> &'static [Instr]
+    ensures { result.now ≡ known_end_row Mode.AfterHead word }
+{
+    match word {
+        Template => &[Missing],
+        Body | Html | Br => OTHERWISE,
+        _ => &[],
+    }
+}

@@ -1,0 +1,86 @@
+//! The rows of "in head" (13.2.6.4.4).
+
+ghost use Rattle.std.specs.Prelude.{◌≡◌};
+ghost use Rattle.standard.specs.Rules.{row, known_start_row, known_end_row};
+
+use builder_state::is_space;
+use html_types::instruction::Instr::*;
+use html_types::word::Word::{
+    Base, Basefont, Bgsound, Body, Br, Head, Html, Link, Meta, Noframes, Noscript, Script, Style,
+    Template, Title,
+};
+use html_types::{Instr, Mode, Name, Reading, Token, Word};
+
+const OTHERWISE: &[Instr] = &[Pop, Enter(Mode::AfterHead), Again];
+
+/// "in head"
+#[tactic(auto, unfolding(standard::specs::Rules::row))]
+pub fn in_head(token: &Token) -> &'static [Instr]
+    ensures { result.now ≡ row Mode.InHead token.now }
+{
+    match token {
+        Token::Character(c) => {
+            if is_space(*c) {
+                &[InsertText]
+            } else {
+                OTHERWISE
+            }
+        }
+        Token::StartTag(tag) => match &tag.name {
+            Name::Known(word) => start(*word),
+            Name::Other(_) => OTHERWISE,
+        },
+        Token::EndTag(tag) => match &tag.name {
+            Name::Known(word) => end(*word),
+            Name::Other(_) => &[],
+        },
+        Token::Comment(_) => &[InsertComment],
+        Token::Doctype {
+            name: _,
+            force_quirks: _,
+        } => &[],
+        Token::EndOfFile => OTHERWISE,
+        Token::Missing => &[Missing],
+    }
+}
+
+fn start(word: Word) -> &'static [Instr]
+    ensures { result.now ≡ known_start_row Mode.InHead word }
+{
+    match word {
+        Html => &[Using(Mode::InBody)],
+        Base | Basefont | Bgsound | Link | Meta => &[Void],
+        Title => &[
+            Insert,
+            KeepMode,
+            Enter(Mode::InText),
+            Switch(Reading::Rcdata),
+        ],
+        Noscript | Noframes | Style => &[
+            Insert,
+            KeepMode,
+            Enter(Mode::InText),
+            Switch(Reading::Rawtext),
+        ],
+        Script => &[
+            Insert,
+            KeepMode,
+            Enter(Mode::InText),
+            Switch(Reading::ScriptData),
+        ],
+        Template => &[Missing],
+        Head => &[],
+        _ => OTHERWISE,
+    }
+}
+
+fn end(word: Word) -> &'static [Instr]
+    ensures { result.now ≡ known_end_row Mode.InHead word }
+{
+    match word {
+        Head => &[Pop, Enter(Mode::AfterHead)],
+        Template => &[Missing],
+        Body | Html | Br => OTHERWISE,
+        _ => &[],
+    }
+}

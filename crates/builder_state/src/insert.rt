@@ -1,0 +1,329 @@
+//! Insertions (13.2.6.1), and reconstructing the active formatting elements (13.2.4.3).
+
+ghost use Rattle.std.specs.Prelude.{◌≡◌, ◌≤◌, ◌++◌, ◌∷◌, [], length, IfOk};
+ghost use Rattle.html_types.specs.Operations.{later};
+ghost use Rattle.html_types.specs.declared.word.Word.TheVariants as word;
+ghost use Rattle.html_types.specs.declared.operation.Op.TheVariants as op;
+ghost use Rattle.standard.specs.Stack.{first_open, second_open};
+ghost use Rattle.standard.specs.Instructions.{on, config, made, insert_at, insert, insert_root, void, tag_of, for_tag, here, reopen, reconstruct, insert_text, insert_comment, append_doctype, add_attributes, push_head};
+
+use crate::formatting::take_lost;
+use crate::places::appropriate;
+use html_types::{
+    Attributes, Flow, Format, Name, Next, NoMemory, NodeId, Op, Open, OpenElement, Ops, Place, Tag,
+    Token, Word,
+};
+use std::alloc::Global;
+
+/// How many elements may be open.
+pub const LIMIT: usize = 512;
+
+/// The appropriate place for inserting a node.
+pub fn place_now(state: &Open) -> Place
+    ensures { result ≡ here state.now }
+{
+    appropriate(state.foster, &state.stack)
+}
+
+/// Asks for an element at a place, and takes the next id for it.
+fn make(
+    alloc: Global,
+    state: &mut Open,
+    place: Place,
+    tag: &Tag,
+    ops: &mut Ops,
+) -> Result<NodeId, NoMemory>
+    ensures id { IfOk result (λ id. id ≡ state.old.next) }
+    ensures state { IfOk result (λ _. state.new ≡ record state.old { next = later 1 state.old.next }) }
+    ensures ops { IfOk result (λ _. ops.new ≡ made place tag.now state.old ops.old) }
+    ensures stack { state.new.stack ≡ state.old.stack }
+{
+    let id = state.next;
+    if id.n == u64::MAX {
+        return Err(NoMemory);
+    }
+    let name = tag.name.copy(alloc)?;
+    let attributes = tag.attributes.copy(alloc)?;
+    ops.push(Op::Make {
+        id,
+        name,
+        attributes,
+    })?;
+    ops.push(Op::Put { node: id, place })?;
+    state.next = id.later(1);
+    Ok(id)
+}
+
+/// Inserts an element for a tag at a place, and pushes it.
+fn insert_element(
+    alloc: Global,
+    state: &mut Open,
+    place: Place,
+    tag: &Tag,
+    ops: &mut Ops,
+) -> Result<Flow, NoMemory>
+    requires { length state.old.stack ≤ 512 }
+    ensures done { IfOk result (λ flow. config state.new ops.new flow ≡ insert_at place tag.now state.old ops.old) }
+    ensures bounded { length state.new.stack ≤ 512 }
+{
+    if state.stack.len() >= LIMIT {
+        return Ok(Flow::Leave(Next::Deep));
+    }
+    let id = make(alloc, state, place, tag, ops)?;
+    let name = tag.name.copy(alloc)?;
+    state.stack.push(OpenElement { id, name })?;
+    Ok(Flow::On)
+}
+
+/// Inserts an element for the token's tag at the appropriate place.
+pub fn insert_for(
+    alloc: Global,
+    state: &mut Open,
+    token: &Token,
+    ops: &mut Ops,
+) -> Result<Flow, NoMemory>
+    requires { length state.old.stack ≤ 512 }
+    ensures done { IfOk result (λ flow. config state.new ops.new flow ≡ for_tag insert token.now state.old ops.old) }
+    ensures bounded { length state.new.stack ≤ 512 }
+{
+    match token {
+        Token::StartTag(tag) | Token::EndTag(tag) => {
+            let place = place_now(state);
+            insert_element(alloc, state, place, tag, ops)
+        }
+        _ => Ok(Flow::On),
+    }
+}
+
+/// Inserts an element for the token's tag into the Document.
+pub fn insert_root_for(
+    alloc: Global,
+    state: &mut Open,
+    token: &Token,
+    ops: &mut Ops,
+) -> Result<Flow, NoMemory>
+    requires { length state.old.stack ≤ 512 }
+    ensures done { IfOk result (λ flow. config state.new ops.new flow ≡ for_tag insert_root token.now state.old ops.old) }
+    ensures bounded { length state.new.stack ≤ 512 }
+{
+    match token {
+        Token::StartTag(tag) | Token::EndTag(tag) => {
+            insert_element(alloc, state, Place::Page, tag, ops)
+        }
+        _ => Ok(Flow::On),
+    }
+}
+
+/// A start tag of that name without attributes.
+fn bare_tag(alloc: Global, word: Word) -> Tag
+    ensures { result ≡ tag_of word }
+{
+    Tag {
+        name: Name::Known(word),
+        attributes: Attributes::new(alloc),
+        self_closing: false,
+    }
+}
+
+/// Inserts an element for a start tag of that name at the appropriate place.
+pub fn insert_bare(
+    alloc: Global,
+    state: &mut Open,
+    word: Word,
+    ops: &mut Ops,
+) -> Result<Flow, NoMemory>
+    requires { length state.old.stack ≤ 512 }
+    ensures done { IfOk result (λ flow. config state.new ops.new flow ≡ insert (tag_of word) state.old ops.old) }
+    ensures bounded { length state.new.stack ≤ 512 }
+{
+    let place = place_now(state);
+    insert_element(alloc, state, place, &bare_tag(alloc, word), ops)
+}
+
+/// Inserts an html element into the Document.
+pub fn insert_bare_root(alloc: Global, state: &mut Open, ops: &mut Ops) -> Result<Flow, NoMemory>
+    requires { length state.old.stack ≤ 512 }
+    ensures done { IfOk result (λ flow. config state.new ops.new flow ≡ insert_root (tag_of word.Html) state.old ops.old) }
+    ensures bounded { length state.new.stack ≤ 512 }
+{
+    insert_element(alloc, state, Place::Page, &bare_tag(alloc, Word::Html), ops)
+}
+
+/// Inserts an element for the token's tag at the appropriate place, and doesn't leave it on the stack.
+pub fn insert_void(
+    alloc: Global,
+    state: &mut Open,
+    token: &Token,
+    ops: &mut Ops,
+) -> Result<Flow, NoMemory>
+    ensures done { IfOk result (λ flow. config state.new ops.new flow ≡ for_tag void token.now state.old ops.old) }
+    ensures stack { state.new.stack ≡ state.old.stack }
+{
+    match token {
+        Token::StartTag(tag) | Token::EndTag(tag) => {
+            if state.stack.len() >= LIMIT {
+                return Ok(Flow::Leave(Next::Deep));
+            }
+            let place = place_now(state);
+            let _ = make(alloc, state, place, tag, ops)?;
+            Ok(Flow::On)
+        }
+        _ => Ok(Flow::On),
+    }
+}
+
+/// Opens an entry of the list again that was lost from the stack.
+fn reopen_entry(alloc: Global, state: &mut Open, tag: Tag, ops: &mut Ops) -> Result<Flow, NoMemory>
+    requires { length state.old.stack ≤ 512 }
+    ensures done { IfOk result (λ flow. config state.new ops.new flow ≡ reopen tag state.old ops.old) }
+    ensures bounded { length state.new.stack ≤ 512 }
+{
+    if state.stack.len() >= LIMIT {
+        return Ok(Flow::Leave(Next::Deep));
+    }
+    let place = place_now(state);
+    let id = make(alloc, state, place, &tag, ops)?;
+    let name = tag.name.copy(alloc)?;
+    state.stack.push(OpenElement { id, name })?;
+    state.formats.push(Format::Element { id, tag })?;
+    Ok(Flow::On)
+}
+
+/// Reconstructs the active formatting elements (13.2.4.3).
+#[tactic(auto, using(std::proofs::lemmas::Grind::common_steps, crate::proofs::Runs::reopen_all_ended))]
+pub fn reopen_lost(alloc: Global, state: &mut Open, ops: &mut Ops) -> Result<Flow, NoMemory>
+    requires { length state.old.stack ≤ 512 }
+    ensures done { IfOk result (λ flow. config state.new ops.new flow ≡ reconstruct state.old ops.old) }
+    ensures bounded { length state.new.stack ≤ 512 }
+{
+    let mut tags = take_lost(alloc, &mut state.formats, &state.stack)?;
+    while let Some(tag) = tags.pop() {
+        match reopen_entry(alloc, state, tag, ops)? {
+            Flow::On => {}
+            left => return Ok(left),
+        }
+    }
+    Ok(Flow::On)
+}
+
+/// Inserts the token's character at the appropriate place.
+pub fn insert_character(
+    alloc: Global,
+    state: &Open,
+    token: &Token,
+    ops: &mut Ops,
+) -> Result<(), NoMemory>
+    ensures { IfOk result (λ _. on state.now ops.new ≡ insert_text token.now state.now ops.old) }
+{
+    match token {
+        Token::Character(c) => {
+            ops.push_character(alloc, place_now(state), *c)?;
+        }
+        _ => {}
+    }
+    Ok(())
+}
+
+/// Inserts the token's comment at a place.
+pub fn insert_note(
+    alloc: Global,
+    state: &Open,
+    place: Place,
+    token: &Token,
+    ops: &mut Ops,
+) -> Result<(), NoMemory>
+    ensures { IfOk result (λ _. on state.now ops.new ≡ insert_comment place token.now state.now ops.old) }
+{
+    match token {
+        Token::Comment(text) => {
+            let text = text.copy(alloc)?;
+            ops.push(Op::Note { place, text })?;
+        }
+        _ => {}
+    }
+    Ok(())
+}
+
+/// Appends the token's doctype to the Document.
+pub fn insert_doctype(
+    alloc: Global,
+    state: &Open,
+    token: &Token,
+    ops: &mut Ops,
+) -> Result<(), NoMemory>
+    ensures { IfOk result (λ _. on state.now ops.new ≡ append_doctype token.now state.now ops.old) }
+{
+    match token {
+        Token::Doctype {
+            name,
+            force_quirks: _,
+        } => {
+            let name = name.copy(alloc)?;
+            ops.push(Op::Doctype { name })?;
+        }
+        _ => {}
+    }
+    Ok(())
+}
+
+/// Adds the attributes of the token's tag to the first element of the stack, where it lacks them.
+#[tactic(auto, using(std::proofs::lemmas::Grind::common_steps, crate::proofs::Bottom::first_open_reverse))]
+pub fn add_to_first(
+    alloc: Global,
+    state: &Open,
+    token: &Token,
+    ops: &mut Ops,
+) -> Result<(), NoMemory>
+    ensures { IfOk result (λ _. on state.now ops.new ≡ for_tag (add_attributes (first_open state.now.stack)) token.now state.now ops.old) }
+{
+    match token {
+        Token::StartTag(tag) | Token::EndTag(tag) => match state.stack.as_slice() {
+            [first, ..] => add_to(alloc, first.id, tag, ops),
+            [] => Ok(()),
+        },
+        _ => Ok(()),
+    }
+}
+
+/// Adds them to the second element of the stack.
+#[tactic(auto, using(std::proofs::lemmas::Grind::common_steps, crate::proofs::Bottom::second_open_reverse, crate::proofs::Bottom::second_open_few))]
+pub fn add_to_second(
+    alloc: Global,
+    state: &Open,
+    token: &Token,
+    ops: &mut Ops,
+) -> Result<(), NoMemory>
+    ensures { IfOk result (λ _. on state.now ops.new ≡ for_tag (add_attributes (second_open state.now.stack)) token.now state.now ops.old) }
+{
+    match token {
+        Token::StartTag(tag) | Token::EndTag(tag) => match state.stack.as_slice() {
+            [_, second, ..] => add_to(alloc, second.id, tag, ops),
+            [] | [_] => Ok(()),
+        },
+        _ => Ok(()),
+    }
+}
+
+fn add_to(alloc: Global, node: NodeId, tag: &Tag, ops: &mut Ops) -> Result<(), NoMemory>
+    ensures { IfOk result (λ _. ops.new ≡ ops.old ++ op.AddAttributes node tag.now.attributes ∷ []) }
+{
+    let attributes = tag.attributes.copy(alloc)?;
+    ops.push(Op::AddAttributes { node, attributes })
+}
+
+/// Pushes the node that the head element pointer names.
+pub fn push_pointed_head(state: &mut Open, ops: &Ops) -> Result<Flow, NoMemory>
+    requires { length state.old.stack ≤ 512 }
+    ensures done { IfOk result (λ flow. config state.new ops.now flow ≡ push_head state.old.head state.old ops.now) }
+    ensures bounded { length state.new.stack ≤ 512 }
+{
+    let Some(id) = state.head else {
+        return Ok(Flow::On);
+    };
+    if state.stack.len() >= LIMIT {
+        return Ok(Flow::Leave(Next::Deep));
+    }
+    let name = Name::Known(Word::Head);
+    state.stack.push(OpenElement { id, name })?;
+    Ok(Flow::On)
+}

@@ -1,0 +1,208 @@
+//! The builder of a tree: the open state with at most 512 open elements.
+
+ghost use Rattle.std.specs.Prelude.{◌≡◌, ◌↔◌, IsTrue, IfOk, false};
+ghost use Rattle.standard.specs.Instructions.{config, on, here, reconstruct, run};
+ghost use Rattle.standard.specs.Rules.{answer, answer_of, next_of};
+ghost use Rattle.standard.specs.Parser.{opening};
+ghost use Rattle.builder_state.specs.Push.{opened};
+
+use crate::insert::{LIMIT, place_now, reopen_lost};
+use crate::machine::run_row;
+use html_types::{
+    Flow, Formats, Instr, Mode, Next, NoMemory, NodeId, Open, OpenElement, Ops, Place, Stack, Token,
+};
+use std::alloc::Global;
+use std::marker::Model;
+
+/// Whether an element was pushed.
+#[derive(Clone, Copy, Debug, PartialEq, Eq)]
+pub enum Pushed {
+    Done,
+    /// 512 elements are open, and nothing is changed.
+    Deep,
+}
+
+/// The open state of tree construction (13.2.4). At most 512 elements are open. Where one of its calls answers NoMemory,
+/// nothing more is known of it.
+#[derive(Drop)]
+pub struct Builder {
+    state: Open,
+}
+
+impl Model for Builder {
+    ghost use Rattle.std.specs.Prelude.{◌≤◌, length};
+    ghost use Rattle.html_types.specs.declared.open.Open.{Open};
+
+    ghost Value = { Open };
+
+    ghost view = { λ b. b.state };
+
+    ghost invariant = { λ b. length b.state.stack ≤ 512 };
+}
+
+impl Builder {
+    /// The open state at the beginning of a page, whose ids are of that realm. It takes no memory.
+    pub fn new(alloc: Global, realm: u64) -> Builder
+        ensures { result ≡ opening realm }
+    {
+        Builder {
+            state: Open {
+                stack: Stack::new(alloc),
+                formats: Formats::new(alloc),
+                head: None,
+                mode: Mode::Initial,
+                original: None,
+                frameset_ok: true,
+                quirks: false,
+                skip_line_feed: false,
+                foster: false,
+                next: NodeId { realm, n: 0 },
+            },
+        }
+    }
+
+    /// Does a row's instructions for a token, and adds the operations that they ask for. It also answers NoMemory where no
+    /// next id is left.
+    pub fn run(
+        &mut self,
+        alloc: Global,
+        program: &[Instr],
+        token: &Token,
+        ops: &mut Ops,
+    ) -> Result<Flow, NoMemory>
+        ensures { IfOk result (λ flow. config self.new ops.new flow ≡ run token.now (on self.old ops.old) program.now) }
+    {
+        run_row(alloc, &mut self.state, program, token, ops)
+    }
+
+    /// Does the same, and says what is asked of the caller then.
+    pub fn answer_row(
+        &mut self,
+        alloc: Global,
+        program: &[Instr],
+        token: &Token,
+        ops: &mut Ops,
+    ) -> Result<Next, NoMemory>
+        ensures { IfOk result (λ next. answer self.new ops.new next ≡ answer_of (run token.now (on self.old ops.old) program.now)) }
+    {
+        let flow = self.run(alloc, program, token, ops)?;
+        Ok(asked(flow))
+    }
+
+    /// Reconstructs the active formatting elements (13.2.4.3).
+    pub fn reconstruct(&mut self, alloc: Global, ops: &mut Ops) -> Result<Flow, NoMemory>
+        ensures { IfOk result (λ flow. config self.new ops.new flow ≡ reconstruct self.old ops.old) }
+    {
+        reopen_lost(alloc, &mut self.state, ops)
+    }
+
+    /// Pushes an element that has its id already.
+    pub fn push(&mut self, element: OpenElement) -> Result<Pushed, NoMemory>
+        ensures { IfOk result (λ pushed. (self.new, pushed) ≡ opened element self.old) }
+    {
+        if self.state.stack.len() >= LIMIT {
+            return Ok(Pushed::Deep);
+        }
+        self.state.stack.push(element)?;
+        Ok(Pushed::Done)
+    }
+
+    /// The appropriate place for inserting a node (13.2.6.1).
+    pub fn place(&self) -> Place
+        ensures { result ≡ here self.now }
+    {
+        place_now(&self.state)
+    }
+
+    /// The insertion mode.
+    pub fn mode(&self) -> Mode
+        ensures { result ≡ self.now.mode }
+    {
+        self.state.mode
+    }
+
+    /// Whether the next token is left out where it is a line feed; no later token is then.
+    pub fn take_skip(&mut self) -> bool
+        ensures was { result ≡ self.old.skip_line_feed }
+        ensures cleared { self.new ≡ record self.old { skip_line_feed = false } }
+    {
+        let was = self.state.skip_line_feed;
+        self.state.skip_line_feed = false;
+        was
+    }
+
+    /// The id of the next element that is made.
+    pub fn next_id(&self) -> NodeId
+        ensures { result ≡ self.now.next }
+    {
+        self.state.next
+    }
+
+    /// The elements that are made from now on have the ids of that realm, from its first on.
+    pub fn renew(&mut self, realm: u64)
+        ensures { self.new ≡ record self.old { next = record { realm = realm; n = 0 } } }
+    {
+        self.state.next = NodeId { realm, n: 0 };
+    }
+
+    /// A copy.
+    pub fn copy(&self, alloc: Global) -> Result<Builder, NoMemory>
+        ensures { IfOk result (λ b. b ≡ self.now) }
+    {
+        let stack = self.state.stack.copy(alloc)?;
+        let formats = self.state.formats.copy(alloc)?;
+        Ok(Builder {
+            state: Open {
+                stack,
+                formats,
+                head: self.state.head,
+                mode: self.state.mode,
+                original: self.state.original,
+                frameset_ok: self.state.frameset_ok,
+                quirks: self.state.quirks,
+                skip_line_feed: self.state.skip_line_feed,
+                foster: self.state.foster,
+                next: self.state.next,
+            },
+        })
+    }
+
+    /// Whether two states are the same, the next id aside.
+    pub fn same(&self, other: &Builder) -> bool
+        ensures { IsTrue result ↔ (record self.now { next = other.now.next } ≡ other.now) }
+    {
+        self.state.stack.same(&other.state.stack)
+            && self.state.formats.same(&other.state.formats)
+            && same_modes(&self.state, &other.state)
+            && same_flags(&self.state, &other.state)
+    }
+}
+
+/// What a row asks of its caller.
+fn asked(flow: Flow) -> Next
+    ensures { result ≡ next_of flow }
+{
+    match flow {
+        Flow::On | Flow::Skip => Next::Done,
+        Flow::Leave(next) => next,
+    }
+}
+
+/// Whether the head element pointer and the modes are the same.
+fn same_modes(a: &Open, b: &Open) -> bool
+    ensures { IsTrue result ↔ ((a.now.head ≡ b.now.head) × (a.now.mode ≡ b.now.mode) × (a.now.original ≡ b.now.original)) }
+{
+    a.head == b.head && a.mode == b.mode && a.original == b.original
+}
+
+/// Whether the flags are the same.
+fn same_flags(a: &Open, b: &Open) -> bool
+    ensures { IsTrue result
+        ↔ ((a.now.frameset_ok ≡ b.now.frameset_ok) × (a.now.quirks ≡ b.now.quirks)
+        × (a.now.skip_line_feed ≡ b.now.skip_line_feed) × (a.now.foster ≡ b.now.foster)) }
+{
+    a.frameset_ok == b.frameset_ok
+        && a.quirks == b.quirks
+        && a.skip_line_feed == b.skip_line_feed
+        && a.foster == b.foster
+}

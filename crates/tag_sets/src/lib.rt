@@ -1,0 +1,9 @@
+//! The sets of element names that tree construction speaks of (13.2.4.2, 13.2.6.1, 13.2.6.3), as exact tests of words
+//! and of names.
+#![tactic(auto)]
+
+pub mod elements;
+pub mod sets;
+
+pub use elements::{ends, is_any, is_the, meant, own};
+pub use sets::{is_in, stops_at};
