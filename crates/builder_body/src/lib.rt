@@ -5,6 +5,7 @@
 ghost use Rattle.std.specs.Prelude.{◌≡◌, IsTrue, IfOk};
 ghost use Rattle.standard.specs.Rules.{answer, by_mode, row as row_of};
 ghost use Rattle.builder_body.specs.Modes.{is_body_mode};
+ghost use Rattle.builder_body.specs.Rounds.{RoundsSuffice};
 
 mod after_body;
 mod in_body;
@@ -44,4 +45,11 @@ fn row(mode: Mode, token: &Token) -> &'static [Instr]
         Mode::AfterAfterBody => after_body::after_after_body(token),
         _ => &[Instr::Missing],
     }
+}
+
+/// Processing a token again, or by the rules of another mode, comes to an end within 16 rounds, in every mode, for every
+/// token and open state.
+pub fn rounds_suffice()
+    ensures { RoundsSuffice }
+{
 }
