@@ -102,6 +102,51 @@ pub enum Token {
     Missing,
 }
 
+impl Token {
+    /// A copy.
+    pub fn copy(&self, alloc: Global) -> Result<Token, NoMemory>
+        ensures { IfOk result (λ t. t ≡ self.now) }
+    {
+        match self {
+            Token::StartTag(tag) => Ok(Token::StartTag(tag.copy(alloc)?)),
+            Token::EndTag(tag) => Ok(Token::EndTag(tag.copy(alloc)?)),
+            Token::Character(c) => Ok(Token::Character(*c)),
+            Token::Comment(text) => Ok(Token::Comment(text.copy(alloc)?)),
+            Token::Doctype { name, force_quirks } => Ok(Token::Doctype {
+                name: name.copy(alloc)?,
+                force_quirks: *force_quirks,
+            }),
+            Token::EndOfFile => Ok(Token::EndOfFile),
+            Token::Missing => Ok(Token::Missing),
+        }
+    }
+
+    /// Whether two tokens are the same.
+    pub fn same(&self, other: &Token) -> bool
+        ensures { IsTrue result ↔ (self.now ≡ other.now) }
+    {
+        match (self, other) {
+            (Token::StartTag(s), Token::StartTag(t)) => s.same(t),
+            (Token::EndTag(s), Token::EndTag(t)) => s.same(t),
+            (Token::Character(c), Token::Character(d)) => *c == *d,
+            (Token::Comment(s), Token::Comment(t)) => s.same(t),
+            (
+                Token::Doctype {
+                    name: s,
+                    force_quirks: p,
+                },
+                Token::Doctype {
+                    name: t,
+                    force_quirks: q,
+                },
+            ) => s.same(t) && *p == *q,
+            (Token::EndOfFile, Token::EndOfFile) => true,
+            (Token::Missing, Token::Missing) => true,
+            _ => false,
+        }
+    }
+}
+
 /// Tokens in the order in which they were made: a contract sees the list of them.
 #[derive(Drop)]
 pub struct Tokens {
@@ -152,5 +197,31 @@ impl Tokens {
         ensures empty { IfNone result (self.new ≡ []) }
     {
         self.list.pop_front()
+    }
+
+    /// A copy.
+    pub fn copy(&self, alloc: Global) -> Result<Tokens, NoMemory>
+        ensures { IfOk result (λ t. t ≡ self.now) }
+    {
+        let mut copied = Tokens::new(alloc);
+        for i in 0..self.list.len() {
+            copied.push(self.list[i].copy(alloc)?)?;
+        }
+        Ok(copied)
+    }
+
+    /// Whether two lists are the same, in order.
+    pub fn same(&self, other: &Tokens) -> bool
+        ensures { IsTrue result ↔ (self.now ≡ other.now) }
+    {
+        if self.list.len() != other.list.len() {
+            return false;
+        }
+        for i in 0..self.list.len() {
+            if !self.list[i].same(&other.list[i]) {
+                return false;
+            }
+        }
+        true
     }
 }

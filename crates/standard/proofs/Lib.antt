@@ -1,0 +1,21 @@
+mod OnLiterals
+mod Rows
+pub mod Fuel
+pub mod Total
+pub mod Parse
+pub mod Batch
+pub mod Passing
+pub mod Scripts
+pub mod Framing
+pub mod FreshnessWalks
+pub mod Freshness
+pub mod FreshnessTexts
+pub mod FreshnessDocs
+pub mod SettleLemmas
+pub mod FeedLemmas
+pub mod TokenizerLaws
+pub mod TokenizerRows
+pub mod RenamingWalks
+pub mod RenamingGrowth
+pub mod Renaming
+pub mod RenamingTexts

@@ -1,5 +1,6 @@
 -- The classes of characters that the rows of the tokenizer (13.2.5) tell apart.
-use Rattle.std.specs.Prelude.{ℕ, if◌then◌else◌, ◌==◌, ◌||◌, ◌&&◌, nat_le}
+use Rattle.std.specs.Prelude.{ℕ, Bool, List, if◌then◌else◌, ◌==◌, ◌||◌, ◌&&◌, nat_le}
+use Rattle.std.specs.List.{position_or_len}
 use Rattle.std.specs.Char.{is_ascii_alphabetic, to_ascii_lowercase}
 use Rattle.html_types.specs.declared.class.Class.{Class}
 use Rattle.html_types.specs.declared.class.Class.TheVariants.{Nul, Space, Bang, DoubleQuote, Hash, Ampersand, SingleQuote, Hyphen, Slash, Digit, Semicolon, Less, Equals, Greater, Question, Alpha, LeftBracket, RightBracket, Other}
@@ -34,3 +35,11 @@ shown c = if c == 0 then 0xFFFD else c
 -- and in lower case
 abbrev pub name_char : ℕ → ℕ
 name_char c = to_ascii_lowercase (shown c)
+
+-- the bytes at which a run of plain text ends: NUL, CR, `&` and `<`
+abbrev pub is_mark : ℕ → Bool
+is_mark b = b == 0 || b == 13 || b == 38 || b == 60
+
+-- the place of the first of them, or the length
+abbrev pub first_mark : List ℕ → ℕ
+first_mark bytes = position_or_len is_mark bytes

@@ -4,6 +4,7 @@ pub mod Step
 pub mod TextStates
 pub mod TagStates
 pub mod Tokenizer
+pub mod TokenizerLaws
 pub mod Rows
 pub mod Groups
 pub mod Elements
@@ -18,6 +19,10 @@ pub mod Act
 pub mod Outer
 pub mod Statements
 pub mod Prepare
+pub mod Page
 pub mod Parser
 pub mod Serial
 pub mod Output
+pub mod Laws
+pub mod Naming
+pub mod NamingLaws

@@ -30,8 +30,15 @@ use Rattle.standard.specs.Rules.{Answer, construct}
 -- the open state at the beginning; its ids are of that realm
 abbrev pub opening : ℕ → Open
 opening realm = record {
-  stack = []; formats = []; head = None; mode = mode.Initial; original = None;
-  frameset_ok = true; quirks = false; skip_line_feed = false; foster = false;
+  stack = [];
+  formats = [];
+  head = None;
+  mode = mode.Initial;
+  original = None;
+  frameset_ok = true;
+  quirks = false;
+  skip_line_feed = false;
+  foster = false;
   next = record { realm = realm; n = 0 };
 }
 

@@ -21,96 +21,137 @@ abbrev pub in_body_character : List Instr
 in_body_character = Reconstruct ∷ InsertText ∷ NotOk ∷ []
 
 abbrev pub in_body_start : List (List Word × List Instr)
-in_body_start =
-    (Html ∷ [],
-      Forbid (OnStack (The Template)) ∷ AddToFirst ∷ []) ∷
-    (Base ∷ Basefont ∷ Bgsound ∷ Link ∷ Meta ∷ Noframes ∷ Script ∷ Style ∷ Template ∷ Title ∷ [],
-      Using InHead ∷ []) ∷
-    (Body ∷ [],
-      Need SecondIsBody ∷ Forbid (OnStack (The Template)) ∷ NotOk ∷ AddToSecond ∷ []) ∷
-    (Frameset ∷ [],
-      Missing ∷ []) ∷
-    (Address ∷ Article ∷ Aside ∷ Blockquote ∷ Center ∷ Details ∷ Dialog ∷ Dir ∷ Div ∷ Dl ∷ Fieldset ∷ Figcaption ∷ Figure ∷ Footer ∷ Header ∷ Hgroup ∷ Main ∷ Menu ∷ Nav ∷ Ol ∷ P ∷ Search ∷ Section ∷ Summary ∷ Ul ∷ [],
-      Close scope.Button (The P) ∷ Insert ∷ []) ∷
-    (H1 ∷ H2 ∷ H3 ∷ H4 ∷ H5 ∷ H6 ∷ [],
-      Close scope.Button (The P) ∷ When (Current (Any Headings)) ∷ Pop ∷ Insert ∷ []) ∷
-    (Pre ∷ Listing ∷ [],
-      Close scope.Button (The P) ∷ Insert ∷ SkipLineFeed ∷ NotOk ∷ []) ∷
-    (Form ∷ [],
-      Missing ∷ []) ∷
-    (Li ∷ [],
-      NotOk ∷ CloseItem (The Li) ∷ Close scope.Button (The P) ∷ Insert ∷ []) ∷
-    (Dd ∷ Dt ∷ [],
-      NotOk ∷ CloseItem (Any DefinitionItems) ∷ Close scope.Button (The P) ∷ Insert ∷ []) ∷
-    (Plaintext ∷ [],
-      Close scope.Button (The P) ∷ Insert ∷ Switch reading.Plaintext ∷ []) ∷
-    (Button ∷ [],
-      Close scope.Default (The Button) ∷ Reconstruct ∷ Insert ∷ NotOk ∷ []) ∷
-    (A ∷ B ∷ Big ∷ Code ∷ Em ∷ Font ∷ I ∷ Nobr ∷ S ∷ Small ∷ Strike ∷ Strong ∷ Tt ∷ U ∷ [],
-      Missing ∷ []) ∷
-    (Applet ∷ Marquee ∷ Object ∷ [],
-      Reconstruct ∷ Insert ∷ Marker ∷ NotOk ∷ []) ∷
-    (Table ∷ [],
-      Missing ∷ []) ∷
-    (Area ∷ Br ∷ Embed ∷ Img ∷ Keygen ∷ Wbr ∷ [],
-      Reconstruct ∷ Void ∷ NotOk ∷ []) ∷
-    (Input ∷ [],
-      Missing ∷ []) ∷
-    (Param ∷ Source ∷ Track ∷ [],
-      Void ∷ []) ∷
-    (Hr ∷ [],
-      Close scope.Button (The P) ∷ Void ∷ NotOk ∷ []) ∷
-    (Image ∷ [],
-      Missing ∷ []) ∷
-    (Textarea ∷ [],
-      Insert ∷ SkipLineFeed ∷ NotOk ∷ KeepMode ∷ Enter InText ∷ Switch Rcdata ∷ []) ∷
-    (Xmp ∷ [],
-      Close scope.Button (The P) ∷ Reconstruct ∷ NotOk ∷ Insert ∷ KeepMode ∷ Enter InText ∷ Switch Rawtext ∷ []) ∷
-    (Iframe ∷ [],
-      NotOk ∷ Insert ∷ KeepMode ∷ Enter InText ∷ Switch Rawtext ∷ []) ∷
-    (Noembed ∷ Noscript ∷ [],
-      Insert ∷ KeepMode ∷ Enter InText ∷ Switch Rawtext ∷ []) ∷
-    (Select ∷ [],
-      Missing ∷ []) ∷
-    (Optgroup ∷ Option ∷ [],
-      When (Current (The Option)) ∷ Pop ∷ Reconstruct ∷ Insert ∷ []) ∷
-    (Rb ∷ Rtc ∷ [],
-      When (InScope scope.Default (The Ruby)) ∷ Implied ∷ Insert ∷ []) ∷
-    (Rp ∷ Rt ∷ [],
-      When (InScope scope.Default (The Ruby)) ∷ ImpliedBut (The Rtc) ∷ Insert ∷ []) ∷
-    (Caption ∷ Col ∷ Colgroup ∷ Frame ∷ Head ∷ Tbody ∷ Td ∷ Tfoot ∷ Th ∷ Thead ∷ Tr ∷ [],
-      []) ∷ []
+in_body_start = (
+  Html ∷ [],
+  Forbid (OnStack (The Template)) ∷ AddToFirst ∷ [],
+) ∷ (
+  Base ∷ Basefont ∷ Bgsound ∷ Link ∷ Meta ∷ Noframes ∷ Script ∷ Style ∷ Template ∷ Title ∷ [],
+  Using InHead ∷ [],
+) ∷ (
+  Body ∷ [],
+  Need SecondIsBody ∷ Forbid (OnStack (The Template)) ∷ NotOk ∷ AddToSecond ∷ [],
+) ∷ (
+  Frameset ∷ [],
+  Missing ∷ [],
+) ∷ (
+  Address ∷ Article ∷ Aside ∷ Blockquote ∷ Center ∷ Details ∷ Dialog ∷ Dir ∷ Div ∷ Dl ∷ Fieldset ∷ Figcaption ∷ Figure ∷ Footer ∷ Header ∷ Hgroup ∷ Main ∷ Menu ∷ Nav ∷ Ol ∷ P ∷ Search ∷ Section ∷ Summary ∷ Ul ∷ [],
+  Close scope.Button (The P) ∷ Insert ∷ [],
+) ∷ (
+  H1 ∷ H2 ∷ H3 ∷ H4 ∷ H5 ∷ H6 ∷ [],
+  Close scope.Button (The P) ∷ When (Current (Any Headings)) ∷ Pop ∷ Insert ∷ [],
+) ∷ (
+  Pre ∷ Listing ∷ [],
+  Close scope.Button (The P) ∷ Insert ∷ SkipLineFeed ∷ NotOk ∷ [],
+) ∷ (
+  Form ∷ [],
+  Missing ∷ [],
+) ∷ (
+  Li ∷ [],
+  NotOk ∷ CloseItem (The Li) ∷ Close scope.Button (The P) ∷ Insert ∷ [],
+) ∷ (
+  Dd ∷ Dt ∷ [],
+  NotOk ∷ CloseItem (Any DefinitionItems) ∷ Close scope.Button (The P) ∷ Insert ∷ [],
+) ∷ (
+  Plaintext ∷ [],
+  Close scope.Button (The P) ∷ Insert ∷ Switch reading.Plaintext ∷ [],
+) ∷ (
+  Button ∷ [],
+  Close scope.Default (The Button) ∷ Reconstruct ∷ Insert ∷ NotOk ∷ [],
+) ∷ (
+  A ∷ B ∷ Big ∷ Code ∷ Em ∷ Font ∷ I ∷ Nobr ∷ S ∷ Small ∷ Strike ∷ Strong ∷ Tt ∷ U ∷ [],
+  Missing ∷ [],
+) ∷ (
+  Applet ∷ Marquee ∷ Object ∷ [],
+  Reconstruct ∷ Insert ∷ Marker ∷ NotOk ∷ [],
+) ∷ (
+  Table ∷ [],
+  Missing ∷ [],
+) ∷ (
+  Area ∷ Br ∷ Embed ∷ Img ∷ Keygen ∷ Wbr ∷ [],
+  Reconstruct ∷ Void ∷ NotOk ∷ [],
+) ∷ (
+  Input ∷ [],
+  Missing ∷ [],
+) ∷ (
+  Param ∷ Source ∷ Track ∷ [],
+  Void ∷ [],
+) ∷ (
+  Hr ∷ [],
+  Close scope.Button (The P) ∷ Void ∷ NotOk ∷ [],
+) ∷ (
+  Image ∷ [],
+  Missing ∷ [],
+) ∷ (
+  Textarea ∷ [],
+  Insert ∷ SkipLineFeed ∷ NotOk ∷ KeepMode ∷ Enter InText ∷ Switch Rcdata ∷ [],
+) ∷ (
+  Xmp ∷ [],
+  Close scope.Button (The P) ∷ Reconstruct ∷ NotOk ∷ Insert ∷ KeepMode ∷ Enter InText ∷ Switch Rawtext ∷ [],
+) ∷ (
+  Iframe ∷ [],
+  NotOk ∷ Insert ∷ KeepMode ∷ Enter InText ∷ Switch Rawtext ∷ [],
+) ∷ (
+  Noembed ∷ Noscript ∷ [],
+  Insert ∷ KeepMode ∷ Enter InText ∷ Switch Rawtext ∷ [],
+) ∷ (
+  Select ∷ [],
+  Missing ∷ [],
+) ∷ (
+  Optgroup ∷ Option ∷ [],
+  When (Current (The Option)) ∷ Pop ∷ Reconstruct ∷ Insert ∷ [],
+) ∷ (
+  Rb ∷ Rtc ∷ [],
+  When (InScope scope.Default (The Ruby)) ∷ Implied ∷ Insert ∷ [],
+) ∷ (
+  Rp ∷ Rt ∷ [],
+  When (InScope scope.Default (The Ruby)) ∷ ImpliedBut (The Rtc) ∷ Insert ∷ [],
+) ∷ (
+  Caption ∷ Col ∷ Colgroup ∷ Frame ∷ Head ∷ Tbody ∷ Td ∷ Tfoot ∷ Th ∷ Thead ∷ Tr ∷ [],
+  [],
+) ∷ []
 
 -- any other start tag
 abbrev pub in_body_any_start : List Instr
 in_body_any_start = Reconstruct ∷ Insert ∷ []
 
 abbrev pub in_body_end : List (List Word × List Instr)
-in_body_end =
-    (Template ∷ [],
-      Using InHead ∷ []) ∷
-    (Body ∷ [],
-      Need (InScope scope.Default (The Body)) ∷ Enter AfterBody ∷ []) ∷
-    (Html ∷ [],
-      Need (InScope scope.Default (The Body)) ∷ Enter AfterBody ∷ Again ∷ []) ∷
-    (Address ∷ Article ∷ Aside ∷ Blockquote ∷ Button ∷ Center ∷ Details ∷ Dialog ∷ Dir ∷ Div ∷ Dl ∷ Fieldset ∷ Figcaption ∷ Figure ∷ Footer ∷ Header ∷ Hgroup ∷ Listing ∷ Main ∷ Menu ∷ Nav ∷ Ol ∷ Pre ∷ Search ∷ Section ∷ Summary ∷ Ul ∷ [],
-      Need (InScope scope.Default Own) ∷ Implied ∷ Until Own ∷ []) ∷
-    (Form ∷ [],
-      Missing ∷ []) ∷
-    (P ∷ [],
-      Unless (InScope scope.Button (The P)) ∷ InsertA P ∷ Close scope.Button (The P) ∷ []) ∷
-    (Li ∷ [],
-      Need (InScope scope.ListItem (The Li)) ∷ ImpliedBut (The Li) ∷ Until (The Li) ∷ []) ∷
-    (Dd ∷ Dt ∷ [],
-      Need (InScope scope.Default Own) ∷ ImpliedBut Own ∷ Until Own ∷ []) ∷
-    (H1 ∷ H2 ∷ H3 ∷ H4 ∷ H5 ∷ H6 ∷ [],
-      Need (InScope scope.Default (Any Headings)) ∷ Implied ∷ Until (Any Headings) ∷ []) ∷
-    (A ∷ B ∷ Big ∷ Code ∷ Em ∷ Font ∷ I ∷ Nobr ∷ S ∷ Small ∷ Strike ∷ Strong ∷ Tt ∷ U ∷ [],
-      Missing ∷ []) ∷
-    (Applet ∷ Marquee ∷ Object ∷ [],
-      Need (InScope scope.Default Own) ∷ Implied ∷ Until Own ∷ ClearToMarker ∷ []) ∷
-    (Br ∷ [],
-      Missing ∷ []) ∷ []
+in_body_end = (
+  Template ∷ [],
+  Using InHead ∷ [],
+) ∷ (
+  Body ∷ [],
+  Need (InScope scope.Default (The Body)) ∷ Enter AfterBody ∷ [],
+) ∷ (
+  Html ∷ [],
+  Need (InScope scope.Default (The Body)) ∷ Enter AfterBody ∷ Again ∷ [],
+) ∷ (
+  Address ∷ Article ∷ Aside ∷ Blockquote ∷ Button ∷ Center ∷ Details ∷ Dialog ∷ Dir ∷ Div ∷ Dl ∷ Fieldset ∷ Figcaption ∷ Figure ∷ Footer ∷ Header ∷ Hgroup ∷ Listing ∷ Main ∷ Menu ∷ Nav ∷ Ol ∷ Pre ∷ Search ∷ Section ∷ Summary ∷ Ul ∷ [],
+  Need (InScope scope.Default Own) ∷ Implied ∷ Until Own ∷ [],
+) ∷ (
+  Form ∷ [],
+  Missing ∷ [],
+) ∷ (
+  P ∷ [],
+  Unless (InScope scope.Button (The P)) ∷ InsertA P ∷ Close scope.Button (The P) ∷ [],
+) ∷ (
+  Li ∷ [],
+  Need (InScope scope.ListItem (The Li)) ∷ ImpliedBut (The Li) ∷ Until (The Li) ∷ [],
+) ∷ (
+  Dd ∷ Dt ∷ [],
+  Need (InScope scope.Default Own) ∷ ImpliedBut Own ∷ Until Own ∷ [],
+) ∷ (
+  H1 ∷ H2 ∷ H3 ∷ H4 ∷ H5 ∷ H6 ∷ [],
+  Need (InScope scope.Default (Any Headings)) ∷ Implied ∷ Until (Any Headings) ∷ [],
+) ∷ (
+  A ∷ B ∷ Big ∷ Code ∷ Em ∷ Font ∷ I ∷ Nobr ∷ S ∷ Small ∷ Strike ∷ Strong ∷ Tt ∷ U ∷ [],
+  Missing ∷ [],
+) ∷ (
+  Applet ∷ Marquee ∷ Object ∷ [],
+  Need (InScope scope.Default Own) ∷ Implied ∷ Until Own ∷ ClearToMarker ∷ [],
+) ∷ (
+  Br ∷ [],
+  Missing ∷ [],
+) ∷ []
 
 -- any other end tag
 abbrev pub in_body_any_end : List Instr
@@ -121,32 +162,36 @@ abbrev pub in_text_end_of_file : List Instr
 in_text_end_of_file = Pop ∷ Restore ∷ Again ∷ []
 
 abbrev pub in_text_end : List (List Word × List Instr)
-in_text_end =
-    (Script ∷ [],
-      Restore ∷ StopAtScript ∷ []) ∷ []
+in_text_end = (
+  Script ∷ [],
+  Restore ∷ StopAtScript ∷ [],
+) ∷ []
 
 abbrev pub in_text_any_end : List Instr
 in_text_any_end = Pop ∷ Restore ∷ []
 
 -- 13.2.6.4.19 The "after body" insertion mode: white space goes by "in body", a comment to the html element
 abbrev pub after_body_start : List (List Word × List Instr)
-after_body_start =
-    (Html ∷ [],
-      Using InBody ∷ []) ∷ []
+after_body_start = (
+  Html ∷ [],
+  Using InBody ∷ [],
+) ∷ []
 
 abbrev pub after_body_end : List (List Word × List Instr)
-after_body_end =
-    (Html ∷ [],
-      Enter AfterAfterBody ∷ []) ∷ []
+after_body_end = (
+  Html ∷ [],
+  Enter AfterAfterBody ∷ [],
+) ∷ []
 
 abbrev pub after_body_anything : List Instr
 after_body_anything = Enter InBody ∷ Again ∷ []
 
 -- 13.2.6.4.22 The "after after body" insertion mode: white space goes by "in body", a comment to the Document
 abbrev pub after_after_body_start : List (List Word × List Instr)
-after_after_body_start =
-    (Html ∷ [],
-      Using InBody ∷ []) ∷ []
+after_after_body_start = (
+  Html ∷ [],
+  Using InBody ∷ [],
+) ∷ []
 
 abbrev pub after_after_body_anything : List Instr
 after_after_body_anything = Enter InBody ∷ Again ∷ []

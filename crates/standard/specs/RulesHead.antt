@@ -17,92 +17,118 @@ initial_anything = BecomeQuirky ∷ Enter BeforeHtml ∷ Again ∷ []
 
 -- 13.2.6.4.2 The "before html" insertion mode: white space is left out, a comment goes to the Document
 abbrev pub before_html_start : List (List Word × List Instr)
-before_html_start =
-    (Html ∷ [],
-      InsertRoot ∷ Enter BeforeHead ∷ []) ∷ []
+before_html_start = (
+  Html ∷ [],
+  InsertRoot ∷ Enter BeforeHead ∷ [],
+) ∷ []
 
 abbrev pub before_html_end : List (List Word × List Instr)
-before_html_end =
-    (Head ∷ Body ∷ Html ∷ Br ∷ [],
-      InsertRootA ∷ Enter BeforeHead ∷ Again ∷ []) ∷ []
+before_html_end = (
+  Head ∷ Body ∷ Html ∷ Br ∷ [],
+  InsertRootA ∷ Enter BeforeHead ∷ Again ∷ [],
+) ∷ []
 
 abbrev pub before_html_anything : List Instr
 before_html_anything = InsertRootA ∷ Enter BeforeHead ∷ Again ∷ []
 
 -- 13.2.6.4.3 The "before head" insertion mode: white space is left out
 abbrev pub before_head_start : List (List Word × List Instr)
-before_head_start =
-    (Html ∷ [],
-      Using InBody ∷ []) ∷
-    (Head ∷ [],
-      Insert ∷ PointHead ∷ Enter InHead ∷ []) ∷ []
+before_head_start = (
+  Html ∷ [],
+  Using InBody ∷ [],
+) ∷ (
+  Head ∷ [],
+  Insert ∷ PointHead ∷ Enter InHead ∷ [],
+) ∷ []
 
 abbrev pub before_head_end : List (List Word × List Instr)
-before_head_end =
-    (Head ∷ Body ∷ Html ∷ Br ∷ [],
-      InsertA Head ∷ PointHead ∷ Enter InHead ∷ Again ∷ []) ∷ []
+before_head_end = (
+  Head ∷ Body ∷ Html ∷ Br ∷ [],
+  InsertA Head ∷ PointHead ∷ Enter InHead ∷ Again ∷ [],
+) ∷ []
 
 abbrev pub before_head_anything : List Instr
 before_head_anything = InsertA Head ∷ PointHead ∷ Enter InHead ∷ Again ∷ []
 
 -- 13.2.6.4.4 The "in head" insertion mode: white space is inserted
 abbrev pub in_head_start : List (List Word × List Instr)
-in_head_start =
-    (Html ∷ [],
-      Using InBody ∷ []) ∷
-    (Base ∷ Basefont ∷ Bgsound ∷ Link ∷ Meta ∷ [],
-      Void ∷ []) ∷
-    (Title ∷ [],
-      Insert ∷ KeepMode ∷ Enter InText ∷ Switch Rcdata ∷ []) ∷
-    (Noscript ∷ Noframes ∷ Style ∷ [],
-      Insert ∷ KeepMode ∷ Enter InText ∷ Switch Rawtext ∷ []) ∷
-    (Script ∷ [],
-      Insert ∷ KeepMode ∷ Enter InText ∷ Switch ScriptData ∷ []) ∷
-    (Template ∷ [],
-      Missing ∷ []) ∷
-    (Head ∷ [],
-      []) ∷ []
+in_head_start = (
+  Html ∷ [],
+  Using InBody ∷ [],
+) ∷ (
+  Base ∷ Basefont ∷ Bgsound ∷ Link ∷ Meta ∷ [],
+  Void ∷ [],
+) ∷ (
+  Title ∷ [],
+  Insert ∷ KeepMode ∷ Enter InText ∷ Switch Rcdata ∷ [],
+) ∷ (
+  Noscript ∷ Noframes ∷ Style ∷ [],
+  Insert ∷ KeepMode ∷ Enter InText ∷ Switch Rawtext ∷ [],
+) ∷ (
+  Script ∷ [],
+  Insert ∷ KeepMode ∷ Enter InText ∷ Switch ScriptData ∷ [],
+) ∷ (
+  Template ∷ [],
+  Missing ∷ [],
+) ∷ (
+  Head ∷ [],
+  [],
+) ∷ []
 
 abbrev pub in_head_end : List (List Word × List Instr)
-in_head_end =
-    (Head ∷ [],
-      Pop ∷ Enter AfterHead ∷ []) ∷
-    (Body ∷ Html ∷ Br ∷ [],
-      Pop ∷ Enter AfterHead ∷ Again ∷ []) ∷
-    (Template ∷ [],
-      Missing ∷ []) ∷ []
+in_head_end = (
+  Head ∷ [],
+  Pop ∷ Enter AfterHead ∷ [],
+) ∷ (
+  Body ∷ Html ∷ Br ∷ [],
+  Pop ∷ Enter AfterHead ∷ Again ∷ [],
+) ∷ (
+  Template ∷ [],
+  Missing ∷ [],
+) ∷ []
 
 abbrev pub in_head_anything : List Instr
 in_head_anything = Pop ∷ Enter AfterHead ∷ Again ∷ []
 
 -- 13.2.6.4.6 The "after head" insertion mode: white space is inserted
 abbrev pub after_head_start : List (List Word × List Instr)
-after_head_start =
-    (Html ∷ [],
-      Using InBody ∷ []) ∷
-    (Body ∷ [],
-      Insert ∷ NotOk ∷ Enter InBody ∷ []) ∷
-    (Frameset ∷ [],
-      Missing ∷ []) ∷
-    (Base ∷ Basefont ∷ Bgsound ∷ Link ∷ Meta ∷ [],
-      PushHead ∷ Void ∷ TakeHeadOff ∷ []) ∷
-    (Title ∷ [],
-      PushHead ∷ Insert ∷ TakeHeadOff ∷ KeepMode ∷ Enter InText ∷ Switch Rcdata ∷ []) ∷
-    (Noframes ∷ Style ∷ [],
-      PushHead ∷ Insert ∷ TakeHeadOff ∷ KeepMode ∷ Enter InText ∷ Switch Rawtext ∷ []) ∷
-    (Script ∷ [],
-      PushHead ∷ Insert ∷ TakeHeadOff ∷ KeepMode ∷ Enter InText ∷ Switch ScriptData ∷ []) ∷
-    (Template ∷ [],
-      Missing ∷ []) ∷
-    (Head ∷ [],
-      []) ∷ []
+after_head_start = (
+  Html ∷ [],
+  Using InBody ∷ [],
+) ∷ (
+  Body ∷ [],
+  Insert ∷ NotOk ∷ Enter InBody ∷ [],
+) ∷ (
+  Frameset ∷ [],
+  Missing ∷ [],
+) ∷ (
+  Base ∷ Basefont ∷ Bgsound ∷ Link ∷ Meta ∷ [],
+  PushHead ∷ Void ∷ TakeHeadOff ∷ [],
+) ∷ (
+  Title ∷ [],
+  PushHead ∷ Insert ∷ TakeHeadOff ∷ KeepMode ∷ Enter InText ∷ Switch Rcdata ∷ [],
+) ∷ (
+  Noframes ∷ Style ∷ [],
+  PushHead ∷ Insert ∷ TakeHeadOff ∷ KeepMode ∷ Enter InText ∷ Switch Rawtext ∷ [],
+) ∷ (
+  Script ∷ [],
+  PushHead ∷ Insert ∷ TakeHeadOff ∷ KeepMode ∷ Enter InText ∷ Switch ScriptData ∷ [],
+) ∷ (
+  Template ∷ [],
+  Missing ∷ [],
+) ∷ (
+  Head ∷ [],
+  [],
+) ∷ []
 
 abbrev pub after_head_end : List (List Word × List Instr)
-after_head_end =
-    (Body ∷ Html ∷ Br ∷ [],
-      InsertA Body ∷ Enter InBody ∷ Again ∷ []) ∷
-    (Template ∷ [],
-      Missing ∷ []) ∷ []
+after_head_end = (
+  Body ∷ Html ∷ Br ∷ [],
+  InsertA Body ∷ Enter InBody ∷ Again ∷ [],
+) ∷ (
+  Template ∷ [],
+  Missing ∷ [],
+) ∷ []
 
 abbrev pub after_head_anything : List Instr
 after_head_anything = InsertA Body ∷ Enter InBody ∷ Again ∷ []

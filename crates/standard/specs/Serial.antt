@@ -13,6 +13,7 @@ use Rattle.html_types.specs.declared.script.Line.TheVariants as line
 use Rattle.html_types.specs.declared.instruction.Stop.{Stop}
 use Rattle.html_types.specs.declared.instruction.Stop.TheVariants as stop
 use Rattle.html_types.specs.declared.instruction.Finish.TheVariants as finale
+use Rattle.standard.specs.Page.{Page}
 use Rattle.standard.specs.Entities.{Entities}
 use Rattle.standard.specs.Act.{Doc, new_doc, acts, node_of}
 use Rattle.standard.specs.Prepare.{Prepared, still, inline, external, prepare}
@@ -20,11 +21,6 @@ use Rattle.standard.specs.Statements.{statements}
 use Rattle.standard.specs.Parser.{Parser, new_parser, Took, took, take_character, Finished, finish}
 
 -- ---- what a parse is given
-
--- the characters of a page, and how its bytes end
-pub record Page : Type 0 where
-  pub text : List ℕ
-  pub ending : Ending
 
 -- what stays the same over a parse
 pub record World : Type 0 where
@@ -63,7 +59,9 @@ refusal w s = record { result = refused w; last = s }
 
 abbrev pub first : Page → Serial
 first page = record {
-  input = page.text; point = 0; parser = new_parser 0;
+  input = page.text;
+  point = 0;
+  parser = new_parser 0;
   side = record { doc = new_doc; level = 0; written = 0; executed = 0; lines = [] };
 }
 

@@ -1,65 +1,90 @@
--- The scripts' language. A string is a JSON string.
-use Rattle.std.specs.Prelude.{ℕ, zero, suc, ◌==◌, Bool, true, false, ◌||◌, List, [], ◌∷◌, length, Option, Some, None, option_map, option_and_then, chars, encode_utf8_all, codes}
+-- The language of scripts: four statements of JavaScript. A script's text is a list of statements, with space, TAB, LF
+-- and CR before, between and behind them, and none inside them but in a string. A string with its quotes is a JSON
+-- string (RFC 8259, section 7), in which a surrogate stands only in a pair, and it means that string's value.
+use Rattle.std.specs.Prelude.{ℕ, zero, suc, ◌==◌, ◌||◌, Bool, true, false, List, [], ◌∷◌, length, Option, Some, None, option_map, option_and_then, encode_utf8_all, codes}
+use Rattle.std.specs.Str.{chars}
 use Prim.Native.String.{String}
 use Rattle.json.specs.Text.{content, plain}
 use Rattle.html_types.specs.declared.script.Statement.{Statement}
 use Rattle.html_types.specs.declared.script.Statement.TheVariants.{Write, Remove, LogById, LogRoot}
 
+-- space, TAB, LF and CR
 abbrev pub is_white : ℕ → Bool
-is_white c = (c == 32) || ((c == 9) || ((c == 10) || (c == 13)))
+is_white c = (c == 32) || (c == 9) || (c == 10) || (c == 13)
 
+-- the text from its first character on that isn't white space
 abbrev pub skip_white : List ℕ → List ℕ
 skip_white [] = []
 skip_white (c ∷ cs) = elim (is_white c) [ true ↦ skip_white cs | false ↦ c ∷ cs ]
 
--- what follows these characters at the front of the text
+-- what stands behind this word, where the text begins with it
 abbrev pub behind : List ℕ → List ℕ → Option (List ℕ)
 behind [] t = Some t
 behind (w ∷ ws) [] = None
-behind (w ∷ ws) (c ∷ cs) = elim (w == c) [ true ↦ behind ws cs | false ↦ None ]
+behind (w ∷ ws) (c ∷ cs) = elim (c == w) [ true ↦ behind ws cs | false ↦ None ]
 
--- the characters of a string up to its closing quote, and what follows it
-abbrev pub with_first : ℕ → Option (List ℕ × List ℕ) → Option (List ℕ × List ℕ)
-with_first c None = None
-with_first c (Some p) = Some (c ∷ p.0, p.1)
+-- a text in two parts, with one more character in front
+abbrev pub in_front : ℕ → List ℕ × List ℕ → List ℕ × List ℕ
+in_front c parts = (c ∷ parts.0, parts.1)
 
+-- The text up to the quote that ends a string, with that quote, and what stands behind it. A backslash escapes the
+-- character behind it, so that a quote there ends nothing.
 abbrev pub string_end : Bool → List ℕ → Option (List ℕ × List ℕ)
 string_end escaped [] = None
-string_end true (c ∷ cs) = with_first c (string_end false cs)
+string_end true (c ∷ cs) = option_map (in_front c) (string_end false cs)
 string_end false (c ∷ cs) = elim (c == 34) [
   | true ↦ Some (34 ∷ [], cs)
-  | false ↦ with_first c (string_end (c == 92) cs)
+  | false ↦ option_map (in_front c) (string_end (c == 92) cs)
 ]
 
--- the value of a JSON string whose opening quote is gone
-abbrev pub string_value : List ℕ → Option (List ℕ)
-string_value s = option_map chars (content plain (encode_utf8_all s))
+infixl 10 ◌>>=◌
+abbrev pub ◌>>=◌ : {A B : Type 0} → Option A → (A → Option B) → Option B
+o >>= f = option_and_then f o
 
-abbrev pub valued : (List ℕ → Statement) → List ℕ → List ℕ → List ℕ → Option (Statement × List ℕ)
-valued f s close rest = option_and_then (λ v. option_map (λ left. (f v, left)) (behind close rest)) (string_value s)
+-- the value of the string with which the text begins, and what stands behind the string
+unfoldable pub string_value : List ℕ → Option (List ℕ × List ℕ)
+string_value t = do
+  inside ← behind (codes "\"") t
+  parts ← string_end false inside
+  value ← content plain (encode_utf8_all parts.0)
+  Some (chars value, parts.1)
 
--- `open`, a string and `close`
-abbrev pub call : (List ℕ → Statement) → String → String → List ℕ → Option (Statement × List ℕ)
-call f open' close t = option_and_then (λ left. option_and_then (λ p. valued f p.0 (codes close) p.1) (string_end false left)) (behind (codes open') t)
+-- the value of the string that stands between these two words at the front of the text, and what stands behind them
+unfoldable pub string_between : List ℕ → List ℕ → List ℕ → Option (List ℕ × List ℕ)
+string_between before after t = do
+  at_string ← behind before t
+  string ← string_value at_string
+  rest ← behind after string.1
+  Some (string.0, rest)
+
+-- a statement with a string, and what stands behind it
+abbrev pub with_string : (List ℕ → Statement) → String → String → List ℕ → Option (Statement × List ℕ)
+with_string of before after t = option_map (λ string. (of string.0, string.1)) (string_between (codes before) (codes after) t)
 
 abbrev pub or_else : {A : Type 0} → Option A → Option A → Option A
 or_else (Some a) b = Some a
 or_else None b = b
 
-abbrev pub statement : List ℕ → Option (Statement × List ℕ)
+-- the statement that the text begins with, and what stands behind it
+unfoldable pub statement : List ℕ → Option (Statement × List ℕ)
 statement t =
-    or_else (call Write "document.write(\"" ");" t)
-    (or_else (call Remove "document.getElementById(\"" ").remove();" t)
-    (or_else (call LogById "console.log(document.getElementById(\"" ").outerHTML);" t)
-    (option_map (λ left. (LogRoot, left)) (behind (codes "console.log(document.documentElement.outerHTML);") t))))
+    or_else (with_string Write "document.write(" ");" t)
+    (or_else (with_string Remove "document.getElementById(" ").remove();" t)
+    (or_else (with_string LogById "console.log(document.getElementById(" ").outerHTML);" t)
+    (option_map (λ rest. (LogRoot, rest)) (behind (codes "console.log(document.documentElement.outerHTML);") t))))
 
+-- The number bounds the statements. One more than the characters is always enough.
 abbrev pub statements_within : ℕ → List ℕ → Option (List Statement)
 statements_within zero t = None
 statements_within (suc n) t = elim (skip_white t) [
   | [] ↦ Some []
-  | c ∷ cs ↦ option_and_then (λ p. option_map (λ more. p.0 ∷ more) (statements_within n p.1)) (statement (c ∷ cs))
+  | c ∷ cs ↦ do
+    first ← statement (c ∷ cs)
+    more ← statements_within n first.1
+    Some (first.0 ∷ more)
 ]
 
--- the statements of a text, or none where it is not in the language
+-- the statements of a script's text; none where the text isn't a list of statements
 unfoldable pub statements : List ℕ → Option (List Statement)
+unfolding string_value string_between statement
 statements t = statements_within (suc (length t)) t

@@ -1,6 +1,6 @@
 -- A tree (DOM 4.2, 4.4) as the list of its nodes. A node is named by its number, its place in that list; the Document is
 -- number 0, and no node is ever removed from the list.
-use Rattle.std.specs.Prelude.{◌≡◌, ℕ, ◌+◌, ◌-◌, ◌<◌, ◌≤◌, zero, suc, Bool, true, false, cond, not, ◌==◌, ◌||◌, ◌&&◌, if◌then◌else◌, nat_lt, List, [], ◌∷◌, ◌++◌, length, map, drop, insert, find, slice_index, slice_index_or, slice_set, codes, Option, Some, None, option_and_then, unwrap_or}
+use Rattle.std.specs.Prelude.{◌≡◌, ℕ, ◌+◌, ◌-◌, ◌<◌, ◌≤◌, zero, suc, Bool, true, false, cond, not, ◌==◌, ◌||◌, ◌&&◌, if◌then◌else◌, nat_lt, List, [], ◌∷◌, ◌++◌, length, map, drop, insert, find, slice_index, slice_index_or, slice_set, codes, Option, Some, None, is_some, option_and_then, unwrap_or}
 use Rattle.std.specs.Option.{option_map, option_or}
 use Rattle.std.specs.List.{list_any, concat}
 use Rattle.html_types.specs.Text.{same_text}
@@ -147,6 +147,10 @@ stands_in up (suc k) m n = (m == n) || unwrap_or (option_map (λ p. stands_in up
 -- whether m is n or stands under it
 abbrev pub lies_in : Nodes → ℕ → ℕ → Bool
 lies_in t m n = stands_in (above_of t) (length t) m n
+
+-- whether nothing stands under n
+abbrev pub is_leaf : Nodes → ℕ → Bool
+is_leaf t n = (length (children_of t n) == 0) && not (is_some (contents_of t n))
 
 abbrev pub is_other_element : Nodes → ℕ → ℕ → Bool
 is_other_element t n c = not (c == n) && is_element_at t c

@@ -2,5 +2,123 @@
 //!
 //! Reading order of `specs/`: Class, Step, TextStates, TagStates, Tokenizer (13.2.5); Elements, Stack, Formatting,
 //! Instructions (13.2.4); Groups, RulesHead, RulesBody, Rules (13.2.6); Tree, Act, Outer (the tree and its text); Statements,
-//! Prepare (scripts); Parser, Serial (the serial parse); Page, Output.
+//! Prepare (scripts); Parser, Serial (the serial parse); Page, Output; Laws.
 #![tactic(auto)]
+
+ghost use Rattle.standard.specs.Laws.{HasOneOutcome, ParsesInPieces, AdvancesByParse, BatchesLead, WholeBatchesLead, LeavesNothing, EndLeads, FinishLeads, OverIsSerial, ScriptLeads, ScriptRefuses, StillScripts, ExternalScripts, SyntaxErrors, ScriptsRun, StatementsEnd, WritesGoOn, WritesRefuse, LongWritesRefuse, OthersRefuse};
+
+/// Every page has exactly one outcome.
+pub fn has_one_outcome()
+    ensures { HasOneOutcome }
+{}
+
+/// A text may come in two pieces: it is parsed as the first and then the second, unless the parser stops in the first.
+pub fn parse_of_a_cut_text()
+    ensures { ParsesInPieces }
+{}
+
+/// Characters one by one, each operation done at once, come to the operations of the whole text done after it.
+pub fn advance_by_parse()
+    ensures { AdvancesByParse }
+{}
+
+/// What is parsed of a front of the input leads from one moment of the serial parse to another: over the front, or to a stop
+/// in it.
+pub fn batch_leads()
+    ensures leads { BatchesLead }
+    ensures whole { WholeBatchesLead }
+    ensures nothing_left { LeavesNothing }
+{}
+
+/// Where the input is used the page's ending is applied, and the parse is over.
+pub fn end_leads()
+    ensures ending { EndLeads }
+    ensures finish { FinishLeads }
+    ensures outcome { OverIsSerial }
+{}
+
+/// What a script comes to leads to the moment behind it.
+pub fn script_leads()
+    ensures goes_on { ScriptLeads }
+    ensures refuses { ScriptRefuses }
+{}
+
+/// What a script whose end tag was met comes to, by how it was prepared.
+pub fn script_begins()
+    ensures still { StillScripts }
+    ensures external { ExternalScripts }
+    ensures syntax { SyntaxErrors }
+    ensures runs { ScriptsRun }
+{}
+
+/// What statements come to, by the first of them. A written text is parsed whole.
+pub fn statements_run()
+    ensures end { StatementsEnd }
+    ensures write { WritesGoOn }
+    ensures stop { WritesRefuse }
+    ensures long { LongWritesRefuse }
+    ensures other { OthersRefuse }
+{}
+
+ghost use Rattle.standard.specs.Naming.{AreFresh, CameBefore};
+ghost use Rattle.standard.specs.NamingLaws.{RowsAppend, RulesAppend, RoundsAppend, TokensAppend};
+ghost use Rattle.standard.specs.NamingLaws.{TokensStayBound, CharactersStayBound, EndsStayBound, TextsStayBound};
+ghost use Rattle.standard.specs.NamingLaws.{ActsBind, NewDocServes, DocsServeTexts, DocsServeEnds};
+ghost use Rattle.standard.specs.NamingLaws.{RowsRename, TokensRename, CharactersRename, EndsRename, TextsRename, LaterRenames};
+ghost use Rattle.standard.specs.NamingLaws.{TokensGrow, CharactersGrow, EndsGrow, TextsGrow};
+
+// ---- What holds whatever the rows are (specs/NamingLaws): laws, on functions that do nothing.
+
+/// Operations are only appended (13.2.6): what is asked for doesn't depend on what was asked for before.
+pub fn appends_operations()
+    ensures rows { RowsAppend }
+    ensures rules { RulesAppend }
+    ensures rounds { RoundsAppend }
+    ensures tokens { TokensAppend }
+{}
+
+/// Operations name ids that are bound, and elements are made under ids that aren't, where the ids that the open state holds
+/// are bound and those that it is to give aren't; and so it stays.
+pub fn operations_are_bound()
+    ensures tokens { TokensStayBound AreFresh }
+    ensures characters { CharactersStayBound AreFresh }
+    ensures ends { EndsStayBound AreFresh }
+    ensures texts { TextsStayBound AreFresh }
+{}
+
+/// The same where no other realm has bound ids: those that are bound came before the next one.
+pub fn ids_come_in_order()
+    ensures tokens { TokensStayBound CameBefore }
+    ensures characters { CharactersStayBound CameBefore }
+    ensures ends { EndsStayBound CameBefore }
+    ensures texts { TextsStayBound CameBefore }
+{}
+
+/// The same of a document on which the operations are executed.
+pub fn documents_serve()
+    ensures binds { ActsBind }
+    ensures begins { NewDocServes AreFresh }
+    ensures begins_alone { NewDocServes CameBefore }
+    ensures texts { DocsServeTexts AreFresh }
+    ensures texts_alone { DocsServeTexts CameBefore }
+    ensures ends { DocsServeEnds AreFresh }
+    ensures ends_alone { DocsServeEnds CameBefore }
+{}
+
+/// Which ids the elements have makes no difference: under other ids, where those to come stay in order, all is the same.
+pub fn renames()
+    ensures rows { RowsRename }
+    ensures tokens { TokensRename }
+    ensures characters { CharactersRename }
+    ensures ends { EndsRename }
+    ensures texts { TextsRename }
+    ensures later { LaterRenames }
+{}
+
+/// The next id is never an earlier one.
+pub fn ids_grow()
+    ensures tokens { TokensGrow }
+    ensures characters { CharactersGrow }
+    ensures ends { EndsGrow }
+    ensures texts { TextsGrow }
+{}

@@ -1,0 +1,51 @@
+-- How often a number stands in a list, after the list is changed.
+use Rattle.std.proofs.Common.{◌≡◌, ℕ, ◌+◌, ◌<◌, ◌≤◌, zero, suc, true, cond, eqb, List, [], ◌∷◌, ◌++◌, length, get_or, take, drop, ap, take-append-drop, Some, ltb, refl, arith}
+use Rattle.std.specs.List.{position_or_len}
+use Rattle.std.proofs.lemmas.List.Sums.{position_or_len_is}
+use Rattle.std.proofs.lemmas.Bool.{ne_eqb, eq-eqb, lt-ltb}
+use Rattle.std.specs.List.{insert}
+use Rattle.std.proofs.lemmas.Bool.Decides.{nat_tests}
+use Rattle.html_types.specs.Numbers.{count_of, without, place_of}
+
+pub count_of-append : (n : ℕ) (xs ys : List ℕ) → count_of n (xs ++ ys) ≡ count_of n xs + count_of n ys
+count_of-append n [] ys = omega arith
+count_of-append n (x ∷ xs) ys = omega (arith, count_of-append n xs ys)
+
+pub count_of-push : (n : ℕ) (xs : List ℕ) (y : ℕ) → count_of n (xs ++ y ∷ []) ≡ count_of n xs + cond (eqb y n) 1 0
+count_of-push n xs y = omega (arith, count_of-append n xs (y ∷ []))
+
+pub count_of-without : (m n : ℕ) (xs : List ℕ) → count_of m (without n xs) ≡ cond (eqb m n) 0 (count_of m xs)
+count_of-without m n [] = grind (arith, nat_tests)
+count_of-without m n (x ∷ xs) = grind (arith, nat_tests, count_of-without m n xs)
+
+pub without_absent : (n : ℕ) (xs : List ℕ) → count_of n xs ≡ 0 → without n xs ≡ xs
+without_absent n [] none = refl
+without_absent n (x ∷ xs) none = grind (arith, nat_tests, without_absent n xs)
+
+pub count_of-here : (xs : List ℕ) (i : ℕ) → i < length xs → 0 < count_of (get_or xs i 0) xs
+count_of-here [] i below = absurd (omega arith)
+count_of-here (x ∷ xs) zero below = grind (arith, nat_tests)
+count_of-here (x ∷ xs) (suc i) below = omega (arith, count_of-here xs i (omega arith))
+
+pub count_of-insert : (n : ℕ) (xs : List ℕ) (i y : ℕ) → count_of n (insert xs i y) ≡ count_of n xs + cond (eqb y n) 1 0
+count_of-insert n xs i y =
+    let parts = count_of-append n (take i xs) (drop i xs) in
+    let whole = ap (count_of n) (take-append-drop i xs) in
+    omega (arith, count_of-append n (take i xs) (y ∷ drop i xs))
+
+-- what stands once in a list stands at one place
+pub one_place : (c : ℕ) (xs : List ℕ) (k i : ℕ) → count_of c xs ≤ 1 → k < i → i < length xs → get_or xs k 0 ≡ c → get_or xs i 0 ≡ c → ⊥
+one_place c [] k i once less below at_k at_i = omega arith
+one_place c (x ∷ xs) k zero once less below at_k at_i = omega arith
+one_place c (x ∷ xs) zero (suc i) once less below at_k at_i =
+    let there : 0 < count_of (get_or xs i 0) xs = count_of-here xs i (omega arith) in
+    let more : 0 < count_of c xs = rw at_i at there in
+    grind (arith, nat_tests, more)
+one_place c (x ∷ xs) (suc k) (suc i) once less below at_k at_i = one_place c xs k i (omega arith) (omega arith) (omega arith) at_k at_i
+
+pub place_of-child : (xs : List ℕ) (i : ℕ) → i < length xs → count_of (get_or xs i 0) xs ≤ 1 → place_of xs (Some (get_or xs i 0)) ≡ i
+place_of-child xs i below once =
+    let c = get_or xs i 0 in
+    let is : position_or_len (λ x. eqb x c) xs ≡ i = position_or_len_is (λ x. eqb x c) xs i 0 (omega arith) (λ k less. ne_eqb (get_or xs k 0) c (λ same. one_place c xs k i once less below same refl)) (λ _. eq-eqb c c refl) in
+    let inside : ltb (position_or_len (λ x. eqb x c) xs) (length xs) ≡ true = lt-ltb _ (length xs) (rw is below) in
+    rw (inside, is) refl

@@ -1,0 +1,6 @@
+//! The tree of a document: nodes in one list, named by their places in it.
+#![tactic(auto)]
+
+mod tree;
+
+pub use tree::{Put, Tree};

@@ -1,0 +1,558 @@
+//! The tree (DOM 4.2, 4.4), its changes and its readers.
+
+ghost use Rattle.std.specs.Prelude.{◌≡◌, ◌≢◌, ◌<◌, ◌≤◌, ◌++◌, ◌∷◌, [], false, if◌then◌else◌, length, reverse, vec_len, IfOk, OnOk, OnErr, IsSome};
+ghost use Rattle.std.specs.Str.{chars};
+ghost use Rattle.std.specs.Option.{ForSome};
+
+use html_types::{Attribute, Attributes, Children, Kind, NoMemory, Node, Text};
+use std::alloc::Global;
+use std::marker::Model;
+
+/// A tree: a contract sees the list of its nodes. The nodes have the numbers below `len`, and the Document is number 0.
+#[derive(Drop)]
+pub struct Tree {
+    alloc: Global,
+    nodes: Vec<Node>,
+}
+
+impl Model for Tree {
+    ghost use Rattle.std.specs.Prelude.{List};
+    ghost use Rattle.html_types.specs.declared.tree.Node.{Node};
+
+    ghost Value = { List Node };
+
+    ghost use Rattle.standard.specs.Tree.{IsTree};
+
+    ghost view = { λ t. t.nodes.items };
+
+    ghost invariant = { λ t. IsTree t.nodes.items };
+}
+
+/// What became of a node that was to be put somewhere.
+#[derive(Clone, Copy, PartialEq, Eq, Debug)]
+pub enum Put {
+    Done,
+    /// The place lies under the node, or in a Document that has an element and would get another.
+    Impossible,
+}
+
+ghost use Rattle.standard.specs.Tree.{is_element, is_document, lone};
+
+fn is_element(kind: &Kind) -> bool
+    ensures { result ≡ is_element kind.now }
+{
+    matches!(kind, Kind::Element { .. })
+}
+
+fn is_document(kind: &Kind) -> bool
+    ensures { result ≡ is_document kind.now }
+{
+    matches!(kind, Kind::Document)
+}
+
+fn lone(alloc: Global, kind: Kind) -> Node
+    ensures { result ≡ lone kind }
+{
+    Node {
+        kind,
+        parent: None,
+        children: Children::new(alloc),
+        host: None,
+        contents: None,
+    }
+}
+
+// Changes of the tree.
+impl Tree {
+    ghost use Rattle.standard.specs.Tree.{IsTree, Keeps, kind_of, parent_of, children_of, host_of, new_tree, detached, moved, put_of, put_before_of, is_impossible, is_impossible_before, is_second_element, is_leaf, lies_in, with_new, with_kind, with_more, text_added, text_before, text_put};
+    ghost use Rattle.html_types.specs.Numbers.{place_of};
+
+    /// The Document alone.
+    pub fn new(alloc: Global) -> Result<Tree, NoMemory>
+        ensures { IfOk result (λ t. t ≡ new_tree) }
+    {
+        let mut nodes = Vec::new(alloc);
+        nodes.push(lone(alloc, Kind::Document))?;
+        Ok(Tree { alloc, nodes })
+    }
+
+    /// Makes a node that stands nowhere, and says its number.
+    pub fn make(&mut self, kind: Kind) -> Result<usize, NoMemory>
+        ensures ok { IfOk result (λ n. (n ≡ length self.old) × (self.new ≡ self.old ++ lone kind ∷ [])) }
+        ensures err { OnErr result (self.new ≡ self.old) }
+        ensures keeps { Keeps self.old self.new }
+    {
+        let number = self.nodes.len();
+        self.nodes.push(lone(self.alloc, kind))?;
+        Ok(number)
+    }
+
+    /// Takes the node out of the children of its parent, if it has one.
+    pub fn detach(&mut self, node: usize)
+        requires { node < length self.old }
+        ensures node { self.new ≡ detached self.old node }
+        ensures keeps { Keeps self.old self.new }
+    {
+        if let Some(parent) = self.nodes[node].parent {
+            self.nodes[parent].children.remove(node);
+            self.nodes[node].parent = None;
+        }
+    }
+
+    // Whether nothing stands under the node.
+    fn is_leaf(&self, node: usize) -> bool
+        requires { node < length self.now }
+        ensures leaf { result ≡ is_leaf self.now node }
+        ensures tree { IsTree self.now }
+    {
+        let here = &self.nodes[node];
+        here.children.len() == 0 && here.contents.is_none()
+    }
+
+    // Whether `place` is the node or stands under it. The way up from the place is walked, unless nothing stands under the node.
+    fn lies_in(&self, place: usize, node: usize) -> bool
+        requires place_here { place < length self.now }
+        requires node_here { node < length self.now }
+        ensures { result ≡ lies_in self.now place node }
+    {
+        if self.is_leaf(node) {
+            return place == node;
+        }
+        let mut at = place;
+        for _ in 0..self.nodes.len() {
+            if at == node {
+                return true;
+            }
+            let here = &self.nodes[at];
+            match here.host.or(here.parent) {
+                Some(above) => at = above,
+                None => return false,
+            }
+        }
+        false
+    }
+
+    // Whether the parent is a Document that has an element other than the node, which is one too.
+    fn is_second_element(&self, node: usize, parent: usize) -> bool
+        requires node_here { node < length self.now }
+        requires parent_here { parent < length self.now }
+        ensures { result ≡ is_second_element self.now node parent }
+    {
+        if !is_document(&self.nodes[parent].kind) || !is_element(&self.nodes[node].kind) {
+            return false;
+        }
+        let children = self.nodes[parent].children.as_slice();
+        for child in children {
+            if *child != node && is_element(&self.nodes[*child].kind) {
+                return true;
+            }
+        }
+        false
+    }
+
+    // A node without a parent goes among the parent's children, before one of them or last.
+    fn link(
+        &mut self,
+        node: usize,
+        parent: usize,
+        before: Option<usize>,
+    ) -> Result<(), NoMemory>
+        requires node_here { node < length self.old }
+        requires parent_here { parent < length self.old }
+        requires not_document { node ≢ 0 }
+        requires no_contents { host_of self.old node ≡ None }
+        requires apart { lies_in self.old parent node ≡ false }
+        requires alone { parent_of self.old node ≡ None }
+        ensures ok { OnOk result (self.new ≡ moved self.old node parent before) }
+        ensures err { OnErr result (self.new ≡ self.old) }
+        ensures keeps { Keeps self.old self.new }
+    {
+        let place = self.nodes[parent].children.place(before);
+        self.nodes[parent].children.insert(place, node)?;
+        self.nodes[node].parent = Some(parent);
+        Ok(())
+    }
+
+    // A child of the parent goes to another place among its siblings.
+    fn reorder(
+        &mut self,
+        node: usize,
+        parent: usize,
+        before: Option<usize>,
+    ) -> Result<(), NoMemory>
+        requires node_here { node < length self.old }
+        requires parent_here { parent < length self.old }
+        requires not_document { node ≢ 0 }
+        requires no_contents { host_of self.old node ≡ None }
+        requires apart { lies_in self.old parent node ≡ false }
+        requires child { parent_of self.old node ≡ Some parent }
+        ensures ok { OnOk result (self.new ≡ moved self.old node parent before) }
+        ensures err { OnErr result (self.new ≡ self.old) }
+        ensures keeps { Keeps self.old self.new }
+    {
+        self.nodes[parent].children.put(node, before)?;
+        Ok(())
+    }
+
+    // A child of another parent goes among the parent's children.
+    fn transfer(
+        &mut self,
+        node: usize,
+        from: usize,
+        parent: usize,
+        before: Option<usize>,
+    ) -> Result<(), NoMemory>
+        requires node_here { node < length self.old }
+        requires parent_here { parent < length self.old }
+        requires not_document { node ≢ 0 }
+        requires no_contents { host_of self.old node ≡ None }
+        requires apart { lies_in self.old parent node ≡ false }
+        requires child { parent_of self.old node ≡ Some from }
+        requires elsewhere { from ≢ parent }
+        ensures ok { OnOk result (self.new ≡ moved self.old node parent before) }
+        ensures err { OnErr result (self.new ≡ self.old) }
+        ensures keeps { Keeps self.old self.new }
+    {
+        let place = self.nodes[parent].children.place(before);
+        self.nodes[parent].children.insert(place, node)?;
+        self.nodes[from].children.remove(node);
+        self.nodes[node].parent = Some(parent);
+        Ok(())
+    }
+
+    // The node goes among the parent's children, from wherever it stands.
+    fn relocate(
+        &mut self,
+        node: usize,
+        parent: usize,
+        before: Option<usize>,
+    ) -> Result<(), NoMemory>
+        requires node_here { node < length self.old }
+        requires parent_here { parent < length self.old }
+        requires not_document { node ≢ 0 }
+        requires no_contents { host_of self.old node ≡ None }
+        requires apart { lies_in self.old parent node ≡ false }
+        ensures ok { OnOk result (self.new ≡ moved self.old node parent before) }
+        ensures err { OnErr result (self.new ≡ self.old) }
+        ensures keeps { Keeps self.old self.new }
+    {
+        match self.nodes[node].parent {
+            None => self.link(node, parent, before),
+            Some(from) => {
+                if from == parent {
+                    self.reorder(node, parent, before)
+                } else {
+                    self.transfer(node, from, parent, before)
+                }
+            }
+        }
+    }
+
+    // Puts the node under the parent, before one of its children or last.
+    fn put(
+        &mut self,
+        node: usize,
+        parent: usize,
+        before: Option<usize>,
+    ) -> Result<Put, NoMemory>
+        requires node_here { node < length self.old }
+        requires parent_here { parent < length self.old }
+        requires not_document { node ≢ 0 }
+        requires no_contents { host_of self.old node ≡ None }
+        ensures answer { IfOk result (λ put. put ≡ (if is_impossible self.old node parent then Put.Impossible else Put.Done)) }
+        ensures ok { OnOk result (self.new ≡ put_of self.old node parent before) }
+        ensures err { OnErr result (self.new ≡ self.old) }
+        ensures keeps { Keeps self.old self.new }
+    {
+        if self.lies_in(parent, node) || self.is_second_element(node, parent) {
+            return Ok(Put::Impossible);
+        }
+        self.relocate(node, parent, before)?;
+        Ok(Put::Done)
+    }
+
+    /// Puts the node at the end of the parent's children, from wherever it stands. Impossible, and then nothing changes, exactly where the
+    /// parent is the node or stands under it, or is a Document that has another element than the node, which is one too.
+    pub fn put_last(&mut self, node: usize, parent: usize) -> Result<Put, NoMemory>
+        requires node_here { node < length self.old }
+        requires parent_here { parent < length self.old }
+        requires not_document { node ≢ 0 }
+        requires no_contents { host_of self.old node ≡ None }
+        ensures answer { IfOk result (λ put. put ≡ (if is_impossible self.old node parent then Put.Impossible else Put.Done)) }
+        ensures ok { OnOk result (self.new ≡ put_of self.old node parent None) }
+        ensures err { OnErr result (self.new ≡ self.old) }
+        ensures keeps { Keeps self.old self.new }
+    {
+        self.put(node, parent, None)
+    }
+
+    /// Puts the node just before another. A node stays where it is before itself.
+    pub fn put_before(&mut self, node: usize, before: usize) -> Result<Put, NoMemory>
+        requires node_here { node < length self.old }
+        requires before_here { before < length self.old }
+        requires has_parent { IsSome (parent_of self.old before) }
+        requires not_document { node ≢ 0 }
+        requires no_contents { host_of self.old node ≡ None }
+        ensures answer { IfOk result (λ put. put ≡ (if is_impossible_before self.old node before then Put.Impossible else Put.Done)) }
+        ensures ok { OnOk result (self.new ≡ put_before_of self.old node before) }
+        ensures err { OnErr result (self.new ≡ self.old) }
+        ensures keeps { Keeps self.old self.new }
+    {
+        if node == before {
+            return Ok(Put::Done);
+        }
+        let parent = self.nodes[before].parent.unwrap();
+        self.put(node, parent, Some(before))
+    }
+
+    // A new node at a place among the parent's children.
+    fn insert_new(&mut self, parent: usize, place: usize, kind: Kind) -> Result<(), NoMemory>
+        requires parent_here { parent < length self.old }
+        requires place_here { place ≤ length (children_of self.old parent) }
+        ensures ok { OnOk result (self.new ≡ with_new self.old parent place kind) }
+        ensures err { OnErr result (self.new ≡ self.old) }
+        ensures keeps { Keeps self.old self.new }
+    {
+        let number = self.nodes.len();
+        self.nodes.reserve(1)?;
+        self.nodes[parent].children.insert(place, number)?;
+        self.nodes.push(Node {
+            kind,
+            parent: Some(parent),
+            children: Children::new(self.alloc),
+            host: None,
+            contents: None,
+        })?;
+        Ok(())
+    }
+
+    /// Makes a node among the parent's children, before the given one or last.
+    pub fn add(
+        &mut self,
+        parent: usize,
+        before: Option<usize>,
+        kind: Kind,
+    ) -> Result<(), NoMemory>
+        requires { parent < length self.old }
+        ensures ok { OnOk result (self.new ≡ with_new self.old parent (place_of (children_of self.old parent) before) kind) }
+        ensures err { OnErr result (self.new ≡ self.old) }
+        ensures keeps { Keeps self.old self.new }
+    {
+        let place = self.nodes[parent].children.place(before);
+        self.insert_new(parent, place, kind)
+    }
+
+    // The Text just before a place among the parent's children.
+    fn text_before(&self, parent: usize, place: usize) -> Option<usize>
+        requires parent_here { parent < length self.now }
+        requires place_here { place ≤ length (children_of self.now parent) }
+        ensures found { result ≡ text_before self.now parent place }
+        ensures here { ForSome result (λ m. m < length self.now) }
+    {
+        if place == 0 {
+            return None;
+        }
+        let previous = self.nodes[parent].children.at(place - 1);
+        if let Kind::Text(_) = self.nodes[previous].kind {
+            Some(previous)
+        } else {
+            None
+        }
+    }
+
+    // More text behind that of a Text.
+    fn append_text(&mut self, node: usize, text: &str) -> Result<(), NoMemory>
+        requires { node < length self.old }
+        ensures ok { OnOk result (self.new ≡ with_kind self.old node (with_more (kind_of self.old node) (chars text.now))) }
+        ensures err { OnErr result (self.new ≡ self.old) }
+        ensures keeps { Keeps self.old self.new }
+    {
+        if let Kind::Text(old) = &mut self.nodes[node].kind {
+            return old.push_str(text);
+        }
+        Ok(())
+    }
+
+    // Text at a place among the parent's children, joined to a Text just before it.
+    fn put_text(&mut self, parent: usize, place: usize, text: &str) -> Result<(), NoMemory>
+        requires parent_here { parent < length self.old }
+        requires place_here { place ≤ length (children_of self.old parent) }
+        ensures ok { OnOk result (self.new ≡ text_put self.old parent place (chars text.now) (text_before self.old parent place)) }
+        ensures err { OnErr result (self.new ≡ self.old) }
+        ensures keeps { Keeps self.old self.new }
+    {
+        match self.text_before(parent, place) {
+            Some(previous) => self.append_text(previous, text),
+            None => {
+                let text = Text::from_str(self.alloc, text)?;
+                self.insert_new(parent, place, Kind::Text(text))
+            }
+        }
+    }
+
+    /// Puts text among the parent's children, before the given one or last. It joins a Text just before it; a Document takes none, and an
+    /// empty text changes nothing.
+    pub fn add_text(
+        &mut self,
+        parent: usize,
+        before: Option<usize>,
+        text: &str,
+    ) -> Result<(), NoMemory>
+        requires { parent < length self.old }
+        ensures ok { OnOk result (self.new ≡ text_added self.old parent (place_of (children_of self.old parent) before) (chars text.now)) }
+        ensures err { OnErr result (self.new ≡ self.old) }
+        ensures keeps { Keeps self.old self.new }
+    {
+        if text.is_empty() {
+            return Ok(());
+        }
+        if is_document(&self.nodes[parent].kind) {
+            return Ok(());
+        }
+        let place = self.nodes[parent].children.place(before);
+        self.put_text(parent, place, text)?;
+        Ok(())
+    }
+}
+
+// Readers.
+impl Tree {
+    ghost use Rattle.std.specs.Prelude.{◌-◌, IsTrue, ◌↔◌};
+    ghost use Rattle.standard.specs.Tree.{IsTree, is_connected, kind_of, parent_of, children_of, contents_of, shown_of, first_of, last_of, after_node, previous_of, first_element};
+
+    /// How many nodes there are; they have the numbers below that.
+    pub fn len(&self) -> usize
+        ensures len { result ≡ length self.now }
+        ensures tree { IsTree self.now }
+    {
+        self.nodes.len()
+    }
+
+    /// What the node is.
+    pub fn kind(&self, node: usize) -> &Kind
+        requires { node < length self.now }
+        ensures { result.now ≡ kind_of self.now node }
+    {
+        &self.nodes[node].kind
+    }
+
+    /// The node's parent; none where it stands nowhere, and none of the Document and of a template's contents.
+    pub fn parent(&self, node: usize) -> Option<usize>
+        requires { node < length self.now }
+        ensures parent { result ≡ parent_of self.now node }
+        ensures here { ForSome result (λ p. p < length self.now) }
+    {
+        self.nodes[node].parent
+    }
+
+    /// The contents of a template.
+    pub fn contents(&self, node: usize) -> Option<usize>
+        requires { node < length self.now }
+        ensures contents { result ≡ contents_of self.now node }
+        ensures here { ForSome result (λ c. c < length self.now) }
+    {
+        self.nodes[node].contents
+    }
+
+    /// The nodes that a text shows under the node: its children, or for a template those of its contents.
+    pub fn shown(&self, node: usize) -> &[usize]
+        requires { node < length self.now }
+        ensures { result.now ≡ shown_of self.now node }
+    {
+        match self.nodes[node].contents {
+            Some(contents) => self.nodes[contents].children.as_slice(),
+            None => self.nodes[node].children.as_slice(),
+        }
+    }
+
+    /// Whether the node is in the Document. Its way up is walked.
+    #[tactic(auto, unfolding(standard::specs::Tree::is_connected))]
+    pub fn connected(&self, node: usize) -> bool
+        requires { node < length self.now }
+        ensures { result ≡ is_connected self.now node }
+    {
+        let mut at = node;
+        for _ in 0..self.nodes.len() {
+            if at == 0 {
+                return true;
+            }
+            match self.nodes[at].parent {
+                Some(parent) => at = parent,
+                None => return false,
+            }
+        }
+        false
+    }
+
+    /// The node's last child.
+    pub fn last_child(&self, node: usize) -> Option<usize>
+        requires { node < length self.now }
+        ensures { result ≡ last_of (children_of self.now node) }
+    {
+        let children = &self.nodes[node].children;
+        if children.len() == 0 {
+            return None;
+        }
+        Some(children.at(children.len() - 1))
+    }
+
+    /// The sibling just before the node. Its place among its siblings is searched for.
+    pub fn previous(&self, node: usize) -> Option<usize>
+        requires { node < length self.now }
+        ensures { result ≡ previous_of self.now node (parent_of self.now node) }
+    {
+        let Some(parent) = self.nodes[node].parent else {
+            return None;
+        };
+        let siblings = &self.nodes[parent].children;
+        let place = siblings.place(Some(node));
+        if place == 0 {
+            return None;
+        }
+        Some(siblings.at(place - 1))
+    }
+
+    /// The next node in tree order. Places among siblings are searched for, so a walk over many nodes keeps its own.
+    pub fn next(&self, node: usize) -> Option<usize>
+        requires { node < length self.now }
+        ensures next { result ≡ first_of (after_node self.now node) }
+    {
+        let children = self.nodes[node].children.as_slice();
+        if !children.is_empty() {
+            return Some(children[0]);
+        }
+        let mut at = node;
+        for _ in 0..self.nodes.len() {
+            match self.nodes[at].parent {
+                None => return None,
+                Some(parent) => {
+                    let siblings = &self.nodes[parent].children;
+                    let place = siblings.place(Some(at));
+                    if place < siblings.len() && place + 1 < siblings.len() {
+                        return Some(siblings.at(place + 1));
+                    }
+                    at = parent;
+                }
+            }
+        }
+        None
+    }
+
+    /// The Document's element.
+    #[tactic(auto, unfolding(standard::specs::Tree::first_element))]
+    pub fn first_element(&self) -> Option<usize>
+        ensures first { result ≡ first_element self.now }
+        ensures here { ForSome result (λ n. n < length self.now) }
+    {
+        if self.nodes.is_empty() {
+            return None;
+        }
+        let children = self.nodes[0].children.as_slice();
+        for child in children {
+            if is_element(&self.nodes[*child].kind) {
+                return Some(*child);
+            }
+        }
+        None
+    }
+}

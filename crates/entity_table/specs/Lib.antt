@@ -1,0 +1,5 @@
+pub mod View
+pub mod Order
+pub mod Parts
+pub mod Matches
+pub mod Held

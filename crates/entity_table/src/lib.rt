@@ -1,0 +1,13 @@
+//! The standard's named character references (13.5): reading their file, and the longest name that a text begins with.
+#![tactic(auto)]
+
+pub mod cursor;
+mod read;
+pub mod row;
+pub mod table;
+#[cfg(test)]
+mod tests;
+
+pub use cursor::{Cursor, Step};
+pub use row::{Characters, Match};
+pub use table::{Table, TableFault};

@@ -1,0 +1,63 @@
+//! Calls with ample memory, on a file of a few names, and files that are refused.
+
+use crate::{Characters, Cursor, Match, Step, Table, TableFault};
+use std::test::Fail;
+
+const SIX: &[u8] =
+    b"{\"&amp;\":{\"codepoints\":[38]},\"&amp\":{\"codepoints\":[38]},\"&lt;\":{\"codepoints\":[60]},\"&lt\":{\"codepoints\":[60]},\"&not;\":{\"codepoints\":[172]},\"&not\":{\"codepoints\":[172]},\"&notin;\":{\"codepoints\":[8713]},\"&nbsp;\":{\"codepoints\":[160]},\"&acE;\":{\"codepoints\":[8766,819],\"characters\":\"x\"}}";
+
+fn one(length: usize, ends_in_semicolon: bool, first: char) -> Option<Match> {
+    Some(Match {
+        length,
+        ends_in_semicolon,
+        characters: Characters {
+            first,
+            second: None,
+        },
+    })
+}
+
+#[test]
+fn finds_the_longest(rt: HostRuntime) -> Result<(), Fail> {
+    let read = Table::read(rt.alloc(), SIX)?;
+    let table = read.copy()?;
+    let mut cursor = Cursor::over(&table, "&not");
+    assert_eq!(rt; cursor.push(&table, 'i'), Step::More);
+    assert_eq!(rt; cursor.best(), one(4, false, '¬'));
+    assert_eq!(rt; cursor.push(&table, 't'), Step::Stop(one(4, false, '¬')));
+    assert_eq!(rt; cursor.push(&table, ';'), Step::Stop(one(4, false, '¬')));
+    assert_eq!(rt; Cursor::over(&table, "&notin;x").best(), one(7, true, '∉'));
+    assert_eq!(rt; Cursor::over(&table, "&lt").best(), one(3, false, '<'));
+    Ok(())
+}
+
+#[test]
+fn gives_both_characters(rt: HostRuntime) -> Result<(), Fail> {
+    let table = Table::read(rt.alloc(), SIX)?;
+    let characters = Characters {
+        first: '∾',
+        second: Some('\u{333}'),
+    };
+    let found = Cursor::over(&table, "&acE;").best();
+    assert_eq!(rt; found.map(|m| m.characters), Some(characters));
+    assert_eq!(rt; Cursor::new(&table).push(&table, 'a'), Step::Stop(None));
+    Ok(())
+}
+
+fn is_refused(rt: &HostRuntime, bytes: &[u8]) -> bool {
+    matches!(Table::read(rt.alloc(), bytes), Err(TableFault::NotTable))
+}
+
+#[test]
+fn refuses_other_files(rt: HostRuntime) {
+    assert!(rt; is_refused(&rt, b"[]"));
+    assert!(rt; is_refused(&rt, b"{} {}"));
+    assert!(rt; is_refused(&rt, b"{\"&\xff\":{\"codepoints\":[38]}}"));
+    assert!(rt; is_refused(&rt, b"{\"amp;\":{\"codepoints\":[38]}}"));
+    assert!(rt; is_refused(&rt, b"{\"&a-b;\":{\"codepoints\":[38]}}"));
+    assert!(rt; is_refused(&rt, b"{\"&amp;\":[38]}"));
+    assert!(rt; is_refused(&rt, b"{\"&amp;\":{\"codepoints\":[]}}"));
+    assert!(rt; is_refused(&rt, b"{\"&amp;\":{\"codepoints\":[55296]}}"));
+    assert!(rt; is_refused(&rt, b"{\"&amp;\":{\"codepoints\":[38.0]}}"));
+    assert!(rt; !is_refused(&rt, b"{\"&a\":1,\"&a\":{\"codepoints\":[0]}}"));
+}

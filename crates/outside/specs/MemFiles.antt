@@ -1,0 +1,30 @@
+-- What contracts see of files in memory with calls that fail.
+use Rattle.std.specs.Prelude.{ℕ, ◌+◌, ◌-◌, ◌^◌, min, List, Some}
+use Rattle.outside.specs.ByPort.{at_port}
+use Rattle.outside.specs.Outside.{Files, Seen}
+use Rattle.outside.specs.Memory.{files_of, left_of, absences_of}
+use Rattle.outside.specs.declared.traits.Port.{Port}
+use Rattle.outside.specs.declared.mem_files.MemFiles.{MemFiles}
+
+abbrev pub files_in : MemFiles → Files
+files_in all = files_of all.files
+
+abbrev pub left_in : MemFiles → Port → List ℕ
+left_in all = left_of all.files
+
+abbrev pub faults_in : MemFiles → Port → ℕ
+faults_in all = at_port all.faults
+
+abbrev pub absences_in : MemFiles → Port → ℕ
+absences_in all = absences_of all.files
+
+abbrev pub shown : MemFiles → Seen
+shown all = record { files = Some (files_in all); left = λ port. Some (left_in all port); faults = faults_in all; absences = absences_in all }
+
+-- the calls that are to fail: the port, and the call's number at that port
+abbrev pub failing : MemFiles → List (Port × ℕ)
+failing all = all.fail.items
+
+-- the number of the next call at a port, counted from 1; it stops at the last value of a u64
+abbrev pub number_at : MemFiles → Port → ℕ
+number_at all port = min (at_port all.calls port + 1) (2 ^ 64 - 1)

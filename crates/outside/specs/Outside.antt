@@ -1,0 +1,39 @@
+-- What the calls of an outside do to its files and its counts.
+use Rattle.std.specs.Prelude.{◌<◌, ◌≡◌, ◌≢◌, ◌⊎◌, ℕ, ◌+◌, ◌^◌, ◌≤◌, List, Option}
+use Rattle.outside.specs.declared.traits.Port.{Port}
+
+-- the bytes of the file at a path
+abbrev pub Files : Type 0
+Files = List ℕ → Option (List ℕ)
+
+-- The count is greater than before, or stands at the last value of a u64.
+abbrev pub Rose : ℕ → ℕ → Type 0
+Rose before after = (before < after) ⊎ (2 ^ 64 ≤ after + 1)
+
+-- no port's count falls
+abbrev pub NeverFall : (Port → ℕ) → (Port → ℕ) → Type 0
+NeverFall before after = (port : Port) → before port ≤ after port
+
+-- every port but this has what it had
+abbrev pub OthersStay : {X : Type 0} → Port → (Port → X) → (Port → X) → Type 0
+OthersStay port before after = (other : Port) → other ≢ port → after other ≡ before other
+
+-- What contracts see of an outside at a moment: the files and what each port has left, where they are told, and the counts.
+pub record Seen : Type 0 where
+  pub files : Option Files
+  pub left : Port → Option (List ℕ)
+  pub faults : Port → ℕ
+  pub absences : Port → ℕ
+
+module _ {F : Type 0} (files : F → Option Files) (left : F → Port → Option (List ℕ)) (faults absences : F → Port → ℕ) where
+  abbrev pub seen : F → Seen
+  seen f = record { files = files f; left = left f; faults = faults f; absences = absences f }
+
+-- What a call at a port leaves alone: the files, all of the other ports, and that no count falls.
+pub record KeepsOthers (port : Port) (before after : Seen) : Type 0 where
+  pub files : after.files ≡ before.files
+  pub left : OthersStay port before.left after.left
+  pub other_faults : OthersStay port before.faults after.faults
+  pub other_absences : OthersStay port before.absences after.absences
+  pub faults : NeverFall before.faults after.faults
+  pub absences : NeverFall before.absences after.absences

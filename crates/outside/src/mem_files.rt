@@ -1,0 +1,141 @@
+// Files in memory, where the calls that a list names fail.
+ghost use Rattle.std.specs.Prelude.{◌≡◌, ◌↔◌, ◌<◌, ◌≤◌, ◌+◌, ◌-◌, ◌^◌, [], Some, None, min, length, take, drop, if◌then◌else◌, IsTrue, IsErr, IfOk, IfSome, IsSome, OnOk, OnErr, Contains};
+ghost use Rattle.std.specs.Bool.{OnTrue, OnFalse};
+ghost use Rattle.std.specs.Str.{bytes_eq};
+ghost use Rattle.outside.specs.ByPort.{at_port};
+ghost use Rattle.outside.specs.Outside.{Rose, NeverFall, OthersStay, KeepsOthers};
+ghost use Rattle.outside.specs.MemFiles.{files_in, left_in, faults_in, absences_in, shown, failing, number_at};
+
+use crate::by_port::ByPort;
+use crate::{Failed, NeverFails, Outside, Port};
+use html_types::NoMemory;
+use std::alloc::Global;
+
+/// Files in memory, with calls that fail: of each pair of a port and a number n in its list,
+/// the n-th `begin` or `read` at that port, counted from 1.
+#[derive(Drop)]
+pub struct MemFiles {
+    files: NeverFails,
+    fail: Vec<(Port, u64)>,
+    calls: ByPort<u64>,
+    faults: ByPort<u64>,
+}
+
+fn is_listed(calls: &[(Port, u64)], port: Port, number: u64) -> bool
+    ensures { IsTrue result ↔ Contains calls.now (port, number) }
+{
+    for call in calls {
+        if call.0 == port && call.1 == number {
+            return true;
+        }
+    }
+    false
+}
+
+impl MemFiles {
+    /// No file, nothing begun, and the list of the calls that are to fail.
+    pub fn new(alloc: Global, fail: &[(Port, u64)]) -> Result<Self, NoMemory>
+        ensures files { IfOk result (λ all. (path : _) → files_in all path ≡ None) }
+        ensures failing { IfOk result (λ all. failing all ≡ fail.now) }
+        ensures number { IfOk result (λ all. (port : _) → number_at all port ≡ 1) }
+    {
+        Ok(MemFiles {
+            files: NeverFails::new(alloc),
+            fail: fail.to_vec(alloc)?,
+            calls: ByPort::all(0),
+            faults: ByPort::all(0),
+        })
+    }
+
+    /// Adds a file. A path that is there gets the new bytes.
+    pub fn add(&mut self, path: &str, bytes: &[u8]) -> Result<(), NoMemory>
+        ensures ok { OnOk result ((other : _) → files_in self.new other
+            ≡ (if bytes_eq path.now other then Some bytes.now else files_in self.old other)) }
+        ensures err { OnErr result (files_in self.new ≡ files_in self.old) }
+    {
+        self.files.add(path, bytes)
+    }
+
+    /// Counts a call at the port, and says whether it is to fail.
+    fn fails(&mut self, port: Port) -> bool
+        ensures fails { IsTrue result ↔ Contains (failing self.old) (port, number_at self.old port) }
+        ensures failing { failing self.new ≡ failing self.old }
+        ensures number { number_at self.new port ≡ min (number_at self.old port + 1) (2 ^ 64 - 1) }
+        ensures other_numbers { OthersStay port (number_at self.old) (number_at self.new) }
+        ensures files { self.new.files ≡ self.old.files }
+        ensures faults { self.new.faults ≡ self.old.faults }
+    {
+        let number = self.calls.get(port).saturating_add(1);
+        self.calls.set(port, number);
+        is_listed(&self.fail, port, number)
+    }
+
+    fn count_fault(&mut self, port: Port)
+        ensures failing { failing self.new ≡ failing self.old }
+        ensures number { self.new.calls ≡ self.old.calls }
+        ensures files { self.new.files ≡ self.old.files }
+        ensures rose { Rose (at_port self.old.faults port) (at_port self.new.faults port) }
+        ensures others { OthersStay port (at_port self.old.faults) (at_port self.new.faults) }
+        ensures faults { NeverFall (at_port self.old.faults) (at_port self.new.faults) }
+    {
+        let faults = self.faults.get(port);
+        self.faults.set(port, faults.saturating_add(1));
+    }
+}
+
+impl Outside for MemFiles {
+    ghost files = { λ all. Some (files_in all) };
+
+    ghost left = { λ all port. Some (left_in all port) };
+
+    ghost faults = { faults_in };
+
+    ghost absences = { absences_in };
+
+    fn begin(&mut self, port: Port, path: &str) -> Result<bool, Failed>
+        // It fails exactly where the list names it.
+        ensures fails { IsErr result ↔ Contains (failing self.old) (port, number_at self.old port) }
+        ensures failing { failing self.new ≡ failing self.old }
+        ensures number { number_at self.new port ≡ min (number_at self.old port + 1) (2 ^ 64 - 1) }
+        ensures other_numbers { OthersStay port (number_at self.old) (number_at self.new) }
+
+        ensures found { IfOk result (λ there. OnTrue there (
+            IsSome (files_in self.old path.now) × (Some (left_in self.new port) ≡ files_in self.old path.now))) }
+        ensures absent { IfOk result (λ there. OnFalse there (files_in self.old path.now ≡ None)) }
+        ensures none_left { IfOk result (λ there. OnFalse there (left_in self.new port ≡ [])) }
+        ensures none_left_failed { OnErr result (left_in self.new port ≡ []) }
+        ensures absences_rose { IfOk result (λ there. OnFalse there (Rose (absences_in self.old port) (absences_in self.new port))) }
+        ensures faults_rose { OnErr result (Rose (faults_in self.old port) (faults_in self.new port)) }
+        ensures others { KeepsOthers port (shown self.old) (shown self.new) }
+    {
+        if self.fails(port) {
+            self.count_fault(port);
+            self.files.close(port);
+            return Err(Failed);
+        }
+        self.files.begin(port, path)
+    }
+
+    fn read(&mut self, port: Port, into: &mut [u8]) -> Result<usize, Failed>
+        // It fails exactly where the list names it.
+        ensures fails { IsErr result ↔ Contains (failing self.old) (port, number_at self.old port) }
+        ensures failing { failing self.new ≡ failing self.old }
+        ensures number { number_at self.new port ≡ min (number_at self.old port + 1) (2 ^ 64 - 1) }
+        ensures other_numbers { OthersStay port (number_at self.old) (number_at self.new) }
+
+        ensures count { IfOk result (λ n. n ≤ length into.old) }
+        ensures moved { IfOk result (λ n. (n ≤ length (left_in self.old port))
+            × (take n into.new ≡ take n (left_in self.old port)) × (left_in self.new port ≡ drop n (left_in self.old port))) }
+        ensures end { IfOk result (λ n. n ≡ 0 → 0 < length into.old → left_in self.old port ≡ []) }
+        ensures failed { OnErr result (left_in self.new port ≡ left_in self.old port) }
+        ensures faults_rose { OnErr result (Rose (faults_in self.old port) (faults_in self.new port)) }
+        ensures absences { absences_in self.new ≡ absences_in self.old }
+        ensures others { KeepsOthers port (shown self.old) (shown self.new) }
+    {
+        if self.fails(port) {
+            self.count_fault(port);
+            return Err(Failed);
+        }
+        self.files.read(port, into)
+    }
+}

@@ -1,0 +1,63 @@
+use crate::{DiskFiles, Failed, MemFiles, MemSink, NeverFails, Outside, Port, Sink, StdoutSink};
+use std::test::Fail;
+
+#[test]
+fn a_file_in_memory(rt: HostRuntime) -> Result<(), Fail> {
+    let mut files = NeverFails::new(rt.alloc());
+    files.add("p", b"old".as_slice())?;
+    files.add("p", b"new".as_slice())?;
+    let mut piece = [0u8; 2];
+    assert_eq!(rt; files.begin(Port::Page, "q"), Ok(false));
+    assert_eq!(rt; files.begin(Port::Page, "p"), Ok(true));
+    assert_eq!(rt; files.read(Port::Page, &mut piece), Ok(2));
+    assert_eq!(rt; piece[0], b'n');
+    assert_eq!(rt; files.read(Port::Page, &mut piece), Ok(1));
+    assert_eq!(rt; piece[0], b'w');
+    assert_eq!(rt; files.read(Port::Page, &mut piece), Ok(0));
+    Ok(())
+}
+
+#[test]
+fn the_second_call_fails(rt: HostRuntime) -> Result<(), Fail> {
+    let mut files = MemFiles::new(rt.alloc(), [(Port::Page, 2)].as_slice())?;
+    files.add("p", b"ab".as_slice())?;
+    let mut piece = [0u8; 4];
+    assert_eq!(rt; files.begin(Port::Script, "p"), Ok(true));
+    assert_eq!(rt; files.begin(Port::Page, "p"), Ok(true));
+    assert_eq!(rt; files.read(Port::Page, &mut piece), Err(Failed));
+    assert_eq!(rt; files.read(Port::Page, &mut piece), Ok(2));
+    Ok(())
+}
+
+#[test]
+fn a_full_sink(rt: HostRuntime) -> Result<(), Fail> {
+    let mut sink = MemSink::new(rt.alloc(), 3)?;
+    assert_eq!(rt; sink.write(b"ab".as_slice()), Ok(2));
+    assert_eq!(rt; sink.write(b"cd".as_slice()), Ok(1));
+    assert_eq!(rt; sink.write(b"d".as_slice()), Err(Failed));
+    assert_eq!(rt; sink.finish(), Ok(()));
+    assert_eq!(rt; sink.bytes(), b"abc".as_slice());
+    Ok(())
+}
+
+#[test]
+fn what_the_disk_lacks(rt: HostRuntime) -> Result<(), Fail> {
+    let mut files = DiskFiles::new(rt);
+    let mut piece = [0u8; 4];
+    assert_eq!(rt; files.begin(Port::Page, "/no such file"), Ok(false));
+    assert_eq!(rt; files.begin(Port::Page, "/dev/null/through"), Err(Failed));
+    assert_eq!(rt; files.read(Port::Page, &mut piece), Ok(0));
+    assert_eq!(rt; files.begin(Port::Page, "/"), Ok(true));
+    assert_eq!(rt; files.read(Port::Page, &mut piece), Err(Failed));
+    assert_eq!(rt; files.begin(Port::Page, "/dev/null"), Ok(true));
+    assert_eq!(rt; files.read(Port::Page, &mut piece), Ok(0));
+    Ok(())
+}
+
+#[test]
+fn a_real_sink(rt: HostRuntime) -> Result<(), Fail> {
+    let mut sink = StdoutSink::new(Vec::new(rt.alloc()));
+    assert_eq!(rt; sink.write(b"ab".as_slice()), Ok(2));
+    assert_eq!(rt; sink.finish(), Ok(()));
+    Ok(())
+}

@@ -1,0 +1,303 @@
+-- Worked pages: what is written for each, by computation. Where nothing is written the page meets a row that isn't there yet.
+use Rattle.std.proofs.Common.{◌≡◌, ℕ, zero, suc, ◌++◌, List, [], Option, Some, option_map, refl, codes}
+use Prim.Native.String.{String}
+use Rattle.std.specs.Prelude.{encode_utf8_all}
+use Rattle.html_types.specs.declared.script.Ending.{Ending}
+use Rattle.html_types.specs.declared.script.Ending.TheVariants as ending
+use Rattle.standard.specs.Serial.{serial_with}
+use Rattle.standard.specs.Output.{output}
+use Rattle.standard.proofs.OnLiterals.{serial_on_literals}
+
+-- what is written for a page of this text and ending
+abbrev written_for : List ℕ → Ending → Option (List ℕ)
+written_for text ending = option_map output (serial_with 10000 (record { text = text; ending = ending }) (record { entities = [] }))
+
+abbrev written : String → Ending → Option (List ℕ)
+written page ending = written_for (codes page) ending
+
+abbrev wants : String → Option (List ℕ)
+wants s = Some (encode_utf8_all (codes s))
+
+empty_page : written "" ending.End ≡ wants "tree \"<html><head></head><body></body></html>\"\n"
+unfolding serial_on_literals
+empty_page = refl
+
+a_write_in_a_p : written "<p>a<script>document.write(\"b\");</script>c" ending.End ≡ wants "tree \"<html><head></head><body><p>a<script>document.write(\\\"b\\\");</script>bc</p></body></html>\"\n"
+unfolding serial_on_literals
+a_write_in_a_p = refl
+
+a_write_in_head : written "<script>document.write(\"<p>x\");</script>y" ending.End ≡ wants "tree \"<html><head><script>document.write(\\\"<p>x\\\");</script></head><body><p>xy</p></body></html>\"\n"
+unfolding serial_on_literals
+a_write_in_head = refl
+
+doctype_is_missing : written "<!DOCTYPE html><p>Hi" ending.End ≡ wants ""
+unfolding serial_on_literals
+doctype_is_missing = refl
+
+tag_begun_by_a_write : written "<script>document.write(\"<i-i\");</script> class=\"k\">z" ending.End ≡ wants "tree \"<html><head><script>document.write(\\\"<i-i\\\");</script></head><body><i-i class=\\\"k\\\">z</i-i></body></html>\"\n"
+unfolding serial_on_literals
+tag_begun_by_a_write = refl
+
+line_feed_behind_a_written_return : written "<body>a<script>document.write(\"\\r\");</script>\nb" ending.End ≡ wants "tree \"<html><head></head><body>a<script>document.write(\\\"\\\\r\\\");</script>\\nb</body></html>\"\n"
+unfolding serial_on_literals
+line_feed_behind_a_written_return = refl
+
+bad_bytes_after_text : written "<p>a<script>document.write(\"b\");</script>c" ending.Bad ≡ wants "refused bad-utf8\n"
+unfolding serial_on_literals
+bad_bytes_after_text = refl
+
+page_too_long : written "<p>a" ending.Long ≡ wants "refused page\n"
+unfolding serial_on_literals
+page_too_long = refl
+
+fault : written "<p>a" ending.Fault ≡ wants ""
+unfolding serial_on_literals
+fault = refl
+
+unknown_element_in_a_write : written "<p>a<script>document.write(\"<x>x<\\/x>\");</script>b" ending.End ≡ wants "tree \"<html><head></head><body><p>a<script>document.write(\\\"<x>x<\\\\/x>\\\");</script><x>x</x>b</p></body></html>\"\n"
+unfolding serial_on_literals
+unknown_element_in_a_write = refl
+
+unknown_element_left_open : written "<p>a<script>document.write(\"<x>x\");</script>b" ending.End ≡ wants "tree \"<html><head></head><body><p>a<script>document.write(\\\"<x>x\\\");</script><x>xb</x></p></body></html>\"\n"
+unfolding serial_on_literals
+unknown_element_left_open = refl
+
+written_div_under_x : written "<script>document.write(\"<x>\");</script><div>a</div>b" ending.End ≡ wants "tree \"<html><head><script>document.write(\\\"<x>\\\");</script></head><body><x><div>a</div>b</x></body></html>\"\n"
+unfolding serial_on_literals
+written_div_under_x = refl
+
+written_pre : written "<script>document.write(\"<pre>\");</script>\nx" ending.End ≡ wants "tree \"<html><head><script>document.write(\\\"<pre>\\\");</script></head><body><pre>x</pre></body></html>\"\n"
+unfolding serial_on_literals
+written_pre = refl
+
+attributes_of_a_second_body : written "<p>x<body id=\"k\">" ending.End ≡ wants "tree \"<html><head></head><body id=\\\"k\\\"><p>x</p></body></html>\"\n"
+unfolding serial_on_literals
+attributes_of_a_second_body = refl
+
+attributes_of_a_second_html : written "<html a=1><p>x<html a=2 b=3>" ending.End ≡ wants "tree \"<html a=\\\"1\\\" b=\\\"3\\\"><head></head><body><p>x</p></body></html>\"\n"
+unfolding serial_on_literals
+attributes_of_a_second_html = refl
+
+list_items : written "<li>1<li>2" ending.End ≡ wants "tree \"<html><head></head><body><li>1</li><li>2</li></body></html>\"\n"
+unfolding serial_on_literals
+list_items = refl
+
+nested_lists : written "<ul><li>1<ul><li>2</ul><li>3</ul>4" ending.End ≡ wants "tree \"<html><head></head><body><ul><li>1<ul><li>2</li></ul></li><li>3</li></ul>4</body></html>\"\n"
+unfolding serial_on_literals
+nested_lists = refl
+
+definitions : written "<dl><dt>a<dd>b<dt>c</dl>d" ending.End ≡ wants "tree \"<html><head></head><body><dl><dt>a</dt><dd>b</dd><dt>c</dt></dl>d</body></html>\"\n"
+unfolding serial_on_literals
+definitions = refl
+
+headings : written "<p>a<h1>b<h2>c</h3>d" ending.End ≡ wants "tree \"<html><head></head><body><p>a</p><h1>b</h1><h2>c</h2>d</body></html>\"\n"
+unfolding serial_on_literals
+headings = refl
+
+title_is_read_as_rcdata : written "<title><p>a</b></title>b" ending.End ≡ wants "tree \"<html><head><title>&lt;p&gt;a&lt;/b&gt;</title></head><body>b</body></html>\"\n"
+unfolding serial_on_literals
+title_is_read_as_rcdata = refl
+
+style_is_read_as_rawtext : written "<style>a<b</sty></STYLE >c" ending.End ≡ wants "tree \"<html><head><style>a<b</sty></style></head><body>c</body></html>\"\n"
+unfolding serial_on_literals
+style_is_read_as_rawtext = refl
+
+textarea : written "<textarea>\n\na</textarea\n>b" ending.End ≡ wants "tree \"<html><head></head><body><textarea>\\na</textarea>b</body></html>\"\n"
+unfolding serial_on_literals
+textarea = refl
+
+listing : written "<listing>\na</listing>b" ending.End ≡ wants "tree \"<html><head></head><body><listing>a</listing>b</body></html>\"\n"
+unfolding serial_on_literals
+listing = refl
+
+plaintext : written "<p>a<plaintext>b</plaintext>" ending.End ≡ wants "tree \"<html><head></head><body><p>a</p><plaintext>b</plaintext></plaintext></body></html>\"\n"
+unfolding serial_on_literals
+plaintext = refl
+
+xmp : written "<p>a<xmp><b></xmp>c" ending.End ≡ wants "tree \"<html><head></head><body><p>a</p><xmp><b></xmp>c</body></html>\"\n"
+unfolding serial_on_literals
+xmp = refl
+
+formatting_is_missing : written "<p>a<b>c" ending.End ≡ wants ""
+unfolding serial_on_literals
+formatting_is_missing = refl
+
+table_is_missing : written "<p>a<table>c" ending.End ≡ wants ""
+unfolding serial_on_literals
+table_is_missing = refl
+
+reference_is_missing : written "<p>a&amp;c" ending.End ≡ wants ""
+unfolding serial_on_literals
+reference_is_missing = refl
+
+syntax_line : written "<script>foo();</script><p>a" ending.End ≡ wants "syntax 1\ntree \"<html><head><script>foo();</script></head><body><p>a</p></body></html>\"\n"
+unfolding serial_on_literals
+syntax_line = refl
+
+syntax_lines : written "<script>foo();</script><script> </script><script>x</script>b" ending.End ≡ wants "syntax 1\nsyntax 3\ntree \"<html><head><script>foo();</script><script> </script><script>x</script></head><body>b</body></html>\"\n"
+unfolding serial_on_literals
+syntax_lines = refl
+
+syntax_line_and_bad_bytes : written "<script>foo();</script><p>a" ending.Bad ≡ wants "syntax 1\nrefused bad-utf8\n"
+unfolding serial_on_literals
+syntax_line_and_bad_bytes = refl
+
+end_of_no_p : written "a</p>b" ending.End ≡ wants "tree \"<html><head></head><body>a<p></p>b</body></html>\"\n"
+unfolding serial_on_literals
+end_of_no_p = refl
+
+end_of_no_div : written "<p>a</div>b</section>c" ending.End ≡ wants "tree \"<html><head></head><body><p>abc</p></body></html>\"\n"
+unfolding serial_on_literals
+end_of_no_div = refl
+
+head_twice : written "<head><title>a</title></head><head>b" ending.End ≡ wants "tree \"<html><head><title>a</title></head><body>b</body></html>\"\n"
+unfolding serial_on_literals
+head_twice = refl
+
+title_after_head : written "<head></head><title>a</title>b" ending.End ≡ wants "tree \"<html><head><title>a</title></head><body>b</body></html>\"\n"
+unfolding serial_on_literals
+title_after_head = refl
+
+spaces_around_head : written "\n <head> </head>\n <body> a" ending.End ≡ wants "tree \"<html><head> </head>\\n <body> a</body></html>\"\n"
+unfolding serial_on_literals
+spaces_around_head = refl
+
+text_after_body : written "<body>a</body> b</html> c" ending.End ≡ wants "tree \"<html><head></head><body>a b c</body></html>\"\n"
+unfolding serial_on_literals
+text_after_body = refl
+
+comment_is_missing : written "<p>a<!--b-->" ending.End ≡ wants ""
+unfolding serial_on_literals
+comment_is_missing = refl
+
+unknown_element : written "<foo Bar=\"a'b\" q='\"' z=y k>a</FOO>b" ending.End ≡ wants "tree \"<html><head></head><body><foo bar=\\\"a'b\\\" q=\\\"&quot;\\\" z=\\\"y\\\" k=\\\"\\\">a</foo>b</body></html>\"\n"
+unfolding serial_on_literals
+unknown_element = refl
+
+attribute_twice : written "<p a=1 A=2 b>c" ending.End ≡ wants "tree \"<html><head></head><body><p a=\\\"1\\\" b=\\\"\\\">c</p></body></html>\"\n"
+unfolding serial_on_literals
+attribute_twice = refl
+
+self_closing : written "<p/>a<br/>b<img src=x/>c" ending.End ≡ wants "tree \"<html><head></head><body><p>a<br>b<img src=\\\"x/\\\">c</p></body></html>\"\n"
+unfolding serial_on_literals
+self_closing = refl
+
+void_elements : written "<meta a><p>a<hr>b<wbr>c" ending.End ≡ wants "tree \"<html><head><meta a=\\\"\\\"></head><body><p>a</p><hr>b<wbr>c</body></html>\"\n"
+unfolding serial_on_literals
+void_elements = refl
+
+lone_less_than : written "a < b <" ending.End ≡ wants "tree \"<html><head></head><body>a &lt; b &lt;</body></html>\"\n"
+unfolding serial_on_literals
+lone_less_than = refl
+
+tag_cut_by_the_end : written "a<p" ending.End ≡ wants "tree \"<html><head></head><body>a</body></html>\"\n"
+unfolding serial_on_literals
+tag_cut_by_the_end = refl
+
+attribute_cut_by_the_end : written "a<p b=\"c" ending.End ≡ wants "tree \"<html><head></head><body>a</body></html>\"\n"
+unfolding serial_on_literals
+attribute_cut_by_the_end = refl
+
+empty_end_tag : written "a</>b</" ending.End ≡ wants "tree \"<html><head></head><body>ab&lt;/</body></html>\"\n"
+unfolding serial_on_literals
+empty_end_tag = refl
+
+special_stops_an_end : written "<x><div>a</x>b</div>c" ending.End ≡ wants "tree \"<html><head></head><body><x><div>ab</div>c</x></body></html>\"\n"
+unfolding serial_on_literals
+special_stops_an_end = refl
+
+end_of_an_unknown : written "<x><y>a</x>b" ending.End ≡ wants "tree \"<html><head></head><body><x><y>a</y></x>b</body></html>\"\n"
+unfolding serial_on_literals
+end_of_an_unknown = refl
+
+buttons : written "<button>a<button>b</button>c" ending.End ≡ wants "tree \"<html><head></head><body><button>a</button><button>b</button>c</body></html>\"\n"
+unfolding serial_on_literals
+buttons = refl
+
+options : written "<option>a<option>b<optgroup>c" ending.End ≡ wants "tree \"<html><head></head><body><option>a</option><option>b</option><optgroup>c</optgroup></body></html>\"\n"
+unfolding serial_on_literals
+options = refl
+
+ruby : written "<ruby>a<rb>b<rt>c<rp>d</ruby>e" ending.End ≡ wants "tree \"<html><head></head><body><ruby>a<rb>b</rb><rt>c</rt><rp>d</rp></ruby>e</body></html>\"\n"
+unfolding serial_on_literals
+ruby = refl
+
+left_out_in_body : written "<p>a<td>b<tr>c<head>d<caption>e" ending.End ≡ wants "tree \"<html><head></head><body><p>abcde</p></body></html>\"\n"
+unfolding serial_on_literals
+left_out_in_body = refl
+
+script_cut_by_the_end : written "<script>foo();" ending.End ≡ wants "tree \"<html><head><script>foo();</script></head><body></body></html>\"\n"
+unfolding serial_on_literals
+script_cut_by_the_end = refl
+
+script_that_does_not_run : written "<script type=text/plain>foo();</script>a" ending.End ≡ wants "tree \"<html><head><script type=\\\"text/plain\\\">foo();</script></head><body>a</body></html>\"\n"
+unfolding serial_on_literals
+script_that_does_not_run = refl
+
+script_of_its_type : written "<script type=\" Text/JavaScript \">foo();</script>" ending.End ≡ wants "syntax 1\ntree \"<html><head><script type=\\\" Text/JavaScript \\\">foo();</script></head><body></body></html>\"\n"
+unfolding serial_on_literals
+script_of_its_type = refl
+
+empty_script : written "<script></script>a" ending.End ≡ wants "tree \"<html><head><script></script></head><body>a</body></html>\"\n"
+unfolding serial_on_literals
+empty_script = refl
+
+external_script : written "<script src=a></script>b" ending.End ≡ wants ""
+unfolding serial_on_literals
+external_script = refl
+
+removal : written "<script>document.getElementById(\"a\").remove();</script>" ending.End ≡ wants ""
+unfolding serial_on_literals
+removal = refl
+
+written_script : written "<script>document.write(\"<script>foo();<\\/script>\");</script>" ending.End ≡ wants ""
+unfolding serial_on_literals
+written_script = refl
+
+two_writes : written "<script>document.write(\"a\");document.write(\"<p>b\");</script>c" ending.End ≡ wants "tree \"<html><head><script>document.write(\\\"a\\\");document.write(\\\"<p>b\\\");</script></head><body>a<p>bc</p></body></html>\"\n"
+unfolding serial_on_literals
+two_writes = refl
+
+written_textarea : written "<body><script>document.write(\"<textarea>\");</script><script>x</script>" ending.End ≡ wants "tree \"<html><head></head><body><script>document.write(\\\"<textarea>\\\");</script><textarea>&lt;script&gt;x&lt;/script&gt;</textarea></body></html>\"\n"
+unfolding serial_on_literals
+written_textarea = refl
+
+a_character_beyond_ascii : written "<p>aé>b" ending.End ≡ wants "tree \"<html><head></head><body><p>aé&gt;b</p></body></html>\"\n"
+unfolding serial_on_literals
+a_character_beyond_ascii = refl
+
+returns : written "a\rb\r\nc\n\rd" ending.End ≡ wants "tree \"<html><head></head><body>a\\nb\\nc\\n\\nd</body></html>\"\n"
+unfolding serial_on_literals
+returns = refl
+
+br_end_is_missing : written "a</br>b" ending.End ≡ wants ""
+unfolding serial_on_literals
+br_end_is_missing = refl
+
+script_after_head : written "<head></head><script>x</script>b" ending.End ≡ wants "syntax 1\ntree \"<html><head><script>x</script></head><body>b</body></html>\"\n"
+unfolding serial_on_literals
+script_after_head = refl
+
+object_end : written "<object>a<p>b</object>c</object>d" ending.End ≡ wants "tree \"<html><head></head><body><object>a<p>b</p></object>cd</body></html>\"\n"
+unfolding serial_on_literals
+object_end = refl
+
+noscript : written "<noscript><p>a</noscript><body><noscript><p>b</noscript>c" ending.End ≡ wants "tree \"<html><head><noscript><p>a</noscript></head><body><noscript><p>b</noscript>c</body></html>\"\n"
+unfolding serial_on_literals
+noscript = refl
+
+abbrev times : ℕ → List ℕ → List ℕ
+times zero t = []
+times (suc n) t = t ++ times n t
+
+pub open_elements_up_to_the_limit : written_for (times 510 (codes "<div>")) ending.Bad ≡ wants "refused bad-utf8\n"
+unfolding serial_on_literals
+open_elements_up_to_the_limit = refl
+
+pub one_open_element_more : written_for (times 511 (codes "<div>")) ending.Bad ≡ wants "refused depth\n"
+unfolding serial_on_literals
+one_open_element_more = refl
+
+pub void_element_beyond_the_limit : written_for (times 510 (codes "<div>") ++ codes "<br>") ending.Bad ≡ wants "refused depth\n"
+unfolding serial_on_literals
+void_element_beyond_the_limit = refl

@@ -1,0 +1,217 @@
+//! The rows of these states: what each does with a character of each class, or at the end of the input.
+
+ghost use Rattle.std.specs.Prelude.{◌≡◌, IfOk, MatchOption, true, false};
+ghost use Rattle.standard.specs.TextStates as rows;
+ghost use Rattle.char_class.specs.Steps.{Follows};
+
+use char_class::next::{Next, again, emit, emit_again, emit_tag, finish, missing, new_tag, to};
+use char_class::shown;
+use html_types::{
+    Class, NoMemory, PartialTag, RawText, TagKind, TagState, Text, TextState, TokState, Token,
+    Tokens, Word,
+};
+use std::alloc::Global;
+
+/// One row: the next state, and the tokens that are emitted, added to `out`. After NoMemory `out` holds any tokens.
+pub fn step(
+    alloc: Global,
+    state: TextState,
+    class: Class,
+    c: char,
+    out: &mut Tokens,
+) -> Result<Next, NoMemory>
+    ensures { IfOk result (Follows (rows.text_row state class c) out.old out.new) }
+{
+    match state {
+        TextState::Data => data_row(class, c, out),
+        TextState::Raw(raw, last) => raw_row(raw, last, class, c, out),
+        TextState::Plaintext => plaintext_row(class, c, out),
+        TextState::RawLessThan(raw, last) => raw_less_than_row(raw, last, class, c, out),
+        TextState::RawEndTagOpen(raw, last) => {
+            raw_end_tag_open_row(alloc, raw, last, class, c, out)
+        }
+        TextState::RawEndTagName(raw, last, written) => {
+            raw_end_tag_name_row(alloc, raw, last, written, class, c, out)
+        }
+    }
+}
+
+/// 13.2.5.1 Data state
+fn data_row(class: Class, c: char, out: &mut Tokens) -> Result<Next, NoMemory>
+    ensures { IfOk result (Follows (rows.data_row class c) out.old out.new) }
+{
+    match class {
+        Class::Ampersand => missing(out),
+        Class::Less => to(TokState::Tag(TagState::TagOpen), out),
+        Class::InputEnd => finish(out),
+        _ => emit(Token::Character(c), TokState::Text(TextState::Data), out),
+    }
+}
+
+/// 13.2.5.2 RCDATA state, 13.2.5.3 RAWTEXT state, 13.2.5.4 Script data state
+fn raw_row(
+    raw: RawText,
+    last: Option<Word>,
+    class: Class,
+    c: char,
+    out: &mut Tokens,
+) -> Result<Next, NoMemory>
+    ensures { IfOk result (Follows (rows.raw_row raw last class c) out.old out.new) }
+{
+    match (raw, class) {
+        (RawText::Rcdata, Class::Ampersand) => missing(out),
+        (_, Class::Less) => to(TokState::Text(TextState::RawLessThan(raw, last)), out),
+        (_, Class::InputEnd) => finish(out),
+        _ => emit(
+            Token::Character(shown(c)),
+            TokState::Text(TextState::Raw(raw, last)),
+            out,
+        ),
+    }
+}
+
+/// 13.2.5.5 PLAINTEXT state
+fn plaintext_row(class: Class, c: char, out: &mut Tokens) -> Result<Next, NoMemory>
+    ensures { IfOk result (Follows (rows.plaintext_row class c) out.old out.new) }
+{
+    match class {
+        Class::InputEnd => finish(out),
+        _ => emit(
+            Token::Character(shown(c)),
+            TokState::Text(TextState::Plaintext),
+            out,
+        ),
+    }
+}
+
+/// 13.2.5.9 RCDATA, 13.2.5.12 RAWTEXT, 13.2.5.15 Script data less-than sign state
+fn raw_less_than_row(
+    raw: RawText,
+    last: Option<Word>,
+    class: Class,
+    c: char,
+    out: &mut Tokens,
+) -> Result<Next, NoMemory>
+    ensures { IfOk result (Follows (rows.raw_less_than_row raw last class c) out.old out.new) }
+{
+    match (raw, class) {
+        (_, Class::Slash) => to(TokState::Text(TextState::RawEndTagOpen(raw, last)), out),
+        (RawText::ScriptData, Class::Bang) => missing(out),
+        _ => emit_again(
+            Token::Character('<'),
+            TokState::Text(TextState::Raw(raw, last)),
+            out,
+        ),
+    }
+}
+
+/// 13.2.5.10 RCDATA, 13.2.5.13 RAWTEXT, 13.2.5.16 Script data end tag open state
+fn raw_end_tag_open_row(
+    alloc: Global,
+    raw: RawText,
+    last: Option<Word>,
+    class: Class,
+    c: char,
+    out: &mut Tokens,
+) -> Result<Next, NoMemory>
+    ensures { IfOk result (Follows (rows.raw_end_tag_open_row raw last class c) out.old out.new) }
+{
+    match class {
+        Class::Alpha => {
+            let written = Text::new(alloc);
+            again(
+                TokState::Text(TextState::RawEndTagName(raw, last, written)),
+                out,
+            )
+        }
+        _ => {
+            out.push(Token::Character('<'))?;
+            emit_again(
+                Token::Character('/'),
+                TokState::Text(TextState::Raw(raw, last)),
+                out,
+            )
+        }
+    }
+}
+
+/// Whether an end tag of this name, in lower case, is appropriate: it has the last start tag's name.
+fn is_appropriate(last: Option<Word>, name: &Text) -> bool
+    ensures { result ≡ rows.is_appropriate last name.now }
+{
+    match last {
+        None => false,
+        Some(word) => name.is(word.text()),
+    }
+}
+
+/// What was read is no end tag: it is text.
+fn no_end_tag(
+    raw: RawText,
+    last: Option<Word>,
+    written: &Text,
+    out: &mut Tokens,
+) -> Result<Next, NoMemory>
+    ensures { IfOk result (Follows (rows.no_end_tag raw last written.now) out.old out.new) }
+{
+    out.push(Token::Character('<'))?;
+    out.push(Token::Character('/'))?;
+    out.push_characters(written)?;
+    again(TokState::Text(TextState::Raw(raw, last)), out)
+}
+
+/// The end tag that was written so, where it is appropriate.
+fn appropriate_tag(
+    alloc: Global,
+    last: Option<Word>,
+    written: &Text,
+) -> Result<Option<PartialTag>, NoMemory>
+    ensures { IfOk result
+        (λ tag. MatchOption tag
+        (rows.is_appropriate last (rows.in_lower_case written.now) ≡ false)
+        (λ t. (rows.is_appropriate last (rows.in_lower_case written.now) ≡ true)
+        × (t ≡ rows.end_tag_named written.now))) }
+{
+    let name = written.lower(alloc)?;
+    if is_appropriate(last, &name) {
+        Ok(Some(new_tag(alloc, TagKind::End, name)))
+    } else {
+        Ok(None)
+    }
+}
+
+/// 13.2.5.11 RCDATA, 13.2.5.14 RAWTEXT, 13.2.5.17 Script data end tag name state
+fn raw_end_tag_name_row(
+    alloc: Global,
+    raw: RawText,
+    last: Option<Word>,
+    mut written: Text,
+    class: Class,
+    c: char,
+    out: &mut Tokens,
+) -> Result<Next, NoMemory>
+    ensures { IfOk result (Follows (rows.raw_end_tag_name_row raw last written class c) out.old out.new) }
+{
+    match class {
+        Class::Space => match appropriate_tag(alloc, last, &written)? {
+            Some(tag) => to(TokState::Tag(TagState::BeforeAttributeName(tag)), out),
+            None => no_end_tag(raw, last, &written, out),
+        },
+        Class::Slash => match appropriate_tag(alloc, last, &written)? {
+            Some(tag) => to(TokState::Tag(TagState::SelfClosingStartTag(tag)), out),
+            None => no_end_tag(raw, last, &written, out),
+        },
+        Class::Greater => match appropriate_tag(alloc, last, &written)? {
+            Some(tag) => emit_tag(tag, out),
+            None => no_end_tag(raw, last, &written, out),
+        },
+        Class::Alpha => {
+            written.push(c)?;
+            to(
+                TokState::Text(TextState::RawEndTagName(raw, last, written)),
+                out,
+            )
+        }
+        _ => no_end_tag(raw, last, &written, out),
+    }
+}

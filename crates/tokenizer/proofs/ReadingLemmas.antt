@@ -1,0 +1,37 @@
+-- What the code did in a row, against `settle`.
+use Rattle.std.proofs.Common.{◌≡◌, ℕ, ◌-◌, ◌<◌, true, false, List, ◌++◌, Result, Ok, Err, IfOk, sym, ap, ◌∙◌, append_assoc}
+use Rattle.html_types.specs.declared.memory.NoMemory.{NoMemory}
+use Rattle.html_types.specs.declared.token.Token.{Token}
+use Rattle.html_types.specs.declared.state.TokState.{TokState}
+use Rattle.html_types.specs.declared.class.Class.{Class}
+use Rattle.char_class.specs.declared.next.Next.{Next}
+use Rattle.char_class.specs.Steps.{Follows}
+use Rattle.standard.specs.Entities.{Entities}
+use Rattle.standard.specs.Tokenizer.{Reached, row, settle}
+use Rattle.standard.proofs.SettleLemmas.{settle-again, settle-done}
+use Rattle.tokenizer.specs.Adds.{Adds}
+
+-- the code did a row, and is done
+pub Adds-from_last : {before after : List Token} {next : Next} (es : Entities) (n : ℕ) (s : TokState) (k : Class) (c : ℕ) → 0 < n → Follows (row es s k c) before after next → next.again ≡ false → Adds (settle es n s k c) before after next.state
+Adds-from_last {before} es n s k c h f a =
+    let q = settle-done es n s k c h (sym f.again ∙ a) in
+    record {
+      state = f.state ∙ ap (λ (m : Reached). m.state) (sym q);
+      tokens = f.tokens ∙ ap (λ (m : Reached). before ++ m.tokens) (sym q);
+    }
+
+-- the code did a row, and read again
+Adds-from_more : {before middle after : List Token} {next : Next} {now : TokState} (es : Entities) (n : ℕ) (s : TokState) (k : Class) (c : ℕ) → 0 < n → Follows (row es s k c) before middle next → next.again ≡ true → Adds (settle es (n - 1) next.state k c) middle after now → Adds (settle es n s k c) before after now
+Adds-from_more {before} {middle} {next = next} es n s k c h f a x =
+    let q = settle-again es n s k c h (sym f.again ∙ a) in
+    let rest = settle es (n - 1) (row es s k c).state k c in
+    let same : settle es (n - 1) next.state k c ≡ rest = ap (λ (t : TokState). settle es (n - 1) t k c) f.state in
+    record {
+      state = x.state ∙ ap (λ (m : Reached). m.state) same ∙ ap (λ (m : Reached). m.state) (sym q);
+      tokens = x.tokens ∙ ap (λ (m : Reached). middle ++ m.tokens) same ∙ ap (λ (l : List Token). l ++ rest.tokens) f.tokens
+          ∙ append_assoc before (row es s k c).tokens rest.tokens ∙ ap (λ (m : Reached). before ++ m.tokens) (sym q);
+    }
+
+pub IfOk-from_more : {before middle : List Token} {next : Next} (after : List Token) (r : Result TokState NoMemory) (n : ℕ) (s : TokState) (k : Class) (c : ℕ) → 0 < n → ((es : Entities) → Follows (row es s k c) before middle next) → next.again ≡ true → IfOk r (λ now. (es : Entities) → Adds (settle es (n - 1) next.state k c) middle after now) → IfOk r (λ now. (es : Entities) → Adds (settle es n s k c) before after now)
+IfOk-from_more after (Ok now) n s k c h f a x = λ es. Adds-from_more es n s k c h (f es) a (x es)
+IfOk-from_more after (Err e) n s k c h f a x = tt

@@ -1,0 +1,24 @@
+-- What a run of the tokenizer answers.
+use Rattle.std.specs.Prelude.{◌≡◌, ℕ, List, [], ◌∷◌, ◌++◌, length}
+use Rattle.standard.specs.Entities.{Entities}
+use Rattle.standard.specs.Tokenizer.{Reached, onward}
+use Rattle.tokenizer.specs.declared.run.Pause.{Pause}
+use Rattle.tokenizer.specs.declared.run.Pause.TheVariants.{Token, InputEnd}
+use Rattle.tokenizer.specs.declared.run.Ran.{Ran}
+
+-- of what the text came to, the pause is the first token, and the tokenizer has the rest; or there is no token
+abbrev pub IsNext : Reached → Pause → Reached → Type 0
+IsNext m (Token t) new = (m.tokens ≡ t ∷ new.tokens) × (m.state ≡ new.state)
+IsNext m InputEnd new = (m.tokens ≡ []) × (new ≡ m)
+
+-- what stands before the last character of the text makes no token
+abbrev pub IsQuietBefore : Entities → Reached → List ℕ → Type 0
+IsQuietBefore es m text = (x : List ℕ) (c : ℕ) → text ≡ x ++ c ∷ [] → (onward es m x).tokens ≡ []
+
+-- a run that gives no token has used all
+abbrev pub UsesAllAt : Pause → ℕ → List ℕ → Type 0
+UsesAllAt (Token t) used text = Unit {0}
+UsesAllAt InputEnd used text = used ≡ length text
+
+abbrev pub UsesAll : Ran → List ℕ → Type 0
+UsesAll r text = UsesAllAt r.pause r.used text

@@ -1,0 +1,8 @@
+//! The tokenizer (13.2.5) over a text that comes in pieces.
+#![tactic(auto)]
+
+pub mod laws;
+pub mod reading;
+pub mod run;
+
+pub use run::{Pause, Ran, Tokenizer};

@@ -1,0 +1,80 @@
+//! One character, or the end of the input: a row, closed under reconsuming.
+
+ghost use Rattle.std.specs.Prelude.{◌≡◌, ℕ, [], ◌∷◌, IfOk, IsTrue, MatchBool};
+ghost use Rattle.char_class.specs.Steps.{Follows};
+ghost use Rattle.standard.specs.Entities.{Entities};
+ghost use Rattle.standard.specs.Step as steps;
+ghost use Rattle.standard.specs.Tokenizer as table;
+ghost use Rattle.html_types.specs.declared.token.Token.TheVariants.{Character};
+ghost use Rattle.tokenizer.specs.Adds.{Adds};
+
+use char_class::Next;
+use html_types::{Class, NoMemory, TokState, Tokens};
+use std::alloc::Global;
+
+/// How often one character is read at most; no row asks for more.
+pub const READINGS: u8 = 5;
+
+/// One row of the table.
+fn row(
+    alloc: Global,
+    state: TokState,
+    class: Class,
+    c: char,
+    out: &mut Tokens,
+) -> Result<Next, NoMemory>
+    ensures { IfOk result (λ next. (es : Entities) → Follows (table.row es state class c) out.old out.new next) }
+{
+    match state {
+        TokState::Text(text_state) => tok_text::step(alloc, text_state, class, c, out),
+        TokState::Tag(tag_state) => tok_tags::step(alloc, tag_state, class, c, out),
+    }
+}
+
+/// Reads a character, or the end, at most so many times, and gives the state that it leads to.
+pub fn settle(
+    alloc: Global,
+    readings: u8,
+    state: TokState,
+    class: Class,
+    c: char,
+    out: &mut Tokens,
+) -> Result<TokState, NoMemory>
+    ensures { IfOk result (λ now. (es : Entities) → Adds (table.settle es readings state class c) out.old out.new now) }
+{
+    if readings == 0 {
+        return Ok(state);
+    }
+    let next = row(alloc, state, class, c, out)?;
+    if next.again {
+        settle(alloc, readings - 1, next.state, class, c, out)
+    } else {
+        Ok(next.state)
+    }
+}
+
+/// Whether the state emits a character of this class as it is, and stays. Where the answer is no, it may do so all the same.
+pub fn is_plain(state: &TokState, class: Class) -> bool
+    ensures { IsTrue result
+        → (es : Entities) (c : ℕ)
+        → table.row es state.now class c ≡ steps.emit (Character c ∷ []) state.now }
+{
+    match state {
+        TokState::Text(text_state) => tok_text::is_plain(text_state, class),
+        _ => false,
+    }
+}
+
+/// Does the row where it only adds a character to what the state holds, and says whether it did. Where it says no, the state
+/// is as before, though the row may be of this kind all the same.
+pub fn add_in_place(state: &mut TokState, class: Class, c: char) -> Result<bool, NoMemory>
+    ensures { IfOk result
+        (λ done. MatchBool done
+        ((es : Entities) → table.row es state.old class c ≡ steps.to state.new)
+        (state.new ≡ state.old)) }
+{
+    match state {
+        TokState::Tag(tag_state) => tok_tags::add_in_place(tag_state, class, c),
+        _ => Ok(false),
+    }
+}

@@ -1,0 +1,187 @@
+//! The tokenizer: its state, and the tokens that it has made and not yet given.
+
+ghost use Rattle.std.specs.Prelude.{◌≡◌, ◌↔◌, [], ◌∷◌, take, length, IfOk, OnOk, IfSome, IfNone, IsTrue};
+ghost use Rattle.std.specs.Str.{chars, IsCharBoundary};
+ghost use Rattle.standard.specs.Entities.{Entities};
+ghost use Rattle.standard.specs.Step.{data_state};
+ghost use Rattle.standard.specs.Tokenizer.{read, reading, read_end, onward, after_tokens};
+ghost use Rattle.tokenizer.specs.Runs.{IsNext, IsQuietBefore, UsesAll};
+
+use crate::reading::{READINGS, add_in_place, is_plain, settle};
+use char_class::class_of;
+use html_types::{Class, NoMemory, TextState, TokState, Token, Tokens, char_at, eq_state};
+use std::alloc::Global;
+use std::marker::Model;
+use std::mem;
+
+/// Why a run stopped.
+#[derive(Drop)]
+pub enum Pause {
+    /// The next token.
+    Token(Token),
+    /// All of the text is used, and no token is left.
+    InputEnd,
+}
+
+/// Why a run stopped, and how many bytes of its text it used.
+#[derive(Drop)]
+pub struct Ran {
+    pub pause: Pause,
+    pub used: usize,
+}
+
+/// A tokenizer: a contract sees the tokens that it has made and not yet given, and its state. After a call that answers
+/// NoMemory it is some tokenizer, of use for nothing but to be dropped.
+#[derive(Drop)]
+pub struct Tokenizer {
+    waiting: Tokens,
+    state: TokState,
+}
+
+impl Model for Tokenizer {
+    ghost use Rattle.standard.specs.Tokenizer.{Reached};
+
+    ghost Value = { Reached };
+
+    ghost view = { λ t. record { tokens = t.waiting; state = t.state } };
+}
+
+impl Tokenizer {
+    /// A tokenizer at the start of a page: in the data state, with no tokens.
+    pub fn new(alloc: Global) -> Tokenizer
+        ensures tokens { result.tokens ≡ [] }
+        ensures state { result.state ≡ data_state }
+    {
+        Tokenizer {
+            waiting: Tokens::new(alloc),
+            state: TokState::Text(TextState::Data),
+        }
+    }
+
+    /// The state.
+    pub fn state(&self) -> &TokState
+        ensures { result.now ≡ self.now.state }
+    {
+        &self.state
+    }
+
+    /// Puts it in a state. Tokens that wait stay.
+    pub fn load(&mut self, state: TokState)
+        ensures tokens { self.new.tokens ≡ self.old.tokens }
+        ensures state { self.new.state ≡ state }
+    {
+        self.state = state;
+    }
+
+    /// Drops the tokens that wait.
+    pub fn clear(&mut self, alloc: Global)
+        ensures tokens { self.new.tokens ≡ [] }
+        ensures state { self.new.state ≡ self.old.state }
+    {
+        self.waiting = Tokens::new(alloc);
+    }
+
+    /// A copy.
+    pub fn copy(&self, alloc: Global) -> Result<Tokenizer, NoMemory>
+        ensures { IfOk result (λ t. t ≡ self.now) }
+    {
+        let waiting = self.waiting.copy(alloc)?;
+        let state = self.state.copy(alloc)?;
+        Ok(Tokenizer { waiting, state })
+    }
+
+    /// Whether two tokenizers are the same: their states, and the tokens that wait.
+    pub fn same(&self, other: &Tokenizer) -> bool
+        ensures { IsTrue result ↔ (self.now ≡ other.now) }
+    {
+        self.waiting.same(&other.waiting) && eq_state(&self.state, &other.state)
+    }
+
+    /// Reads one character. The tokens that it makes wait behind those that wait already.
+    pub fn read(&mut self, alloc: Global, c: char) -> Result<(), NoMemory>
+        ensures { OnOk result
+            ((es : Entities) → self.new ≡ after_tokens self.old.tokens (read es self.old.state c)) }
+    {
+        self.read_class(alloc, class_of(c), c)
+    }
+
+    /// Reads the end of the input. The tokens that it makes wait behind those that wait already.
+    pub fn finish(&mut self, alloc: Global) -> Result<(), NoMemory>
+        ensures { OnOk result
+            ((es : Entities) → self.new ≡ after_tokens self.old.tokens (read_end es self.old.state)) }
+    {
+        let state = mem::replace(&mut self.state, TokState::Text(TextState::Data));
+        self.state = settle(
+            alloc,
+            READINGS,
+            state,
+            Class::InputEnd,
+            '\0',
+            &mut self.waiting,
+        )?;
+        Ok(())
+    }
+
+    /// Takes the first of the tokens that wait.
+    pub fn pop(&mut self) -> Option<Token>
+        ensures some { IfSome result (λ t. self.old.tokens ≡ t ∷ self.new.tokens) }
+        ensures none { IfNone result (self.old.tokens ≡ []) }
+        ensures empty { IfNone result (self.new.tokens ≡ []) }
+        ensures state { self.new.state ≡ self.old.state }
+    {
+        self.waiting.pop()
+    }
+
+    /// Gives the next token: the first that waits, else the first that the text makes, of which no more is used than that
+    /// needs. `InputEnd` comes where no token waits and all of the text makes none.
+    pub fn run(&mut self, alloc: Global, text: &str) -> Result<Ran, NoMemory>
+        ensures boundary { IfOk result (λ r. IsCharBoundary text.now r.used) }
+        ensures next { IfOk result
+            (λ r. (es : Entities) → IsNext (onward es self.old (chars (take r.used text.now))) r.pause self.new) }
+        ensures first { IfOk result
+            (λ r. (es : Entities) → IsQuietBefore es self.old (chars (take r.used text.now))) }
+        ensures all { IfOk result (λ r. UsesAll r text.now) }
+    {
+        if let Some(token) = self.waiting.pop() {
+            return Ok(Ran {
+                pause: Pause::Token(token),
+                used: 0,
+            });
+        }
+        let mut used = 0;
+        while let Some((c, behind)) = char_at(text, used) {
+            used = behind;
+            let class = class_of(c);
+            if is_plain(&self.state, class) {
+                return Ok(Ran {
+                    pause: Pause::Token(Token::Character(c)),
+                    used,
+                });
+            }
+            self.read_class(alloc, class, c)?;
+            if let Some(token) = self.waiting.pop() {
+                return Ok(Ran {
+                    pause: Pause::Token(token),
+                    used,
+                });
+            }
+        }
+        Ok(Ran {
+            pause: Pause::InputEnd,
+            used,
+        })
+    }
+
+    // Reads a character of this class, or the end.
+    fn read_class(&mut self, alloc: Global, class: Class, c: char) -> Result<(), NoMemory>
+        ensures { OnOk result
+            ((es : Entities) → self.new ≡ after_tokens self.old.tokens (reading es self.old.state class c)) }
+    {
+        if add_in_place(&mut self.state, class, c)? {
+            return Ok(());
+        }
+        let state = mem::replace(&mut self.state, TokState::Text(TextState::Data));
+        self.state = settle(alloc, READINGS, state, class, c, &mut self.waiting)?;
+        Ok(())
+    }
+}

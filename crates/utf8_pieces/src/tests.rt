@@ -1,0 +1,65 @@
+use crate::{Decoder, Ending};
+use html_types::Text;
+use std::alloc::Global;
+use std::process::Abort;
+use std::test::Fail;
+
+// Reads two pieces of a page of at most 4 bytes, and compares its text and ending.
+fn expect<R: Abort>(
+    rt: &R,
+    alloc: Global,
+    pieces: (&[u8], &[u8]),
+    fault: bool,
+    wanted: (&str, Ending),
+) -> Result<(), Fail> {
+    let mut decoder = Decoder::new(alloc, 4);
+    let mut text = Text::new(alloc);
+    text.push_str(decoder.feed(alloc, pieces.0)?.text.as_str())?;
+    text.push_str(decoder.feed(alloc, pieces.1)?.text.as_str())?;
+    assert_eq!(rt; text.as_str(), wanted.0);
+    assert_eq!(rt; decoder.close(fault), wanted.1);
+    Ok(())
+}
+
+#[test]
+fn endings(rt: HostRuntime) -> Result<(), Fail> {
+    let alloc = rt.alloc();
+    expect(&rt, alloc, (b"ab", b"cd"), false, ("abcd", Ending::End))?;
+    expect(&rt, alloc, (b"abcd", b"e"), false, ("abcd", Ending::Long))?;
+    expect(
+        &rt,
+        alloc,
+        (b"abc\xC3", b"\xA9"),
+        false,
+        ("abc", Ending::Long),
+    )?;
+    expect(&rt, alloc, (b"abc", b"d\xFF"), false, ("abcd", Ending::Bad))?;
+    expect(
+        &rt,
+        alloc,
+        (b"abcd", b"\xC3"),
+        false,
+        ("abcd", Ending::Long),
+    )?;
+    expect(&rt, alloc, (b"abc", b"\xC3"), false, ("abc", Ending::Bad))?;
+    expect(&rt, alloc, (b"abc", b"\xC3"), true, ("abc", Ending::Fault))
+}
+
+#[test]
+fn the_mark_is_dropped_once(rt: HostRuntime) -> Result<(), Fail> {
+    let alloc = rt.alloc();
+    expect(
+        &rt,
+        alloc,
+        (b"\xEF\xBB", b"\xBFa"),
+        false,
+        ("a", Ending::End),
+    )?;
+    expect(
+        &rt,
+        alloc,
+        (b"a", b"\xEF\xBB\xBF"),
+        false,
+        ("a\u{FEFF}", Ending::End),
+    )
+}

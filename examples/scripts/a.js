@@ -1,0 +1,1 @@
+document.write("from a file");
