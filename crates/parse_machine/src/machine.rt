@@ -1,11 +1,13 @@
 //! The machine.
 
-ghost use Rattle.std.specs.Prelude.{◌≡◌, ◌↔◌, [], Bool, chars, IfOk, IsTrue};
+ghost use Rattle.std.specs.Prelude.{◌≡◌, ◌↔◌, ◌==◌, ◌≢◌, ◌&&◌, ◌<◌, [], ◌∷◌, Bool, length, if◌then◌else◌, IfOk, IsTrue};
+ghost use Rattle.std.specs.Str.{chars};
+ghost use Rattle.standard.specs.Tokenizer.{Reached, read, read_end};
 ghost use Rattle.std.specs.Str.{IsCharBoundary};
 ghost use Rattle.standard.specs.Entities.{Entities};
 ghost use Rattle.standard.specs.Parser as definition;
-ghost use Rattle.standard.specs.Parser.{new_parser, took, after_ops, take_character, finish as finished, parse, AreSame, after_all};
-ghost use Rattle.parse_machine.specs.Machine.{Builds, BuildsLast, RanAs};
+ghost use Rattle.standard.specs.Parser.{new_parser, took, after_ops, build, build_end, take_character, finish as finished, parse, AreSame, after_all};
+ghost use Rattle.parse_machine.specs.Machine.{WentTo, EndedTo, Builds, BuildsLast, RanAs, stops as stops_at};
 
 use crate::token::construct;
 use builder_state::Builder;
@@ -44,6 +46,13 @@ pub struct Ran {
     pub used: usize,
 }
 
+// The parser stops before the text is used.
+fn stops(stop: Stop) -> bool
+    ensures { result ≡ stops_at stop }
+{
+    !matches!(&stop, Stop::InputEnd)
+}
+
 // The word of a start tag's name, where the rules speak of it.
 fn word_of_tag(token: &Token) -> Option<Word>
     ensures { result ≡ definition.word_of_tag token.now }
@@ -70,6 +79,62 @@ fn read_as(reading: Reading, token: &Token) -> TokState
     }
 }
 
+// What became of the first token that waited.
+#[derive(Clone, Copy, Debug, PartialEq, Eq)]
+pub(crate) enum Went {
+    /// There was none.
+    AllUsed,
+    /// The next is to be processed.
+    On,
+    At(Stop),
+}
+
+// Processes a token, with others waiting behind it. The tokenizer may then read on in another way.
+fn process(
+    alloc: Global,
+    tokenizer: &mut Tokenizer,
+    builder: &mut Builder,
+    token: &Token,
+    ops: &mut Ops,
+) -> Result<Went, NoMemory>
+    ensures built { IfOk result (λ went. (cr : Bool) → WentTo cr tokenizer.new builder.new ops.new went
+        ≡ after_ops ops.old (build tokenizer.old.state cr (token.now ∷ tokenizer.old.tokens) builder.old)) }
+    ensures waiting { tokenizer.new.tokens ≡ tokenizer.old.tokens }
+    ensures some { IfOk result (λ went. went ≢ Went.AllUsed) }
+{
+    match construct(alloc, builder, token, ops)? {
+        Next::Done => Ok(Went::On),
+        Next::Switch(reading) => {
+            tokenizer.load(read_as(reading, token));
+            Ok(Went::On)
+        }
+        Next::Script(id) => Ok(Went::At(Stop::Script(id))),
+        Next::Deep => Ok(Went::At(Stop::Deep)),
+        Next::Again => Ok(Went::At(Stop::Missing)),
+        Next::Using(_) => Ok(Went::At(Stop::Missing)),
+        Next::Finished => Ok(Went::At(Stop::Missing)),
+        Next::Missing => Ok(Went::At(Stop::Missing)),
+    }
+}
+
+// Processes the first token that waits.
+fn process_first(
+    alloc: Global,
+    tokenizer: &mut Tokenizer,
+    builder: &mut Builder,
+    ops: &mut Ops,
+) -> Result<Went, NoMemory>
+    ensures built { IfOk result (λ went. (cr : Bool) → WentTo cr tokenizer.new builder.new ops.new went
+        ≡ after_ops ops.old (build tokenizer.old.state cr tokenizer.old.tokens builder.old)) }
+    ensures fewer { IfOk result (λ went. went ≡ Went.On → length tokenizer.new.tokens < length tokenizer.old.tokens) }
+    ensures none { IfOk result (λ went. went ≡ Went.AllUsed → tokenizer.new.tokens ≡ []) }
+{
+    match tokenizer.pop() {
+        None => Ok(Went::AllUsed),
+        Some(token) => process(alloc, tokenizer, builder, &token, ops),
+    }
+}
+
 // Processes the tokens that wait, in order, up to the first stop; those behind it are dropped.
 fn build_waiting(
     alloc: Global,
@@ -80,21 +145,63 @@ fn build_waiting(
     ensures built { IfOk result (λ stop. (cr : Bool) → Builds cr tokenizer.old builder.old ops.old tokenizer.new builder.new ops.new stop) }
     ensures none_waits { IfOk result (λ _. tokenizer.new.tokens ≡ []) }
 {
-    while let Some(token) = tokenizer.pop() {
-        let stop = match construct(alloc, builder, &token, ops)? {
-            Next::Done => continue,
-            Next::Switch(reading) => {
-                tokenizer.load(read_as(reading, &token));
-                continue;
+    'tokens: loop {
+        match process_first(alloc, tokenizer, builder, ops)? {
+            Went::AllUsed => return Ok(Stop::InputEnd),
+            Went::On => {}
+            Went::At(stop) => {
+                tokenizer.clear(alloc);
+                return Ok(stop);
             }
-            Next::Script(id) => Stop::Script(id),
-            Next::Deep => Stop::Deep,
-            _ => Stop::Missing,
-        };
-        tokenizer.clear(alloc);
-        return Ok(stop);
+        }
     }
-    Ok(Stop::InputEnd)
+}
+
+// What became of the first of the last tokens.
+#[derive(Clone, Copy, Debug, PartialEq, Eq)]
+pub(crate) enum Ended {
+    /// The next is to be processed.
+    On,
+    At(Finish),
+}
+
+// Processes one of the last tokens.
+fn process_last(
+    alloc: Global,
+    builder: &mut Builder,
+    token: &Token,
+    ops: &mut Ops,
+) -> Result<Ended, NoMemory>
+    ensures { IfOk result (λ ended. (cr : Bool) (m : Reached) → EndedTo cr m builder.new ops.new ended
+        ≡ after_all ops.old (build_end m.state cr (token.now ∷ m.tokens) builder.old)) }
+{
+    match construct(alloc, builder, token, ops)? {
+        Next::Done => Ok(Ended::On),
+        Next::Finished => Ok(Ended::At(Finish::Finished)),
+        Next::Deep => Ok(Ended::At(Finish::Deep)),
+        Next::Again => Ok(Ended::At(Finish::Missing)),
+        Next::Using(_) => Ok(Ended::At(Finish::Missing)),
+        Next::Switch(_) => Ok(Ended::At(Finish::Missing)),
+        Next::Script(_) => Ok(Ended::At(Finish::Missing)),
+        Next::Missing => Ok(Ended::At(Finish::Missing)),
+    }
+}
+
+// Processes the first of the last tokens.
+fn process_first_of_last(
+    alloc: Global,
+    tokenizer: &mut Tokenizer,
+    builder: &mut Builder,
+    ops: &mut Ops,
+) -> Result<Ended, NoMemory>
+    ensures built { IfOk result (λ ended. (cr : Bool) → EndedTo cr tokenizer.new builder.new ops.new ended
+        ≡ after_all ops.old (build_end tokenizer.old.state cr tokenizer.old.tokens builder.old)) }
+    ensures fewer { IfOk result (λ ended. ended ≡ Ended.On → length tokenizer.new.tokens < length tokenizer.old.tokens) }
+{
+    match tokenizer.pop() {
+        None => Ok(Ended::At(Finish::Missing)),
+        Some(token) => process_last(alloc, builder, &token, ops),
+    }
 }
 
 // Processes the last tokens, up to the one at which parsing stops; those behind it are dropped.
@@ -107,17 +214,60 @@ fn build_last(
     ensures built { IfOk result (λ finish. (cr : Bool) → BuildsLast cr tokenizer.old builder.old ops.old tokenizer.new builder.new ops.new finish) }
     ensures none_waits { IfOk result (λ _. tokenizer.new.tokens ≡ []) }
 {
-    while let Some(token) = tokenizer.pop() {
-        let finish = match construct(alloc, builder, &token, ops)? {
-            Next::Done => continue,
-            Next::Finished => Finish::Finished,
-            Next::Deep => Finish::Deep,
-            _ => Finish::Missing,
-        };
-        tokenizer.clear(alloc);
-        return Ok(finish);
+    'tokens: loop {
+        match process_first_of_last(alloc, tokenizer, builder, ops)? {
+            Ended::On => {}
+            Ended::At(finish) => {
+                tokenizer.clear(alloc);
+                return Ok(finish);
+            }
+        }
     }
-    Ok(Finish::Missing)
+}
+
+// A line feed behind a CR is skipped.
+fn skips(after_cr: bool, c: char) -> bool
+    ensures { result ≡ (after_cr && (c == 10)) }
+{
+    after_cr && c == '\n'
+}
+
+// A CR is a line feed.
+fn line_feed_for_cr(c: char) -> char
+    ensures { result ≡ (if c == 13 then 10 else c) }
+{
+    if c == '\r' { '\n' } else { c }
+}
+
+// Reads a character, and processes the tokens that it makes.
+fn read_and_build(
+    alloc: Global,
+    tokenizer: &mut Tokenizer,
+    builder: &mut Builder,
+    c: char,
+    ops: &mut Ops,
+) -> Result<Stop, NoMemory>
+    requires { tokenizer.old.tokens ≡ [] }
+    ensures built { IfOk result (λ stop. (es : Entities) (cr : Bool) → Builds cr (read es tokenizer.old.state c) builder.old ops.old tokenizer.new builder.new ops.new stop) }
+    ensures none_waits { IfOk result (λ _. tokenizer.new.tokens ≡ []) }
+{
+    tokenizer.read_character(alloc, c)?;
+    build_waiting(alloc, tokenizer, builder, ops)
+}
+
+// Reads the end of the input, and processes the tokens that it makes.
+fn end_and_build(
+    alloc: Global,
+    tokenizer: &mut Tokenizer,
+    builder: &mut Builder,
+    ops: &mut Ops,
+) -> Result<Finish, NoMemory>
+    requires { tokenizer.old.tokens ≡ [] }
+    ensures built { IfOk result (λ finish. (es : Entities) (cr : Bool) → BuildsLast cr (read_end es tokenizer.old.state) builder.old ops.old tokenizer.new builder.new ops.new finish) }
+    ensures none_waits { IfOk result (λ _. tokenizer.new.tokens ≡ []) }
+{
+    tokenizer.finish(alloc)?;
+    build_last(alloc, tokenizer, builder, ops)
 }
 
 impl Machine {
@@ -136,14 +286,19 @@ impl Machine {
     fn take(&mut self, alloc: Global, c: char, ops: &mut Ops) -> Result<Stop, NoMemory>
         ensures { IfOk result (λ stop. (es : Entities) → after_ops ops.old (take_character es self.old c) ≡ took ops.new self.new stop) }
     {
-        if self.after_cr && c == '\n' {
+        if skips(self.after_cr, c) {
             self.after_cr = false;
             return Ok(Stop::InputEnd);
         }
         self.after_cr = c == '\r';
-        let read = if c == '\r' { '\n' } else { c };
-        self.tokenizer.read_character(alloc, read)?;
-        build_waiting(alloc, &mut self.tokenizer, &mut self.builder, ops)
+        let read = line_feed_for_cr(c);
+        match read_and_build(alloc, &mut self.tokenizer, &mut self.builder, read, ops) {
+            Ok(stop) => Ok(stop),
+            Err(error) => {
+                self.tokenizer.clear(alloc);
+                Err(error)
+            }
+        }
     }
 
     /// Takes the characters of a text, up to the first stop. Operations are added at the end of `ops`.
@@ -156,9 +311,9 @@ impl Machine {
         let mut used = 0;
         while let Some((c, behind)) = char_at(text, used) {
             used = behind;
-            match self.take(alloc, c, ops)? {
-                Stop::InputEnd => {}
-                stop => return Ok(Ran { stop, used }),
+            let stop = self.take(alloc, c, ops)?;
+            if stops(stop) {
+                return Ok(Ran { stop, used });
             }
         }
         Ok(Ran {
@@ -171,8 +326,13 @@ impl Machine {
     pub fn finish(&mut self, alloc: Global, ops: &mut Ops) -> Result<Finish, NoMemory>
         ensures { IfOk result (λ finish. (es : Entities) → after_all ops.old (finished es self.old) ≡ record { ops = ops.new; parser = self.new; finish = finish }) }
     {
-        self.tokenizer.finish(alloc)?;
-        build_last(alloc, &mut self.tokenizer, &mut self.builder, ops)
+        match end_and_build(alloc, &mut self.tokenizer, &mut self.builder, ops) {
+            Ok(finish) => Ok(finish),
+            Err(error) => {
+                self.tokenizer.clear(alloc);
+                Err(error)
+            }
+        }
     }
 
     /// A copy.
