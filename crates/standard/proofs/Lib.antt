@@ -6,6 +6,8 @@ pub mod Parse
 pub mod Batch
 pub mod Passing
 pub mod Scripts
+pub mod Kept
+pub mod Lines
 pub mod Framing
 pub mod FreshnessWalks
 pub mod Freshness

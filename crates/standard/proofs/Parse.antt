@@ -1,14 +1,13 @@
 -- Characters one by one, each operation done at once, are the operations of `parse` done after it.
-use Rattle.std.proofs.Common.{◌≡◌, ℕ, suc, ◌+◌, List, [], ◌∷◌, ◌++◌, drop, length, refl, sym, ◌∙◌, ap, zero-add, append_assoc, arith}
+use Rattle.std.proofs.Common.{◌≡◌, ℕ, suc, ◌+◌, List, [], ◌∷◌, ◌++◌, drop, refl, sym, ◌∙◌, ap, zero-add, append_assoc, arith}
 use mathlib.Core.Path.{fun_ext}
 use Rattle.html_types.specs.declared.operation.Op.{Op}
 use Rattle.html_types.specs.declared.instruction.Stop.{Stop}
 use Rattle.html_types.specs.declared.instruction.Stop.TheVariants as stop
-use Rattle.standard.specs.Entities.{Entities}
 use Rattle.standard.specs.Act.{Doc, act, acts}
 use Rattle.standard.specs.Parser.{Parser, Took, took, take_character, Parsed, after_character, and_rest, parse}
 use Rattle.standard.specs.Serial.{Advanced, advanced, done_then, advance}
-use Rattle.standard.specs.Laws.{joined, unless_stopped, and_then, executed, ParsesInPieces, AdvancesByParse}
+use Rattle.standard.specs.Laws.{unless_stopped, and_then, executed, ParsesInPieces, AdvancesByParse}
 
 pub acts-append : (xs ys : List Op) (d : Doc) → acts d (xs ++ ys) ≡ acts (acts d xs) ys
 unfolding acts

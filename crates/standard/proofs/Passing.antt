@@ -11,11 +11,11 @@ use Rattle.html_types.specs.declared.instruction.Stop.TheVariants as stop
 use Rattle.html_types.specs.declared.instruction.Finish.{Finish}
 use Rattle.html_types.specs.declared.instruction.Finish.TheVariants as finale
 use Rattle.standard.specs.Entities.{Entities}
-use Rattle.standard.specs.Act.{Doc, acts}
-use Rattle.standard.specs.Parser.{Parser, Took, took, take_character, Parsed, after_character, and_rest, parse, Finished, finish}
+use Rattle.standard.specs.Act.{acts}
+use Rattle.standard.specs.Parser.{Parser, Took, took, take_character, Parsed, and_rest, parse, Finished, finish}
 use Rattle.standard.specs.Page.{Page}
-use Rattle.standard.specs.Serial.{World, Outcome, Serial, Moment, reading, tag_ended, over, refusal, first, finished, taken, at_end, ended, read_next, moment_after, moments_on, Leads, Passes, IsSerial}
-use Rattle.standard.specs.Laws.{moment_at, HasParsed, LeavesNothing, BatchesLead, WholeBatchesLead, EndLeads, HasFinished, outcome_at, FinishLeads, OverIsSerial}
+use Rattle.standard.specs.Serial.{World, Outcome, Serial, Moment, reading, over, refusal, first, finished, taken, at_end, read_next, moment_after, moments_on, Leads, Passes}
+use Rattle.standard.specs.Laws.{LeavesNothing, BatchesLead, WholeBatchesLead, EndLeads, outcome_at, FinishLeads, OverIsSerial}
 use Rattle.standard.proofs.Fuel.{moments_on-by, over-by, over-serial}
 use Rattle.standard.proofs.Batch.{moment_behind, reading-batch}
 
@@ -112,7 +112,7 @@ pub leads-end : EndLeads
 unfolding moment_after
 leads-end e w m0 s p h = leads-next e w m0 0 (reading s) _ p (ap (λ t. Some (read_next w.entities e s t)) h)
 
-finished-at : (s : Serial) (f : Finished) → at_end s f ≡ outcome_at s f.parser (acts s.side.doc f.ops) f.finish
+pub finished-at : (s : Serial) (f : Finished) → at_end s f ≡ outcome_at s f.parser (acts s.side.doc f.ops) f.finish
 finished-at s f = by_finish f.finish
   where
     by_finish : (k : Finish) → (let last = taken f.parser (acts s.side.doc f.ops) [] s in

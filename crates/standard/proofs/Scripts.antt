@@ -1,17 +1,18 @@
 -- A script, statement by statement, and the moment behind it.
-use Rattle.std.proofs.Common.{◌≡◌, ℕ, zero, suc, ◌+◌, ◌-◌, ◌≤◌, ◌<◌, Bool, true, false, List, [], ◌∷◌, ◌++◌, Option, Some, None, refl, length, take, drop, sym, ◌∙◌, ap, nat_le, length-append, arith}
+use Rattle.std.proofs.Common.{◌≡◌, ℕ, suc, ◌+◌, ◌-◌, ◌≤◌, true, List, [], ◌∷◌, ◌++◌, Some, None, refl, length, take, drop, ◌∙◌, ap, length-append, arith}
 use Rattle.std.proofs.Math.Seq.{take-append_seam, drop-append_seam}
 use Rattle.std.proofs.lemmas.Bool.{le-leb, lt-leb}
-use Rattle.html_types.specs.declared.script.Ending.{Ending}
-use Rattle.html_types.specs.declared.script.Why.{Why}
+use Rattle.html_types.specs.declared.operation.NodeId.{NodeId}
 use Rattle.html_types.specs.declared.script.Statement.{Statement}
 use Rattle.html_types.specs.declared.script.Statement.TheVariants as statement
 use Rattle.html_types.specs.declared.instruction.Stop.{Stop}
 use Rattle.html_types.specs.declared.instruction.Stop.TheVariants as stop
 use Rattle.standard.specs.Act.{Doc}
+use Rattle.standard.specs.Statements.{statements}
+use Rattle.standard.specs.Prepare.{inline}
 use Rattle.standard.specs.Parser.{Parser}
-use Rattle.standard.specs.Serial.{World, Serial, Flow, goes, refuses, starved, ◌then◌, Advanced, advanced, advance, before_point, after_point, moved, inside, back_at, insert, with_line, one_more_executed, write_limit, execute, run_statements, write, go_on, stopped, run_prepared, prepared, tag_ended, after_script, moment_after}
-use Rattle.standard.specs.Laws.{executed, HasParsed, StatementsComeTo, ScriptComesTo, ScriptLeads, ScriptRefuses, StillScripts, ExternalScripts, SyntaxErrors, ScriptsRun, IsIdle, wrote, wrote_part, StatementsEnd, WritesGoOn, why_at, WritesRefuse, LongWritesRefuse, IsUnready, OthersRefuse}
+use Rattle.standard.specs.Serial.{World, Serial, Flow, goes, refuses, starved, ◌then◌, advanced, advance, before_point, after_point, moved, inside, insert, one_more_executed, write_limit, execute, run_statements, write, go_on, stopped, run_prepared, prepared, tag_ended, after_script, moment_after}
+use Rattle.standard.specs.Laws.{HasParsed, StatementsComeTo, ScriptComesTo, ScriptLeads, ScriptRefuses, StillScripts, ExternalScripts, SyntaxErrors, ScriptsRun, ScriptStands, IsIdle, wrote, wrote_part, StatementsEnd, WritesGoOn, why_at, WritesRefuse, LongWritesRefuse, OthersRefuse}
 use Rattle.standard.proofs.Fuel.{Refines, Refines-by, run_statements-more}
 use Rattle.standard.proofs.Parse.{advance-parse}
 use Rattle.standard.proofs.Passing.{leads-next, parse-left}
@@ -132,3 +133,17 @@ others-refuse w (statement.Write t) list s h = absurd h
 others-refuse w (statement.Remove v) list s h = (1, refl)
 others-refuse w (statement.LogById v) list s h = (1, refl)
 others-refuse w statement.LogRoot list s h = (1, refl)
+
+-- ---- how a program goes through a script
+
+pub stands-begin : (w : World) (i : NodeId) (s : Serial) (t : List ℕ) (list : List Statement) → prepared i s ≡ inline t → statements t ≡ Some list →
+    ScriptStands w i s list (one_more_executed (inside s))
+stands-begin w i s t list h some f c = script-runs w i s t list f h some c
+
+pub stands-write : (w : World) (i : NodeId) (s : Serial) (t : List ℕ) (list : List Statement) (u : Serial) (p : Parser) (d : Doc) (left : List ℕ) →
+    ScriptStands w i s (statement.Write t ∷ list) u → IsIdle u → u.side.written + length t ≤ write_limit →
+    HasParsed w.entities u.parser u.side.doc t p d left stop.InputEnd → ScriptStands w i s list (wrote p d t u)
+stands-write w i s t list u p d left h idle le b f c = h f (write-goes_on w t list u p d left f idle le b c)
+
+pub stands-end : (w : World) (i : NodeId) (s u : Serial) → ScriptStands w i s [] u → ScriptComesTo w i s (goes u)
+stands-end w i s u h = h (goes u) (statements-end w u)

@@ -15,7 +15,7 @@ use Rattle.standard.specs.Statements.{statements}
 use Rattle.standard.specs.Prepare.{Prepared, still, inline, external}
 use Rattle.standard.specs.Parser.{Parser, Took, took, take_character}
 use Rattle.standard.specs.Page.{Page}
-use Rattle.standard.specs.Serial.{World, Outcome, Serial, Flow, goes, refuses, starved, ◌then◌, Advanced, advanced, advance, done_then, before_point, after_point, moved, inside, back_at, insert, one_more_executed, prepared, write_limit, execute, run_statements, write, go_on, stopped, run_prepared, first, Moment, reading, tag_ended, over, after_character, after_script, read_next, moment_after, moments_on, IsSerial}
+use Rattle.standard.specs.Serial.{World, Outcome, Serial, Flow, goes, refuses, starved, ◌then◌, Advanced, advanced, advance, done_then, before_point, after_point, moved, inside, insert, one_more_executed, prepared, write_limit, execute, run_statements, write, go_on, stopped, run_prepared, first, Moment, reading, tag_ended, over, after_character, after_script, read_next, moment_after, moments_on, IsSerial}
 use Rattle.standard.proofs.Fuel.{Refines, Refines-by, run_statements-more, write-more, moment_after-by, moments_on-by, over-by, over-serial}
 
 -- ---- the parser takes characters

@@ -1,5 +1,5 @@
 -- What is proved of the serial parse itself.
-use Rattle.std.specs.Prelude.{◌≡◌, ℕ, suc, ◌+◌, ◌≤◌, ◌<◌, List, [], ◌∷◌, ◌++◌, length, drop, Option, Some, None}
+use Rattle.std.specs.Prelude.{◌≡◌, ℕ, suc, ◌+◌, ◌≤◌, ◌<◌, List, [], ◌∷◌, ◌++◌, length, drop, flat_map, Option, Some, None}
 use Rattle.html_types.specs.declared.operation.NodeId.{NodeId}
 use Rattle.html_types.specs.declared.script.Ending.{Ending}
 use Rattle.html_types.specs.declared.script.Ending.TheVariants as ending
@@ -7,6 +7,7 @@ use Rattle.html_types.specs.declared.script.Why.{Why}
 use Rattle.html_types.specs.declared.script.Why.TheVariants as why
 use Rattle.html_types.specs.declared.script.Statement.{Statement}
 use Rattle.html_types.specs.declared.script.Statement.TheVariants as statement
+use Rattle.html_types.specs.declared.script.Line.{Line}
 use Rattle.html_types.specs.declared.script.Line.TheVariants as line
 use Rattle.html_types.specs.declared.instruction.Stop.{Stop}
 use Rattle.html_types.specs.declared.instruction.Stop.TheVariants as stop
@@ -19,6 +20,7 @@ use Rattle.standard.specs.Prepare.{still, inline, external}
 use Rattle.standard.specs.Parser.{Parser, Parsed, parse, finish}
 use Rattle.standard.specs.Page.{Page}
 use Rattle.standard.specs.Serial.{World, Outcome, IsSerial, Advanced, advanced, advance, Serial, Flow, goes, refuses, with_line, write_limit, one_more_executed, back_at, inside, run_statements, run_prepared, prepared, Moment, reading, tag_ended, over, finished, refusal, taken, ended, Leads, Passes}
+use Rattle.standard.specs.Output.{line_text, output}
 
 -- ---- outcomes
 
@@ -147,6 +149,10 @@ abbrev pub ScriptsRun : Type 0
 ScriptsRun = (w : World) (i : NodeId) (s : Serial) (t : List ℕ) (list : List Statement) (f : Flow) → prepared i s ≡ inline t → statements t ≡ Some list →
     StatementsComeTo w list (one_more_executed (inside s)) f → ScriptComesTo w i s f
 
+-- The script whose end tag was met at s has come to t, with the statements of the list left: what they come to, it comes to.
+abbrev pub ScriptStands : World → NodeId → Serial → List Statement → Serial → Type 0
+ScriptStands w i s list t = (f : Flow) → StatementsComeTo w list t f → ScriptComesTo w i s f
+
 -- ---- statements
 
 -- all text that was written is used
@@ -196,3 +202,23 @@ IsUnready _ = Unit {0}
 
 abbrev pub OthersRefuse : Type 0
 OthersRefuse = (w : World) (a : Statement) (list : List Statement) (s : Serial) → IsUnready a → StatementsComeTo w (a ∷ list) s (refuses why.Unready s)
+
+-- ---- lines
+
+-- the second list goes on from the first
+abbrev pub GoesOnFrom : List Line → List Line → Type 0
+GoesOnFrom a b = (more : List Line) × (b ≡ a ++ more)
+
+abbrev pub lines_of : Moment → List Line
+lines_of (reading s) = s.side.lines
+lines_of (tag_ended i s) = s.side.lines
+lines_of (over o) = o.last.side.lines
+
+-- the lines of every moment that a parse passes through begin those of its outcome
+abbrev pub LinesBegin : Type 0
+LinesBegin = (page : Page) (w : World) (m : Moment) (o : Outcome) → Passes page w m → IsSerial page w o → GoesOnFrom (lines_of m) o.last.side.lines
+
+-- what is written for them begins what is written for the page
+abbrev pub OutputBegins : Type 0
+OutputBegins = (page : Page) (w : World) (m : Moment) (o : Outcome) → Passes page w m → IsSerial page w o →
+    (rest : List ℕ) × (output o ≡ flat_map line_text (lines_of m) ++ rest)

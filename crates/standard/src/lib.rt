@@ -5,7 +5,7 @@
 //! Prepare (scripts); Parser, Serial (the serial parse); Page, Output; Laws.
 #![tactic(auto)]
 
-ghost use Rattle.standard.specs.Laws.{HasOneOutcome, ParsesInPieces, AdvancesByParse, BatchesLead, WholeBatchesLead, LeavesNothing, EndLeads, FinishLeads, OverIsSerial, ScriptLeads, ScriptRefuses, StillScripts, ExternalScripts, SyntaxErrors, ScriptsRun, StatementsEnd, WritesGoOn, WritesRefuse, LongWritesRefuse, OthersRefuse};
+ghost use Rattle.standard.specs.Laws.{HasOneOutcome, ParsesInPieces, AdvancesByParse, BatchesLead, WholeBatchesLead, LeavesNothing, EndLeads, FinishLeads, OverIsSerial, ScriptLeads, ScriptRefuses, StillScripts, ExternalScripts, SyntaxErrors, ScriptsRun, StatementsEnd, WritesGoOn, WritesRefuse, LongWritesRefuse, OthersRefuse, LinesBegin, OutputBegins};
 
 /// Every page has exactly one outcome.
 pub fn has_one_outcome()
@@ -58,6 +58,13 @@ pub fn statements_run()
     ensures stop { WritesRefuse }
     ensures long { LongWritesRefuse }
     ensures other { OthersRefuse }
+{}
+
+/// The lines of every moment that a parse passes through begin those of its outcome, and what is written for them begins
+/// what is written for the page.
+pub fn lines_begin()
+    ensures lines { LinesBegin }
+    ensures output { OutputBegins }
 {}
 
 ghost use Rattle.standard.specs.Naming.{AreFresh, CameBefore};

@@ -1,0 +1,8 @@
+use Rattle.standard.proofs.Lines.{passed-lines, passed-output}
+use Rattle.standard.proofs.lines_begin.Goals as goal
+
+pub returns-clause-lines : goal.returns-clause-lines
+returns-clause-lines c = passed-lines
+
+pub returns-clause-output : goal.returns-clause-output
+returns-clause-output c = passed-output
