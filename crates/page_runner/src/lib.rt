@@ -3,6 +3,8 @@
 
 mod fetch;
 mod status;
+#[cfg(test)]
+mod tests;
 mod words;
 mod write;
 

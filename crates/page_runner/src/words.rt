@@ -124,7 +124,11 @@ fn number_in(text: &str, most: usize, otherwise: usize) -> usize
     ensures { result ≡ number_from most otherwise (Some text.now) }
 {
     match text.parse::<usize>() {
-        Ok(number) => if number < 1 || most < number { otherwise } else { number },
+        Ok(number) => if number < 1 || most < number {
+            otherwise
+        } else {
+            number
+        },
         Err(_) => otherwise,
     }
 }
