@@ -1,3 +1,4 @@
 pub mod Literals
 pub mod Shown
 pub mod Work
+mod Examples

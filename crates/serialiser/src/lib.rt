@@ -4,6 +4,8 @@
 mod escapes;
 mod marks;
 mod sets;
+#[cfg(test)]
+mod tests;
 mod walk;
 
 pub use walk::{document, outer};

@@ -11,7 +11,7 @@ use html_types::{Kind, NoMemory, Text};
 use std::alloc::Global;
 
 // A node whose opening is written, and how many of those that it shows are written.
-#[derive(Clone, Copy, Debug)]
+#[derive(Clone, Copy)]
 struct Frame {
     node: usize,
     done: usize,
