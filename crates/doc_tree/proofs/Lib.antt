@@ -3,6 +3,7 @@ pub mod Counts
 pub mod Trees
 pub mod Puts
 pub mod Texts
+pub mod Walks
 pub mod Folds
 pub mod Order
 pub mod Templates

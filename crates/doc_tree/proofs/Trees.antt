@@ -325,10 +325,10 @@ lies_in-leaf t n m tree leaf below = stands_alone (above_of t) n alone (length t
     alone q link = elim (cases_option (host_of t q)) [
       | inl none ↦
           let parent : parent_of t q ≡ Some n = grind (arith, none) in
-          let childless : count_of q (children_of t n) ≡ 0 = no_child (children_of t n) (and_parts _ _ leaf).0 q in
+          let childless : count_of q (children_of t n) ≡ 0 = no_child (children_of t n) (and_parts (eqb (length (children_of t n)) 0) (not (is_some (contents_of t n))) leaf).0 q in
           grind (arith, nat_tests, tree.kinship q n)
       | inr host ↦
           let hosted : host_of t q ≡ Some n = grind (arith, host.1) in
-          let empty : leads_to (contents_of t n) q ≡ false = no_contents (contents_of t n) (and_parts _ _ leaf).1 q in
+          let empty : leads_to (contents_of t n) q ≡ false = no_contents (contents_of t n) (and_parts (eqb (length (children_of t n)) 0) (not (is_some (contents_of t n))) leaf).1 q in
           grind (arith, nat_tests, tree.hosting q n)
     ]

@@ -1,10 +1,11 @@
 //! The tree (DOM 4.2, 4.4), its changes and its readers.
 
-ghost use Rattle.std.specs.Prelude.{◌≡◌, ◌≢◌, ◌<◌, ◌≤◌, ◌++◌, ◌∷◌, [], false, if◌then◌else◌, length, reverse, vec_len, IfOk, OnOk, OnErr, IsSome};
+ghost use Rattle.std.specs.Prelude.{◌≡◌, ◌≢◌, ◌<◌, ◌≤◌, ◌++◌, ◌∷◌, [], false, if◌then◌else◌, codes, ◌↔◌, IsTrue, IsFalse, length, reverse, vec_len, IfOk, OnOk, OnErr, IsSome};
 ghost use Rattle.std.specs.Str.{chars};
 ghost use Rattle.std.specs.Option.{ForSome};
 
-use html_types::{Attribute, Attributes, Children, Kind, NoMemory, Node, Text};
+use crate::attributes::{joined, value_of};
+use html_types::{Attributes, Children, Kind, NoMemory, Node, Text};
 use std::alloc::Global;
 use std::marker::Model;
 
@@ -59,6 +60,26 @@ fn lone(alloc: Global, kind: Kind) -> Node
         children: Children::new(alloc),
         host: None,
         contents: None,
+    }
+}
+
+ghost use Rattle.standard.specs.Tree.{text_of};
+
+fn push_text(joined: &mut Text, kind: &Kind) -> Result<(), NoMemory>
+    ensures { OnOk result (joined.new ≡ joined.old ++ text_of kind.now) }
+{
+    if let Kind::Text(text) = kind {
+        joined.push_str(text.as_str())?;
+    }
+    Ok(())
+}
+
+fn has_text(kind: &Kind) -> bool
+    ensures { IsFalse result ↔ (text_of kind.now ≡ []) }
+{
+    match kind {
+        Kind::Text(text) => !text.is_empty(),
+        _ => false,
     }
 }
 
@@ -415,9 +436,128 @@ impl Tree {
     }
 }
 
+// Attributes.
+impl Tree {
+    ghost use Rattle.std.specs.Option.{option_map};
+    ghost use Rattle.standard.specs.Tree.{Keeps, kind_of, attributes_of, attribute, with_lacking, attributes_added};
+
+    /// The value of an element's attribute.
+    pub fn attribute(&self, node: usize, name: &str) -> Option<&Text>
+        requires { node < length self.now }
+        ensures { option_map (λ text. text.now) result ≡ attribute (chars name.now) (attributes_of (kind_of self.now node)) }
+    {
+        match &self.nodes[node].kind {
+            Kind::Element { attributes, .. } => value_of(attributes, name),
+            _ => None,
+        }
+    }
+
+    /// Gives an element copies of those attributes that it lacks, in order. A node that is no element stays as it is.
+    pub fn add_attributes(&mut self, node: usize, more: &Attributes) -> Result<(), NoMemory>
+        requires { node < length self.old }
+        ensures ok { OnOk result (self.new ≡ attributes_added self.old node more.now) }
+        ensures err { OnErr result (self.new ≡ self.old) }
+        ensures keeps { Keeps self.old self.new }
+    {
+        add_lacking(self.alloc, &mut self.nodes[node].kind, more)
+    }
+}
+
+fn add_lacking(alloc: Global, kind: &mut Kind, more: &Attributes) -> Result<(), NoMemory>
+    ensures ok { OnOk result (kind.new ≡ with_lacking kind.old more.now) }
+    ensures err { OnErr result (kind.new ≡ kind.old) }
+{
+    if let Kind::Element { attributes, .. } = kind {
+        *attributes = joined(alloc, attributes, more)?;
+    }
+    Ok(())
+}
+
+ghost use Rattle.standard.specs.Tree.{with_lacking, is_value, attributes_of, attribute};
+
+// Whether the node is an element with that `id`.
+fn has_id(kind: &Kind, id: &str) -> bool
+    ensures { result ≡ is_value (chars id.now) (attribute (codes "id") (attributes_of kind.now)) }
+{
+    let Kind::Element { attributes, .. } = kind else {
+        return false;
+    };
+    match value_of(attributes, "id") {
+        Some(value) => value.is(id),
+        None => false,
+    }
+}
+
+// Pushes the numbers, the last first.
+fn push_reversed(list: &mut Vec<usize>, numbers: &[usize]) -> Result<(), NoMemory>
+    ensures { OnOk result (list.new.items ≡ list.old.items ++ reverse numbers.now) }
+{
+    let mut place = numbers.len();
+    'down: while place > 0 {
+        place -= 1;
+        list.push(numbers[place])?;
+    }
+    Ok(())
+}
+
+// Walks.
+impl Tree {
+    ghost use Rattle.standard.specs.Tree.{kind_of, children_of, find_id, script_text};
+
+    /// The first element of the Document, in tree order, with that `id`. An empty one finds nothing. The walk keeps the nodes that are left to
+    /// be looked at, so it takes memory, and time in the number of nodes.
+    pub fn find_id(&self, id: &str) -> Result<Option<usize>, NoMemory>
+        ensures found { IfOk result (λ n. n ≡ find_id self.now (chars id.now)) }
+        ensures here { IfOk result (λ n. ForSome n (λ k. k < length self.now)) }
+    {
+        if id.is_empty() {
+            return Ok(None);
+        }
+        if self.nodes.is_empty() {
+            return Ok(None);
+        }
+        let mut left = Vec::new(self.alloc);
+        left.push(0)?;
+        'walk: while let Some(node) = left.pop() {
+            if has_id(&self.nodes[node].kind, id) {
+                return Ok(Some(node));
+            }
+            push_reversed(&mut left, self.nodes[node].children.as_slice())?;
+        }
+        Ok(None)
+    }
+
+    /// The texts of the node's Text children, joined.
+    pub fn child_text(&self, node: usize) -> Result<Text, NoMemory>
+        requires { node < length self.now }
+        ensures { IfOk result (λ text. text ≡ script_text self.now node) }
+    {
+        let mut joined = Text::new(self.alloc);
+        let children = self.nodes[node].children.as_slice();
+        for child in children {
+            push_text(&mut joined, &self.nodes[*child].kind)?;
+        }
+        Ok(joined)
+    }
+
+    /// Whether a Text child of the node has any text.
+    pub fn has_child_text(&self, node: usize) -> bool
+        requires { node < length self.now }
+        ensures some { IsTrue result → script_text self.now node ≢ [] }
+        ensures none { IsFalse result → script_text self.now node ≡ [] }
+    {
+        let children = self.nodes[node].children.as_slice();
+        for child in children {
+            if has_text(&self.nodes[*child].kind) {
+                return true;
+            }
+        }
+        false
+    }
+}
+
 // Readers.
 impl Tree {
-    ghost use Rattle.std.specs.Prelude.{◌-◌, IsTrue, ◌↔◌};
     ghost use Rattle.standard.specs.Tree.{IsTree, is_connected, kind_of, parent_of, children_of, contents_of, shown_of, first_of, last_of, after_node, previous_of, first_element};
 
     /// How many nodes there are; they have the numbers below that.
