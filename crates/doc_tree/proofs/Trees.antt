@@ -300,14 +300,17 @@ IsTree-with_new t p place kind tree p_below place_in =
     apart less = omega arith
 
 -- what a node is doesn't matter to the shape
-pub IsTree-with_kind : (t : Nodes) (n : ℕ) (kind : Kind) → IsTree t → n < length t → IsTree (with_kind t n kind)
-IsTree-with_kind t n kind tree below =
-    IsTree-alike t (with_kind t n kind) tree (length-set t n _) at
-  where
-    at : (m : ℕ) → SameLinks (node_at (with_kind t n kind) m) (node_at t m)
-    at m =
-        let read = node_at-set t n (record (node_at t n) { kind = kind }) m below in
-        record { parent = grind (arith, nat_tests); children = grind (arith, nat_tests); host = grind (arith, nat_tests); contents = grind (arith, nat_tests) }
+module _ (t : Nodes) (n : ℕ) (kind : Kind) (below : n < length t) where
+  pub same_links-with_kind : (m : ℕ) → SameLinks (node_at (with_kind t n kind) m) (node_at t m)
+  same_links-with_kind m =
+      let read = node_at-set t n (record (node_at t n) { kind = kind }) m below in
+      record { parent = grind (arith, nat_tests); children = grind (arith, nat_tests); host = grind (arith, nat_tests); contents = grind (arith, nat_tests) }
+
+  pub kind_of-with_kind : (m : ℕ) → kind_of (with_kind t n kind) m ≡ cond (eqb m n) kind (kind_of t m)
+  kind_of-with_kind m = grind (arith, nat_tests, node_at-set t n (record (node_at t n) { kind = kind }) m below)
+
+  pub IsTree-with_kind : IsTree t → IsTree (with_kind t n kind)
+  IsTree-with_kind tree = IsTree-alike t (with_kind t n kind) tree (length-set t n _) same_links-with_kind
 
 no_child : (cs : List ℕ) → eqb (length cs) 0 ≡ true → (q : ℕ) → count_of q cs ≡ 0
 no_child [] none q = refl
