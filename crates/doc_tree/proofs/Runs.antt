@@ -1,9 +1,9 @@
 -- Text put at a place in one run, or a character at a time.
-use Rattle.std.proofs.Common.{◌≡◌, ◌≢◌, ℕ, ◌+◌, ◌-◌, ◌<◌, ◌≤◌, zero, suc, Bool, true, false, cond, eqb, List, [], ◌∷◌, ◌++◌, length, get_or, set, Option, Some, None, refl, sym, ap, ◌∙◌, inl, inr, append_assoc, arith, length-set, get_or-set_same, set-set}
+use Rattle.std.proofs.Common.{◌≡◌, ◌≢◌, ℕ, ◌+◌, ◌-◌, ◌<◌, ◌≤◌, suc, Bool, true, false, cond, eqb, List, [], ◌∷◌, ◌++◌, length, get_or, set, Option, Some, None, refl, sym, ap, ◌∙◌, inl, inr, append_assoc, arith, length-set, get_or-set_same, set-set}
 use Rattle.std.specs.Prelude.{nat_lt, ◌&&◌}
 use Rattle.std.specs.Option.{ForSome}
 use Rattle.std.specs.List.{insert}
-use Rattle.std.proofs.lemmas.Bool.{cases_eq, cases_Bool, and_parts, ltb-true, ne_eqb, lt-ltb}
+use Rattle.std.proofs.lemmas.Bool.{cases_eq, cases_Bool, and_parts, ltb-true, ne_eqb}
 use Rattle.std.proofs.lemmas.Bool.Decides.{nat_tests}
 use Rattle.std.proofs.lemmas.List.{get_or_past, get_or_push, set_at, length_push}
 use Rattle.std.proofs.lemmas.List.Edits.{length-insert, get_or-insert_at, get_or-insert_above}
@@ -11,11 +11,11 @@ use Rattle.html_types.specs.Numbers.{count_of, place_of}
 use Rattle.html_types.specs.declared.tree.Node.{Node}
 use Rattle.html_types.specs.declared.tree.Kind.{Kind}
 use Rattle.html_types.specs.declared.tree.Kind.TheVariants.{Text}
-use Rattle.standard.specs.Tree.{Nodes, no_node, node_at, kind_of, parent_of, children_of, host_of, contents_of, is_document, is_text, IsTree, Keeps, lone, with_kind, with_new, with_more, text_before, text_put, text_added}
+use Rattle.standard.specs.Tree.{Nodes, no_node, node_at, kind_of, parent_of, children_of, contents_of, is_document, is_text, IsTree, Keeps, lone, with_kind, with_new, with_more, text_before, text_put, text_added}
 use Rattle.doc_tree.proofs.Counts.{count_of-insert, place_of-child}
 use Rattle.doc_tree.proofs.Links.{cases_option}
-use Rattle.doc_tree.proofs.Trees.{node_at-set, node_at-push, length-relinked, kind_of-relinked, parent_of-relinked, children_of-relinked, host_of-relinked, contents_of-relinked, child_below, same_links-with_kind, kind_of-with_kind, IsTree-with_kind, IsTree-with_new}
-use Rattle.doc_tree.proofs.Puts.{new_coded, new_is, text_before_found}
+use Rattle.doc_tree.proofs.Trees.{node_at-push, length-relinked, kind_of-relinked, parent_of-relinked, children_of-relinked, host_of-relinked, contents_of-relinked, child_below, same_links-with_kind, kind_of-with_kind, IsTree-with_kind, IsTree-with_new}
+use Rattle.doc_tree.proofs.Puts.{new_is, text_before_found}
 use Rattle.doc_tree.proofs.Texts.{text_added-document}
 
 -- ---- the place behind a number that was put there

@@ -6,7 +6,6 @@ use Rattle.std.proofs.lemmas.Bool.Decides.{nat_tests}
 use Rattle.std.proofs.lemmas.List.{get_or_past, get_or_push, get_or_append_left, get_or_read, length_push}
 use Rattle.html_types.specs.declared.tree.Node.{Node}
 use Rattle.html_types.specs.declared.tree.Kind.{Kind}
-use Rattle.html_types.specs.declared.tree.Kind.TheVariants.{Text}
 use Rattle.html_types.specs.Numbers.{count_of, without, place_of, put_in}
 use Rattle.standard.specs.Tree.{Nodes, no_node, node_at, kind_of, parent_of, children_of, host_of, contents_of, above_of, climb, leads_to, IsTree, with_children, relinked, detached, lone, is_leaf, lies_in, moved, with_new, with_kind}
 use Rattle.std.specs.List.{insert}

@@ -83,10 +83,27 @@ fn has_text(kind: &Kind) -> bool
     }
 }
 
+ghost use Rattle.html_types.specs.Numbers.{count_of, place_of};
+
+// Where among the children a node goes that is put before the given one. It is mostly near the end, so it is searched for from there.
+fn place_before(children: &[usize], before: usize) -> usize
+    requires { count_of before children.now ≤ 1 }
+    ensures place { result ≡ place_of children.now (Some before) }
+    ensures within { result ≤ length children.now }
+{
+    let mut place = children.len();
+    'back: while place > 0 {
+        place -= 1;
+        if children[place] == before {
+            return place;
+        }
+    }
+    children.len()
+}
+
 // Changes of the tree.
 impl Tree {
-    ghost use Rattle.standard.specs.Tree.{IsTree, Keeps, kind_of, parent_of, children_of, host_of, new_tree, detached, moved, put_of, put_before_of, is_impossible, is_impossible_before, is_second_element, is_leaf, lies_in, with_new, with_kind, with_more, text_added, text_before, text_put};
-    ghost use Rattle.html_types.specs.Numbers.{place_of};
+    ghost use Rattle.standard.specs.Tree.{IsTree, Keeps, kind_of, parent_of, children_of, host_of, new_tree, detached, moved, put_of, put_before_of, is_impossible, is_impossible_before, is_second_element, is_leaf, lies_in, with_new, with_kind, with_more, text_added, text_before, text_put, with_template};
 
     /// The Document alone.
     pub fn new(alloc: Global) -> Result<Tree, NoMemory>
@@ -105,6 +122,31 @@ impl Tree {
     {
         let number = self.nodes.len();
         self.nodes.push(lone(self.alloc, kind))?;
+        Ok(number)
+    }
+
+    /// Makes an element with contents of its own, which get the number behind its.
+    pub fn make_template(&mut self, kind: Kind) -> Result<usize, NoMemory>
+        ensures ok { IfOk result (λ n. (n ≡ length self.old) × (self.new ≡ with_template self.old kind)) }
+        ensures err { OnErr result (self.new ≡ self.old) }
+        ensures keeps { Keeps self.old self.new }
+    {
+        let number = self.nodes.len();
+        self.nodes.reserve(2)?;
+        self.nodes.push(Node {
+            kind,
+            parent: None,
+            children: Children::new(self.alloc),
+            host: None,
+            contents: Some(number + 1),
+        })?;
+        self.nodes.push(Node {
+            kind: Kind::Contents,
+            parent: None,
+            children: Children::new(self.alloc),
+            host: Some(number),
+            contents: None,
+        })?;
         Ok(number)
     }
 
@@ -171,13 +213,21 @@ impl Tree {
         false
     }
 
+    // Where among the parent's children a node goes that is put before the given one, or last.
+    fn place(&self, parent: usize, before: Option<usize>) -> usize
+        requires { parent < length self.now }
+        ensures place { result ≡ place_of (children_of self.now parent) before }
+        ensures within { result ≤ length (children_of self.now parent) }
+    {
+        let children = self.nodes[parent].children.as_slice();
+        match before {
+            None => children.len(),
+            Some(before) => place_before(children, before),
+        }
+    }
+
     // A node without a parent goes among the parent's children, before one of them or last.
-    fn link(
-        &mut self,
-        node: usize,
-        parent: usize,
-        before: Option<usize>,
-    ) -> Result<(), NoMemory>
+    fn link(&mut self, node: usize, parent: usize, before: Option<usize>) -> Result<(), NoMemory>
         requires node_here { node < length self.old }
         requires parent_here { parent < length self.old }
         requires not_document { node ≢ 0 }
@@ -188,19 +238,14 @@ impl Tree {
         ensures err { OnErr result (self.new ≡ self.old) }
         ensures keeps { Keeps self.old self.new }
     {
-        let place = self.nodes[parent].children.place(before);
+        let place = self.place(parent, before);
         self.nodes[parent].children.insert(place, node)?;
         self.nodes[node].parent = Some(parent);
         Ok(())
     }
 
     // A child of the parent goes to another place among its siblings.
-    fn reorder(
-        &mut self,
-        node: usize,
-        parent: usize,
-        before: Option<usize>,
-    ) -> Result<(), NoMemory>
+    fn reorder(&mut self, node: usize, parent: usize, before: Option<usize>) -> Result<(), NoMemory>
         requires node_here { node < length self.old }
         requires parent_here { parent < length self.old }
         requires not_document { node ≢ 0 }
@@ -234,7 +279,7 @@ impl Tree {
         ensures err { OnErr result (self.new ≡ self.old) }
         ensures keeps { Keeps self.old self.new }
     {
-        let place = self.nodes[parent].children.place(before);
+        let place = self.place(parent, before);
         self.nodes[parent].children.insert(place, node)?;
         self.nodes[from].children.remove(node);
         self.nodes[node].parent = Some(parent);
@@ -270,12 +315,7 @@ impl Tree {
     }
 
     // Puts the node under the parent, before one of its children or last.
-    fn put(
-        &mut self,
-        node: usize,
-        parent: usize,
-        before: Option<usize>,
-    ) -> Result<Put, NoMemory>
+    fn put(&mut self, node: usize, parent: usize, before: Option<usize>) -> Result<Put, NoMemory>
         requires node_here { node < length self.old }
         requires parent_here { parent < length self.old }
         requires not_document { node ≢ 0 }
@@ -348,18 +388,13 @@ impl Tree {
     }
 
     /// Makes a node among the parent's children, before the given one or last.
-    pub fn add(
-        &mut self,
-        parent: usize,
-        before: Option<usize>,
-        kind: Kind,
-    ) -> Result<(), NoMemory>
+    pub fn add(&mut self, parent: usize, before: Option<usize>, kind: Kind) -> Result<(), NoMemory>
         requires { parent < length self.old }
         ensures ok { OnOk result (self.new ≡ with_new self.old parent (place_of (children_of self.old parent) before) kind) }
         ensures err { OnErr result (self.new ≡ self.old) }
         ensures keeps { Keeps self.old self.new }
     {
-        let place = self.nodes[parent].children.place(before);
+        let place = self.place(parent, before);
         self.insert_new(parent, place, kind)
     }
 
@@ -430,7 +465,7 @@ impl Tree {
         if is_document(&self.nodes[parent].kind) {
             return Ok(());
         }
-        let place = self.nodes[parent].children.place(before);
+        let place = self.place(parent, before);
         self.put_text(parent, place, text)?;
         Ok(())
     }
@@ -645,7 +680,7 @@ impl Tree {
             return None;
         };
         let siblings = &self.nodes[parent].children;
-        let place = siblings.place(Some(node));
+        let place = self.place(parent, Some(node));
         if place == 0 {
             return None;
         }

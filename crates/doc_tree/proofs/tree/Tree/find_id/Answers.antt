@@ -1,5 +1,5 @@
 use Rattle.std.proofs.Common.{◌≡◌, ◌<◌, [], ◌∷◌, ◌++◌, length, reverse, true, false, Some, None, arith, sym, ap, subst, ◌∙◌}
-use Rattle.std.specs.Prelude.{find, Option, ◌==◌}
+use Rattle.std.specs.Prelude.{find, ◌==◌}
 use Rattle.std.specs.Str.{chars}
 use Rattle.std.proofs.lemmas.List.{nil_from_length}
 use Rattle.html_types.specs.declared.tree.Node.{Node}

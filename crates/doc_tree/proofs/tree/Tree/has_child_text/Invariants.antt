@@ -1,4 +1,4 @@
-use Rattle.std.proofs.Common.{◌≡◌, ◌++◌, drop, map}
+use Rattle.std.proofs.Common.{◌≡◌, drop, map}
 use Rattle.std.specs.List.{concat}
 use Rattle.standard.specs.Tree.{children_of, kind_of, text_of}
 use Rattle.doc_tree.proofs.tree.Tree.has_child_text.Given as goal
