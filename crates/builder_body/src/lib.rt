@@ -51,5 +51,4 @@ fn row(mode: Mode, token: &Token) -> &'static [Instr]
 /// token and open state.
 pub fn rounds_suffice()
     ensures { RoundsSuffice }
-{
-}
+{}
