@@ -16,7 +16,9 @@ use crate::walks::{
     close_found_item, close_in_scope, close_other_end, current_node, is_current, is_in_scope,
     is_on_stack, pop_back_to, pop_implied, pop_until, take_off,
 };
-use html_types::{Flow, Format, Instr, Next, NoMemory, Open, Ops, Place, Test, Token, Who, Word};
+use html_types::{
+    Flow, Format, Instr, Mode, Next, NoMemory, Open, Ops, Place, Test, Token, Who, Word,
+};
 use std::alloc::Global;
 
 /// Whether a document of the token's doctype is in quirks mode.
@@ -55,13 +57,11 @@ fn take_head_off(state: &mut Open)
     }
 }
 
-/// The mode is the original mode again.
+/// The mode is the original mode again. (There always is one in the mode "text".)
 fn restore(state: &mut Open)
-    ensures { state.new ≡ record state.old { mode = original_or state.old.mode state.old.original; original = None } }
+    ensures { state.new ≡ record state.old { mode = original_or Mode.InBody state.old.original; original = None } }
 {
-    if let Some(original) = state.original {
-        state.mode = original;
-    }
+    state.mode = state.original.unwrap_or(Mode::InBody);
     state.original = None;
 }
 

@@ -149,6 +149,7 @@ push_head None b o = on b o
 push_head (Some i) b o =
     if room b then on (record b { stack = record { id = i; name = Known word.Head } ∷ b.stack }) o else config b o (Leave next.Deep)
 
+-- the original mode; there always is one in the mode "text", and m stands for it elsewhere
 abbrev pub original_or : Mode → Option Mode → Mode
 original_or m None = m
 original_or m (Some original) = original
@@ -196,7 +197,7 @@ step ins.AddToFirst t b o = for_tag (add_attributes (first_open b.stack)) t b o
 step ins.AddToSecond t b o = for_tag (add_attributes (second_open b.stack)) t b o
 step (ins.Enter m) t b o = on (record b { mode = m }) o
 step ins.KeepMode t b o = on (record b { original = Some b.mode }) o
-step ins.Restore t b o = on (record b { mode = original_or b.mode b.original; original = None }) o
+step ins.Restore t b o = on (record b { mode = original_or mode.InBody b.original; original = None }) o
 step (ins.Switch r) t b o = config b o (Leave (next.Switch r))
 step (ins.Using m) t b o = config b o (Leave (next.Using m))
 step ins.Again t b o = config b o (Leave next.Again)

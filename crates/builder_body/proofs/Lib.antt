@@ -1,0 +1,4 @@
+mod Endings
+mod Steps
+mod Chains
+pub mod Rounds

@@ -1,0 +1,85 @@
+//! The rows of "in body" for end tags (13.2.6.4.7).
+
+ghost use Rattle.std.specs.Prelude.{◌≡◌};
+ghost use Rattle.standard.specs.Rules.{known_end_row};
+
+use html_types::instruction::Instr::*;
+use html_types::instruction::Test::*;
+use html_types::instruction::Who::*;
+use html_types::word::Word::*;
+use html_types::{Group, Instr, Mode, Scope, Word};
+
+pub fn end(word: Word) -> &'static [Instr]
+    ensures { result.now ≡ known_end_row Mode.InBody word }
+{
+    match word {
+        Template => &[Using(Mode::InHead)],
+        Body => &[
+            Need(InScope(Scope::Default, The(Body))),
+            Enter(Mode::AfterBody),
+        ],
+        Html => &[
+            Need(InScope(Scope::Default, The(Body))),
+            Enter(Mode::AfterBody),
+            Again,
+        ],
+        Address
+        | Article
+        | Aside
+        | Blockquote
+        | Button
+        | Center
+        | Details
+        | Dialog
+        | Dir
+        | Div
+        | Dl
+        | Fieldset
+        | Figcaption
+        | Figure
+        | Footer
+        | Header
+        | Hgroup
+        | Listing
+        | Main
+        | Menu
+        | Nav
+        | Ol
+        | Pre
+        | Search
+        | Section
+        | Summary
+        | Ul => { &[Need(InScope(Scope::Default, Own)), Implied, Until(Own)] }
+        P => &[
+            Unless(InScope(Scope::Button, The(P))),
+            InsertA(P),
+            Close(Scope::Button, The(P)),
+        ],
+        Li => &[
+            Need(InScope(Scope::ListItem, The(Li))),
+            ImpliedBut(The(Li)),
+            Until(The(Li)),
+        ],
+        Dd | Dt => &[
+            Need(InScope(Scope::Default, Own)),
+            ImpliedBut(Own),
+            Until(Own),
+        ],
+        H1 | H2 | H3 | H4 | H5 | H6 => &[
+            Need(InScope(Scope::Default, Any(Group::Headings))),
+            Implied,
+            Until(Any(Group::Headings)),
+        ],
+        Applet | Marquee | Object => &[
+            Need(InScope(Scope::Default, Own)),
+            Implied,
+            Until(Own),
+            ClearToMarker,
+        ],
+        A | B | Big | Code | Em | Font | I | Nobr | S | Small | Strike | Strong | Tt | U => {
+            &[Missing]
+        }
+        Form | Br => &[Missing],
+        _ => &[AnyOtherEnd],
+    }
+}

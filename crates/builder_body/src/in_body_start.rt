@@ -1,0 +1,120 @@
+//! The rows of "in body" for start tags (13.2.6.4.7).
+
+ghost use Rattle.std.specs.Prelude.{◌≡◌};
+ghost use Rattle.standard.specs.Rules.{known_start_row};
+
+use html_types::instruction::Instr::*;
+use html_types::instruction::Test::*;
+use html_types::instruction::Who::*;
+use html_types::word::Word::*;
+use html_types::{Group, Instr, Mode, Reading, Scope, Word};
+
+/// "Close a p element", where one is in button scope.
+const CLOSE_P: Instr = Close(Scope::Button, The(P));
+
+pub fn start(word: Word) -> &'static [Instr]
+    ensures { result.now ≡ known_start_row Mode.InBody word }
+{
+    match word {
+        Html => &[Forbid(OnStack(The(Template))), AddToFirst],
+        Base | Basefont | Bgsound | Link | Meta | Noframes | Script | Style | Template | Title => {
+            &[Using(Mode::InHead)]
+        }
+        Body => &[
+            Need(SecondIsBody),
+            Forbid(OnStack(The(Template))),
+            NotOk,
+            AddToSecond,
+        ],
+        Address
+        | Article
+        | Aside
+        | Blockquote
+        | Center
+        | Details
+        | Dialog
+        | Dir
+        | Div
+        | Dl
+        | Fieldset
+        | Figcaption
+        | Figure
+        | Footer
+        | Header
+        | Hgroup
+        | Main
+        | Menu
+        | Nav
+        | Ol
+        | P
+        | Search
+        | Section
+        | Summary
+        | Ul => &[CLOSE_P, Insert],
+        H1 | H2 | H3 | H4 | H5 | H6 => {
+            &[CLOSE_P, When(Current(Any(Group::Headings))), Pop, Insert]
+        }
+        Pre | Listing => &[CLOSE_P, Insert, SkipLineFeed, NotOk],
+        Li => &[NotOk, CloseItem(The(Li)), CLOSE_P, Insert],
+        Dd | Dt => &[
+            NotOk,
+            CloseItem(Any(Group::DefinitionItems)),
+            CLOSE_P,
+            Insert,
+        ],
+        Plaintext => &[CLOSE_P, Insert, Switch(Reading::Plaintext)],
+        Button => &[
+            Close(Scope::Default, The(Button)),
+            Reconstruct,
+            Insert,
+            NotOk,
+        ],
+        Applet | Marquee | Object => &[Reconstruct, Insert, Marker, NotOk],
+        Area | Br | Embed | Img | Keygen | Wbr => &[Reconstruct, Void, NotOk],
+        Param | Source | Track => &[Void],
+        Hr => &[CLOSE_P, Void, NotOk],
+        Textarea => &[
+            Insert,
+            SkipLineFeed,
+            NotOk,
+            KeepMode,
+            Enter(Mode::InText),
+            Switch(Reading::Rcdata),
+        ],
+        Xmp => &[
+            CLOSE_P,
+            Reconstruct,
+            NotOk,
+            Insert,
+            KeepMode,
+            Enter(Mode::InText),
+            Switch(Reading::Rawtext),
+        ],
+        Iframe => &[
+            NotOk,
+            Insert,
+            KeepMode,
+            Enter(Mode::InText),
+            Switch(Reading::Rawtext),
+        ],
+        Noembed | Noscript => &[
+            Insert,
+            KeepMode,
+            Enter(Mode::InText),
+            Switch(Reading::Rawtext),
+        ],
+        Optgroup | Word::Option => &[When(Current(The(Word::Option))), Pop, Reconstruct, Insert],
+        Rb | Rtc => &[When(InScope(Scope::Default, The(Ruby))), Implied, Insert],
+        Rp | Rt => &[
+            When(InScope(Scope::Default, The(Ruby))),
+            ImpliedBut(The(Rtc)),
+            Insert,
+        ],
+        Caption | Col | Colgroup | Frame | Head | Tbody | Td | Tfoot | Th | Thead | Tr => &[],
+        A | B | Big | Code | Em | Font | I | Nobr | S | Small | Strike | Strong | Tt | U => {
+            &[Missing]
+        }
+        Form | Frameset | Image | Input | Select | Table => &[Missing],
+        _ => &[Reconstruct, Insert],
+    }
+}

@@ -1,0 +1,39 @@
+//! The rows of "text" (13.2.6.4.8).
+
+ghost use Rattle.std.specs.Prelude.{◌≡◌};
+ghost use Rattle.html_types.specs.declared.instruction.Mode.TheVariants as mode;
+ghost use Rattle.standard.specs.Rules.{row, known_end_row};
+
+use html_types::instruction::Instr::*;
+use html_types::{Instr, Name, Token, Word};
+
+/// "text"
+#[tactic(auto, unfolding(standard::specs::Rules::row))]
+pub fn in_text(token: &Token) -> &'static [Instr]
+    ensures { result.now ≡ row mode.InText token.now }
+{
+    match token {
+        Token::Character(_) => &[InsertText],
+        Token::EndTag(tag) => match &tag.name {
+            Name::Known(word) => end(*word),
+            Name::Other(_) => &[Pop, Restore],
+        },
+        Token::EndOfFile => &[Pop, Restore, Again],
+        Token::StartTag(_) => &[],
+        Token::Comment(_) => &[InsertComment],
+        Token::Doctype {
+            name: _,
+            force_quirks: _,
+        } => &[],
+        Token::Missing => &[Missing],
+    }
+}
+
+fn end(word: Word) -> &'static [Instr]
+    ensures { result.now ≡ known_end_row mode.InText word }
+{
+    match word {
+        Word::Script => &[Restore, StopAtScript],
+        _ => &[Pop, Restore],
+    }
+}

@@ -1,0 +1,78 @@
+//! The rules of tree construction "in body" (13.2.6.4.7), "text" (13.2.6.4.8), "after body" (13.2.6.4.19) and "after after
+//! body" (13.2.6.4.22).
+#![tactic(auto)]
+
+ghost use Rattle.std.specs.Prelude.{◌≡◌, IsTrue, IfOk};
+ghost use Rattle.standard.specs.Rules.{answer, by_mode, row as row_of};
+ghost use Rattle.builder_body.specs.Modes.{is_body_mode};
+ghost use Rattle.builder_body.specs.Rounds.{RoundsSuffice};
+
+mod after_body;
+mod in_body;
+mod in_body_end;
+mod in_body_start;
+mod in_text;
+
+use builder_state::Builder;
+use html_types::{Instr, Mode, Next, NoMemory, Ops, Token};
+use std::alloc::Global;
+
+/// Processes a token by the rules of a mode of this crate: adds the operations that they ask for, and says what is asked of
+/// the caller. Where it answers NoMemory, the builder and the operations only keep their type.
+#[tactic(auto, unfolding(standard::specs::Rules::by_mode))]
+pub fn body(
+    alloc: Global,
+    builder: &mut Builder,
+    mode: Mode,
+    token: &Token,
+    ops: &mut Ops,
+) -> Result<Next, NoMemory>
+    requires { IsTrue (is_body_mode mode) }
+    ensures { IfOk result (λ next. answer builder.new ops.new next ≡ by_mode mode token.now builder.old ops.old) }
+{
+    builder.answer_row(alloc, row(mode, token), token, ops)
+}
+
+/// The row of a mode of this crate for a token.
+fn row(mode: Mode, token: &Token) -> &'static [Instr]
+    requires { IsTrue (is_body_mode mode) }
+    ensures { result.now ≡ row_of mode token.now }
+{
+    match mode {
+        Mode::InBody => in_body::in_body(token),
+        Mode::InText => in_text::in_text(token),
+        Mode::AfterBody => after_body::after_body(token),
+        Mode::AfterAfterBody => after_body::after_after_body(token),
+        _ => &[Instr::Missing],
+    }
+}
+
+/// Processing a token again, or by the rules of another mode, comes to an end within 16 rounds, in every mode, for every
+/// token and open state.
+pub fn rounds_suffice()
+    ensures { RoundsSuffice }
+{}
+
+#[cfg(test)]
+mod tests {
+    use super::*;
+    use html_types::{Attributes, Name, Tag, Word};
+    use std::test::Fail;
+
+    // `</p>` with no p open makes an empty one.
+    #[test]
+    fn a_lone_end_tag_of_p(rt: HostRuntime) -> Result<(), Fail> {
+        let alloc = rt.alloc();
+        let mut builder = Builder::new(alloc, 0);
+        let mut ops = Ops::new(alloc);
+        let token = Token::EndTag(Tag {
+            name: Name::Known(Word::P),
+            attributes: Attributes::new(alloc),
+            self_closing: false,
+        });
+        let next = body(alloc, &mut builder, Mode::InBody, &token, &mut ops)?;
+        assert_eq!(rt; next, Next::Done);
+        assert_eq!(rt; ops.as_slice().len(), 2);
+        Ok(())
+    }
+}
