@@ -2,3 +2,4 @@ pub mod TextLemmas
 pub mod CharLemmas
 pub mod WordLemmas
 pub mod ListLemmas
+mod Examples

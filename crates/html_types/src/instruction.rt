@@ -132,8 +132,6 @@ pub enum Instr {
 
     /// Reconstruct the active formatting elements (13.2.4.3).
     Reconstruct,
-    /// The current node is pushed onto the list of active formatting elements for the token.
-    List,
     Marker,
     ClearToMarker,
 
@@ -154,11 +152,11 @@ pub enum Instr {
     /// The same for the second element.
     AddToSecond,
     Enter(Mode),
+    /// The original mode is the mode as it is now.
+    KeepMode,
     /// The mode is the original mode again.
     Restore,
 
-    /// An element for the token, whose text the tokenizer reads in another way: the original mode is kept, the mode is "text".
-    Read(Reading),
     /// The tokenizer reads on in another way.
     Switch(Reading),
     /// The token is processed by the rules of another mode.
@@ -208,6 +206,17 @@ pub enum Stop {
     InputEnd,
     /// At the end tag of that script element.
     Script(NodeId),
+    /// At a push that would open element 513.
+    Deep,
+    /// At a row that isn't there yet.
+    Missing,
+}
+
+/// What the end of the input comes to.
+#[derive(Clone, Copy, Debug, PartialEq, Eq)]
+pub enum Finish {
+    /// Parsing stopped (13.2.7).
+    Finished,
     /// At a push that would open element 513.
     Deep,
     /// At a row that isn't there yet.

@@ -143,7 +143,8 @@ impl TextState {
             (TextState::Data, TextState::Data) => true,
             (TextState::Raw(r, m), TextState::Raw(s, n)) => *r == *s && same_word(m, n),
             (TextState::Plaintext, TextState::Plaintext) => true,
-            (TextState::RawLessThan(r, m), TextState::RawLessThan(s, n)) => *r == *s && same_word(m, n),
+            (TextState::RawLessThan(r, m), TextState::RawLessThan(s, n)) => *r == *s
+                && same_word(m, n),
             (TextState::RawEndTagOpen(r, m), TextState::RawEndTagOpen(s, n)) => {
                 *r == *s && same_word(m, n)
             }
