@@ -28,7 +28,7 @@ abbrev pub in_front : ℕ → List ℕ × List ℕ → List ℕ × List ℕ
 in_front c parts = (c ∷ parts.0, parts.1)
 
 -- The text up to the quote that ends a string, with that quote, and what stands behind it. A backslash escapes the
--- character behind it, so that a quote there ends nothing.
+-- character behind it, so that a quote there ends nothing: `escaped` says that of the text's first character.
 abbrev pub string_end : Bool → List ℕ → Option (List ℕ × List ℕ)
 string_end escaped [] = None
 string_end true (c ∷ cs) = option_map (in_front c) (string_end false cs)
@@ -79,9 +79,9 @@ statements_within zero t = None
 statements_within (suc n) t = elim (skip_white t) [
   | [] ↦ Some []
   | c ∷ cs ↦ do
-      first ← statement (c ∷ cs)
-      more ← statements_within n first.1
-      Some (first.0 ∷ more)
+    first ← statement (c ∷ cs)
+    more ← statements_within n first.1
+    Some (first.0 ∷ more)
 ]
 
 -- the statements of a script's text; none where the text isn't a list of statements
