@@ -1,5 +1,5 @@
 -- The rounds of a token, followed by the rows alone.
-use Rattle.std.proofs.Common.{ℕ, zero, suc, Bool, true, false, ◌≡◌, ◌==◌, List, [], ◌∷◌, Option, Some, None, refl, inl, inr, sym, subst}
+use Rattle.std.proofs.Common.{ℕ, zero, suc, Bool, true, false, ◌≡◌, ◌==◌, List, [], ◌∷◌, refl}
 use Rattle.std.specs.Prelude.{if◌then◌else◌}
 use Rattle.html_types.specs.declared.word.Word.{Word}
 use Rattle.html_types.specs.declared.word.Word.TheVariants.{A}
@@ -9,11 +9,10 @@ use Rattle.html_types.specs.declared.instruction.Instr.{Instr}
 use Rattle.html_types.specs.declared.instruction.Instr.TheVariants as ins
 use Rattle.html_types.specs.declared.instruction.Mode.{Mode}
 use Rattle.html_types.specs.declared.instruction.Mode.TheVariants.{Initial, BeforeHtml, BeforeHead, InHead, AfterHead, InBody, InText, AfterBody, AfterAfterBody}
-use Rattle.html_types.specs.declared.token.Token.{Token}
-use Rattle.html_types.specs.declared.token.Token.TheVariants.{StartTag, EndTag, Character, Comment, Doctype, EndOfFile, Missing}
+use Rattle.html_types.specs.declared.token.Token.TheVariants.{Character}
 use Rattle.standard.specs.RulesHead.{initial_anything, before_html_anything, before_head_anything, in_head_anything, after_head_anything}
 use Rattle.standard.specs.RulesBody.{in_body_space, in_body_character, after_body_anything, after_after_body_anything}
-use Rattle.standard.specs.Rules.{row, is_space, known_start_row, other_start_row, known_end_row, other_end_row, start_row, end_row, comment_row, doctype_row, end_of_file_row, character_row}
+use Rattle.standard.specs.Rules.{row, is_space, known_start_row, other_start_row, known_end_row, other_end_row, start_row, end_row, comment_row, doctype_row, end_of_file_row}
 use Rattle.builder_body.proofs.Endings.{Ending, quiet, again, using, unknown, ending}
 
 abbrev pub settled : (Mode → Bool) → Ending → Bool

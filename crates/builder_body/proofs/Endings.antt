@@ -8,7 +8,6 @@ use Rattle.html_types.specs.declared.instruction.Flow.{Flow}
 use Rattle.html_types.specs.declared.instruction.Flow.TheVariants.{On, Skip, Leave}
 use Rattle.html_types.specs.declared.instruction.Next.{Next}
 use Rattle.html_types.specs.declared.instruction.Next.TheVariants as next
-use Rattle.html_types.specs.declared.open.Open.{Open}
 use Rattle.standard.specs.Instructions.{Config}
 
 -- a row that asks for no other round, for one by the mode that it enters last, or for one by a mode that it names

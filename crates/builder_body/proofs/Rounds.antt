@@ -1,12 +1,11 @@
 -- No token uses up the rounds that it is allowed.
-use Rattle.std.proofs.Common.{ℕ, zero, suc, ◌+◌, Bool, true, false, ◌≡◌, ◌==◌, ◌⊎◌, List, [], ◌∷◌, Option, Some, None, refl, sym, ap, ◌∙◌, subst, arith, inl, inr}
+use Rattle.std.proofs.Common.{ℕ, zero, suc, ◌+◌, Bool, true, ◌≡◌, ◌==◌, List, [], ◌∷◌, Option, None, refl, sym, ◌∙◌, subst, arith, inl, inr}
 use Rattle.html_types.specs.declared.instruction.Instr.{Instr}
 use Rattle.html_types.specs.declared.instruction.Instr.TheVariants as ins
 use Rattle.html_types.specs.declared.instruction.Mode.{Mode}
 use Rattle.html_types.specs.declared.instruction.Mode.TheVariants.{InBody, InText}
 use Rattle.html_types.specs.declared.instruction.Flow.{Flow}
 use Rattle.html_types.specs.declared.instruction.Flow.TheVariants.{On, Skip, Leave}
-use Rattle.html_types.specs.declared.instruction.Next.{Next}
 use Rattle.html_types.specs.declared.instruction.Next.TheVariants as next
 use Rattle.html_types.specs.declared.token.Token.{Token}
 use Rattle.html_types.specs.declared.token.Token.TheVariants.{StartTag, EndTag, Character, Comment, Doctype, EndOfFile, Missing}
@@ -14,9 +13,9 @@ use Rattle.html_types.specs.declared.operation.Op.{Op}
 use Rattle.html_types.specs.declared.open.Open.{Open}
 use Rattle.standard.specs.Stack.{pop}
 use Rattle.standard.specs.Instructions.{Config, on, run, original_or}
-use Rattle.standard.specs.Rules.{Answer, row, by_mode, process, go_round, round_after, next_of, rounds, is_space, start_row, end_row, comment_row, doctype_row, end_of_file_row}
+use Rattle.standard.specs.Rules.{Answer, row, by_mode, process, go_round, round_after, next_of, is_space, start_row, end_row, comment_row, doctype_row, end_of_file_row}
 use Rattle.builder_body.specs.Rounds.{RoundsSuffice}
-use Rattle.builder_body.proofs.Endings.{Ending, quiet, again, using, unknown, ending, calm, calm_next, Ends}
+use Rattle.builder_body.proofs.Endings.{Ending, quiet, again, using, unknown, ending, calm, Ends}
 use Rattle.builder_body.proofs.Steps.{run-ends}
 use Rattle.builder_body.proofs.Chains.{settled, settles, character_rows, character-rows, characters-settle, starts-settle, ends-settle, comments-settle, doctypes-settle, missing-settles, end-settles, in_body_end-settles}
 

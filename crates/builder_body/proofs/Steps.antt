@@ -20,8 +20,8 @@ use Rattle.html_types.specs.declared.open.Open.{Open}
 use Rattle.html_types.specs.declared.open.OpenElement.{OpenElement}
 use Rattle.standard.specs.Stack.{first_open, second_open}
 use Rattle.standard.specs.Formatting.{lost, kept}
-use Rattle.standard.specs.Instructions.{Config, config, on, room, holds, here, insert, insert_at, insert_root, void, tag_of, for_tag, reopen, reopen_all, reconstruct, insert_text, insert_comment, append_doctype, end_of, add_attributes, push_head, stop_at_script, step, turn, run}
-use Rattle.builder_body.proofs.Endings.{Ending, quiet, again, using, unknown, is_quiet, is_straight, all_quiet, again_in, ending_on, ending, calm_next, calm, straight, Ends}
+use Rattle.standard.specs.Instructions.{Config, config, on, room, holds, here, insert, insert_at, insert_root, void, tag_of, for_tag, reopen, reopen_all, insert_text, insert_comment, append_doctype, end_of, add_attributes, push_head, stop_at_script, step, run}
+use Rattle.builder_body.proofs.Endings.{Ending, quiet, again, using, unknown, is_quiet, is_straight, all_quiet, again_in, ending_on, ending, calm, straight, Ends}
 
 -- ---- one instruction
 

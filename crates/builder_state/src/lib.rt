@@ -7,6 +7,8 @@ mod machine;
 mod places;
 mod space;
 mod state;
+#[cfg(test)]
+mod tests;
 mod walks;
 
 pub use space::is_space;

@@ -1,8 +1,8 @@
 -- How often a number stands in a list, after the list is changed.
-use Rattle.std.proofs.Common.{◌≡◌, ℕ, ◌+◌, ◌<◌, ◌≤◌, zero, suc, true, cond, eqb, List, [], ◌∷◌, ◌++◌, length, get_or, take, drop, ap, take-append-drop, Some, ltb, refl, arith}
+use Rattle.std.proofs.Common.{◌≡◌, ℕ, ◌+◌, ◌<◌, ◌≤◌, zero, suc, true, false, cond, eqb, List, [], ◌∷◌, ◌++◌, length, get_or, take, drop, ap, take-append-drop, Some, ltb, refl, sym, ◌∙◌, arith}
 use Rattle.std.specs.List.{position_or_len}
 use Rattle.std.proofs.lemmas.List.Sums.{position_or_len_is}
-use Rattle.std.proofs.lemmas.Bool.{ne_eqb, eq-eqb, lt-ltb}
+use Rattle.std.proofs.lemmas.Bool.{ne_eqb, eq-eqb, lt-ltb, le-ltb}
 use Rattle.std.specs.List.{insert}
 use Rattle.std.proofs.lemmas.Bool.Decides.{nat_tests}
 use Rattle.html_types.specs.Numbers.{count_of, without, place_of}
@@ -49,3 +49,15 @@ place_of-child xs i below once =
     let is : position_or_len (λ x. eqb x c) xs ≡ i = position_or_len_is (λ x. eqb x c) xs i 0 (omega arith) (λ k less. ne_eqb (get_or xs k 0) c (λ same. one_place c xs k i once less below same refl)) (λ _. eq-eqb c c refl) in
     let inside : ltb (position_or_len (λ x. eqb x c) xs) (length xs) ≡ true = lt-ltb _ (length xs) (rw is below) in
     rw (inside, is) refl
+
+-- a number that stands nowhere in the list goes to its end
+pub place_of-none : (xs : List ℕ) (b : ℕ) → ((k : ℕ) → 0 ≤ k → k < length xs → get_or xs k 0 ≡ b → ⊥) → place_of xs (Some b) ≡ length xs
+place_of-none xs b absent =
+    let is : position_or_len (λ x. eqb x b) xs ≡ length xs = position_or_len_is (λ x. eqb x b) xs (length xs) 0 (omega arith) (λ k less. ne_eqb (get_or xs k 0) b (absent k (omega arith) less)) (λ less. absurd (omega arith)) in
+    let outside : ltb (position_or_len (λ x. eqb x b) xs) (length xs) ≡ false = le-ltb _ (length xs) (omega (arith, is)) in
+    rw outside refl
+
+pub place_of-found : (xs : List ℕ) (i b : ℕ) → i < length xs → get_or xs i 0 ≡ b → count_of b xs ≤ 1 → place_of xs (Some b) ≡ i
+place_of-found xs i b below at once =
+    let once' : count_of (get_or xs i 0) xs ≤ 1 = rw at once in
+    ap (λ c. place_of xs (Some c)) (sym at) ∙ place_of-child xs i below once'

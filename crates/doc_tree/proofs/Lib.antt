@@ -3,6 +3,8 @@ pub mod Counts
 pub mod Trees
 pub mod Puts
 pub mod Texts
+pub mod Walks
+pub mod Runs
 pub mod Folds
 pub mod Order
 pub mod Templates

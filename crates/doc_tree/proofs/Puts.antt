@@ -1,14 +1,13 @@
 -- What the code of a put writes is what its contract says.
-use Rattle.std.proofs.Common.{◌≡◌, ◌≢◌, ℕ, ◌-◌, ◌<◌, true, false, cond, eqb, List, [], ◌∷◌, ◌++◌, length, get_or, set, Option, Some, None, refl, sym, ap, ◌∙◌, subst, inl, inr, arith, length-set}
+use Rattle.std.proofs.Common.{◌≡◌, ◌≢◌, ℕ, ◌-◌, ◌<◌, true, cond, eqb, List, [], ◌∷◌, ◌++◌, length, get_or, set, Option, Some, None, refl, sym, ap, ◌∙◌, subst, arith, length-set}
 use Rattle.std.specs.List.{insert}
 use Rattle.std.proofs.lemmas.List.{ext_get_or, get_or_append_left, get_or_push, set-append_left, set_at}
 use Rattle.html_types.specs.declared.tree.Kind.{Kind}
-use Rattle.std.proofs.lemmas.Bool.{cases_eq, ne_eqb, eq-eqb, lt-ltb}
+use Rattle.std.proofs.lemmas.Bool.{lt-ltb}
 use Rattle.std.proofs.lemmas.Bool.Decides.{nat_tests}
 use Rattle.html_types.specs.declared.tree.Node.{Node}
 use Rattle.html_types.specs.Numbers.{count_of, without, place_of, put_in}
 use Rattle.standard.specs.Tree.{Nodes, no_node, node_at, kind_of, parent_of, children_of, host_of, contents_of, IsTree, with_parent, with_children, relinked, put_under, moved, lone, with_new, text_before, is_text, previous_of}
-use Rattle.doc_tree.proofs.Counts.{without_absent}
 use Rattle.doc_tree.proofs.Trees.{node_at-set, parent_below, length-relinked, kind_of-relinked, parent_of-relinked, children_of-relinked, host_of-relinked, contents_of-relinked}
 
 pub same_node : (x y : Node) → x.kind ≡ y.kind → x.parent ≡ y.parent → x.children ≡ y.children → x.host ≡ y.host → x.contents ≡ y.contents → x ≡ y

@@ -6,7 +6,6 @@ use Rattle.std.proofs.lemmas.Bool.Decides.{nat_tests}
 use Rattle.std.proofs.lemmas.List.{get_or_past, get_or_push, get_or_append_left, get_or_read, length_push}
 use Rattle.html_types.specs.declared.tree.Node.{Node}
 use Rattle.html_types.specs.declared.tree.Kind.{Kind}
-use Rattle.html_types.specs.declared.tree.Kind.TheVariants.{Text}
 use Rattle.html_types.specs.Numbers.{count_of, without, place_of, put_in}
 use Rattle.standard.specs.Tree.{Nodes, no_node, node_at, kind_of, parent_of, children_of, host_of, contents_of, above_of, climb, leads_to, IsTree, with_children, relinked, detached, lone, is_leaf, lies_in, moved, with_new, with_kind}
 use Rattle.std.specs.List.{insert}
@@ -300,14 +299,17 @@ IsTree-with_new t p place kind tree p_below place_in =
     apart less = omega arith
 
 -- what a node is doesn't matter to the shape
-pub IsTree-with_kind : (t : Nodes) (n : ℕ) (kind : Kind) → IsTree t → n < length t → IsTree (with_kind t n kind)
-IsTree-with_kind t n kind tree below =
-    IsTree-alike t (with_kind t n kind) tree (length-set t n _) at
-  where
-    at : (m : ℕ) → SameLinks (node_at (with_kind t n kind) m) (node_at t m)
-    at m =
-        let read = node_at-set t n (record (node_at t n) { kind = kind }) m below in
-        record { parent = grind (arith, nat_tests); children = grind (arith, nat_tests); host = grind (arith, nat_tests); contents = grind (arith, nat_tests) }
+module _ (t : Nodes) (n : ℕ) (kind : Kind) (below : n < length t) where
+  pub same_links-with_kind : (m : ℕ) → SameLinks (node_at (with_kind t n kind) m) (node_at t m)
+  same_links-with_kind m =
+      let read = node_at-set t n (record (node_at t n) { kind = kind }) m below in
+      record { parent = grind (arith, nat_tests); children = grind (arith, nat_tests); host = grind (arith, nat_tests); contents = grind (arith, nat_tests) }
+
+  pub kind_of-with_kind : (m : ℕ) → kind_of (with_kind t n kind) m ≡ cond (eqb m n) kind (kind_of t m)
+  kind_of-with_kind m = grind (arith, nat_tests, node_at-set t n (record (node_at t n) { kind = kind }) m below)
+
+  pub IsTree-with_kind : IsTree t → IsTree (with_kind t n kind)
+  IsTree-with_kind tree = IsTree-alike t (with_kind t n kind) tree (length-set t n _) same_links-with_kind
 
 no_child : (cs : List ℕ) → eqb (length cs) 0 ≡ true → (q : ℕ) → count_of q cs ≡ 0
 no_child [] none q = refl
@@ -325,10 +327,10 @@ lies_in-leaf t n m tree leaf below = stands_alone (above_of t) n alone (length t
     alone q link = elim (cases_option (host_of t q)) [
       | inl none ↦
           let parent : parent_of t q ≡ Some n = grind (arith, none) in
-          let childless : count_of q (children_of t n) ≡ 0 = no_child (children_of t n) (and_parts _ _ leaf).0 q in
+          let childless : count_of q (children_of t n) ≡ 0 = no_child (children_of t n) (and_parts (eqb (length (children_of t n)) 0) (not (is_some (contents_of t n))) leaf).0 q in
           grind (arith, nat_tests, tree.kinship q n)
       | inr host ↦
           let hosted : host_of t q ≡ Some n = grind (arith, host.1) in
-          let empty : leads_to (contents_of t n) q ≡ false = no_contents (contents_of t n) (and_parts _ _ leaf).1 q in
+          let empty : leads_to (contents_of t n) q ≡ false = no_contents (contents_of t n) (and_parts (eqb (length (children_of t n)) 0) (not (is_some (contents_of t n))) leaf).1 q in
           grind (arith, nat_tests, tree.hosting q n)
     ]

@@ -1,10 +1,11 @@
 //! The tree (DOM 4.2, 4.4), its changes and its readers.
 
-ghost use Rattle.std.specs.Prelude.{◌≡◌, ◌≢◌, ◌<◌, ◌≤◌, ◌++◌, ◌∷◌, [], false, if◌then◌else◌, length, reverse, vec_len, IfOk, OnOk, OnErr, IsSome};
+ghost use Rattle.std.specs.Prelude.{◌≡◌, ◌≢◌, ◌<◌, ◌≤◌, ◌++◌, ◌∷◌, [], false, if◌then◌else◌, codes, ◌↔◌, IsTrue, IsFalse, length, reverse, vec_len, IfOk, OnOk, OnErr, IsSome};
 ghost use Rattle.std.specs.Str.{chars};
 ghost use Rattle.std.specs.Option.{ForSome};
 
-use html_types::{Attribute, Attributes, Children, Kind, NoMemory, Node, Text};
+use crate::attributes::{joined, value_of};
+use html_types::{Attributes, Children, Kind, NoMemory, Node, Text};
 use std::alloc::Global;
 use std::marker::Model;
 
@@ -62,10 +63,47 @@ fn lone(alloc: Global, kind: Kind) -> Node
     }
 }
 
+ghost use Rattle.standard.specs.Tree.{text_of};
+
+fn push_text(joined: &mut Text, kind: &Kind) -> Result<(), NoMemory>
+    ensures { OnOk result (joined.new ≡ joined.old ++ text_of kind.now) }
+{
+    if let Kind::Text(text) = kind {
+        joined.push_str(text.as_str())?;
+    }
+    Ok(())
+}
+
+fn has_text(kind: &Kind) -> bool
+    ensures { IsFalse result ↔ (text_of kind.now ≡ []) }
+{
+    match kind {
+        Kind::Text(text) => !text.is_empty(),
+        _ => false,
+    }
+}
+
+ghost use Rattle.html_types.specs.Numbers.{count_of, place_of};
+
+// Where among the children a node goes that is put before the given one. It is mostly near the end, so it is searched for from there.
+fn place_before(children: &[usize], before: usize) -> usize
+    requires { count_of before children.now ≤ 1 }
+    ensures place { result ≡ place_of children.now (Some before) }
+    ensures within { result ≤ length children.now }
+{
+    let mut place = children.len();
+    'back: while place > 0 {
+        place -= 1;
+        if children[place] == before {
+            return place;
+        }
+    }
+    children.len()
+}
+
 // Changes of the tree.
 impl Tree {
-    ghost use Rattle.standard.specs.Tree.{IsTree, Keeps, kind_of, parent_of, children_of, host_of, new_tree, detached, moved, put_of, put_before_of, is_impossible, is_impossible_before, is_second_element, is_leaf, lies_in, with_new, with_kind, with_more, text_added, text_before, text_put};
-    ghost use Rattle.html_types.specs.Numbers.{place_of};
+    ghost use Rattle.standard.specs.Tree.{IsTree, Keeps, kind_of, parent_of, children_of, host_of, new_tree, detached, moved, put_of, put_before_of, is_impossible, is_impossible_before, is_second_element, is_leaf, lies_in, with_new, with_kind, with_more, text_added, text_before, text_put, with_template};
 
     /// The Document alone.
     pub fn new(alloc: Global) -> Result<Tree, NoMemory>
@@ -84,6 +122,31 @@ impl Tree {
     {
         let number = self.nodes.len();
         self.nodes.push(lone(self.alloc, kind))?;
+        Ok(number)
+    }
+
+    /// Makes an element with contents of its own, which get the number behind its.
+    pub fn make_template(&mut self, kind: Kind) -> Result<usize, NoMemory>
+        ensures ok { IfOk result (λ n. (n ≡ length self.old) × (self.new ≡ with_template self.old kind)) }
+        ensures err { OnErr result (self.new ≡ self.old) }
+        ensures keeps { Keeps self.old self.new }
+    {
+        let number = self.nodes.len();
+        self.nodes.reserve(2)?;
+        self.nodes.push(Node {
+            kind,
+            parent: None,
+            children: Children::new(self.alloc),
+            host: None,
+            contents: Some(number + 1),
+        })?;
+        self.nodes.push(Node {
+            kind: Kind::Contents,
+            parent: None,
+            children: Children::new(self.alloc),
+            host: Some(number),
+            contents: None,
+        })?;
         Ok(number)
     }
 
@@ -150,13 +213,21 @@ impl Tree {
         false
     }
 
+    // Where among the parent's children a node goes that is put before the given one, or last.
+    fn place(&self, parent: usize, before: Option<usize>) -> usize
+        requires { parent < length self.now }
+        ensures place { result ≡ place_of (children_of self.now parent) before }
+        ensures within { result ≤ length (children_of self.now parent) }
+    {
+        let children = self.nodes[parent].children.as_slice();
+        match before {
+            None => children.len(),
+            Some(before) => place_before(children, before),
+        }
+    }
+
     // A node without a parent goes among the parent's children, before one of them or last.
-    fn link(
-        &mut self,
-        node: usize,
-        parent: usize,
-        before: Option<usize>,
-    ) -> Result<(), NoMemory>
+    fn link(&mut self, node: usize, parent: usize, before: Option<usize>) -> Result<(), NoMemory>
         requires node_here { node < length self.old }
         requires parent_here { parent < length self.old }
         requires not_document { node ≢ 0 }
@@ -167,19 +238,14 @@ impl Tree {
         ensures err { OnErr result (self.new ≡ self.old) }
         ensures keeps { Keeps self.old self.new }
     {
-        let place = self.nodes[parent].children.place(before);
+        let place = self.place(parent, before);
         self.nodes[parent].children.insert(place, node)?;
         self.nodes[node].parent = Some(parent);
         Ok(())
     }
 
     // A child of the parent goes to another place among its siblings.
-    fn reorder(
-        &mut self,
-        node: usize,
-        parent: usize,
-        before: Option<usize>,
-    ) -> Result<(), NoMemory>
+    fn reorder(&mut self, node: usize, parent: usize, before: Option<usize>) -> Result<(), NoMemory>
         requires node_here { node < length self.old }
         requires parent_here { parent < length self.old }
         requires not_document { node ≢ 0 }
@@ -213,7 +279,7 @@ impl Tree {
         ensures err { OnErr result (self.new ≡ self.old) }
         ensures keeps { Keeps self.old self.new }
     {
-        let place = self.nodes[parent].children.place(before);
+        let place = self.place(parent, before);
         self.nodes[parent].children.insert(place, node)?;
         self.nodes[from].children.remove(node);
         self.nodes[node].parent = Some(parent);
@@ -249,12 +315,7 @@ impl Tree {
     }
 
     // Puts the node under the parent, before one of its children or last.
-    fn put(
-        &mut self,
-        node: usize,
-        parent: usize,
-        before: Option<usize>,
-    ) -> Result<Put, NoMemory>
+    fn put(&mut self, node: usize, parent: usize, before: Option<usize>) -> Result<Put, NoMemory>
         requires node_here { node < length self.old }
         requires parent_here { parent < length self.old }
         requires not_document { node ≢ 0 }
@@ -327,18 +388,13 @@ impl Tree {
     }
 
     /// Makes a node among the parent's children, before the given one or last.
-    pub fn add(
-        &mut self,
-        parent: usize,
-        before: Option<usize>,
-        kind: Kind,
-    ) -> Result<(), NoMemory>
+    pub fn add(&mut self, parent: usize, before: Option<usize>, kind: Kind) -> Result<(), NoMemory>
         requires { parent < length self.old }
         ensures ok { OnOk result (self.new ≡ with_new self.old parent (place_of (children_of self.old parent) before) kind) }
         ensures err { OnErr result (self.new ≡ self.old) }
         ensures keeps { Keeps self.old self.new }
     {
-        let place = self.nodes[parent].children.place(before);
+        let place = self.place(parent, before);
         self.insert_new(parent, place, kind)
     }
 
@@ -409,15 +465,134 @@ impl Tree {
         if is_document(&self.nodes[parent].kind) {
             return Ok(());
         }
-        let place = self.nodes[parent].children.place(before);
+        let place = self.place(parent, before);
         self.put_text(parent, place, text)?;
         Ok(())
     }
 }
 
+// Attributes.
+impl Tree {
+    ghost use Rattle.std.specs.Option.{option_map};
+    ghost use Rattle.standard.specs.Tree.{Keeps, kind_of, attributes_of, attribute, with_lacking, attributes_added};
+
+    /// The value of an element's attribute.
+    pub fn attribute(&self, node: usize, name: &str) -> Option<&Text>
+        requires { node < length self.now }
+        ensures { option_map (λ text. text.now) result ≡ attribute (chars name.now) (attributes_of (kind_of self.now node)) }
+    {
+        match &self.nodes[node].kind {
+            Kind::Element { attributes, .. } => value_of(attributes, name),
+            _ => None,
+        }
+    }
+
+    /// Gives an element copies of those attributes that it lacks, in order. A node that is no element stays as it is.
+    pub fn add_attributes(&mut self, node: usize, more: &Attributes) -> Result<(), NoMemory>
+        requires { node < length self.old }
+        ensures ok { OnOk result (self.new ≡ attributes_added self.old node more.now) }
+        ensures err { OnErr result (self.new ≡ self.old) }
+        ensures keeps { Keeps self.old self.new }
+    {
+        add_lacking(self.alloc, &mut self.nodes[node].kind, more)
+    }
+}
+
+fn add_lacking(alloc: Global, kind: &mut Kind, more: &Attributes) -> Result<(), NoMemory>
+    ensures ok { OnOk result (kind.new ≡ with_lacking kind.old more.now) }
+    ensures err { OnErr result (kind.new ≡ kind.old) }
+{
+    if let Kind::Element { attributes, .. } = kind {
+        *attributes = joined(alloc, attributes, more)?;
+    }
+    Ok(())
+}
+
+ghost use Rattle.standard.specs.Tree.{with_lacking, is_value, attributes_of, attribute};
+
+// Whether the node is an element with that `id`.
+fn has_id(kind: &Kind, id: &str) -> bool
+    ensures { result ≡ is_value (chars id.now) (attribute (codes "id") (attributes_of kind.now)) }
+{
+    let Kind::Element { attributes, .. } = kind else {
+        return false;
+    };
+    match value_of(attributes, "id") {
+        Some(value) => value.is(id),
+        None => false,
+    }
+}
+
+// Pushes the numbers, the last first.
+fn push_reversed(list: &mut Vec<usize>, numbers: &[usize]) -> Result<(), NoMemory>
+    ensures { OnOk result (list.new.items ≡ list.old.items ++ reverse numbers.now) }
+{
+    let mut place = numbers.len();
+    'down: while place > 0 {
+        place -= 1;
+        list.push(numbers[place])?;
+    }
+    Ok(())
+}
+
+// Walks.
+impl Tree {
+    ghost use Rattle.standard.specs.Tree.{kind_of, children_of, find_id, script_text};
+
+    /// The first element of the Document, in tree order, with that `id`. An empty one finds nothing. The walk keeps the nodes that are left to
+    /// be looked at, so it takes memory, and time in the number of nodes.
+    pub fn find_id(&self, id: &str) -> Result<Option<usize>, NoMemory>
+        ensures found { IfOk result (λ n. n ≡ find_id self.now (chars id.now)) }
+        ensures here { IfOk result (λ n. ForSome n (λ k. k < length self.now)) }
+    {
+        if id.is_empty() {
+            return Ok(None);
+        }
+        if self.nodes.is_empty() {
+            return Ok(None);
+        }
+        let mut left = Vec::new(self.alloc);
+        left.push(0)?;
+        'walk: while let Some(node) = left.pop() {
+            if has_id(&self.nodes[node].kind, id) {
+                return Ok(Some(node));
+            }
+            push_reversed(&mut left, self.nodes[node].children.as_slice())?;
+        }
+        Ok(None)
+    }
+
+    /// The texts of the node's Text children, joined.
+    pub fn child_text(&self, node: usize) -> Result<Text, NoMemory>
+        requires { node < length self.now }
+        ensures { IfOk result (λ text. text ≡ script_text self.now node) }
+    {
+        let mut joined = Text::new(self.alloc);
+        let children = self.nodes[node].children.as_slice();
+        for child in children {
+            push_text(&mut joined, &self.nodes[*child].kind)?;
+        }
+        Ok(joined)
+    }
+
+    /// Whether a Text child of the node has any text.
+    pub fn has_child_text(&self, node: usize) -> bool
+        requires { node < length self.now }
+        ensures some { IsTrue result → script_text self.now node ≢ [] }
+        ensures none { IsFalse result → script_text self.now node ≡ [] }
+    {
+        let children = self.nodes[node].children.as_slice();
+        for child in children {
+            if has_text(&self.nodes[*child].kind) {
+                return true;
+            }
+        }
+        false
+    }
+}
+
 // Readers.
 impl Tree {
-    ghost use Rattle.std.specs.Prelude.{◌-◌, IsTrue, ◌↔◌};
     ghost use Rattle.standard.specs.Tree.{IsTree, is_connected, kind_of, parent_of, children_of, contents_of, shown_of, first_of, last_of, after_node, previous_of, first_element};
 
     /// How many nodes there are; they have the numbers below that.
@@ -505,7 +680,7 @@ impl Tree {
             return None;
         };
         let siblings = &self.nodes[parent].children;
-        let place = siblings.place(Some(node));
+        let place = self.place(parent, Some(node));
         if place == 0 {
             return None;
         }

@@ -37,7 +37,8 @@ pub enum Step {
 fn count_below(rows: &[Row], depth: usize, c: char) -> usize
     ensures bound { result ≤ length rows.now }
     ensures place { IsPartitionedBy (is_below c) (rests depth rows.now)
-        → IsPartitionPoint (λ y. is_below c y ≡ true) (λ y. is_below c y ≡ false) (rests depth rows.now) result }
+        → IsPartitionPoint (λ y. is_below c y ≡ true) (λ y. is_below c y ≡ false)
+        (rests depth rows.now) result }
 {
     rows.partition_point(|row| goes_below(row, depth, c))
 }
@@ -46,7 +47,8 @@ fn count_below(rows: &[Row], depth: usize, c: char) -> usize
 fn count_up_to(rows: &[Row], depth: usize, c: char) -> usize
     ensures bound { result ≤ length rows.now }
     ensures place { IsPartitionedBy (is_up_to c) (rests depth rows.now)
-        → IsPartitionPoint (λ y. is_up_to c y ≡ true) (λ y. is_up_to c y ≡ false) (rests depth rows.now) result }
+        → IsPartitionPoint (λ y. is_up_to c y ≡ true) (λ y. is_up_to c y ≡ false)
+        (rests depth rows.now) result }
 {
     rows.partition_point(|row| goes_up_to(row, depth, c))
 }
@@ -109,10 +111,12 @@ impl Cursor {
 
     /// Holds one more character. The time doesn't depend on the text, and grows with the logarithm of the table's size.
     pub fn push(&mut self, table: &Table, c: char) -> Step
-        ensures holds { (text : List ℕ) → Holds table.now self.old text → Holds table.now self.new (text ++ c ∷ []) }
+        ensures holds { (text : List ℕ) → Holds table.now self.old text
+            → Holds table.now self.new (text ++ c ∷ []) }
         ensures more { (text : List ℕ) → Holds table.now self.old text
             → ((result ≡ Step.More) ↔ IsTrue (begins_some (text ++ c ∷ []) table.now)) }
-        ensures stop { (text : List ℕ) → Holds table.now self.old text → StopTells (longest text table.now) result }
+        ensures stop { (text : List ℕ) → Holds table.now self.old text
+            → StopTells (longest text table.now) result }
     {
         let rows = table.rows();
         let part = narrow(rows, self.part, self.depth, c);
@@ -130,7 +134,8 @@ impl Cursor {
 
     /// The longest name that the text begins with.
     pub fn best(&self) -> Option<Match>
-        ensures { (es : Entities) (text : List ℕ) → Holds es self.now text → Tells (longest text es) result }
+        ensures { (es : Entities) (text : List ℕ) → Holds es self.now text
+            → Tells (longest text es) result }
     {
         self.best
     }

@@ -1,13 +1,12 @@
 -- The statement at the front of a text, a case at a time.
-use Rattle.std.proofs.Common.{◌≡◌, ℕ, List, [], ◌∷◌, Option, Some, None, option_map, MatchOption, true, refl, sym, ap, ◌∙◌, codes}
+use Rattle.std.proofs.Common.{◌≡◌, ℕ, List, Option, Some, None, option_map, MatchOption, true, refl, codes}
 use Rattle.std.specs.Char.{encode_utf8}
 use Rattle.std.specs.Str.{chars, is_utf8, IsUtf8}
 use Rattle.std.specs.Str.Pattern.{FindsTextPrefix, StripsPrefix}
 use Rattle.std.proofs.lemmas.Str.{IsUtf8-from_is_utf8}
 use denote.Ref.{Bor}
-use Rattle.html_types.specs.declared.script.Statement.{Statement}
 use Rattle.html_types.specs.declared.script.Statement.TheVariants.{Write, Remove, LogById, LogRoot}
-use Rattle.standard.specs.Statements.{behind, string_value, string_between, with_string, statement}
+use Rattle.standard.specs.Statements.{behind, string_value, string_between, statement}
 use Rattle.script_lang.proofs.Words.{behind-stripped}
 
 module _ (before after t : List ℕ) where

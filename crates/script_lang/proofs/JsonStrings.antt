@@ -2,7 +2,7 @@
 use Rattle.std.proofs.Common.{◌≡◌, ℕ, ◌==◌, Bool, true, false, cond, List, [], ◌∷◌, Option, Some, None, option_map, option_and_then, refl, sym, ap, ◌∙◌}
 use Rattle.json.specs.Text.{content, plain}
 use Rattle.json.specs.Word.{is_operator, is_space}
-use Rattle.json.specs.Lex.{Lexeme, token, Class, quote, backslash, operator, space, other, class, string_token, Mode, between, in_string, in_escape, lex, lex_byte, punctuate, fresh}
+use Rattle.json.specs.Lex.{Lexeme, token, quote, backslash, operator, space, other, string_token, Mode, between, in_string, in_escape, lex, lex_byte, punctuate, fresh}
 use Rattle.json.specs.Json as json
 use Rattle.json.specs.Json.{items, members, value}
 use Rattle.serde_json.specs.Find.{as_str}

@@ -1,5 +1,5 @@
 -- The value of the string with which a text begins, by the text's bytes.
-use Rattle.std.proofs.Common.{◌≡◌, ℕ, suc, ◌+◌, Bool, true, false, List, [], ◌∷◌, ◌++◌, take, drop, Option, Some, None, option_map, option_and_then, MatchOption, refl, sym, ap, ◌∙◌, subst, arith, lit<, add-one, encode_utf8}
+use Rattle.std.proofs.Common.{◌≡◌, ℕ, ◌+◌, false, List, [], ◌∷◌, ◌++◌, take, drop, Option, Some, None, option_map, option_and_then, refl, sym, ap, ◌∙◌, lit<, add-one, encode_utf8}
 use Rattle.std.specs.Prelude.{encode_utf8_all}
 use Rattle.std.specs.Str.{chars, IsUtf8, IsCharBoundary}
 use Rattle.std.specs.Str.Pattern.{FindsCharPrefix}
@@ -11,7 +11,7 @@ use Rattle.serde_json.specs.Find.{as_str}
 use Rattle.serde_json.specs.Read.{read}
 use Rattle.standard.specs.Statements.{behind, string_end, string_value}
 use Rattle.script_lang.specs.Parts.{cut}
-use Rattle.script_lang.proofs.Words.{behind-some, behind-append}
+use Rattle.script_lang.proofs.Words.{behind-some}
 use Rattle.script_lang.proofs.Utf8Ends.{spelled, string_end-chars}
 use Rattle.script_lang.proofs.JsonStrings.{read-string}
 

@@ -10,8 +10,13 @@ use crate::string::string_value;
 use html_types::{NoMemory, Statement, Text};
 use std::alloc::Global;
 
-/// The statements of a script's text in order; none where the text isn't a list of the four statements, with space, TAB,
-/// LF and CR alone before, between and behind them. What it takes is linear in the text.
+/// Reads a script's text: its statements in order, none where the text isn't a list of these four, with space, TAB, LF
+/// and CR before, between and behind them, and none inside them but in a string. `"V"` is a JSON string, and V its value.
+///
+/// - `document.write("V");`
+/// - `document.getElementById("V").remove();`
+/// - `console.log(document.getElementById("V").outerHTML);`
+/// - `console.log(document.documentElement.outerHTML);`
 pub fn read(alloc: Global, text: &str) -> Result<Option<Script>, NoMemory>
     ensures { IfOk result (λ script. script ≡ statements (chars text.now)) }
 {

@@ -1,6 +1,6 @@
 //! The strings of a script, which are JSON strings.
 
-ghost use Rattle.std.specs.Prelude.{◌≡◌, List, ℕ, option_map, option_and_then, IfOk, IfSome, false};
+ghost use Rattle.std.specs.Prelude.{◌≡◌, option_map, option_and_then, IfOk, IfSome, false};
 ghost use Rattle.std.specs.Str.{chars, IsCharBoundary, IsUtf8};
 ghost use Rattle.serde_json.specs.Find.{as_str};
 ghost use Rattle.serde_json.specs.Read.{read};
@@ -45,7 +45,10 @@ fn json_value(alloc: Global, quoted: &str) -> Result<Option<Text>, NoMemory>
 }
 
 /// The value of the string with which the text begins, and the text behind that string; none where it begins with none.
-pub fn string_value<'a>(alloc: Global, text: &'a str) -> Result<Option<(Text, &'a str)>, NoMemory>
+pub(crate) fn string_value<'a>(
+    alloc: Global,
+    text: &'a str,
+) -> Result<Option<(Text, &'a str)>, NoMemory>
     ensures value { IfOk result
         (λ found. option_map parted found ≡ string_value (chars text.now)) }
     ensures rest_is_text { IfOk result (λ found. IfSome found (λ string. IsUtf8 string.1.now)) }

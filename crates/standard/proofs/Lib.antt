@@ -21,3 +21,4 @@ pub mod RenamingWalks
 pub mod RenamingGrowth
 pub mod Renaming
 pub mod RenamingTexts
+pub mod PageExamples

@@ -28,7 +28,7 @@ abbrev pub in_front : ℕ → List ℕ × List ℕ → List ℕ × List ℕ
 in_front c parts = (c ∷ parts.0, parts.1)
 
 -- The text up to the quote that ends a string, with that quote, and what stands behind it. A backslash escapes the
--- character behind it, so that a quote there ends nothing.
+-- character behind it, so that a quote there ends nothing: `escaped` says that of the text's first character.
 abbrev pub string_end : Bool → List ℕ → Option (List ℕ × List ℕ)
 string_end escaped [] = None
 string_end true (c ∷ cs) = option_map (in_front c) (string_end false cs)

@@ -1,5 +1,5 @@
 use Rattle.std.proofs.Common.{◌≡◌, ◌≤◌, length}
-use Rattle.standard.specs.Elements.{is_meant, is_one_of}
+use Rattle.standard.specs.Elements.{is_meant}
 use Rattle.standard.specs.Stack.{until}
 use Rattle.builder_state.proofs.walks.pop_until.Given as goal
 

@@ -1,5 +1,4 @@
-use Rattle.std.proofs.Common.{Some, None, sym, ap, ◌∙◌, option_map}
-use Rattle.std.specs.Str.{chars}
+use Rattle.std.proofs.Common.{sym, ap, ◌∙◌, option_map}
 use Rattle.script_lang.specs.Parts.{parted}
 use Rattle.script_lang.proofs.Rests.{Reads-begin, Reads-more, Reads-none, Reads-end, rest_shorter, chars-empty, chars-some}
 use Rattle.script_lang.proofs.reading.read.Goals as goal

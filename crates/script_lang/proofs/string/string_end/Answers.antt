@@ -1,7 +1,7 @@
 use Rattle.std.proofs.Common.{arith}
 use Rattle.std.proofs.lemmas.Bool.{ne_eqb}
 use Rattle.std.proofs.lemmas.Str.{IsCharBoundary-after_ascii}
-use Rattle.script_lang.proofs.Ends.{after_escaped, after_other, at_end, at_quote}
+use Rattle.script_lang.proofs.Ends.{after_escaped, after_other, at_quote}
 use Rattle.script_lang.proofs.string.string_end.Goals as goal
 use Rattle.script_lang.proofs.string.string_end.Goals.{then-escaped, else-escaped+else-byte-eq34}
 

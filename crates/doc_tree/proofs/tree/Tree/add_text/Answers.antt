@@ -1,11 +1,9 @@
 use Rattle.std.proofs.Common.{◌≡◌, false, sym, ap, ◌∙◌}
-use Rattle.standard.specs.Tree.{kind_of, children_of, is_document, text_before, text_put}
-use Rattle.standard.specs.Tree.{Nodes}
-use Rattle.html_types.specs.Numbers.{place_of}
+use Rattle.standard.specs.Tree.{kind_of, is_document, text_before, text_put}
 use Rattle.html_types.specs.declared.tree.Node.{Node}
 use Rattle.std.specs.Str.{chars}
 use Rattle.doc_tree.proofs.Trees.{node_read}
-use Rattle.doc_tree.proofs.Texts.{text_added-empty, text_added-document, text_added-put}
+use Rattle.doc_tree.proofs.Texts.{text_added-empty, text_added-put}
 use Rattle.doc_tree.proofs.tree.Tree.add_text.Goals as goal
 
 pub returns-then-is_empty-clause-ok : goal.returns-then-is_empty-clause-ok
@@ -17,10 +15,7 @@ returns-clause-ok c =
     let p = c.args.parent in
     let plain : is_document (kind_of t p) ≡ false =
     ap (λ (n : Node). is_document n.kind) (node_read c.self.inside.nodes.items t p _ c.self.view_is c.requires c.index.ensures) ∙ (sym c.is_document.ensures ∙ c.if-is_document.false) in
-    let siblings : children_of t p ≡ c.index-2.result.now.children =
-    ap (λ (n : Node). n.children) (node_read c.self.inside.nodes.items t p _ c.self.view_is c.requires c.index-2.ensures) in
-    let place : c.place-place.result ≡ place_of (children_of t p) c.args.before = rw siblings c.place-place.ensures.place in
     let text = chars c.args.text.now in
     c.in_ok-put_text.ensures.ok
-    ∙ ap (λ k. text_put t p k text (text_before t p k)) place
+    ∙ ap (λ k. text_put t p k text (text_before t p k)) c.place-place.ensures.place
     ∙ sym (text_added-put t p _ c.args.text.now c.utf8.text (sym c.is_empty.ensures ∙ c.if-is_empty.false) plain)

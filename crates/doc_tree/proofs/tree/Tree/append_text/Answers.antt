@@ -8,4 +8,4 @@ use Rattle.doc_tree.proofs.tree.Tree.append_text.Goals as goal
 pub invariant_of-self : goal.invariant_of-self
 invariant_of-self c =
     let nodes = c.self.inside.nodes.items in
-    IsTree-same _ (with_kind nodes c.args.node (Text c.push_str.new.self)) (IsTree-with_kind nodes c.args.node (Text c.push_str.new.self) c.self.invariant (rw c.self.view_is c.requires)) (grind (arith, common_steps))
+    IsTree-same _ (with_kind nodes c.args.node (Text c.push_str.new.self)) (IsTree-with_kind nodes c.args.node (Text c.push_str.new.self) (rw c.self.view_is c.requires) c.self.invariant) (grind (arith, common_steps))

@@ -1,4 +1,4 @@
-use Rattle.std.proofs.Common.{◌≡◌, ◌<◌, length, arith, sym, ◌∙◌, None, false}
+use Rattle.std.proofs.Common.{◌≡◌, ◌<◌, length, arith, None, false}
 use Rattle.std.proofs.lemmas.Grind.{common_steps}
 use Rattle.standard.specs.Tree.{parent_of, lies_in, put_under}
 use Rattle.doc_tree.proofs.Trees.{IsTree-moved, IsTree-same}

@@ -1,6 +1,6 @@
-use Rattle.std.proofs.Common.{◌≡◌, ◌<◌, length, arith, subst, ◌∙◌, Some, false}
+use Rattle.std.proofs.Common.{◌≡◌, ◌<◌, length, arith, Some, false}
 use Rattle.std.proofs.lemmas.Grind.{common_steps}
-use Rattle.standard.specs.Tree.{Nodes, parent_of, lies_in, moved}
+use Rattle.standard.specs.Tree.{parent_of, lies_in}
 use Rattle.doc_tree.proofs.Trees.{IsTree-moved, IsTree-same}
 use Rattle.doc_tree.proofs.Puts.{reordered, reordered_is, moved_done}
 use Rattle.doc_tree.proofs.tree.Tree.reorder.Goals as goal

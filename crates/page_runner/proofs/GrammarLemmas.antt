@@ -1,0 +1,62 @@
+-- The grammar, and the values of words in it.
+use Rattle.std.proofs.Common.{◌≡◌, ◌<◌, ◌≤◌, ◌^◌, ℕ, Bool, true, false, ◌||◌, List, [], ◌∷◌, refl, ap, Option, Some, None, option_map}
+use Rattle.std.specs.Prelude.{if◌then◌else◌}
+use Rattle.std.specs.Str.Parse.{IsNumeral, digits_value, without_leading_plus}
+use Rattle.clap.specs.Faults.{fault_of, is_simple_and_free}
+use Rattle.clap.specs.Kinds.{Kinds}
+use Rattle.clap.specs.Simple.{subcommand_of}
+use Rattle.clap.specs.Values.{IsUnsignedIn}
+use Rattle.clap.specs.ValueTests.{is_unsigned_in}
+use Rattle.clap.specs.Walk.{Row, Text, first_of}
+use Rattle.clap.specs.declared.builder.value_parser.ValueParser.TheVariants as parsers
+use Rattle.clap.proofs.ValueTestLemmas.{accepts-Accepts, Accepts-accepts}
+use Rattle.page_runner.specs.Words.{specparse, value_of, number_from, asked, asked_by, where_none, AreInGrammar}
+
+pub or_false : (x y z : Bool) → z ≡ (x || y) → x ≡ false → y ≡ false → z ≡ false
+or_false x y z is a b = rw (is, a, b) refl
+
+pub specparse_is_simple : is_simple_and_free specparse ≡ true
+specparse_is_simple = refl
+
+-- the value by the rows of the subcommand
+pub value_at : (name : Text) (rows : List Row) (sub : Option (Text × List Row)) → Some rows ≡ option_map (λ p. p.1) sub → first_of name rows ≡ value_of name sub
+value_at name rows None is = absurd (cc is)
+value_at name rows (Some sub) is = let same : rows ≡ sub.1 = cc is in ap (first_of name) same
+
+-- a text that is such a number
+pub read_number : (most otherwise n : ℕ) (text : List ℕ) → IsNumeral 10 (without_leading_plus text) → digits_value 10 (without_leading_plus text) < 2 ^ 64
+    → n ≡ digits_value 10 (without_leading_plus text) → 1 ≤ n → n ≤ most → n ≡ number_from most otherwise (Some text)
+read_number most otherwise n text numeral fits is low high =
+    rw (Accepts-accepts false (parsers.Unsigned 1 most) text (numeral, fits, rw is at low, rw is at high)) is
+
+-- and one that isn't
+pub read_none : (most otherwise : ℕ) (text : List ℕ) → (IsUnsignedIn 1 most text → ⊥) → otherwise ≡ number_from most otherwise (Some text)
+read_none most otherwise text none = by_test (is_unsigned_in 1 most text) refl
+  where
+    by_test : (b : Bool) → is_unsigned_in 1 most text ≡ b → otherwise ≡ (if b then digits_value 10 (without_leading_plus text) else otherwise)
+    by_test true is = absurd (none (accepts-Accepts false (parsers.Unsigned 1 most) text is))
+    by_test false is = refl
+
+-- The number lies in its range.
+pub number_within : (most otherwise : ℕ) (value : Option Text) → 1 ≤ otherwise → otherwise ≤ most → (1 ≤ number_from most otherwise value) × (number_from most otherwise value ≤ most)
+number_within most otherwise None low high = (low, high)
+number_within most otherwise (Some text) low high = by_test (is_unsigned_in 1 most text) refl
+  where
+    by_test : (b : Bool) → is_unsigned_in 1 most text ≡ b
+        → (1 ≤ (if b then digits_value 10 (without_leading_plus text) else otherwise)) × ((if b then digits_value 10 (without_leading_plus text) else otherwise) ≤ most)
+    by_test true is = let passed = accepts-Accepts false (parsers.Unsigned 1 most) text is in (passed.2, passed.3)
+    by_test false is = (low, high)
+
+pub asked_some : (words : List Text) → AreInGrammar words → asked words ≡ Some (asked_by (subcommand_of specparse words))
+asked_some words taken = by_faults (fault_of specparse words) taken
+  where
+    by_faults : (faults : Kinds) → faults ≡ [] → where_none faults (asked_by (subcommand_of specparse words)) ≡ Some (asked_by (subcommand_of specparse words))
+    by_faults [] is = refl
+    by_faults (f ∷ fs) is = absurd (cc is)
+
+pub asked_none : (words : List Text) → (AreInGrammar words → ⊥) → asked words ≡ None
+asked_none words refused = by_faults (fault_of specparse words) refused
+  where
+    by_faults : (faults : Kinds) → (faults ≡ [] → ⊥) → where_none faults (asked_by (subcommand_of specparse words)) ≡ None
+    by_faults [] no_fault = absurd (no_fault refl)
+    by_faults (f ∷ fs) some = refl

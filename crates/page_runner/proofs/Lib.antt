@@ -1,0 +1,3 @@
+pub mod WriteLemmas
+pub mod GrammarLemmas
+pub mod WordsExamples

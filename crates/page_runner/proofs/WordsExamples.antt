@@ -1,0 +1,35 @@
+-- What some words ask for.
+use Rattle.std.proofs.Common.{◌≡◌, [], ◌∷◌, Some, None, codes, refl}
+use Rattle.clap.specs.Faults.{walk_fault, defaults_fault}
+use Rattle.clap.specs.Walk.{walked}
+use Rattle.page_runner.specs.Words.{asked}
+
+plain : asked (codes "specparse" ∷ codes "page" ∷ codes "p" ∷ codes "d" ∷ codes "e" ∷ [])
+    ≡ Some (record { page = codes "p"; dir = codes "d"; entities = codes "e"; piece = 4096; ahead = 8 })
+unfolding walk_fault walked defaults_fault
+plain = refl
+
+with_options : asked (codes "specparse" ∷ codes "page" ∷ codes "--piece=+5" ∷ codes "p" ∷ codes "d" ∷ codes "--ahead" ∷ codes "007" ∷ codes "e" ∷ [])
+    ≡ Some (record { page = codes "p"; dir = codes "d"; entities = codes "e"; piece = 5; ahead = 7 })
+unfolding walk_fault walked defaults_fault
+with_options = refl
+
+an_empty_piece : asked (codes "specparse" ∷ codes "page" ∷ codes "--piece" ∷ codes "0" ∷ codes "p" ∷ codes "d" ∷ codes "e" ∷ []) ≡ None
+unfolding walk_fault walked defaults_fault
+an_empty_piece = refl
+
+no_entities : asked (codes "specparse" ∷ codes "page" ∷ codes "p" ∷ codes "d" ∷ []) ≡ None
+unfolding walk_fault walked defaults_fault
+no_entities = refl
+
+help : asked (codes "specparse" ∷ codes "--help" ∷ []) ≡ None
+unfolding walk_fault walked defaults_fault
+help = refl
+
+version : asked (codes "specparse" ∷ codes "page" ∷ codes "--version" ∷ codes "p" ∷ codes "d" ∷ codes "e" ∷ []) ≡ None
+unfolding walk_fault walked defaults_fault
+version = refl
+
+no_words : asked [] ≡ None
+unfolding walk_fault walked defaults_fault
+no_words = refl

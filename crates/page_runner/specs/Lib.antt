@@ -1,0 +1,4 @@
+pub mod Status
+pub mod Taken
+pub mod Given
+pub mod Words

@@ -1,0 +1,83 @@
+-- The command's grammar, as `clap` reads it, and the values of its words.
+use Rattle.std.specs.Prelude.{◌≡◌, ℕ, List, [], ◌∷◌, Option, Some, None, true, codes, unwrap_or, if◌then◌else◌}
+use Rattle.std.specs.Option.{option_and_then, option_map_or}
+use Rattle.std.specs.Str.Parse.{digits_value, without_leading_plus}
+use Rattle.std.specs.String.{string_bytes}
+use Rattle.clap.specs.Walk.{Row, first_of}
+use Rattle.clap.specs.Words.{App, Rule, Text, new_app, new_rule, with_rule, with_subcommand, subcommand_of}
+use Rattle.clap.specs.Faults.{fault_of}
+use Rattle.clap.specs.Kinds.{Kinds}
+use Rattle.clap.specs.Simple.{on_top}
+use Rattle.clap.specs.ValueTests.{is_unsigned_in}
+use Rattle.clap.specs.declared.builder.value_parser.ValueParser.TheVariants as parsers
+use Rattle.page_runner.specs.declared.words.PageWords.{PageWords}
+
+-- an option that takes a number from 1 to this
+abbrev pub number_option : List ℕ → ℕ → Rule
+number_option name most = record (new_rule name) { long = Some name; parser = Some (parsers.Unsigned 1 most) }
+
+abbrev pub required : List ℕ → Rule
+required name = record (new_rule name) { required = true }
+
+-- page [--piece N] [--ahead K] PAGE DIR ENTITIES
+abbrev pub page_command : App
+page_command = with_rule (with_rule (with_rule (with_rule (with_rule (new_app (codes "page"))
+    (number_option (codes "piece") 65536))
+    (number_option (codes "ahead") 64))
+    (required (codes "PAGE")))
+    (required (codes "DIR")))
+    (required (codes "ENTITIES"))
+
+abbrev pub specparse : App
+specparse = with_subcommand (on_top (λ s. record s { subcommand_required = true }) (new_app (codes "specparse"))) page_command.top
+
+-- the words, the program's name first, are in the grammar
+abbrev pub AreInGrammar : List Text → Type 0
+AreInGrammar words = fault_of specparse words ≡ []
+
+-- the value of an argument, among those of the subcommand that the words name
+abbrev pub value_of : Text → Option (Text × List Row) → Option Text
+value_of name = option_and_then (λ sub. first_of name sub.1)
+
+-- the text of an argument; the grammar requires one
+abbrev pub text_from : Option Text → List ℕ
+text_from value = unwrap_or value []
+
+-- the number of an option, and where it isn't given this; the grammar takes no other text than such a number
+abbrev pub number_from : ℕ → ℕ → Option Text → ℕ
+number_from most otherwise = λ value. option_map_or (λ text.
+    if is_unsigned_in 1 most text then digits_value 10 (without_leading_plus text) else otherwise) value otherwise
+
+-- what the words ask for
+pub record Asked : Type 0 where
+  pub page : List ℕ
+  pub dir : List ℕ
+  pub entities : List ℕ
+  pub piece : ℕ
+  pub ahead : ℕ
+
+abbrev pub asked_by : Option (Text × List Row) → Asked
+asked_by sub = record {
+  page = text_from (value_of (codes "PAGE") sub);
+  dir = text_from (value_of (codes "DIR") sub);
+  entities = text_from (value_of (codes "ENTITIES") sub);
+  piece = number_from 65536 4096 (value_of (codes "piece") sub);
+  ahead = number_from 64 8 (value_of (codes "ahead") sub);
+}
+
+abbrev pub where_none : {A : Type 0} → Kinds → A → Option A
+where_none [] a = Some a
+where_none (fault ∷ faults) a = None
+
+-- what words ask for, where they are in the grammar
+abbrev pub asked : List Text → Option Asked
+asked words = where_none (fault_of specparse words) (asked_by (subcommand_of specparse words))
+
+abbrev pub shown : PageWords → Asked
+shown read = record {
+  page = string_bytes read.page;
+  dir = string_bytes read.dir;
+  entities = string_bytes read.entities;
+  piece = read.piece;
+  ahead = read.ahead;
+}

@@ -1,0 +1,54 @@
+// A whole file, up to a limit.
+ghost use Rattle.std.specs.Prelude.{◌≡◌, ◌<◌, ◌^◌, IfOk};
+ghost use Rattle.outside.specs.Outside.{OthersStay, NeverFall, seen, KeepsOthers};
+ghost use Rattle.page_runner.specs.Given.{file_at, MayGive, given_of, ReadsNoFurther};
+
+use html_types::NoMemory;
+use outside::{Failed, Outside, Port};
+use std::alloc::Global;
+
+/// What came of a file: its bytes, of a longer one those up to one past the limit.
+#[derive(Drop)]
+pub enum Fetch {
+    Got(Vec<u8>),
+    /// There is no such file.
+    Missing,
+    /// Beginning or reading it failed.
+    Faulted,
+}
+
+const PIECE: usize = 4096;
+
+/// Begins a file and reads it, no further than one byte past the limit.
+pub fn read_whole<F: Outside>(
+    alloc: Global,
+    files: &mut F,
+    port: Port,
+    path: &str,
+    limit: usize,
+) -> Result<Fetch, NoMemory>
+    requires { limit < 2 ^ 32 }
+    ensures given { IfOk result (λ fetch. MayGive limit port path.now
+        (seen F.files F.left F.faults F.absences files.old) (seen F.files F.left F.faults F.absences files.new) (given_of fetch)) }
+    ensures no_further { IfOk result (λ fetch. ReadsNoFurther limit
+        (file_at (seen F.files F.left F.faults F.absences files.old) path.now) (F.left files.new port) fetch) }
+    ensures others { KeepsOthers port (seen F.files F.left F.faults F.absences files.old) (seen F.files F.left F.faults F.absences files.new) }
+{
+    match files.begin(port, path) {
+        Err(Failed) => return Ok(Fetch::Faulted),
+        Ok(false) => return Ok(Fetch::Missing),
+        Ok(true) => {}
+    }
+    let mut bytes = Vec::new(alloc);
+    let mut piece = [0u8; PIECE];
+    'reads: while bytes.len() <= limit {
+        let room = PIECE.min(limit + 1 - bytes.len());
+        let n = match files.read(port, &mut piece[..room]) {
+            Err(Failed) => return Ok(Fetch::Faulted),
+            Ok(0) => break,
+            Ok(n) => n,
+        };
+        bytes.extend_from_slice(&piece[..n])?;
+    }
+    Ok(Fetch::Got(bytes))
+}

@@ -1,0 +1,164 @@
+// The command line, read by `clap`.
+ghost use Rattle.std.specs.Option.{option_map};
+ghost use Rattle.clap.specs.Words.{subcommand_rows_of, subcommand_of};
+ghost use Rattle.std.specs.Prelude.{◌≡◌, ◌≤◌, ◌<◌, ◌^◌, [], map, codes, Some, None, true, false, IfOk, IfErr};
+ghost use Rattle.std.specs.String.{string_bytes};
+ghost use Rattle.clap.specs.Words.{app_of, rule_of};
+ghost use Rattle.clap.specs.declared.builder.command.Command.TheViews.{out-Command as fields_of};
+ghost use Rattle.page_runner.specs.Words.{number_option, required, page_command, specparse, AreInGrammar, value_of, text_from, number_from, asked, shown};
+
+use clap::builder::ValueParser;
+use clap::error::ErrorKind;
+use clap::{Arg, ArgMatches, Command};
+use std::alloc::{AllocError, Global};
+
+/// What the words ask for.
+#[derive(Drop)]
+pub struct PageWords {
+    /// The page's path.
+    pub page: String,
+    /// The path of the scripts' folder.
+    pub dir: String,
+    /// The path of the entities file.
+    pub entities: String,
+    /// The most bytes of one read of the page: 1 to 65,536.
+    pub piece: usize,
+    /// How many requests may be sent ahead of their replies: 1 to 64.
+    pub ahead: usize,
+}
+
+/// Why the words weren't read.
+#[derive(Clone, Copy, Debug, PartialEq, Eq)]
+pub enum Refused {
+    /// They aren't in the command's grammar.
+    Usage,
+    NoMemory,
+}
+
+impl From<AllocError> for Refused {
+    ghost use Rattle.page_runner.specs.declared.words.Refused.TheVariants as refusals;
+
+    ghost from_gives = { λ _ refused. refused ≡ refusals.NoMemory };
+
+    fn from(_error: AllocError) -> Refused {
+        Refused::NoMemory
+    }
+}
+
+fn number_option<'a>(alloc: Global, name: &'a str, most: u64) -> Arg<'a>
+    ensures rule { rule_of result ≡ number_option name.entry.now most }
+    ensures local { result.global ≡ false }
+{
+    Arg::new(alloc, name)
+        .long(name)
+        .value_parser(ValueParser::Unsigned(1, most))
+}
+
+fn required<'a>(alloc: Global, name: &'a str) -> Arg<'a>
+    ensures rule { rule_of result ≡ required name.entry.now }
+    ensures local { result.global ≡ false }
+{
+    Arg::new(alloc, name).required(true)
+}
+
+fn page_command<'a>(alloc: Global) -> Result<Command<'a>, AllocError>
+    ensures { IfOk result (λ c. (app_of c ≡ page_command) × ((fields_of c).has_globals ≡ false)) }
+{
+    Command::new(alloc, "page")
+        .arg(number_option(alloc, "piece", 65536))?
+        .arg(number_option(alloc, "ahead", 64))?
+        .arg(required(alloc, "PAGE"))?
+        .arg(required(alloc, "DIR"))?
+        .arg(required(alloc, "ENTITIES"))
+}
+
+fn specparse<'a>(alloc: Global) -> Result<Command<'a>, AllocError>
+    ensures { IfOk result (λ c. app_of c ≡ specparse) }
+{
+    let page = page_command(alloc)?;
+    Command::new(alloc, "specparse")
+        .subcommand_required(true)
+        .subcommand(page)
+}
+
+// The matches, where the words are in the grammar.
+fn matches_of<'a>(alloc: Global, words: &'a [String]) -> Result<ArgMatches<'a>, Refused>
+    ensures taken { IfOk result (λ _. AreInGrammar (map string_bytes words.entry.now)) }
+    ensures usage { IfErr result (λ refused. refused ≡ Refused.Usage → ¬ (AreInGrammar (map string_bytes words.entry.now))) }
+    ensures rows { IfOk result (λ m. subcommand_rows_of m ≡ subcommand_of specparse (map string_bytes words.entry.now)) }
+{
+    let Ok(command) = specparse(alloc) else {
+        return Err(Refused::NoMemory);
+    };
+    match command.try_get_matches_from(words) {
+        Ok(matches) => Ok(matches),
+        Err(error) => {
+            if error.kind() == ErrorKind::OutOfMemory {
+                Err(Refused::NoMemory)
+            } else {
+                Err(Refused::Usage)
+            }
+        }
+    }
+}
+
+// The value of an argument.
+fn value_of<'a>(matches: &ArgMatches<'a>, name: &str) -> Option<&'a str>
+    ensures { option_map (λ value. value.now) result ≡ value_of name.now (subcommand_rows_of matches.now) }
+{
+    let (_, page) = matches.subcommand()?;
+    page.get_str(name)
+}
+
+fn text_of<'a>(matches: &ArgMatches<'a>, name: &str) -> &'a str
+    ensures { result.now ≡ text_from (value_of name.now (subcommand_rows_of matches.now)) }
+{
+    match value_of(matches, name) {
+        Some(text) => text,
+        None => "",
+    }
+}
+
+// The number from 1 to `most` that the text writes.
+fn number_in(text: &str, most: usize, otherwise: usize) -> usize
+    ensures { result ≡ number_from most otherwise (Some text.now) }
+{
+    match text.parse::<usize>() {
+        Ok(number) => if number < 1 || most < number {
+            otherwise
+        } else {
+            number
+        },
+        Err(_) => otherwise,
+    }
+}
+
+fn number_of(matches: &ArgMatches<'_>, name: &str, most: usize, otherwise: usize) -> usize
+    ensures { result ≡ number_from most otherwise (value_of name.now (subcommand_rows_of matches.now)) }
+{
+    match value_of(matches, name) {
+        Some(text) => number_in(text, most, otherwise),
+        None => otherwise,
+    }
+}
+
+/// Reads the words of the command, of which the program's name is the first. `Usage` comes exactly where the command's
+/// grammar doesn't take them, but where memory runs out.
+pub fn read_words(alloc: Global, words: &[String]) -> Result<PageWords, Refused>
+    ensures ok { IfOk result (λ read. Some (shown read) ≡ asked (map string_bytes words.now)) }
+    ensures usage { IfErr result (λ refused. refused ≡ Refused.Usage → asked (map string_bytes words.now) ≡ None) }
+    ensures piece { IfOk result (λ read. (1 ≤ read.piece) × (read.piece ≤ 65536)) }
+    ensures ahead { IfOk result (λ read. (1 ≤ read.ahead) × (read.ahead ≤ 64)) }
+{
+    let matches = match matches_of(alloc, words) {
+        Ok(matches) => matches,
+        Err(refused) => return Err(refused),
+    };
+    Ok(PageWords {
+        page: String::from_str(alloc, text_of(&matches, "PAGE"))?,
+        dir: String::from_str(alloc, text_of(&matches, "DIR"))?,
+        entities: String::from_str(alloc, text_of(&matches, "ENTITIES"))?,
+        piece: number_of(&matches, "piece", 65536, 4096),
+        ahead: number_of(&matches, "ahead", 64, 8),
+    })
+}

@@ -1,0 +1,4 @@
+pub mod Literals
+pub mod Shown
+pub mod Work
+mod Examples
