@@ -8,7 +8,6 @@ use Rattle.html_types.specs.declared.state.TextState.{TextState}
 use Rattle.html_types.specs.declared.state.TextState.TheVariants.{Data, Raw, Plaintext, RawLessThan, RawEndTagOpen, RawEndTagName}
 use Rattle.html_types.specs.declared.state.TagState.{TagState}
 use Rattle.html_types.specs.declared.state.TagState.TheVariants.{TagOpen, EndTagOpen, TagName, BeforeAttributeName, AttributeName, AfterAttributeName, BeforeAttributeValue, AttributeValueQuoted, AttributeValueUnquoted, AfterAttributeValueQuoted, SelfClosingStartTag}
-use Rattle.html_types.specs.declared.state.TokState.{TokState}
 use Rattle.html_types.specs.declared.state.TokState.TheVariants as group
 use Rattle.html_types.specs.declared.class.Class.{Class}
 use Rattle.html_types.specs.declared.class.Class.TheVariants.{Nul, Space, Slash, Greater, Alpha}

@@ -1,6 +1,5 @@
 -- Texts, tokenized: worked examples.
-use Rattle.std.specs.Prelude.{◌≡◌, List, [], ◌∷◌, ◌++◌, map, refl, codes, true, false, Option, Some, None}
-use Rattle.html_types.specs.declared.attributes.Attribute.{Attribute}
+use Rattle.std.specs.Prelude.{◌≡◌, [], ◌∷◌, ◌++◌, map, refl, codes, true, false, Some, None}
 use Rattle.html_types.specs.declared.word.Word.TheVariants as word
 use Rattle.html_types.specs.declared.name.Name.TheVariants.{Known, Other}
 use Rattle.html_types.specs.declared.state.RawText.TheVariants.{Rcdata, Rawtext, ScriptData}
@@ -10,7 +9,7 @@ use Rattle.html_types.specs.declared.token.Token.TheVariants.{StartTag, EndTag, 
 use Rattle.html_types.specs.declared.state.TagState.TheVariants.{TagName}
 use Rattle.standard.specs.Entities.{Entities}
 use Rattle.standard.specs.Step.{in_text, in_tag, data_state}
-use Rattle.standard.specs.Tokenizer.{feed, settle, onward, read_end}
+use Rattle.standard.specs.Tokenizer.{feed, settle, read_end}
 
 -- a start tag with an attribute, and a character
 attribute : (es : Entities) → feed es data_state (codes "<p a=1>x")

@@ -1,9 +1,7 @@
 -- The list of active formatting elements (13.2.4.3), the latest first.
-use Rattle.std.specs.Prelude.{Bool, true, false, ◌||◌, if◌then◌else◌, ℕ, zero, suc, List, [], ◌∷◌, ◌++◌, Option, Some, None}
+use Rattle.std.specs.Prelude.{Bool, false, ◌||◌, if◌then◌else◌, List, [], ◌∷◌}
 use Rattle.html_types.specs.declared.name.Name.{Name}
-use Rattle.html_types.specs.declared.operation.NodeId.{NodeId}
 use Rattle.html_types.specs.declared.token.Tag.{Tag}
-use Rattle.html_types.specs.Operations.{same_id}
 use Rattle.html_types.specs.declared.open.OpenElement.{OpenElement}
 use Rattle.standard.specs.Stack.{is_open}
 use Rattle.html_types.specs.declared.open.Format.{Format}

@@ -14,7 +14,6 @@ use Rattle.html_types.specs.declared.instruction.Flow.{Flow}
 use Rattle.html_types.specs.declared.instruction.Flow.TheVariants.{On, Skip, Leave}
 use Rattle.html_types.specs.declared.instruction.Next.TheVariants as next
 use Rattle.html_types.specs.Names.{name_of}
-use Rattle.html_types.specs.declared.name.Name.{Name}
 use Rattle.html_types.specs.declared.name.Name.TheVariants.{Known}
 use Rattle.html_types.specs.declared.token.Tag.{Tag}
 use Rattle.html_types.specs.declared.token.Token.{Token}
@@ -25,7 +24,6 @@ use Rattle.html_types.specs.declared.operation.Place.TheVariants.{Page, Inside}
 use Rattle.html_types.specs.declared.operation.Op.{Op}
 use Rattle.html_types.specs.declared.operation.Op.TheVariants as op
 use Rattle.html_types.specs.declared.open.OpenElement.{OpenElement}
-use Rattle.html_types.specs.declared.open.Format.{Format}
 use Rattle.html_types.specs.declared.open.Format.TheVariants.{Marker, Element}
 use Rattle.html_types.specs.declared.open.Open.{Open}
 use Rattle.standard.specs.Elements.{is_word, is_meant, is_one_of}

@@ -1,5 +1,5 @@
 -- The text of a tree (13.3 Serializing HTML fragments), by recursion on the tree.
-use Rattle.std.specs.Prelude.{ℕ, ◌==◌, Bool, true, false, if◌then◌else◌, List, [], ◌∷◌, ◌++◌, flat_map, length, codes, Option, Some, None}
+use Rattle.std.specs.Prelude.{ℕ, ◌==◌, Bool, false, if◌then◌else◌, List, [], ◌∷◌, ◌++◌, flat_map, length, codes, Some, None}
 use Rattle.std.specs.List.{concat}
 use Rattle.html_types.specs.Names.{name_text}
 use Rattle.html_types.specs.declared.attributes.Attribute.{Attribute}

@@ -1,5 +1,5 @@
 -- What the program writes, in bytes.
-use Rattle.std.specs.Prelude.{ℕ, List, [], ◌∷◌, ◌++◌, flat_map, decimal, encode_utf8_all, codes}
+use Rattle.std.specs.Prelude.{ℕ, List, [], ◌++◌, flat_map, decimal, encode_utf8_all, codes}
 use Rattle.json.specs.Print.{quoted}
 use Rattle.html_types.specs.declared.script.Why.{Why}
 use Rattle.html_types.specs.declared.script.Why.TheVariants as why

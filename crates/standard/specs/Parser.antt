@@ -5,7 +5,7 @@ use Rattle.html_types.specs.declared.word.Word.{Word}
 use Rattle.html_types.specs.declared.name.Name.{Name}
 use Rattle.html_types.specs.declared.name.Name.TheVariants.{Known, Other}
 use Rattle.html_types.specs.declared.token.Token.{Token}
-use Rattle.html_types.specs.declared.token.Token.TheVariants.{StartTag, EndTag}
+use Rattle.html_types.specs.declared.token.Token.TheVariants.{StartTag}
 use Rattle.html_types.specs.declared.state.TokState.{TokState}
 use Rattle.html_types.specs.declared.state.TextState.TheVariants as text_state
 use Rattle.html_types.specs.declared.state.RawText.TheVariants as raw

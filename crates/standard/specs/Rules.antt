@@ -1,5 +1,5 @@
 -- Tree construction (13.2.6): the row of a mode for a token, and what processing a token comes to.
-use Rattle.std.specs.Prelude.{ℕ, Bool, true, false, ◌==◌, ◌||◌, ◌&&◌, if◌then◌else◌, List, [], ◌∷◌}
+use Rattle.std.specs.Prelude.{ℕ, Bool, false, ◌==◌, ◌||◌, ◌&&◌, if◌then◌else◌, List, [], ◌∷◌}
 use Rattle.std.proofs.Common.{zero, suc}
 use Rattle.html_types.specs.declared.word.Word.{Word}
 use Rattle.html_types.specs.declared.name.Name.{Name}
@@ -17,7 +17,7 @@ use Rattle.html_types.specs.declared.token.Token.TheVariants.{StartTag, EndTag, 
 use Rattle.html_types.specs.declared.operation.Op.{Op}
 use Rattle.html_types.specs.declared.open.Open.{Open}
 use Rattle.standard.specs.Rows.{row_for}
-use Rattle.standard.specs.Instructions.{Config, config, on, run}
+use Rattle.standard.specs.Instructions.{Config, on, run}
 use Rattle.standard.specs.RulesHead.{initial_doctype, initial_anything, before_html_start, before_html_end, before_html_anything, before_head_start, before_head_end, before_head_anything, in_head_start, in_head_end, in_head_anything, after_head_start, after_head_end, after_head_anything}
 use Rattle.standard.specs.RulesBody.{in_body_space, in_body_character, in_body_start, in_body_any_start, in_body_end, in_body_any_end, in_text_end_of_file, in_text_end, in_text_any_end, after_body_start, after_body_end, after_body_anything, after_after_body_start, after_after_body_anything}
 

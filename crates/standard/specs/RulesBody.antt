@@ -4,7 +4,7 @@ use Rattle.std.specs.Prelude.{List, [], ◌∷◌}
 use Rattle.html_types.specs.declared.word.Word.{Word}
 use Rattle.html_types.specs.declared.word.Word.TheVariants.{A, Address, Applet, Area, Article, Aside, B, Base, Basefont, Bgsound, Big, Blockquote, Body, Br, Button, Caption, Center, Code, Col, Colgroup, Dd, Details, Dialog, Dir, Div, Dl, Dt, Em, Embed, Fieldset, Figcaption, Figure, Font, Footer, Form, Frame, Frameset, H1, H2, H3, H4, H5, H6, Head, Header, Hgroup, Hr, Html, I, Iframe, Image, Img, Input, Keygen, Li, Link, Listing, Main, Marquee, Menu, Meta, Nav, Nobr, Noembed, Noframes, Noscript, Object, Ol, Optgroup, Option, P, Param, Plaintext, Pre, Rb, Rp, Rt, Rtc, Ruby, S, Script, Search, Section, Select, Small, Source, Strike, Strong, Style, Summary, Table, Tbody, Td, Template, Textarea, Tfoot, Th, Thead, Title, Tr, Track, Tt, U, Ul, Wbr, Xmp}
 use Rattle.html_types.specs.declared.instruction.Instr.{Instr}
-use Rattle.html_types.specs.declared.instruction.Instr.TheVariants.{Need, Forbid, When, Unless, Insert, InsertA, Void, InsertText, Pop, Until, Implied, ImpliedBut, Close, CloseItem, AnyOtherEnd, Reconstruct, Marker, ClearToMarker, NotOk, SkipLineFeed, AddToFirst, AddToSecond, Enter, KeepMode, Restore, Switch, Using, Again, StopAtScript, Finish, Missing}
+use Rattle.html_types.specs.declared.instruction.Instr.TheVariants.{Need, Forbid, When, Unless, Insert, InsertA, Void, InsertText, Pop, Until, Implied, ImpliedBut, Close, CloseItem, AnyOtherEnd, Reconstruct, Marker, ClearToMarker, NotOk, SkipLineFeed, AddToFirst, AddToSecond, Enter, KeepMode, Restore, Switch, Using, Again, StopAtScript, Missing}
 use Rattle.html_types.specs.declared.instruction.Test.TheVariants.{InScope, Current, OnStack, SecondIsBody}
 use Rattle.html_types.specs.declared.instruction.Who.TheVariants.{Own, The, Any}
 use Rattle.html_types.specs.declared.instruction.Group.TheVariants.{Headings, DefinitionItems}

@@ -3,7 +3,7 @@ use Rattle.std.specs.Prelude.{List, [], ◌∷◌}
 use Rattle.html_types.specs.declared.word.Word.{Word}
 use Rattle.html_types.specs.declared.word.Word.TheVariants.{Base, Basefont, Bgsound, Body, Br, Frameset, Head, Html, Link, Meta, Noframes, Noscript, Script, Style, Template, Title}
 use Rattle.html_types.specs.declared.instruction.Instr.{Instr}
-use Rattle.html_types.specs.declared.instruction.Instr.TheVariants.{When, Insert, InsertA, InsertRoot, InsertRootA, Void, InsertText, InsertComment, CommentToPage, AppendDoctype, Pop, NotOk, BecomeQuirky, PointHead, PushHead, TakeHeadOff, Enter, KeepMode, Switch, Using, Again, Missing}
+use Rattle.html_types.specs.declared.instruction.Instr.TheVariants.{When, Insert, InsertA, InsertRoot, InsertRootA, Void, AppendDoctype, Pop, NotOk, BecomeQuirky, PointHead, PushHead, TakeHeadOff, Enter, KeepMode, Switch, Using, Again, Missing}
 use Rattle.html_types.specs.declared.instruction.Test.TheVariants.{QuirkyDoctype}
 use Rattle.html_types.specs.declared.instruction.Mode.TheVariants.{BeforeHtml, BeforeHead, InHead, AfterHead, InBody, InText}
 use Rattle.html_types.specs.declared.instruction.Reading.TheVariants.{Rcdata, Rawtext, ScriptData}

@@ -1,7 +1,5 @@
 -- What a row of the tokenizer (13.2.5) gives: tokens, the next state, and whether the character is read again there.
-use Rattle.std.specs.Prelude.{ℕ, Bool, true, false, List, [], ◌∷◌, ◌++◌, Option, Some, None, if◌then◌else◌, map}
-use Rattle.std.specs.Char.{to_ascii_lowercase}
-use Rattle.html_types.specs.Text.{same_text}
+use Rattle.std.specs.Prelude.{ℕ, Bool, true, false, List, [], ◌∷◌}
 use Rattle.html_types.specs.Names.{name_of}
 use Rattle.html_types.specs.declared.token.Tag.{Tag}
 use Rattle.html_types.specs.declared.token.PartialTag.{PartialTag}

@@ -7,13 +7,12 @@ use Rattle.html_types.specs.declared.token.TagKind.TheVariants as kind
 use Rattle.html_types.specs.declared.token.Quote.{Quote}
 use Rattle.html_types.specs.declared.token.Quote.TheVariants.{Single, Double}
 use Rattle.html_types.specs.declared.token.Token.TheVariants.{Character, EndOfFile}
-use Rattle.html_types.specs.declared.state.TextState.TheVariants.{Data}
 use Rattle.html_types.specs.declared.state.TagState.{TagState}
 use Rattle.html_types.specs.declared.state.TagState.TheVariants.{TagOpen, EndTagOpen, TagName, BeforeAttributeName, AttributeName, AfterAttributeName, BeforeAttributeValue, AttributeValueQuoted, AttributeValueUnquoted, AfterAttributeValueQuoted, SelfClosingStartTag}
 use Rattle.html_types.specs.declared.class.Class.{Class}
 use Rattle.html_types.specs.declared.class.Class.TheVariants.{Space, Bang, DoubleQuote, Ampersand, SingleQuote, Slash, Equals, Greater, Question, Alpha, InputEnd}
 use Rattle.standard.specs.Class.{shown, name_char}
-use Rattle.standard.specs.Step.{Step, in_text, in_tag, data_state, emit, to, emit_again, again, finish, missing, new_tag, emit_tag, emit_tag_as}
+use Rattle.standard.specs.Step.{Step, in_tag, data_state, emit, to, emit_again, again, finish, missing, new_tag, emit_tag, emit_tag_as}
 
 -- one more character in a tag's name
 abbrev pub longer_name : PartialTag → ℕ → PartialTag

@@ -9,7 +9,7 @@ use Rattle.html_types.specs.declared.token.PartialTag.{PartialTag}
 use Rattle.html_types.specs.declared.token.TagKind.TheVariants as kind
 use Rattle.html_types.specs.declared.token.Token.TheVariants.{Character}
 use Rattle.html_types.specs.declared.state.RawText.{RawText}
-use Rattle.html_types.specs.declared.state.RawText.TheVariants.{Rcdata, Rawtext, ScriptData}
+use Rattle.html_types.specs.declared.state.RawText.TheVariants.{Rcdata, ScriptData}
 use Rattle.html_types.specs.declared.state.TextState.{TextState}
 use Rattle.html_types.specs.declared.state.TextState.TheVariants.{Data, Raw, Plaintext, RawLessThan, RawEndTagOpen, RawEndTagName}
 use Rattle.html_types.specs.declared.state.TagState.TheVariants.{TagOpen, BeforeAttributeName, SelfClosingStartTag}
