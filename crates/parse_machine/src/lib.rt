@@ -3,6 +3,8 @@
 #![tactic(auto)]
 
 mod machine;
+#[cfg(test)]
+mod tests;
 mod token;
 
 pub use html_types::{Finish, Stop};
