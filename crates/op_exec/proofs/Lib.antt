@@ -5,3 +5,4 @@ pub mod Types
 pub mod Literals
 pub mod Scripts
 pub mod Lists
+pub mod Worked

@@ -8,3 +8,37 @@ mod script;
 pub use doc::Doc;
 pub use laws::same_up_to_renaming;
 pub use script::ScriptKind;
+
+#[cfg(test)]
+mod tests {
+    use super::*;
+    use html_types::{Attributes, Name, NoMemory, NodeId, Op, Ops, Place, Text};
+
+    #[test]
+    #[tactic(auto, unfolding(standard::specs::Act::act, standard::specs::Act::acts))]
+    fn a_script_that_stands_nowhere_is_still(rt: HostRuntime) -> Result<(), NoMemory> {
+        let alloc = rt.alloc();
+        let id = NodeId { realm: 1, n: 0 };
+        let mut doc = Doc::new(alloc)?;
+        let name = Name::from_text(Text::from_str(alloc, "script")?);
+        let attributes = Attributes::new(alloc);
+        doc.apply(&Op::Make { id, name, attributes })?;
+        assert!(rt; doc.script_kind(id) == ScriptKind::Still);
+        assert!(rt; doc.script_text(id)?.is_empty());
+        assert!(rt; doc.script_src(id)?.is_none());
+        Ok(())
+    }
+
+    #[test]
+    #[tactic(auto, unfolding(standard::specs::Act::AreOpsBound))]
+    fn the_document_takes_no_text(rt: HostRuntime) -> Result<(), NoMemory> {
+        let alloc = rt.alloc();
+        let mut doc = Doc::new(alloc)?;
+        let mut ops = Ops::new(alloc);
+        ops.push_character(alloc, Place::Page, 'x')?;
+        ops.push_character(alloc, Place::Page, 'y')?;
+        doc.apply_all(&ops)?;
+        assert_eq!(rt; doc.tree().len(), 1);
+        Ok(())
+    }
+}
