@@ -1,8 +1,8 @@
 -- Worked operations.
-use Rattle.std.proofs.Common.{◌≡◌, ℕ, List, [], ◌∷◌, true, false, Some, None, length, refl}
+use Rattle.std.proofs.Common.{◌≡◌, ℕ, List, [], ◌∷◌, true, false, Some, refl}
 use Rattle.std.specs.Prelude.{codes}
 use Rattle.html_types.specs.declared.attributes.Attribute.{Attribute}
-use Rattle.html_types.specs.declared.name.Name.TheVariants.{Known, Other}
+use Rattle.html_types.specs.declared.name.Name.TheVariants.{Known}
 use Rattle.html_types.specs.declared.word.Word.TheVariants.{Html, Body, Table}
 use Rattle.html_types.specs.declared.operation.NodeId.{NodeId}
 use Rattle.html_types.specs.declared.operation.Place.TheVariants.{Page, Inside, Foster}

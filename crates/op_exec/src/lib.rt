@@ -22,7 +22,11 @@ mod tests {
         let mut doc = Doc::new(alloc)?;
         let name = Name::from_text(Text::from_str(alloc, "script")?);
         let attributes = Attributes::new(alloc);
-        doc.apply(&Op::Make { id, name, attributes })?;
+        doc.apply(&Op::Make {
+            id,
+            name,
+            attributes,
+        })?;
         assert!(rt; doc.script_kind(id) == ScriptKind::Still);
         assert!(rt; doc.script_text(id)?.is_empty());
         assert!(rt; doc.script_src(id)?.is_none());
