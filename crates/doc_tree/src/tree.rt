@@ -616,6 +616,7 @@ impl Tree {
         requires { node < length self.now }
         ensures parent { result ≡ parent_of self.now node }
         ensures here { ForSome result (λ p. p < length self.now) }
+        ensures tree { IsTree self.now }
     {
         self.nodes[node].parent
     }
@@ -625,6 +626,7 @@ impl Tree {
         requires { node < length self.now }
         ensures contents { result ≡ contents_of self.now node }
         ensures here { ForSome result (λ c. c < length self.now) }
+        ensures tree { IsTree self.now }
     {
         self.nodes[node].contents
     }

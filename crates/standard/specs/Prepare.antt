@@ -1,7 +1,7 @@
 -- Whether a script runs when its end tag is met (4.12.1.1, prepare the script element), on the tree as it is then.
-use Rattle.std.specs.Prelude.{ℕ, Bool, true, false, not, ◌&&◌, ◌||◌, if◌then◌else◌, is_some, List, [], ◌∷◌, map, reverse, codes, Option, Some, None}
+use Rattle.std.specs.Prelude.{ℕ, Bool, true, false, not, ◌&&◌, ◌||◌, if◌then◌else◌, ◌-◌, is_some, List, [], ◌∷◌, length, map, take, drop, codes, Option, Some, None}
 use Rattle.std.specs.Char.{is_ascii_whitespace, to_ascii_lowercase}
-use Rattle.std.specs.List.{list_any}
+use Rattle.std.specs.List.{list_any, prefix_len, suffix_len}
 use Prim.Native.String.{String}
 use Rattle.html_types.specs.Text.{same_text}
 use Rattle.html_types.specs.declared.attributes.Attribute.{Attribute}
@@ -22,19 +22,22 @@ javascript_types =
     ∷ "text/javascript1.3" ∷ "text/javascript1.4" ∷ "text/javascript1.5" ∷ "text/jscript" ∷ "text/livescript"
     ∷ "text/x-ecmascript" ∷ "text/x-javascript" ∷ []
 
-abbrev pub skip_spaces : List ℕ → List ℕ
-skip_spaces [] = []
-skip_spaces (c ∷ cs) = if is_ascii_whitespace c then skip_spaces cs else c ∷ cs
+-- without the ASCII white space that it begins with
+abbrev pub strip_start : List ℕ → List ℕ
+strip_start text = drop (prefix_len is_ascii_whitespace text) text
 
--- without ASCII white space at both ends
+-- and without that it ends with
 abbrev pub strip : List ℕ → List ℕ
-strip text = reverse (skip_spaces (reverse (skip_spaces text)))
+strip text = let rest = strip_start text in take (length rest - suffix_len is_ascii_whitespace rest) rest
+
+abbrev pub is_type : List ℕ → String → Bool
+is_type text name = same_text (map to_ascii_lowercase (strip text)) (codes name)
 
 -- no `type`, an empty one, or one of the list, whatever the case of its letters
 abbrev pub is_javascript : Option (List ℕ) → Bool
 is_javascript None = true
 is_javascript (Some []) = true
-is_javascript (Some (c ∷ cs)) = list_any (λ name. same_text (map to_ascii_lowercase (strip (c ∷ cs))) (codes name)) javascript_types
+is_javascript (Some (c ∷ cs)) = list_any (is_type (c ∷ cs)) javascript_types
 
 abbrev pub has : String → List Attribute → Bool
 has name attributes = is_some (attribute (codes name) attributes)

@@ -1,0 +1,69 @@
+-- What keeps a document one.
+use Rattle.std.proofs.Common.{◌≡◌, ℕ, ◌<◌, [], ◌∷◌, ◌++◌, length, Option, Some, None, IsSome, false, refl, ap, ◌∙◌, arith, rules}
+use Rattle.std.specs.Prelude.{unwrap_or, IfSome, IsTrue, is_some}
+use Rattle.std.specs.Map.{values_of, remove_entry}
+use Rattle.std.specs.BTreeMap.{insert_entry, is_at}
+use Rattle.std.specs.declared.cmp.Ordering.{Ordering}
+use Rattle.std.specs.declared.cmp.Ordering.TheVariants.{Less, Equal, Greater}
+use Rattle.std.proofs.lemmas.Bool.Decides.{nat_tests}
+use Rattle.std.proofs.lemmas.List.Elements.{All-weaker}
+use Rattle.std.proofs.lemmas.Map.Views.{All-values-insert_entry, IfSome-lookup_from_All}
+use Rattle.standard.specs.Tree.{Nodes, no_node, lone, Keeps}
+use Rattle.html_types.specs.declared.tree.Node.{Node}
+use Rattle.html_types.specs.declared.tree.Kind.{Kind}
+use Rattle.std.proofs.lemmas.List.{length_push, get_or_push}
+use Rattle.html_types.specs.declared.operation.NodeId.{NodeId}
+use Rattle.standard.specs.Act.{Bound, id_cmp, bound_to, node_of, is_bound}
+use Rattle.op_exec.specs.Docs.{IsPlain, IsDoc}
+
+pub IsPlain-kept : (t s : Nodes) (n : ℕ) → Keeps t s → IsPlain t n → IsPlain s n
+IsPlain-kept t s n kept plain = (omega (arith, kept.nodes, plain.0), plain.1, kept.hosts n plain.0 ∙ plain.2)
+
+pub IsDoc-kept : (t s : Nodes) (bound : Bound) → IsDoc t bound → Keeps t s → IsDoc s bound
+IsDoc-kept t s bound doc kept = record {
+  document = omega (arith, kept.nodes, doc.document);
+  plain = All-weaker (IsPlain t) (IsPlain s) (λ n plain. IsPlain-kept t s n kept plain) (values_of bound) doc.plain;
+}
+
+pub IsDoc-bound : (t s : Nodes) (bound : Bound) (id : NodeId) (n : ℕ) → IsDoc t bound → Keeps t s → IsPlain s n → IsDoc s (insert_entry id_cmp bound id n)
+IsDoc-bound t s bound id n doc kept plain = record {
+  document = omega (arith, kept.nodes, doc.document);
+  plain = All-values-insert_entry id_cmp id n (IsPlain s) bound (IsDoc-kept t s bound doc kept).plain plain;
+}
+
+at_some : (o : Option ℕ) (P : ℕ → Type 0) → IsSome o → IfSome o P → P (unwrap_or o 0)
+at_some None P some h = absurd cc
+at_some (Some n) P some h = h
+
+pub some_from_test : (o : Option ℕ) → IsTrue (is_some o) → IsSome o
+some_from_test None there = absurd (cc)
+some_from_test (Some n) there = search rules
+
+-- an id that is bound stands for a node
+pub IsPlain-node_of : (t : Nodes) (bound : Bound) (id : NodeId) → IsDoc t bound → IsTrue (is_bound bound id) → IsPlain t (node_of bound id)
+IsPlain-node_of t bound id doc there = at_some (bound_to bound id) (IsPlain t) (some_from_test (bound_to bound id) there) (IfSome-lookup_from_All (IsPlain t) (is_at (id_cmp id)) bound doc.plain)
+
+pub id_cmp-same : (id : NodeId) → id_cmp id id ≡ Equal
+id_cmp-same id = grind (arith, nat_tests)
+
+-- taking a new id out again leaves all as it was
+pub remove_entry-insert_entry : (bound : Bound) (id : NodeId) (n : ℕ) → bound_to bound id ≡ None → remove_entry (is_at (id_cmp id)) (insert_entry id_cmp bound id n) ≡ bound
+remove_entry-insert_entry [] id n absent = rw (id_cmp-same id) refl
+remove_entry-insert_entry (e ∷ es) id n absent = by_order (id_cmp id e.0) refl (remove_entry-insert_entry es id n)
+  where
+    by_order : (o : Ordering) → id_cmp id e.0 ≡ o → (bound_to es id ≡ None → remove_entry (is_at (id_cmp id)) (insert_entry id_cmp es id n) ≡ es)
+        → remove_entry (is_at (id_cmp id)) (insert_entry id_cmp (e ∷ es) id n) ≡ e ∷ es
+    by_order Less is rest = rw (is, id_cmp-same id) refl
+    by_order Equal is rest = let found : bound_to (e ∷ es) id ≡ Some e.1 = rw is refl in absurd cc
+    by_order Greater is rest = rw (is, is) (ap (λ x. e ∷ x) (rest (rw is at absent)))
+
+-- a new node is plain
+pub IsPlain-new : (t s : Nodes) (kind : Kind) → 0 < length t → s ≡ t ++ lone kind ∷ [] → IsPlain s (length t)
+IsPlain-new t s kind some is = rw is (omega (arith, length_push t (lone kind)), (λ none. not_none none), ap (λ (v : Node). v.host) (get_or_push t (lone kind) no_node (length t) refl))
+  where
+    not_none : length t ≡ 0 → ⊥
+    not_none none = omega arith
+
+pub none_from_test : (o : Option ℕ) → is_some o ≡ false → o ≡ None
+none_from_test None none = refl
+none_from_test (Some n) none = absurd (cc)

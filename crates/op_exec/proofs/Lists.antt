@@ -1,0 +1,138 @@
+-- Operations in a list, and which of them have their ids bound.
+use Rattle.std.proofs.Common.{◌≡◌, ℕ, ◌+◌, ◌<◌, Bool, true, false, cond, ◌||◌, List, [], ◌∷◌, ◌++◌, length, get_or, take, drop, map, Option, Some, refl, sym, ap, ◌∙◌, subst, inl, inr, append_assoc, append-nil, take-append-drop}
+use Rattle.std.specs.Prelude.{is_some, ◌==◌}
+use Rattle.std.specs.Ordering.{is_eq}
+use Rattle.std.proofs.lemmas.List.{at_drop_more, take_more}
+use Rattle.std.proofs.lemmas.Bool.{and_from, eq-eqb, false_from_ne_true, and_parts, eqb-true}
+use Rattle.html_types.specs.Operations.{same_id, spelled, spelled_one}
+use Rattle.html_types.specs.declared.operation.NodeId.{NodeId}
+use Rattle.html_types.specs.declared.operation.Place.{Place}
+use Rattle.html_types.specs.declared.operation.Op.{Op}
+use Rattle.html_types.specs.declared.operation.Op.TheVariants.{Make, Put, Text, Note, Doctype, Detach, AddAttributes}
+use Rattle.standard.specs.Act.{Doc, id_cmp, bound_to, act, acts, is_bound, IsPlaceBound, IsOpBound, known_after, AreOpsBound}
+use Rattle.op_exec.specs.Docs.{inserts_nothing, IsDoneInPart}
+use Rattle.op_exec.proofs.Renamed.{tells, bound_to-insert}
+
+pub acts-append : (d : Doc) (xs ys : List Op) → acts d (xs ++ ys) ≡ acts (acts d xs) ys
+unfolding acts
+acts-append d [] ys = refl
+acts-append d (x ∷ xs) ys = acts-append (act d x) xs ys
+
+spelled-split : (xs ys : List Op) → spelled (xs ++ ys) ≡ spelled xs ++ spelled ys
+unfolding spelled
+spelled-split [] ys = refl
+spelled-split (x ∷ xs) ys = ap (λ zs. spelled_one x ++ zs) (spelled-split xs ys) ∙ sym (append_assoc (spelled_one x) (spelled xs) (spelled ys))
+
+spelled-one : (o : Op) → spelled (o ∷ []) ≡ spelled_one o
+unfolding spelled
+spelled-one o = append-nil (spelled_one o)
+
+spelled-first : (o : Op) (os : List Op) → spelled (o ∷ os) ≡ spelled_one o ++ spelled os
+unfolding spelled
+spelled-first o os = refl
+
+-- the test of two ids
+same_id-test : (a b : NodeId) → is_eq (id_cmp a b) ≡ same_id a b
+same_id-test a b = elim (tells a b) [
+  | inl alike ↦ alike.0 ∙ sym (and_from (a.realm == b.realm) (a.n == b.n) (eq-eqb a.realm b.realm (ap (λ (x : NodeId). x.realm) alike.1)) (eq-eqb a.n b.n (ap (λ (x : NodeId). x.n) alike.1)))
+  | inr apart ↦ apart.0 ∙ sym (false_from_ne_true (same_id a b) (λ same.
+      let parts = and_parts (a.realm == b.realm) (a.n == b.n) same in
+      apart.1 (λ i. record { realm = eqb-true a.realm b.realm parts.0 i; n = eqb-true a.n b.n parts.1 i })))
+]
+
+-- which ids are bound once the operation is done
+known_after-is : (d : Doc) (o : Op) (q : NodeId) → known_after (is_bound d.bound) o q ≡ is_bound (act d o).bound q
+unfolding act
+known_after-is d (Make id name attributes) q =
+    sym (ap is_some (bound_to-insert d.bound id (length d.tree) q) ∙ some_of (is_eq (id_cmp q id)) (bound_to d.bound q) ∙ ap (λ b. b || is_bound d.bound q) (same_id-test q id))
+  where
+    some_of : (b : Bool) (o : Option ℕ) → is_some (cond b (Some (length d.tree)) o) ≡ (b || is_some o)
+    some_of true o = refl
+    some_of false o = refl
+known_after-is d (Put id place) q = refl
+known_after-is d (Text place text) q = refl
+known_after-is d (Note place text) q = refl
+known_after-is d (Doctype name) q = refl
+known_after-is d (Detach id) q = refl
+known_after-is d (AddAttributes id attributes) q = refl
+
+AreOpsBound-after : (d : Doc) (xs ys : List Op) → AreOpsBound (is_bound d.bound) (xs ++ ys) → AreOpsBound (is_bound (acts d xs).bound) ys
+unfolding acts AreOpsBound
+AreOpsBound-after d [] ys bound = bound
+AreOpsBound-after d (x ∷ xs) ys bound =
+    AreOpsBound-after (act d x) xs ys (subst (λ (known : NodeId → Bool). AreOpsBound known (xs ++ ys)) (λ i q. known_after-is d x q i) bound.1)
+
+AreOpsBound-front : (known : NodeId → Bool) (xs ys : List Op) → AreOpsBound known (xs ++ ys) → AreOpsBound known xs
+unfolding AreOpsBound
+AreOpsBound-front known [] ys bound = tt
+AreOpsBound-front known (x ∷ xs) ys bound = (bound.0, AreOpsBound-front (known_after known x) xs ys bound.1)
+
+pub IsOpBound-from_spelled : (known : NodeId → Bool) (o : Op) → inserts_nothing o ≡ false → AreOpsBound known (spelled_one o) → IsOpBound known o
+unfolding AreOpsBound
+IsOpBound-from_spelled known (Make id name attributes) some bound = bound.0
+IsOpBound-from_spelled known (Put id place) some bound = bound.0
+IsOpBound-from_spelled known (Text place []) some bound = absurd (cc)
+IsOpBound-from_spelled known (Text place (c ∷ cs)) some bound = bound.0
+IsOpBound-from_spelled known (Note place text) some bound = bound.0
+IsOpBound-from_spelled known (Doctype name) some bound = bound.0
+IsOpBound-from_spelled known (Detach id) some bound = bound.0
+IsOpBound-from_spelled known (AddAttributes id attributes) some bound = bound.0
+
+AreOpsBound-run : (known : NodeId → Bool) (place : Place) (text : List ℕ) → IsPlaceBound known place → AreOpsBound known (map (λ c. Text place (c ∷ [])) text)
+unfolding AreOpsBound
+AreOpsBound-run known place [] there = tt
+AreOpsBound-run known place (c ∷ cs) there = (there, AreOpsBound-run known place cs there)
+
+-- an operation with its ids bound, spelled out
+pub AreOpsBound-spelled : (known : NodeId → Bool) (o : Op) → IsOpBound known o → AreOpsBound known (spelled_one o)
+unfolding AreOpsBound
+AreOpsBound-spelled known (Make id name attributes) bound = (bound, tt)
+AreOpsBound-spelled known (Put id place) bound = (bound, tt)
+AreOpsBound-spelled known (Text place text) bound = AreOpsBound-run known place text bound
+AreOpsBound-spelled known (Note place text) bound = (bound, tt)
+AreOpsBound-spelled known (Doctype name) bound = (bound, tt)
+AreOpsBound-spelled known (Detach id) bound = (bound, tt)
+AreOpsBound-spelled known (AddAttributes id attributes) bound = (bound, tt)
+
+pub acts-nothing : (d : Doc) (o : Op) → inserts_nothing o ≡ true → acts d (spelled_one o) ≡ d
+unfolding acts
+acts-nothing d (Text place []) none = refl
+acts-nothing d (Text place (c ∷ cs)) none = absurd (cc)
+acts-nothing d (Make id name attributes) none = absurd (cc)
+acts-nothing d (Put id place) none = absurd (cc)
+acts-nothing d (Note place text) none = absurd (cc)
+acts-nothing d (Doctype name) none = absurd (cc)
+acts-nothing d (Detach id) none = absurd (cc)
+acts-nothing d (AddAttributes id attributes) none = absurd (cc)
+
+-- ---- a turn of the loop over operations
+
+module _ (d e : Doc) (os : List Op) (i : ℕ) (o : Op) (below : i < length os) (at : o ≡ get_or os i o) (done : e ≡ acts d (spelled (take i os))) (bound : AreOpsBound (is_bound e.bound) (spelled (drop i os))) where
+  left : spelled (drop i os) ≡ spelled_one o ++ spelled (drop (i + 1) os)
+  left = at_drop_more spelled os i o below ∙ spelled-first (get_or os i o) (drop (i + 1) os) ∙ ap (λ x. spelled_one x ++ spelled (drop (i + 1) os)) (sym at)
+
+  pub turn-bound : AreOpsBound (is_bound e.bound) (spelled_one o)
+  turn-bound = AreOpsBound-front (is_bound e.bound) (spelled_one o) (spelled (drop (i + 1) os)) (subst (AreOpsBound (is_bound e.bound)) left bound)
+
+  pub turn-bound_after : (e' : Doc) → e' ≡ acts e (spelled_one o) → AreOpsBound (is_bound e'.bound) (spelled (drop (i + 1) os))
+  turn-bound_after e' is =
+      subst (λ (x : Doc). AreOpsBound (is_bound x.bound) (spelled (drop (i + 1) os))) (sym is)
+      (AreOpsBound-after e (spelled_one o) (spelled (drop (i + 1) os)) (subst (AreOpsBound (is_bound e.bound)) left bound))
+
+  pub turn-done : (e' : Doc) → e' ≡ acts e (spelled_one o) → e' ≡ acts d (spelled (take (i + 1) os))
+  turn-done e' is =
+      is
+      ∙ ap (λ (x : Doc). acts x (spelled_one o)) done
+      ∙ sym (acts-append d (spelled (take i os)) (spelled_one o))
+      ∙ ap (λ xs. acts d (spelled (take i os) ++ xs)) (sym (spelled-one o))
+      ∙ ap (acts d) (sym (spelled-split (take i os) (o ∷ [])))
+      ∙ ap (λ x. acts d (spelled (take i os ++ x ∷ []))) at
+      ∙ ap (λ xs. acts d (spelled xs)) (sym (take_more os i o below))
+
+  pub turn-part : IsDoneInPart d e (spelled os)
+  turn-part = record {
+    done = spelled (take i os);
+    left = spelled (drop i os);
+    all = ap spelled (sym (take-append-drop i os)) ∙ spelled-split (take i os) (drop i os);
+    result = done;
+  }

@@ -1,0 +1,28 @@
+-- What keeps a document one, and operations that were done in part.
+use Rattle.std.specs.Prelude.{◌≡◌, ◌≢◌, ◌<◌, ◌++◌, ℕ, Bool, true, false, List, [], length, None, All}
+use Rattle.std.specs.Map.{values_of}
+use Rattle.html_types.specs.declared.operation.Op.{Op}
+use Rattle.html_types.specs.declared.operation.Op.TheVariants.{Text}
+use Rattle.standard.specs.Tree.{Nodes, host_of}
+use Rattle.standard.specs.Act.{Bound, Doc, acts}
+
+-- a node of the tree that is neither the Document nor a template's contents
+abbrev pub IsPlain : Nodes → ℕ → Type 0
+IsPlain t n = (n < length t) × (n ≢ 0) × (host_of t n ≡ None)
+
+-- ids stand for such nodes
+pub record IsDoc (t : Nodes) (bound : Bound) : Type 0 where
+  pub document : 0 < length t
+  pub plain : All (IsPlain t) (values_of bound)
+
+-- whether the operation inserts an empty text
+abbrev pub inserts_nothing : Op → Bool
+inserts_nothing (Text place []) = true
+inserts_nothing _ = false
+
+-- the first of the operations are done, and no other
+pub record IsDoneInPart (old new : Doc) (ops : List Op) : Type 0 where
+  pub done : List Op
+  pub left : List Op
+  pub all : ops ≡ done ++ left
+  pub result : new ≡ acts old done

@@ -1,0 +1,329 @@
+//! A tree and the ids of its elements.
+
+ghost use Rattle.std.specs.Prelude.{◌≡◌, ◌≢◌, ◌<◌, length, IsTrue, IsSome, OnOk, OnErr, IfOk, Some, None, false};
+ghost use Rattle.std.specs.Option.{ForSome};
+ghost use Rattle.html_types.specs.declared.operation.Op.TheVariants as op;
+
+use crate::script::{ScriptKind, kind_of_script};
+use doc_tree::Tree;
+use html_types::{Attributes, Kind, Name, NoMemory, NodeId, Op, Ops, Place, Text};
+use std::alloc::Global;
+use std::collections::BTreeMap;
+use std::marker::Model;
+
+/// A tree and what ids name in it: a contract sees both.
+#[derive(Drop)]
+pub struct Doc {
+    alloc: Global,
+    tree: Tree,
+    bound: BTreeMap<NodeId, usize>,
+}
+
+impl Model for Doc {
+    ghost use Rattle.standard.specs.Act.{Doc as State};
+
+    ghost Value = { State };
+
+    ghost use Rattle.op_exec.specs.Docs.{IsDoc};
+
+    ghost view = { λ d. record { tree = d.tree; bound = d.bound.entries } };
+
+    ghost invariant = { λ d. IsDoc d.tree d.bound.entries };
+}
+
+// Among the children of a node, just before one of them or at their end.
+#[derive(Clone, Copy)]
+struct Spot {
+    parent: usize,
+    before: Option<usize>,
+}
+
+ghost use Rattle.standard.specs.Tree.{IsTree, parent_of};
+ghost use Rattle.standard.specs.Act.{end_of, foster_spot};
+
+// The end of a node; of a template, the end of its contents.
+fn end_of(tree: &Tree, node: usize) -> Spot
+    requires { node < length tree.now }
+    ensures parent { result.parent ≡ (end_of tree.now node).parent }
+    ensures before { result.before ≡ None }
+    ensures here { result.parent < length tree.now }
+    ensures tree { IsTree tree.now }
+{
+    Spot {
+        parent: tree.contents(node).unwrap_or(node),
+        before: None,
+    }
+}
+
+// Just before the table where it has a parent, else the end of the element above it in the stack.
+fn foster_spot(tree: &Tree, table: usize, above: usize) -> Spot
+    requires table_here { table < length tree.now }
+    requires above_here { above < length tree.now }
+    ensures parent { result.parent ≡ (foster_spot tree.now table above (parent_of tree.now table)).parent }
+    ensures before { result.before ≡ (foster_spot tree.now table above (parent_of tree.now table)).before }
+    ensures here { result.parent < length tree.now }
+    ensures tree { IsTree tree.now }
+    ensures child { ForSome result.before (λ b. (b < length tree.now) × (parent_of tree.now b ≡ Some result.parent)) }
+{
+    match tree.parent(table) {
+        None => end_of(tree, above),
+        Some(parent) => match tree.contents(parent) {
+            None => Spot {
+                parent,
+                before: Some(table),
+            },
+            Some(contents) => Spot {
+                parent: contents,
+                before: None,
+            },
+        },
+    }
+}
+
+ghost use Rattle.op_exec.specs.Docs.{inserts_nothing};
+
+// Whether it inserts an empty text.
+fn inserts_nothing(op: &Op) -> bool
+    ensures { result ≡ inserts_nothing op.now }
+{
+    match op {
+        Op::Text { text, .. } => text.is_empty(),
+        _ => false,
+    }
+}
+
+impl Doc {
+    ghost use Rattle.html_types.specs.Operations.{spelled_one};
+    ghost use Rattle.standard.specs.Tree.{host_of, detached};
+    ghost use Rattle.standard.specs.Act.{new_doc, act, acts, bound_to, node_of, is_bound, spot_of, text_at, IsPlaceBound, IsOpBound, AreOpsBound};
+    ghost use Rattle.op_exec.specs.Docs.{IsDoneInPart};
+
+    /// The Document alone, with no id bound.
+    pub fn new(alloc: Global) -> Result<Doc, NoMemory>
+        ensures { IfOk result (λ d. d ≡ new_doc) }
+    {
+        let tree = Tree::new(alloc)?;
+        Ok(Doc {
+            alloc,
+            tree,
+            bound: BTreeMap::new(alloc),
+        })
+    }
+
+    /// The tree.
+    pub fn tree(&self) -> &Tree
+        ensures { result.now ≡ self.now.tree }
+    {
+        &self.tree
+    }
+
+    /// The node that an id stands for.
+    pub fn node(&self, id: NodeId) -> usize
+        requires { IsTrue (is_bound self.now.bound id) }
+        ensures node { result ≡ node_of self.now.bound id }
+        ensures here { result < length self.now.tree }
+        ensures not_document { result ≢ 0 }
+        ensures no_contents { host_of self.now.tree result ≡ None }
+    {
+        self.bound.get(&id).copied().unwrap()
+    }
+
+    // Where a place lies on the tree as it is now.
+    fn spot(&self, place: Place) -> Spot
+        requires { IsPlaceBound (is_bound self.now.bound) place }
+        ensures parent { result.parent ≡ (spot_of self.now place).parent }
+        ensures before { result.before ≡ (spot_of self.now place).before }
+        ensures here { result.parent < length self.now.tree }
+        ensures tree { IsTree self.now.tree }
+        ensures child { ForSome result.before (λ b. (b < length self.now.tree) × (parent_of self.now.tree b ≡ Some result.parent)) }
+    {
+        match place {
+            Place::Page => end_of(&self.tree, 0),
+            Place::Inside(id) => end_of(&self.tree, self.node(id)),
+            Place::Contents(id) => end_of(&self.tree, self.node(id)),
+            Place::Foster { table, above } => foster_spot(
+                &self.tree,
+                self.node(table),
+                self.node(above),
+            ),
+        }
+    }
+
+    #[tactic(auto, unfolding(standard::specs::Act::act))]
+    fn make(&mut self, id: NodeId, name: &Name, attributes: &Attributes) -> Result<(), NoMemory>
+        requires { is_bound self.old.bound id ≡ false }
+        ensures ok { OnOk result (self.new ≡ act self.old (op.Make id name.now attributes.now)) }
+        ensures err { OnErr result (self.new ≡ self.old) }
+    {
+        let name = name.copy(self.alloc)?;
+        let attributes = attributes.copy(self.alloc)?;
+        let number = self.tree.len();
+        self.bound.insert(id, number)?;
+        if let Err(error) = self.tree.make(Kind::Element { name, attributes }) {
+            self.bound.remove(&id);
+            return Err(error);
+        }
+        Ok(())
+    }
+
+    #[tactic(auto, unfolding(standard::specs::Act::act))]
+    fn put(&mut self, id: NodeId, place: Place) -> Result<(), NoMemory>
+        requires bound { IsTrue (is_bound self.old.bound id) }
+        requires place_bound { IsPlaceBound (is_bound self.old.bound) place }
+        ensures ok { OnOk result (self.new ≡ act self.old (op.Put id place)) }
+        ensures err { OnErr result (self.new ≡ self.old) }
+    {
+        let node = self.node(id);
+        let spot = self.spot(place);
+        match spot.before {
+            None => self.tree.put_last(node, spot.parent)?,
+            Some(before) => self.tree.put_before(node, before)?,
+        };
+        Ok(())
+    }
+
+    fn text(&mut self, place: Place, text: &Text) -> Result<(), NoMemory>
+        requires { IsPlaceBound (is_bound self.old.bound) place }
+        ensures ok { OnOk result (self.new ≡ acts self.old (spelled_one (op.Text place text.now))) }
+        ensures err { OnErr result (self.new ≡ self.old) }
+    {
+        let spot = self.spot(place);
+        self.tree.add_text(spot.parent, spot.before, text.as_str())?;
+        Ok(())
+    }
+
+    #[tactic(auto, unfolding(standard::specs::Act::act))]
+    fn note(&mut self, place: Place, text: &Text) -> Result<(), NoMemory>
+        requires { IsPlaceBound (is_bound self.old.bound) place }
+        ensures ok { OnOk result (self.new ≡ act self.old (op.Note place text.now)) }
+        ensures err { OnErr result (self.new ≡ self.old) }
+    {
+        let text = text.copy(self.alloc)?;
+        let spot = self.spot(place);
+        self.tree.add(spot.parent, spot.before, Kind::Comment(text))
+    }
+
+    #[tactic(auto, unfolding(standard::specs::Act::act))]
+    fn doctype(&mut self, name: &Text) -> Result<(), NoMemory>
+        ensures ok { OnOk result (self.new ≡ act self.old (op.Doctype name.now)) }
+        ensures err { OnErr result (self.new ≡ self.old) }
+    {
+        let name = name.copy(self.alloc)?;
+        let spot = end_of(&self.tree, 0);
+        self.tree.add(spot.parent, spot.before, Kind::Doctype(name))
+    }
+
+    #[tactic(auto, unfolding(standard::specs::Act::act))]
+    fn detach(&mut self, id: NodeId)
+        requires { IsTrue (is_bound self.old.bound id) }
+        ensures { self.new ≡ act self.old (op.Detach id) }
+    {
+        let node = self.node(id);
+        self.tree.detach(node);
+    }
+
+    #[tactic(auto, unfolding(standard::specs::Act::act))]
+    fn add_attributes(&mut self, id: NodeId, attributes: &Attributes) -> Result<(), NoMemory>
+        requires { IsTrue (is_bound self.old.bound id) }
+        ensures ok { OnOk result (self.new ≡ act self.old (op.AddAttributes id attributes.now)) }
+        ensures err { OnErr result (self.new ≡ self.old) }
+    {
+        let node = self.node(id);
+        self.tree.add_attributes(node, attributes)
+    }
+
+    /// Does the operation on the tree as it is now; where it inserts text, the insertions of its characters one by one.
+    #[tactic(auto, unfolding(standard::specs::Act::acts))]
+    pub fn apply(&mut self, op: &Op) -> Result<(), NoMemory>
+        requires { IsOpBound (is_bound self.old.bound) op.now }
+        ensures ok { OnOk result (self.new ≡ acts self.old (spelled_one op.now)) }
+        ensures err { OnErr result (self.new ≡ self.old) }
+    {
+        match op {
+            Op::Make {
+                id,
+                name,
+                attributes,
+            } => self.make(*id, name, attributes),
+            Op::Put { node, place } => self.put(*node, *place),
+            Op::Text { place, text } => self.text(*place, text),
+            Op::Note { place, text } => self.note(*place, text),
+            Op::Doctype { name } => self.doctype(name),
+            Op::Detach { node } => {
+                self.detach(*node);
+                Ok(())
+            }
+            Op::AddAttributes { node, attributes } => self.add_attributes(*node, attributes),
+        }
+    }
+
+    // Does the operation, unless it inserts an empty text: then nothing is asked of its place.
+    fn apply_spelled(&mut self, op: &Op) -> Result<(), NoMemory>
+        requires { AreOpsBound (is_bound self.old.bound) (spelled_one op.now) }
+        ensures ok { OnOk result (self.new ≡ acts self.old (spelled_one op.now)) }
+        ensures err { OnErr result (self.new ≡ self.old) }
+    {
+        if inserts_nothing(op) {
+            return Ok(());
+        }
+        self.apply(op)
+    }
+
+    /// Does the operations in order. Where memory runs out, the first of them are done, and no other.
+    pub fn apply_all(&mut self, ops: &Ops) -> Result<(), NoMemory>
+        requires { AreOpsBound (is_bound self.old.bound) ops.now }
+        ensures ok { OnOk result (self.new ≡ acts self.old ops.now) }
+        ensures err { OnErr result (IsDoneInPart self.old self.new ops.now) }
+    {
+        for op in ops.as_slice() {
+            self.apply_spelled(op)?;
+        }
+        Ok(())
+    }
+
+    /// Takes a node out of its parent.
+    pub fn remove(&mut self, node: usize)
+        requires { node < length self.old.tree }
+        ensures { self.new ≡ record self.old { tree = detached self.old.tree node } }
+    {
+        self.tree.detach(node);
+    }
+}
+
+// Scripts.
+impl Doc {
+    ghost use Rattle.std.specs.Option.{option_map};
+    ghost use Rattle.std.specs.Prelude.{codes};
+    ghost use Rattle.standard.specs.Tree.{kind_of, attributes_of, attribute, script_text};
+    ghost use Rattle.standard.specs.Act.{node_of, is_bound};
+    ghost use Rattle.standard.specs.Prepare.{prepare};
+    ghost use Rattle.op_exec.specs.Scripts.{script_kind};
+
+    /// How the script runs that the id stands for, on the tree as it is now.
+    pub fn script_kind(&self, id: NodeId) -> ScriptKind
+        requires { IsTrue (is_bound self.now.bound id) }
+        ensures { result ≡ script_kind (prepare self.now.tree (node_of self.now.bound id)) }
+    {
+        kind_of_script(&self.tree, self.node(id))
+    }
+
+    /// The script's text: the texts of its Text children, joined.
+    pub fn script_text(&self, id: NodeId) -> Result<Text, NoMemory>
+        requires { IsTrue (is_bound self.now.bound id) }
+        ensures { IfOk result (λ text. text ≡ script_text self.now.tree (node_of self.now.bound id)) }
+    {
+        self.tree.child_text(self.node(id))
+    }
+
+    /// The script's `src`.
+    #[tactic(auto, using(std::proofs::lemmas::Grind::common_steps, crate::proofs::Literals::src_text))]
+    pub fn script_src(&self, id: NodeId) -> Result<Option<Text>, NoMemory>
+        requires { IsTrue (is_bound self.now.bound id) }
+        ensures { IfOk result (λ src. src ≡ attribute (codes "src") (attributes_of (kind_of self.now.tree (node_of self.now.bound id)))) }
+    {
+        match self.tree.attribute(self.node(id), "src") {
+            None => Ok(None),
+            Some(src) => Ok(Some(src.copy(self.alloc)?)),
+        }
+    }
+}
