@@ -172,6 +172,14 @@ impl Tokenizer {
         })
     }
 
+    /// Reads a character. The tokens that it makes wait behind those that wait already.
+    pub fn read_character(&mut self, alloc: Global, c: char) -> Result<(), NoMemory>
+        ensures { OnOk result
+            ((es : Entities) → self.new ≡ after_tokens self.old.tokens (read es self.old.state c)) }
+    {
+        self.read_class(alloc, class_of(c), c)
+    }
+
     // Reads a character of this class, or the end.
     fn read_class(&mut self, alloc: Global, class: Class, c: char) -> Result<(), NoMemory>
         ensures { OnOk result

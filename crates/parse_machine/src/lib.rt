@@ -1,0 +1,10 @@
+//! The parser: tokenizer and builder together, from text to operations (13.2.5, 13.2.6). No tree is read, so the next state and
+//! the stop depend on the state and the text alone.
+#![tactic(auto)]
+
+mod machine;
+mod token;
+
+pub use html_types::{Finish, Stop};
+pub use machine::{Machine, Ran};
+pub use token::construct;

@@ -1,0 +1,373 @@
+//! The machine.
+
+ghost use Rattle.std.specs.Prelude.{◌≡◌, ◌↔◌, ◌==◌, ◌≢◌, ◌&&◌, ◌<◌, [], ◌∷◌, Bool, length, if◌then◌else◌, IfOk, IsTrue};
+ghost use Rattle.std.specs.Str.{chars};
+ghost use Rattle.standard.specs.Tokenizer.{Reached, read, read_end};
+ghost use Rattle.std.specs.Str.{IsCharBoundary};
+ghost use Rattle.standard.specs.Entities.{Entities};
+ghost use Rattle.standard.specs.Parser as definition;
+ghost use Rattle.standard.specs.Parser.{new_parser, took, after_ops, build, build_end, take_character, finish as finished, parse, AreSame, after_all};
+ghost use Rattle.parse_machine.specs.Machine.{WentTo, EndedTo, Builds, BuildsLast, RanAs, stops as stops_at};
+
+use crate::token::construct;
+use builder_state::Builder;
+use html_types::{
+    Finish, Name, Next, NoMemory, NodeId, Ops, RawText, Reading, Stop, TextState, TokState, Token,
+    Word, char_at,
+};
+use std::alloc::Global;
+use std::marker::Model;
+use tokenizer::Tokenizer;
+
+/// A parser: contracts see the tokenizer's state, whether the last character was a CR, and the open state.
+#[derive(Drop)]
+pub struct Machine {
+    tokenizer: Tokenizer,
+    after_cr: bool,
+    builder: Builder,
+}
+
+impl Model for Machine {
+    ghost use Rattle.std.specs.Prelude.{◌≡◌, []};
+    ghost use Rattle.standard.specs.Parser.{Parser, parser};
+
+    ghost Value = { Parser };
+
+    ghost view = { λ m. parser m.tokenizer.state m.after_cr m.builder };
+
+    // No token waits between two characters.
+    ghost invariant = { λ m. m.tokenizer.tokens ≡ [] };
+}
+
+/// Why the machine stopped in a text, and how many bytes of it were used.
+#[derive(Clone, Copy, Debug, PartialEq, Eq)]
+pub struct Ran {
+    pub stop: Stop,
+    pub used: usize,
+}
+
+// The parser stops before the text is used.
+fn stops(stop: Stop) -> bool
+    ensures { result ≡ stops_at stop }
+{
+    !matches!(&stop, Stop::InputEnd)
+}
+
+// The word of a start tag's name, where the rules speak of it.
+fn word_of_tag(token: &Token) -> Option<Word>
+    ensures { result ≡ definition.word_of_tag token.now }
+{
+    match token {
+        Token::StartTag(tag) => match &tag.name {
+            Name::Known(word) => Some(*word),
+            Name::Other(_) => None,
+        },
+        _ => None,
+    }
+}
+
+// How the tokenizer reads on where a rule switches it.
+fn read_as(reading: Reading, token: &Token) -> TokState
+    ensures { result ≡ definition.read_as reading token.now }
+{
+    let last = word_of_tag(token);
+    match reading {
+        Reading::Rcdata => TokState::Text(TextState::Raw(RawText::Rcdata, last)),
+        Reading::Rawtext => TokState::Text(TextState::Raw(RawText::Rawtext, last)),
+        Reading::ScriptData => TokState::Text(TextState::Raw(RawText::ScriptData, last)),
+        Reading::Plaintext => TokState::Text(TextState::Plaintext),
+    }
+}
+
+// What became of the first token that waited.
+#[derive(Clone, Copy, Debug, PartialEq, Eq)]
+pub(crate) enum Went {
+    /// There was none.
+    AllUsed,
+    /// The next is to be processed.
+    On,
+    At(Stop),
+}
+
+// Processes a token, with others waiting behind it. The tokenizer may then read on in another way.
+fn process(
+    alloc: Global,
+    tokenizer: &mut Tokenizer,
+    builder: &mut Builder,
+    token: &Token,
+    ops: &mut Ops,
+) -> Result<Went, NoMemory>
+    ensures built { IfOk result (λ went. (cr : Bool) → WentTo cr tokenizer.new builder.new ops.new went
+        ≡ after_ops ops.old (build tokenizer.old.state cr (token.now ∷ tokenizer.old.tokens) builder.old)) }
+    ensures waiting { tokenizer.new.tokens ≡ tokenizer.old.tokens }
+    ensures some { IfOk result (λ went. went ≢ Went.AllUsed) }
+{
+    match construct(alloc, builder, token, ops)? {
+        Next::Done => Ok(Went::On),
+        Next::Switch(reading) => {
+            tokenizer.load(read_as(reading, token));
+            Ok(Went::On)
+        }
+        Next::Script(id) => Ok(Went::At(Stop::Script(id))),
+        Next::Deep => Ok(Went::At(Stop::Deep)),
+        Next::Again => Ok(Went::At(Stop::Missing)),
+        Next::Using(_) => Ok(Went::At(Stop::Missing)),
+        Next::Finished => Ok(Went::At(Stop::Missing)),
+        Next::Missing => Ok(Went::At(Stop::Missing)),
+    }
+}
+
+// Processes the first token that waits.
+fn process_first(
+    alloc: Global,
+    tokenizer: &mut Tokenizer,
+    builder: &mut Builder,
+    ops: &mut Ops,
+) -> Result<Went, NoMemory>
+    ensures built { IfOk result (λ went. (cr : Bool) → WentTo cr tokenizer.new builder.new ops.new went
+        ≡ after_ops ops.old (build tokenizer.old.state cr tokenizer.old.tokens builder.old)) }
+    ensures fewer { IfOk result (λ went. went ≡ Went.On → length tokenizer.new.tokens < length tokenizer.old.tokens) }
+    ensures none { IfOk result (λ went. went ≡ Went.AllUsed → tokenizer.new.tokens ≡ []) }
+{
+    match tokenizer.pop() {
+        None => Ok(Went::AllUsed),
+        Some(token) => process(alloc, tokenizer, builder, &token, ops),
+    }
+}
+
+// Processes the tokens that wait, in order, up to the first stop; those behind it are dropped.
+fn build_waiting(
+    alloc: Global,
+    tokenizer: &mut Tokenizer,
+    builder: &mut Builder,
+    ops: &mut Ops,
+) -> Result<Stop, NoMemory>
+    ensures built { IfOk result (λ stop. (cr : Bool) → Builds cr tokenizer.old builder.old ops.old tokenizer.new builder.new ops.new stop) }
+    ensures none_waits { IfOk result (λ _. tokenizer.new.tokens ≡ []) }
+{
+    'tokens: loop {
+        match process_first(alloc, tokenizer, builder, ops)? {
+            Went::AllUsed => return Ok(Stop::InputEnd),
+            Went::On => {}
+            Went::At(stop) => {
+                tokenizer.clear(alloc);
+                return Ok(stop);
+            }
+        }
+    }
+}
+
+// What became of the first of the last tokens.
+#[derive(Clone, Copy, Debug, PartialEq, Eq)]
+pub(crate) enum Ended {
+    /// The next is to be processed.
+    On,
+    At(Finish),
+}
+
+// Processes one of the last tokens.
+fn process_last(
+    alloc: Global,
+    builder: &mut Builder,
+    token: &Token,
+    ops: &mut Ops,
+) -> Result<Ended, NoMemory>
+    ensures { IfOk result (λ ended. (cr : Bool) (m : Reached) → EndedTo cr m builder.new ops.new ended
+        ≡ after_all ops.old (build_end m.state cr (token.now ∷ m.tokens) builder.old)) }
+{
+    match construct(alloc, builder, token, ops)? {
+        Next::Done => Ok(Ended::On),
+        Next::Finished => Ok(Ended::At(Finish::Finished)),
+        Next::Deep => Ok(Ended::At(Finish::Deep)),
+        Next::Again => Ok(Ended::At(Finish::Missing)),
+        Next::Using(_) => Ok(Ended::At(Finish::Missing)),
+        Next::Switch(_) => Ok(Ended::At(Finish::Missing)),
+        Next::Script(_) => Ok(Ended::At(Finish::Missing)),
+        Next::Missing => Ok(Ended::At(Finish::Missing)),
+    }
+}
+
+// Processes the first of the last tokens.
+fn process_first_of_last(
+    alloc: Global,
+    tokenizer: &mut Tokenizer,
+    builder: &mut Builder,
+    ops: &mut Ops,
+) -> Result<Ended, NoMemory>
+    ensures built { IfOk result (λ ended. (cr : Bool) → EndedTo cr tokenizer.new builder.new ops.new ended
+        ≡ after_all ops.old (build_end tokenizer.old.state cr tokenizer.old.tokens builder.old)) }
+    ensures fewer { IfOk result (λ ended. ended ≡ Ended.On → length tokenizer.new.tokens < length tokenizer.old.tokens) }
+{
+    match tokenizer.pop() {
+        None => Ok(Ended::At(Finish::Missing)),
+        Some(token) => process_last(alloc, builder, &token, ops),
+    }
+}
+
+// Processes the last tokens, up to the one at which parsing stops; those behind it are dropped.
+fn build_last(
+    alloc: Global,
+    tokenizer: &mut Tokenizer,
+    builder: &mut Builder,
+    ops: &mut Ops,
+) -> Result<Finish, NoMemory>
+    ensures built { IfOk result (λ finish. (cr : Bool) → BuildsLast cr tokenizer.old builder.old ops.old tokenizer.new builder.new ops.new finish) }
+    ensures none_waits { IfOk result (λ _. tokenizer.new.tokens ≡ []) }
+{
+    'tokens: loop {
+        match process_first_of_last(alloc, tokenizer, builder, ops)? {
+            Ended::On => {}
+            Ended::At(finish) => {
+                tokenizer.clear(alloc);
+                return Ok(finish);
+            }
+        }
+    }
+}
+
+// A line feed behind a CR is skipped.
+fn skips(after_cr: bool, c: char) -> bool
+    ensures { result ≡ (after_cr && (c == 10)) }
+{
+    after_cr && c == '\n'
+}
+
+// A CR is a line feed.
+fn line_feed_for_cr(c: char) -> char
+    ensures { result ≡ (if c == 13 then 10 else c) }
+{
+    if c == '\r' { '\n' } else { c }
+}
+
+// Reads a character, and processes the tokens that it makes.
+fn read_and_build(
+    alloc: Global,
+    tokenizer: &mut Tokenizer,
+    builder: &mut Builder,
+    c: char,
+    ops: &mut Ops,
+) -> Result<Stop, NoMemory>
+    requires { tokenizer.old.tokens ≡ [] }
+    ensures built { IfOk result (λ stop. (es : Entities) (cr : Bool) → Builds cr (read es tokenizer.old.state c) builder.old ops.old tokenizer.new builder.new ops.new stop) }
+    ensures none_waits { IfOk result (λ _. tokenizer.new.tokens ≡ []) }
+{
+    tokenizer.read_character(alloc, c)?;
+    build_waiting(alloc, tokenizer, builder, ops)
+}
+
+// Reads the end of the input, and processes the tokens that it makes.
+fn end_and_build(
+    alloc: Global,
+    tokenizer: &mut Tokenizer,
+    builder: &mut Builder,
+    ops: &mut Ops,
+) -> Result<Finish, NoMemory>
+    requires { tokenizer.old.tokens ≡ [] }
+    ensures built { IfOk result (λ finish. (es : Entities) (cr : Bool) → BuildsLast cr (read_end es tokenizer.old.state) builder.old ops.old tokenizer.new builder.new ops.new finish) }
+    ensures none_waits { IfOk result (λ _. tokenizer.new.tokens ≡ []) }
+{
+    tokenizer.finish(alloc)?;
+    build_last(alloc, tokenizer, builder, ops)
+}
+
+impl Machine {
+    /// The parser at the beginning of a page. Its elements are of that realm. It takes no memory.
+    pub fn new(alloc: Global, realm: u64) -> Machine
+        ensures { result ≡ new_parser realm }
+    {
+        Machine {
+            tokenizer: Tokenizer::new(alloc),
+            after_cr: false,
+            builder: Builder::new(alloc, realm),
+        }
+    }
+
+    // Takes one character.
+    fn take(&mut self, alloc: Global, c: char, ops: &mut Ops) -> Result<Stop, NoMemory>
+        ensures { IfOk result (λ stop. (es : Entities) → after_ops ops.old (take_character es self.old c) ≡ took ops.new self.new stop) }
+    {
+        if skips(self.after_cr, c) {
+            self.after_cr = false;
+            return Ok(Stop::InputEnd);
+        }
+        self.after_cr = c == '\r';
+        let read = line_feed_for_cr(c);
+        match read_and_build(alloc, &mut self.tokenizer, &mut self.builder, read, ops) {
+            Ok(stop) => Ok(stop),
+            Err(error) => {
+                self.tokenizer.clear(alloc);
+                Err(error)
+            }
+        }
+    }
+
+    /// Takes the characters of a text, up to the first stop. Operations are added at the end of `ops`.
+    /// Where it answers want of memory, the machine and the operations only keep their types.
+    pub fn run(&mut self, alloc: Global, text: &str, ops: &mut Ops) -> Result<Ran, NoMemory>
+        ensures boundary { IfOk result (λ ran. IsCharBoundary text.now ran.used) }
+        // The operations, the next state, the characters used and the stop are those of the parse of the text.
+        ensures parsed { IfOk result (λ ran. (es : Entities) → RanAs (parse es self.old (chars text.now)) ops.old self.new ops.new ran text.now) }
+    {
+        let mut used = 0;
+        while let Some((c, behind)) = char_at(text, used) {
+            used = behind;
+            let stop = self.take(alloc, c, ops)?;
+            if stops(stop) {
+                return Ok(Ran { stop, used });
+            }
+        }
+        Ok(Ran {
+            stop: Stop::InputEnd,
+            used,
+        })
+    }
+
+    /// Takes the end of the input.
+    pub fn finish(&mut self, alloc: Global, ops: &mut Ops) -> Result<Finish, NoMemory>
+        ensures { IfOk result (λ finish. (es : Entities) → after_all ops.old (finished es self.old) ≡ record { ops = ops.new; parser = self.new; finish = finish }) }
+    {
+        match end_and_build(alloc, &mut self.tokenizer, &mut self.builder, ops) {
+            Ok(finish) => Ok(finish),
+            Err(error) => {
+                self.tokenizer.clear(alloc);
+                Err(error)
+            }
+        }
+    }
+
+    /// A copy.
+    pub fn copy(&self, alloc: Global) -> Result<Machine, NoMemory>
+        ensures { IfOk result (λ m. m ≡ self.now) }
+    {
+        let tokenizer = self.tokenizer.copy(alloc)?;
+        let builder = self.builder.copy(alloc)?;
+        Ok(Machine {
+            tokenizer,
+            after_cr: self.after_cr,
+            builder,
+        })
+    }
+
+    /// Whether two are the same: all but the realm and the number of the next id.
+    pub fn same(&self, other: &Machine) -> bool
+        ensures { IsTrue result ↔ AreSame self.now other.now }
+    {
+        self.tokenizer.same(&other.tokenizer)
+            && self.after_cr == other.after_cr
+            && self.builder.same(&other.builder)
+    }
+
+    /// The id of the next element that is made.
+    pub fn next_id(&self) -> NodeId
+        ensures { result ≡ self.now.open_state.next }
+    {
+        self.builder.next_id()
+    }
+
+    /// The elements that are made from now on have the ids of that realm, from its first on.
+    pub fn renew(&mut self, realm: u64)
+        ensures { self.new ≡ record self.old { open_state = record self.old.open_state { next = record { realm = realm; n = 0 } } } }
+    {
+        self.builder.renew(realm);
+    }
+}

@@ -1,0 +1,120 @@
+//! A token, by the rules of the mode and of those that it is then to go by (13.2.6).
+
+ghost use Rattle.std.specs.Prelude.{◌≡◌, ◌&&◌, IfOk};
+ghost use Rattle.standard.specs.Rules.{answer, by_mode, process, rounds, is_line_feed as is_line_feed_in, construct as constructed};
+ghost use Rattle.parse_machine.specs.Rounds.{rounded, round_of};
+
+use builder_body::body;
+use builder_head::head;
+use builder_state::Builder;
+use html_types::{Mode, Next, NoMemory, Ops, Token};
+use std::alloc::Global;
+
+/// No token goes by more rules than this.
+const ROUNDS: u32 = 16;
+
+fn is_line_feed(token: &Token) -> bool
+    ensures { result ≡ is_line_feed_in token.now }
+{
+    matches!(token, Token::Character('\n'))
+}
+
+// By the rules of one mode.
+fn by_rules(
+    alloc: Global,
+    builder: &mut Builder,
+    mode: Mode,
+    token: &Token,
+    ops: &mut Ops,
+) -> Result<Next, NoMemory>
+    ensures { IfOk result (λ n. answer builder.new ops.new n ≡ by_mode mode token.now builder.old ops.old) }
+{
+    match mode {
+        Mode::Initial | Mode::BeforeHtml | Mode::BeforeHead | Mode::InHead | Mode::AfterHead =>
+            head(alloc, builder, mode, token, ops),
+        Mode::InBody | Mode::InText | Mode::AfterBody | Mode::AfterAfterBody => {
+            body(alloc, builder, mode, token, ops)
+        }
+    }
+}
+
+// The rules that the token is to go by, or what comes next.
+#[derive(Clone, Copy, Debug, PartialEq, Eq)]
+pub(crate) enum Round {
+    Once(Mode),
+    Over(Next),
+}
+
+// By the rules of one mode, and what they ask for.
+fn one_round(
+    alloc: Global,
+    builder: &mut Builder,
+    mode: Mode,
+    token: &Token,
+    ops: &mut Ops,
+) -> Result<Round, NoMemory>
+    ensures { IfOk result (λ round. rounded builder.new ops.new round ≡ round_of mode token.now builder.old ops.old) }
+{
+    match by_rules(alloc, builder, mode, token, ops)? {
+        Next::Again => Ok(Round::Once(builder.mode())),
+        Next::Using(other) => Ok(Round::Once(other)),
+        Next::Done => Ok(Round::Over(Next::Done)),
+        Next::Switch(reading) => Ok(Round::Over(Next::Switch(reading))),
+        Next::Script(id) => Ok(Round::Over(Next::Script(id))),
+        Next::Deep => Ok(Round::Over(Next::Deep)),
+        Next::Finished => Ok(Round::Over(Next::Finished)),
+        Next::Missing => Ok(Round::Over(Next::Missing)),
+    }
+}
+
+// By the rules of a mode, and of those that the token is then to go by.
+#[tactic(auto, using(std::proofs::lemmas::Grind::common_steps, crate::proofs::Rounds::rounds_turn))]
+fn by_all_rules(
+    alloc: Global,
+    builder: &mut Builder,
+    first: Mode,
+    token: &Token,
+    ops: &mut Ops,
+) -> Result<Next, NoMemory>
+    ensures { IfOk result (λ n. answer builder.new ops.new n ≡ process rounds first token.now builder.old ops.old) }
+{
+    let mut round = Round::Once(first);
+    let mut left = ROUNDS;
+    while left > 0 {
+        match round {
+            Round::Once(mode) => round = one_round(alloc, builder, mode, token, ops)?,
+            Round::Over(next) => return Ok(next),
+        }
+        left -= 1;
+    }
+    match round {
+        Round::Once(_) => Ok(Next::Missing),
+        Round::Over(next) => Ok(next),
+    }
+}
+
+// A line feed is left out where the token before asks for that.
+fn is_left_out(skip: bool, token: &Token) -> bool
+    ensures { result ≡ (skip && is_line_feed_in token.now) }
+{
+    skip && is_line_feed(token)
+}
+
+/// Processes a token. Operations are added at the end of `ops`.
+/// Where it answers want of memory, the builder and the operations only keep their types.
+#[tactic(auto, unfolding(standard::specs::Rules::construct))]
+pub fn construct(
+    alloc: Global,
+    builder: &mut Builder,
+    token: &Token,
+    ops: &mut Ops,
+) -> Result<Next, NoMemory>
+    ensures { IfOk result (λ n. answer builder.new ops.new n ≡ constructed token.now builder.old ops.old) }
+{
+    let skip = builder.take_skip();
+    if is_left_out(skip, token) {
+        return Ok(Next::Done);
+    }
+    let mode = builder.mode();
+    by_all_rules(alloc, builder, mode, token, ops)
+}
