@@ -10,7 +10,8 @@ use entity_table::{Table, TableFault};
 use html_types::NoMemory;
 use outside::{Failed, Gate, Outside, Port, Sink};
 use std::alloc::Global;
-use std::sync::Arc;
+use std::sync::{Arc, Wait};
+use std::thread::Threads;
 
 /// The most bytes of the entities file.
 pub const ENTITIES_LIMIT: usize = 4_194_304;

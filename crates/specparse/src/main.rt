@@ -5,8 +5,11 @@ use outside::{DiskFiles, OpenGate, StdoutSink};
 use page_runner::{Status, run};
 use std::env;
 use std::io::{self, ErrorKind};
+use std::io::Print;
 use std::process::ExitCode;
-use std::sync::Arc;
+use std::rt::Files;
+use std::sync::{Arc, Wait};
+use std::thread::Threads;
 
 // What standard error is told of a status of which the output tells nothing.
 fn message(status: Status) -> Option<&'static str> {
@@ -40,7 +43,10 @@ fn words_of(rt: HostRuntime) -> Result<Vec<String>, Status> {
 }
 
 // Runs the command of the words over the real files and the standard output.
-fn run_words(rt: HostRuntime, words: &[String]) -> Status {
+fn run_words<R: AllocGlobal + Files + Print + Threads + Wait + Copy + Send + Sync + 'static>(
+    rt: R,
+    words: &[String],
+) -> Status {
     let Ok(gate) = Arc::new(rt.alloc(), OpenGate) else {
         return Status::NoMemory;
     };
@@ -49,15 +55,11 @@ fn run_words(rt: HostRuntime, words: &[String]) -> Status {
     run(&rt, rt.alloc(), words, &mut files, &mut out, &gate)
 }
 
-fn status_of(rt: HostRuntime) -> Status {
-    match words_of(rt) {
+fn main(rt: HostRuntime) -> ExitCode {
+    let status = match words_of(rt) {
         Ok(words) => run_words(rt, &words),
         Err(status) => status,
-    }
-}
-
-fn main(rt: HostRuntime) -> ExitCode {
-    let status = status_of(rt);
+    };
     if let Some(message) = message(status) {
         let _ = eprintln!(rt; "specparse: {message}");
     }
