@@ -40,41 +40,38 @@ none-used es p (c ∷ cs) h = absurd (no_front _ (some-used (take_character es p
   where
     no_front : (n : ℕ) → 0 < n → [] ≡ take n (c ∷ cs) → ⊥
     no_front zero lt e = omega arith
-    no_front (suc n) lt e = cons-nil e
-      where
-        cons-nil : {x : ℕ} {xs : List ℕ} → [] ≡ x ∷ xs → ⊥
-        cons-nil e = absurd e
+    no_front (suc n) lt e = absurd (cc e)
 
 -- the operations are bound, where those before were none
 pub ops-bound : (old : View) (es : Entities) (now : Parser) (before ops : List Op) (ran : Ran) (text : List ℕ) → IsServed old → before ≡ [] →
     RanAs (parse es old.parser (chars text)) before now ops ran text → AreOpsBound (is_bound old.doc.bound) ops
-ops-bound old es now before ops ran text served none as =
-    subst (AreOpsBound (is_bound old.doc.bound)) (sym (as.ops ∙ ap (λ l. l ++ (parse es old.parser (chars text)).ops) none)) (texts-served AreFresh fresh-follows old.doc es old.parser (chars text) served).0.0
+ops-bound old es now before ops ran text served none run =
+    subst (AreOpsBound (is_bound old.doc.bound)) (sym (run.ops ∙ ap (λ l. l ++ (parse es old.parser (chars text)).ops) none)) (texts-served AreFresh fresh-follows old.doc es old.parser (chars text) served).0.0
 
 ops-are : (before ops more : List Op) → before ≡ [] → ops ≡ before ++ more → ops ≡ more
-ops-are before ops more none as = as ∙ ap (λ l. l ++ more) none
+ops-are before ops more none is = is ∙ ap (λ l. l ++ more) none
 
 pub parses-text : (old new : View) (before ops : List Op) (ran : Ran) (text : List ℕ) → IsUtf8 text → IsServed old → before ≡ [] →
     ((es : Entities) → RanAs (parse es old.parser (chars text)) before new.parser ops ran text) → new.doc ≡ acts old.doc ops →
     IsCharBoundary text ran.used → new.written ≡ old.written → new.executed ≡ old.executed → Parses old new text ran
-parses-text old new before ops ran text utf8 served none as done boundary written executed =
+parses-text old new before ops ran text utf8 served none run done boundary written executed =
     let es : Entities = [] in
     let r : Parsed = parse es old.parser (chars text) in
     let stays = texts-served AreFresh fresh-follows old.doc es old.parser (chars text) served in
-    let doc : new.doc ≡ acts old.doc r.ops = done ∙ ap (acts old.doc) (ops-are before ops r.ops none (as es).ops) in
+    let doc : new.doc ≡ acts old.doc r.ops = done ∙ ap (acts old.doc) (ops-are before ops r.ops none (run es).ops) in
     record {
       boundary = boundary;
-      onward = λ stops. by_used ran.used (as es).used (λ h. stops ((as es).stop ∙ none-used es old.parser (chars text) h));
+      onward = λ stops. by_used ran.used (run es).used (λ h. stops ((run es).stop ∙ none-used es old.parser (chars text) h));
       parsed = λ e. record {
-        parser = (as e).state;
-        doc = done ∙ ap (acts old.doc) (ops-are before ops (parse e old.parser (chars text)).ops none (as e).ops);
-        left = rest-chars text ran.used (parse e old.parser (chars text)).used utf8 boundary (as e).used;
-        stop = (as e).stop;
+        parser = (run e).state;
+        doc = done ∙ ap (acts old.doc) (ops-are before ops (parse e old.parser (chars text)).ops none (run e).ops);
+        left = rest-chars text ran.used (parse e old.parser (chars text)).used utf8 boundary (run e).used;
+        stop = (run e).stop;
       };
       written = written;
       executed = executed;
-      served = rw (doc, (as es).state) stays.0.1;
-      bound = rw (doc, (as es).stop) stays.1;
+      served = rw (doc, (run es).state) stays.0.1;
+      bound = rw (doc, (run es).stop) stays.1;
     }
   where
     by_used : (n : ℕ) → chars (take n text) ≡ take (parse [] old.parser (chars text)).used (chars text) → ([] ≡ take (parse [] old.parser (chars text)).used (chars text) → ⊥) → 0 < n
@@ -84,18 +81,18 @@ parses-text old new before ops ran text utf8 served none as done boundary writte
 -- the last operations are bound
 pub last-bound : (old : View) (es : Entities) (now : Parser) (before ops : List Op) (f : Finish) → IsServed old → before ≡ [] →
     after_all before (finish es old.parser) ≡ record { ops = ops; parser = now; finish = f } → AreOpsBound (is_bound old.doc.bound) ops
-last-bound old es now before ops f served none as =
-    let all : ops ≡ (finish es old.parser).ops = sym (ap (λ (k : Finished). k.ops) as) ∙ ap (λ l. l ++ (finish es old.parser).ops) none in
+last-bound old es now before ops f served none run =
+    let all : ops ≡ (finish es old.parser).ops = sym (ap (λ (k : Finished). k.ops) run) ∙ ap (λ l. l ++ (finish es old.parser).ops) none in
     subst (AreOpsBound (is_bound old.doc.bound)) (sym all) (ends-served AreFresh fresh-follows old.doc es old.parser served).0
 
 pub finishes-page : (old new : View) (before ops : List Op) (f : Finish) → before ≡ [] →
     ((es : Entities) → after_all before (finish es old.parser) ≡ record { ops = ops; parser = new.parser; finish = f }) → new.doc ≡ acts old.doc ops → Finishes old new f
-finishes-page old new before ops f none as done = record {
+finishes-page old new before ops f none run done = record {
   finished = λ es.
-      let all : ops ≡ (finish es old.parser).ops = sym (ap (λ (k : Finished). k.ops) (as es)) ∙ ap (λ l. l ++ (finish es old.parser).ops) none in
+      let all : ops ≡ (finish es old.parser).ops = sym (ap (λ (k : Finished). k.ops) (run es)) ∙ ap (λ l. l ++ (finish es old.parser).ops) none in
       record {
-        parser = sym (ap (λ (k : Finished). k.parser) (as es));
+        parser = sym (ap (λ (k : Finished). k.parser) (run es));
         doc = done ∙ ap (acts old.doc) all;
-        finish = sym (ap (λ (k : Finished). k.finish) (as es));
+        finish = sym (ap (λ (k : Finished). k.finish) (run es));
       };
 }

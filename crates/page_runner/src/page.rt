@@ -52,9 +52,6 @@ pub(crate) struct Parsed {
 /// The most bytes of a page.
 pub const PAGE_LIMIT: usize = 1_073_741_824;
 
-/// The most bytes of one read.
-const LARGEST_PIECE: usize = 65536;
-
 // The outcome where the text is used, by how the page ends.
 fn end(alloc: Global, driver: &mut Driver, ending: Ending) -> Result<Outcome, NoMemory>
     requires { IsServed driver.old }
@@ -70,20 +67,19 @@ fn end(alloc: Global, driver: &mut Driver, ending: Ending) -> Result<Outcome, No
     }
 }
 
-/// Parses the page that was begun, by reads of at most that many bytes, and writes its lines.
-pub(crate) fn parse_page<F: Outside, K: Sink>(
+// Parses the page that was begun, by reads that fill the room at most, and writes its lines.
+fn parse_reads<F: Outside, K: Sink>(
     alloc: Global,
     files: &mut F,
     out: &mut K,
-    piece: usize,
+    room: &mut [u8],
 ) -> Result<Parsed, Failure> {
     let mut driver = Driver::new(alloc)?;
     let mut decoder = Decoder::new(alloc, PAGE_LIMIT);
-    let mut bytes = [0u8; LARGEST_PIECE];
     let mut left = PAGE_LIMIT + 1;
     'reads: loop {
-        let room = piece.min(LARGEST_PIECE).min(left);
-        let n = match files.read(Port::Page, &mut bytes[..room]) {
+        let most = room.len().min(left);
+        let n = match files.read(Port::Page, &mut room[..most]) {
             Err(Failed) => {
                 let outcome = end(alloc, &mut driver, decoder.close(true))?;
                 return Ok(Parsed { driver, outcome });
@@ -95,7 +91,7 @@ pub(crate) fn parse_page<F: Outside, K: Sink>(
             Ok(n) => n,
         };
         left -= n;
-        let fed = decoder.feed(alloc, &bytes[..n])?;
+        let fed = decoder.feed(alloc, &room[..n])?;
         if let Went::Refused(why) = driver.take(alloc, out, fed.text.as_str())? {
             let outcome = Outcome::Refused(why);
             return Ok(Parsed { driver, outcome });
@@ -105,4 +101,15 @@ pub(crate) fn parse_page<F: Outside, K: Sink>(
             return Ok(Parsed { driver, outcome });
         }
     }
+}
+
+/// Parses the page that was begun, by reads of at most that many bytes, and writes its lines.
+pub(crate) fn parse_page<F: Outside, K: Sink>(
+    alloc: Global,
+    files: &mut F,
+    out: &mut K,
+    piece: usize,
+) -> Result<Parsed, Failure> {
+    let mut room = vec![in alloc; 0u8; piece]?;
+    parse_reads(alloc, files, out, &mut room)
 }
