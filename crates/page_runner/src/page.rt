@@ -1,5 +1,5 @@
 // The page is parsed piece by piece, and its lines are written as they come.
-ghost use Rattle.std.specs.Prelude.{◌≡◌, ◌<◌, ◌≤◌, [], length, take, drop, Some, IfSome, IfOk, OnErr};
+ghost use Rattle.std.specs.Prelude.{◌≡◌, ◌<◌, ◌≤◌, [], length, take, drop, Some, IfSome, IfOk, OnErr, IsNone};
 ghost use Rattle.outside.specs.Outside.{Rose, seen, KeepsOthers};
 ghost use Rattle.page_runner.specs.declared.page.Failure.TheVariants as failures;
 ghost use Rattle.page_runner.specs.Driving.{IsServed};
@@ -67,38 +67,66 @@ fn end(alloc: Global, driver: &mut Driver, ending: Ending) -> Result<Outcome, No
     }
 }
 
-// Parses the page that was begun, by reads that fill the room at most, and writes its lines.
+// Reads the next piece of the page, and says how many bytes it has. Where none comes, the page ends so.
+fn read_piece<F: Outside>(files: &mut F, decoder: &Decoder, room: &mut [u8]) -> Result<usize, Ending>
+    ensures count { IfOk result (λ n. (0 < n) × (n ≤ length room.old)) }
+{
+    match files.read(Port::Page, room) {
+        Err(Failed) => Err(decoder.close(true)),
+        Ok(0) => Err(decoder.close(false)),
+        Ok(n) => Ok(n),
+    }
+}
+
+// Parses the text of the next piece. An outcome says that the parse is over.
+fn take_piece<K: Sink>(
+    alloc: Global,
+    out: &mut K,
+    driver: &mut Driver,
+    decoder: &mut Decoder,
+    piece: &[u8],
+) -> Result<Option<Outcome>, Failure>
+    requires { IsServed driver.old }
+    ensures served { IfOk result (λ o. IsNone o → IsServed driver.new) }
+{
+    let fed = decoder.feed(alloc, piece)?;
+    match driver.take(alloc, out, fed.text.as_str())? {
+        Went::Refused(why) => Ok(Some(Outcome::Refused(why))),
+        Went::On => match fed.ending {
+            None => Ok(None),
+            Some(ending) => {
+                let outcome = end(alloc, driver, ending)?;
+                Ok(Some(outcome))
+            }
+        },
+    }
+}
+
+// Parses the page that was begun, by reads of at most as many bytes as there is room, and writes its lines.
 fn parse_reads<F: Outside, K: Sink>(
     alloc: Global,
     files: &mut F,
     out: &mut K,
+    driver: &mut Driver,
     room: &mut [u8],
-) -> Result<Parsed, Failure> {
-    let mut driver = Driver::new(alloc)?;
+) -> Result<Outcome, Failure>
+    requires { IsServed driver.old }
+{
     let mut decoder = Decoder::new(alloc, PAGE_LIMIT);
     let mut left = PAGE_LIMIT + 1;
     'reads: loop {
         let most = room.len().min(left);
-        let n = match files.read(Port::Page, &mut room[..most]) {
-            Err(Failed) => {
-                let outcome = end(alloc, &mut driver, decoder.close(true))?;
-                return Ok(Parsed { driver, outcome });
+        match read_piece(files, &decoder, &mut room[..most]) {
+            Err(ending) => {
+                let outcome = end(alloc, driver, ending)?;
+                return Ok(outcome);
             }
-            Ok(0) => {
-                let outcome = end(alloc, &mut driver, decoder.close(false))?;
-                return Ok(Parsed { driver, outcome });
+            Ok(n) => {
+                left -= n;
+                if let Some(outcome) = take_piece(alloc, out, driver, &mut decoder, &room[..n])? {
+                    return Ok(outcome);
+                }
             }
-            Ok(n) => n,
-        };
-        left -= n;
-        let fed = decoder.feed(alloc, &room[..n])?;
-        if let Went::Refused(why) = driver.take(alloc, out, fed.text.as_str())? {
-            let outcome = Outcome::Refused(why);
-            return Ok(Parsed { driver, outcome });
-        }
-        if let Some(ending) = fed.ending {
-            let outcome = end(alloc, &mut driver, ending)?;
-            return Ok(Parsed { driver, outcome });
         }
     }
 }
@@ -110,6 +138,8 @@ pub(crate) fn parse_page<F: Outside, K: Sink>(
     out: &mut K,
     piece: usize,
 ) -> Result<Parsed, Failure> {
+    let mut driver = Driver::new(alloc)?;
     let mut room = vec![in alloc; 0u8; piece]?;
-    parse_reads(alloc, files, out, &mut room)
+    let outcome = parse_reads(alloc, files, out, &mut driver, &mut room)?;
+    Ok(Parsed { driver, outcome })
 }
