@@ -163,7 +163,12 @@ impl Driver {
     }
 
     // Prepares the script whose end tag was met (4.12.1.1), and runs it.
-    fn run_script<K: Sink>(&mut self, alloc: Global, out: &mut K, id: NodeId) -> Result<Went, Failure>
+    fn run_script<K: Sink>(
+        &mut self,
+        alloc: Global,
+        out: &mut K,
+        id: NodeId,
+    ) -> Result<Went, Failure>
         requires served { IsServed self.old }
         requires bound { IsTrue (is_bound self.old.doc.bound id) }
         ensures served { IfOk result (λ _. IsServed self.new) }

@@ -12,7 +12,11 @@ use serde_json::Value;
 use std::alloc::Global;
 
 /// Writes that the script of this number isn't in the language.
-pub(crate) fn write_syntax<K: Sink>(alloc: Global, out: &mut K, number: u64) -> Result<(), Failure> {
+pub(crate) fn write_syntax<K: Sink>(
+    alloc: Global,
+    out: &mut K,
+    number: u64,
+) -> Result<(), Failure> {
     let line = format!(in alloc; "syntax {number}\n")?;
     write_all(out, line.as_bytes())?;
     Ok(())

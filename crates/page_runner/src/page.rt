@@ -68,7 +68,11 @@ fn end(alloc: Global, driver: &mut Driver, ending: Ending) -> Result<Outcome, No
 }
 
 // Reads the next piece of the page, and says how many bytes it has. Where none comes, the page ends so.
-fn read_piece<F: Outside>(files: &mut F, decoder: &Decoder, room: &mut [u8]) -> Result<usize, Ending>
+fn read_piece<F: Outside>(
+    files: &mut F,
+    decoder: &Decoder,
+    room: &mut [u8],
+) -> Result<usize, Ending>
     ensures count { IfOk result (λ n. (0 < n) × (n ≤ length room.old)) }
 {
     match files.read(Port::Page, room) {

@@ -4,8 +4,7 @@
 use outside::{DiskFiles, OpenGate, StdoutSink};
 use page_runner::{Status, run};
 use std::env;
-use std::io::{self, ErrorKind};
-use std::io::Print;
+use std::io::{self, ErrorKind, Print};
 use std::process::ExitCode;
 use std::rt::Files;
 use std::sync::{Arc, Wait};
