@@ -1,3 +1,4 @@
 pub mod WriteLemmas
 pub mod GrammarLemmas
 pub mod WordsExamples
+pub mod DrivingLemmas

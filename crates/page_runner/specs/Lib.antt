@@ -2,3 +2,4 @@ pub mod Status
 pub mod Taken
 pub mod Given
 pub mod Words
+pub mod Driving

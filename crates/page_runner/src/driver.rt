@@ -1,0 +1,220 @@
+// The parser and its document, and the scripts between them: what runs of a page in one thread.
+ghost use Rattle.std.specs.Prelude.{◌≡◌, IfOk, IsTrue};
+ghost use Rattle.std.specs.Str.{chars};
+ghost use Rattle.standard.specs.Act.{is_bound, new_doc};
+ghost use Rattle.standard.specs.Parser.{new_parser};
+ghost use Rattle.page_runner.specs.Driving.{View, IsServed, Parses, Finishes};
+
+use crate::output::write_syntax;
+use crate::page::Failure;
+use html_types::{Finish, NoMemory, NodeId, Ops, Statement, Stop, Text, Why};
+use op_exec::{Doc, ScriptKind};
+use outside::Sink;
+use parse_machine::{Machine, Ran};
+use script_lang::Script;
+use std::alloc::Global;
+use std::marker::Model;
+
+/// The most characters that the scripts of a page write.
+const WRITE_LIMIT: usize = 1_048_576;
+
+/// How a part of the parse ended.
+#[derive(Clone, Copy, Debug, PartialEq, Eq)]
+pub(crate) enum Went {
+    /// The parse goes on.
+    On,
+    Refused(Why),
+}
+
+/// Where the parse of a page stands: a contract sees the parser, the document, the characters written and the scripts
+/// executed so far.
+#[derive(Drop)]
+pub(crate) struct Driver {
+    machine: Machine,
+    doc: Doc,
+    written: usize,
+    executed: u64,
+}
+
+impl Model for Driver {
+    ghost use Rattle.page_runner.specs.Driving.{View};
+
+    ghost Value = { View };
+
+    ghost view = { λ d. record { parser = d.machine; doc = d.doc; written = d.written; executed = d.executed } };
+}
+
+// One script more. A page has fewer of them than it has bytes.
+fn one_more(executed: u64) -> Result<u64, NoMemory> {
+    executed.checked_add(1).ok_or(NoMemory)
+}
+
+// Where a text that a script writes doesn't end, the page is refused.
+fn went_at(stop: Stop) -> Went {
+    match stop {
+        Stop::InputEnd => Went::On,
+        Stop::Deep => Went::Refused(Why::Depth),
+        Stop::Script(_) => Went::Refused(Why::Unready),
+        Stop::Missing => Went::Refused(Why::Unready),
+    }
+}
+
+impl Driver {
+    /// At the beginning of a page, with an empty document.
+    pub fn new(alloc: Global) -> Result<Driver, NoMemory>
+        ensures served { IfOk result (λ d. IsServed d) }
+        ensures first { IfOk result (λ d. d ≡ record { parser = new_parser 0; doc = new_doc; written = 0; executed = 0 }) }
+    {
+        let doc = Doc::new(alloc)?;
+        Ok(Driver {
+            machine: Machine::new(alloc, 0),
+            doc,
+            written: 0,
+            executed: 0,
+        })
+    }
+
+    /// The document.
+    pub fn doc(&self) -> &Doc
+        ensures { result.now ≡ self.now.doc }
+    {
+        &self.doc
+    }
+
+    /// Parses the text up to the first stop, and does the operations.
+    pub fn parse(&mut self, alloc: Global, text: &str) -> Result<Ran, NoMemory>
+        requires { IsServed self.old }
+        ensures { IfOk result (λ ran. Parses self.old self.new text.now ran) }
+    {
+        let mut ops = Ops::new(alloc);
+        let ran = self.machine.run(alloc, text, &mut ops)?;
+        self.doc.apply_all(&ops)?;
+        Ok(ran)
+    }
+
+    /// Takes the end of the page, and does the operations.
+    pub fn finish(&mut self, alloc: Global) -> Result<Finish, NoMemory>
+        requires { IsServed self.old }
+        ensures { IfOk result (λ finish. Finishes self.old self.new finish) }
+    {
+        let mut ops = Ops::new(alloc);
+        let finish = self.machine.finish(alloc, &mut ops)?;
+        self.doc.apply_all(&ops)?;
+        Ok(finish)
+    }
+
+    // `document.write()` (8.4.3): the text stands before the rest of the page, and is parsed at once.
+    fn write(&mut self, alloc: Global, text: &Text) -> Result<Went, NoMemory>
+        requires { IsServed self.old }
+        ensures served { IfOk result (λ _. IsServed self.new) }
+    {
+        let written = self.written.saturating_add(text.len());
+        if written > WRITE_LIMIT {
+            return Ok(Went::Refused(Why::Writes));
+        }
+        self.written = written;
+        let ran = self.parse(alloc, text.as_str())?;
+        Ok(went_at(ran.stop))
+    }
+
+    fn run_statement(&mut self, alloc: Global, statement: &Statement) -> Result<Went, NoMemory>
+        requires { IsServed self.old }
+        ensures served { IfOk result (λ _. IsServed self.new) }
+    {
+        match statement {
+            Statement::Write(text) => self.write(alloc, text),
+            Statement::Remove(_) => Ok(Went::Refused(Why::Unready)),
+            Statement::LogById(_) => Ok(Went::Refused(Why::Unready)),
+            Statement::LogRoot => Ok(Went::Refused(Why::Unready)),
+        }
+    }
+
+    // Up to the first that refuses the page.
+    fn run_statements(&mut self, alloc: Global, script: &Script) -> Result<Went, NoMemory>
+        requires { IsServed self.old }
+        ensures served { IfOk result (λ _. IsServed self.new) }
+    {
+        for statement in script.as_slice() {
+            match self.run_statement(alloc, statement)? {
+                Went::On => {}
+                Went::Refused(why) => return Ok(Went::Refused(why)),
+            }
+        }
+        Ok(Went::On)
+    }
+
+    // A text that isn't in the language gives a line, and runs nothing.
+    fn run_text<K: Sink>(&mut self, alloc: Global, out: &mut K, text: &str) -> Result<Went, Failure>
+        requires { IsServed self.old }
+        ensures served { IfOk result (λ _. IsServed self.new) }
+    {
+        let script = script_lang::read(alloc, text)?;
+        self.executed = one_more(self.executed)?;
+        match script {
+            None => {
+                write_syntax(alloc, out, self.executed)?;
+                Ok(Went::On)
+            }
+            Some(script) => {
+                let went = self.run_statements(alloc, &script)?;
+                Ok(went)
+            }
+        }
+    }
+
+    // Prepares the script whose end tag was met (4.12.1.1), and runs it.
+    fn run_script<K: Sink>(
+        &mut self,
+        alloc: Global,
+        out: &mut K,
+        id: NodeId,
+    ) -> Result<Went, Failure>
+        requires served { IsServed self.old }
+        requires bound { IsTrue (is_bound self.old.doc.bound id) }
+        ensures served { IfOk result (λ _. IsServed self.new) }
+    {
+        match self.doc.script_kind(id) {
+            ScriptKind::Still => Ok(Went::On),
+            ScriptKind::External => Ok(Went::Refused(Why::Unready)),
+            ScriptKind::Inline => {
+                let text = self.doc.script_text(id)?;
+                self.run_text(alloc, out, text.as_str())
+            }
+        }
+    }
+
+    // The script at a stop, where it stopped at one.
+    fn pass<K: Sink>(&mut self, alloc: Global, out: &mut K, stop: Stop) -> Result<Went, Failure>
+        requires served { IsServed self.old }
+        requires bound { IsStopBound (is_bound self.old.doc.bound) stop }
+        ensures served { IfOk result (λ _. IsServed self.new) }
+    {
+        match stop {
+            Stop::InputEnd => Ok(Went::On),
+            Stop::Script(id) => self.run_script(alloc, out, id),
+            Stop::Deep => Ok(Went::Refused(Why::Depth)),
+            Stop::Missing => Ok(Went::Refused(Why::Unready)),
+        }
+    }
+
+    /// Parses the next text of the page, and runs its scripts where their end tags are met.
+    pub fn take<K: Sink>(&mut self, alloc: Global, out: &mut K, text: &str) -> Result<Went, Failure>
+        requires { IsServed self.old }
+        ensures served { IfOk result (λ _. IsServed self.new) }
+    {
+        let mut rest = text;
+        'stops: loop {
+            let ran = self.parse(alloc, rest)?;
+            if ran.stop == Stop::InputEnd {
+                return Ok(Went::On);
+            }
+            rest = &rest[ran.used..];
+            match self.pass(alloc, out, ran.stop)? {
+                Went::On => {}
+                Went::Refused(why) => return Ok(Went::Refused(why)),
+            }
+        }
+    }
+}
+
+ghost use Rattle.standard.specs.Naming.{IsStopBound};

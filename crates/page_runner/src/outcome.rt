@@ -1,0 +1,31 @@
+// What the parse of a page comes to.
+use crate::status::{Limit, Status};
+use html_types::{Finish, Why};
+
+#[derive(Clone, Copy, Debug, PartialEq, Eq)]
+pub(crate) enum Outcome {
+    Finished,
+    Refused(Why),
+}
+
+/// The outcome at the end of a page that ends well.
+pub(crate) fn outcome_at(finish: Finish) -> Outcome {
+    match finish {
+        Finish::Finished => Outcome::Finished,
+        Finish::Deep => Outcome::Refused(Why::Depth),
+        Finish::Missing => Outcome::Refused(Why::Unready),
+    }
+}
+
+/// The status with which a run of that outcome ends.
+pub(crate) fn status_at(outcome: Outcome) -> Status {
+    match outcome {
+        Outcome::Finished => Status::Done,
+        Outcome::Refused(Why::BadUtf8) => Status::BadUtf8,
+        Outcome::Refused(Why::Depth) => Status::Limit(Limit::Depth),
+        Outcome::Refused(Why::Writes) => Status::Limit(Limit::Writes),
+        Outcome::Refused(Why::Page) => Status::Limit(Limit::Page),
+        Outcome::Refused(Why::Fault) => Status::ReadFault,
+        Outcome::Refused(Why::Unready) => Status::Unready,
+    }
+}

@@ -1,0 +1,53 @@
+// The lines that a run writes.
+ghost use Rattle.std.specs.Prelude.{◌≡◌, IfOk};
+ghost use Rattle.standard.specs.Output.{tree_text, refusal_text};
+
+use crate::outcome::Outcome;
+use crate::page::Failure;
+use crate::write::write_all;
+use html_types::{NoMemory, Why};
+use op_exec::Doc;
+use outside::Sink;
+use serde_json::Value;
+use std::alloc::Global;
+
+/// Writes that the script of this number isn't in the language.
+pub(crate) fn write_syntax<K: Sink>(
+    alloc: Global,
+    out: &mut K,
+    number: u64,
+) -> Result<(), Failure> {
+    let line = format!(in alloc; "syntax {number}\n")?;
+    write_all(out, line.as_bytes())?;
+    Ok(())
+}
+
+// The document's text as a JSON string.
+fn show_tree(alloc: Global, doc: &Doc) -> Result<String, NoMemory> {
+    let text = serialiser::document(alloc, doc.tree())?;
+    let value = Value::String(String::from_str(alloc, text.as_str())?);
+    let json = value.to_string(alloc)?;
+    Ok(format!(in alloc; "tree {json}\n")?)
+}
+
+fn refusal(why: Why) -> &'static str {
+    match why {
+        Why::BadUtf8 => "refused bad-utf8\n",
+        Why::Depth => "refused depth\n",
+        Why::Writes => "refused writes\n",
+        Why::Page => "refused page\n",
+        Why::Fault => "",
+        Why::Unready => "",
+    }
+}
+
+/// What is written of a page's outcome behind the lines of its scripts.
+pub(crate) fn show_outcome(alloc: Global, doc: &Doc, outcome: Outcome) -> Result<String, NoMemory> {
+    match outcome {
+        Outcome::Finished => show_tree(alloc, doc),
+        Outcome::Refused(why) => {
+            let line = String::from_str(alloc, refusal(why))?;
+            Ok(line)
+        }
+    }
+}

@@ -1,0 +1,149 @@
+// The page is parsed piece by piece, and its lines are written as they come.
+ghost use Rattle.std.specs.Prelude.{◌≡◌, ◌<◌, ◌≤◌, [], length, take, drop, Some, IfSome, IfOk, OnErr, IsNone};
+ghost use Rattle.outside.specs.Outside.{Rose, seen, KeepsOthers};
+ghost use Rattle.page_runner.specs.declared.page.Failure.TheVariants as failures;
+ghost use Rattle.page_runner.specs.Driving.{IsServed};
+
+use crate::driver::{Driver, Went};
+use crate::outcome::{Outcome, outcome_at};
+use html_types::{Ending, NoMemory, Why};
+use outside::{Failed, Outside, Port, Sink};
+use std::alloc::{AllocError, Global};
+use utf8_pieces::Decoder;
+
+/// Why a call that was going on gave up.
+#[derive(Clone, Copy, Debug, PartialEq, Eq)]
+pub(crate) enum Failure {
+    Memory,
+    Write,
+}
+
+impl From<AllocError> for Failure {
+    ghost from_gives = { λ _ e. e ≡ failures.Memory };
+
+    fn from(_error: AllocError) -> Failure {
+        Failure::Memory
+    }
+}
+
+impl From<NoMemory> for Failure {
+    ghost from_gives = { λ _ e. e ≡ failures.Memory };
+
+    fn from(_error: NoMemory) -> Failure {
+        Failure::Memory
+    }
+}
+
+impl From<Failed> for Failure {
+    ghost from_gives = { λ _ e. e ≡ failures.Write };
+
+    fn from(_error: Failed) -> Failure {
+        Failure::Write
+    }
+}
+
+/// A page that was parsed.
+#[derive(Drop)]
+pub(crate) struct Parsed {
+    pub driver: Driver,
+    pub outcome: Outcome,
+}
+
+/// The most bytes of a page.
+pub const PAGE_LIMIT: usize = 1_073_741_824;
+
+// The outcome where the text is used, by how the page ends.
+fn end(alloc: Global, driver: &mut Driver, ending: Ending) -> Result<Outcome, NoMemory>
+    requires { IsServed driver.old }
+{
+    match ending {
+        Ending::End => {
+            let finish = driver.finish(alloc)?;
+            Ok(outcome_at(finish))
+        }
+        Ending::Bad => Ok(Outcome::Refused(Why::BadUtf8)),
+        Ending::Long => Ok(Outcome::Refused(Why::Page)),
+        Ending::Fault => Ok(Outcome::Refused(Why::Fault)),
+    }
+}
+
+// Reads the next piece of the page, and says how many bytes it has. Where none comes, the page ends so.
+fn read_piece<F: Outside>(
+    files: &mut F,
+    decoder: &Decoder,
+    room: &mut [u8],
+) -> Result<usize, Ending>
+    ensures count { IfOk result (λ n. (0 < n) × (n ≤ length room.old)) }
+{
+    match files.read(Port::Page, room) {
+        Err(Failed) => Err(decoder.close(true)),
+        Ok(0) => Err(decoder.close(false)),
+        Ok(n) => Ok(n),
+    }
+}
+
+// Parses the text of the next piece. An outcome says that the parse is over.
+fn take_piece<K: Sink>(
+    alloc: Global,
+    out: &mut K,
+    driver: &mut Driver,
+    decoder: &mut Decoder,
+    piece: &[u8],
+) -> Result<Option<Outcome>, Failure>
+    requires { IsServed driver.old }
+    ensures served { IfOk result (λ o. IsNone o → IsServed driver.new) }
+{
+    let fed = decoder.feed(alloc, piece)?;
+    match driver.take(alloc, out, fed.text.as_str())? {
+        Went::Refused(why) => Ok(Some(Outcome::Refused(why))),
+        Went::On => match fed.ending {
+            None => Ok(None),
+            Some(ending) => {
+                let outcome = end(alloc, driver, ending)?;
+                Ok(Some(outcome))
+            }
+        },
+    }
+}
+
+// Parses the page that was begun, by reads of at most as many bytes as there is room, and writes its lines.
+fn parse_reads<F: Outside, K: Sink>(
+    alloc: Global,
+    files: &mut F,
+    out: &mut K,
+    driver: &mut Driver,
+    room: &mut [u8],
+) -> Result<Outcome, Failure>
+    requires { IsServed driver.old }
+{
+    let mut decoder = Decoder::new(alloc, PAGE_LIMIT);
+    let mut left = PAGE_LIMIT + 1;
+    'reads: loop {
+        let most = room.len().min(left);
+        match read_piece(files, &decoder, &mut room[..most]) {
+            Err(ending) => {
+                let outcome = end(alloc, driver, ending)?;
+                return Ok(outcome);
+            }
+            Ok(n) => {
+                left -= n;
+                if let Some(outcome) = take_piece(alloc, out, driver, &mut decoder, &room[..n])? {
+                    return Ok(outcome);
+                }
+            }
+        }
+    }
+}
+
+/// Parses the page that was begun, by reads of at most that many bytes, and writes its lines.
+pub(crate) fn parse_page<F: Outside, K: Sink>(
+    alloc: Global,
+    files: &mut F,
+    out: &mut K,
+    piece: usize,
+) -> Result<Parsed, Failure> {
+    let mut driver = Driver::new(alloc)?;
+    let mut room = vec![in alloc; 0u8; piece]?;
+    let outcome = parse_reads(alloc, files, out, &mut driver, &mut room)?;
+    Ok(Parsed { driver, outcome })
+}
