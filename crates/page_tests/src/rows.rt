@@ -1,0 +1,66 @@
+//! A run over files and a sink in memory.
+
+use html_types::NoMemory;
+use outside::{MemFiles, MemSink, OpenGate, Port};
+use page_runner::{Status, run};
+use std::alloc::Global;
+use std::sync::{Arc, Wait};
+use std::thread::Threads;
+
+/// The words of a run, the page (none: there is no such file), the entities file, which calls fail, how many bytes the sink takes,
+/// and the status and text that are wanted.
+#[derive(Clone, Copy)]
+pub struct Row {
+    pub piece: &'static str,
+    pub page: Option<&'static [u8]>,
+    pub entities: &'static str,
+    pub fail: &'static [(Port, u64)],
+    pub sink: usize,
+    pub status: Status,
+    pub text: &'static str,
+}
+
+/// A run in which nothing fails.
+pub fn page(page: &'static [u8], status: Status, text: &'static str) -> Row {
+    Row {
+        piece: "4096",
+        page: Some(page),
+        entities: "{\"&amp;\":{\"codepoints\":[38]}}",
+        fail: &[],
+        sink: 100_000,
+        status,
+        text,
+    }
+}
+
+fn files(alloc: Global, row: &Row) -> Result<MemFiles, NoMemory> {
+    let mut files = MemFiles::new(alloc, row.fail)?;
+    files.add("e", row.entities.as_bytes())?;
+    if let Some(page) = row.page {
+        files.add("p", page)?;
+    }
+    Ok(files)
+}
+
+fn words(alloc: Global, piece: &str) -> Result<Vec<String>, NoMemory> {
+    let mut words = Vec::new(alloc);
+    for word in ["specparse", "page", "--piece", piece, "p", "d", "e"] {
+        words.push(String::from_str(alloc, word)?)?;
+    }
+    Ok(words)
+}
+
+/// Whether the run answers and writes what is wanted, with reads of so many bytes.
+pub fn gives<R: Threads + Wait + Copy + Send + Sync + 'static>(
+    rt: &R,
+    alloc: Global,
+    row: &Row,
+    piece: &str,
+) -> Result<bool, NoMemory> {
+    let words = words(alloc, piece)?;
+    let mut files = files(alloc, row)?;
+    let mut sink = MemSink::new(alloc, row.sink)?;
+    let gate = Arc::new(alloc, OpenGate)?;
+    let status = run(rt, alloc, &words, &mut files, &mut sink, &gate);
+    Ok(status == row.status && sink.bytes() == row.text.as_bytes())
+}
