@@ -4,7 +4,9 @@
 ghost use Rattle.std.specs.Prelude.{◌≡◌, ◌↔◌, IsTrue, IfOk};
 
 use crate::attributes::Attribute;
+use crate::mark_state::MarkState;
 use crate::memory::NoMemory;
+use crate::reference_state::ReferenceState;
 use crate::text::Text;
 use crate::token::{PartialTag, Quote};
 use crate::word::Word;
@@ -17,6 +19,8 @@ pub enum RawText {
     Rcdata,
     Rawtext,
     ScriptData,
+    /// Script data behind `<!--`.
+    ScriptDataEscaped,
 }
 
 /// The states of text. `Option<Word>` is the name of the last start tag, which an end tag must have to end the text.
@@ -24,16 +28,36 @@ pub enum RawText {
 pub enum TextState {
     /// 13.2.5.1 Data state
     Data,
-    /// 13.2.5.2 to 13.2.5.4 RCDATA, RAWTEXT and script data state
+    /// 13.2.5.2 to 13.2.5.4, 13.2.5.20 RCDATA, RAWTEXT, script data and script data escaped state
     Raw(RawText, Option<Word>),
     /// 13.2.5.5 PLAINTEXT state
     Plaintext,
-    /// 13.2.5.9, 13.2.5.12, 13.2.5.15 less-than sign state of each
+    /// 13.2.5.9, 13.2.5.12, 13.2.5.15, 13.2.5.23 less-than sign state of each
     RawLessThan(RawText, Option<Word>),
-    /// 13.2.5.10, 13.2.5.13, 13.2.5.16 end tag open state of each
+    /// 13.2.5.10, 13.2.5.13, 13.2.5.16, 13.2.5.24 end tag open state of each
     RawEndTagOpen(RawText, Option<Word>),
-    /// 13.2.5.11, 13.2.5.14, 13.2.5.17 end tag name state of each: the name as it was written so far
+    /// 13.2.5.11, 13.2.5.14, 13.2.5.17, 13.2.5.25 end tag name state of each: the name as it was written so far
     RawEndTagName(RawText, Option<Word>, Text),
+    /// 13.2.5.18 Script data escape start state
+    EscapeStart(Option<Word>),
+    /// 13.2.5.19 Script data escape start dash state
+    EscapeStartDash(Option<Word>),
+    /// 13.2.5.21 Script data escaped dash state
+    EscapedDash(Option<Word>),
+    /// 13.2.5.22 Script data escaped dash dash state
+    EscapedDashDash(Option<Word>),
+    /// 13.2.5.26 Script data double escape start state: the name so far, in lower case
+    DoubleEscapeStart(Option<Word>, Text),
+    /// 13.2.5.27 Script data double escaped state
+    DoubleEscaped(Option<Word>),
+    /// 13.2.5.28 Script data double escaped dash state
+    DoubleEscapedDash(Option<Word>),
+    /// 13.2.5.29 Script data double escaped dash dash state
+    DoubleEscapedDashDash(Option<Word>),
+    /// 13.2.5.30 Script data double escaped less-than sign state
+    DoubleEscapedLessThan(Option<Word>),
+    /// 13.2.5.31 Script data double escape end state: the name so far, in lower case
+    DoubleEscapeEnd(Option<Word>, Text),
 }
 
 /// The states of tags and their attributes.
@@ -68,9 +92,11 @@ pub enum TagState {
 pub enum TokState {
     Text(TextState),
     Tag(TagState),
+    Mark(MarkState),
+    Reference(ReferenceState),
 }
 
-fn same_word(a: &Option<Word>, b: &Option<Word>) -> bool
+pub(crate) fn same_word(a: &Option<Word>, b: &Option<Word>) -> bool
     ensures { IsTrue result ↔ (a.now ≡ b.now) }
 {
     match (a, b) {
@@ -90,7 +116,7 @@ fn same_name(a: &Option<Text>, b: &Option<Text>) -> bool
     }
 }
 
-fn same_attribute(a: &Option<Attribute>, b: &Option<Attribute>) -> bool
+pub(crate) fn same_attribute(a: &Option<Attribute>, b: &Option<Attribute>) -> bool
     ensures { IsTrue result ↔ (a.now ≡ b.now) }
 {
     match (a, b) {
@@ -109,7 +135,10 @@ fn copy_name(held: &Option<Text>, alloc: Global) -> Result<Option<Text>, NoMemor
     }
 }
 
-fn copy_attribute(held: &Option<Attribute>, alloc: Global) -> Result<Option<Attribute>, NoMemory>
+pub(crate) fn copy_attribute(
+    held: &Option<Attribute>,
+    alloc: Global,
+) -> Result<Option<Attribute>, NoMemory>
     ensures { IfOk result (λ h. h ≡ held.now) }
 {
     match held {
@@ -132,6 +161,20 @@ impl TextState {
             TextState::RawEndTagName(raw, last, written) => {
                 Ok(TextState::RawEndTagName(*raw, *last, written.copy(alloc)?))
             }
+            TextState::EscapeStart(last) => Ok(TextState::EscapeStart(*last)),
+            TextState::EscapeStartDash(last) => Ok(TextState::EscapeStartDash(*last)),
+            TextState::EscapedDash(last) => Ok(TextState::EscapedDash(*last)),
+            TextState::EscapedDashDash(last) => Ok(TextState::EscapedDashDash(*last)),
+            TextState::DoubleEscapeStart(last, name) => {
+                Ok(TextState::DoubleEscapeStart(*last, name.copy(alloc)?))
+            }
+            TextState::DoubleEscaped(last) => Ok(TextState::DoubleEscaped(*last)),
+            TextState::DoubleEscapedDash(last) => Ok(TextState::DoubleEscapedDash(*last)),
+            TextState::DoubleEscapedDashDash(last) => Ok(TextState::DoubleEscapedDashDash(*last)),
+            TextState::DoubleEscapedLessThan(last) => Ok(TextState::DoubleEscapedLessThan(*last)),
+            TextState::DoubleEscapeEnd(last, name) => {
+                Ok(TextState::DoubleEscapeEnd(*last, name.copy(alloc)?))
+            }
         }
     }
 
@@ -150,6 +193,24 @@ impl TextState {
             }
             (TextState::RawEndTagName(r, m, v), TextState::RawEndTagName(s, n, w)) => {
                 *r == *s && same_word(m, n) && v.same(w)
+            }
+            (TextState::EscapeStart(m), TextState::EscapeStart(n)) => same_word(m, n),
+            (TextState::EscapeStartDash(m), TextState::EscapeStartDash(n)) => same_word(m, n),
+            (TextState::EscapedDash(m), TextState::EscapedDash(n)) => same_word(m, n),
+            (TextState::EscapedDashDash(m), TextState::EscapedDashDash(n)) => same_word(m, n),
+            (TextState::DoubleEscapeStart(m, v), TextState::DoubleEscapeStart(n, w)) => {
+                same_word(m, n) && v.same(w)
+            }
+            (TextState::DoubleEscaped(m), TextState::DoubleEscaped(n)) => same_word(m, n),
+            (TextState::DoubleEscapedDash(m), TextState::DoubleEscapedDash(n)) => same_word(m, n),
+            (TextState::DoubleEscapedDashDash(m), TextState::DoubleEscapedDashDash(n)) => {
+                same_word(m, n)
+            }
+            (TextState::DoubleEscapedLessThan(m), TextState::DoubleEscapedLessThan(n)) => {
+                same_word(m, n)
+            }
+            (TextState::DoubleEscapeEnd(m, v), TextState::DoubleEscapeEnd(n, w)) => {
+                same_word(m, n) && v.same(w)
             }
             _ => false,
         }
@@ -237,6 +298,8 @@ impl TokState {
         match self {
             TokState::Text(state) => Ok(TokState::Text(state.copy(alloc)?)),
             TokState::Tag(state) => Ok(TokState::Tag(state.copy(alloc)?)),
+            TokState::Mark(state) => Ok(TokState::Mark(state.copy(alloc)?)),
+            TokState::Reference(state) => Ok(TokState::Reference(state.copy(alloc)?)),
         }
     }
 }
@@ -248,6 +311,8 @@ pub fn eq_state(a: &TokState, b: &TokState) -> bool
     match (a, b) {
         (TokState::Text(s), TokState::Text(t)) => s.same(t),
         (TokState::Tag(s), TokState::Tag(t)) => s.same(t),
+        (TokState::Mark(s), TokState::Mark(t)) => s.same(t),
+        (TokState::Reference(s), TokState::Reference(t)) => s.same(t),
         _ => false,
     }
 }
