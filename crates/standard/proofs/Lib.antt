@@ -8,6 +8,7 @@ pub mod Passing
 pub mod Scripts
 pub mod Kept
 pub mod Lines
+pub mod AdoptionFraming
 pub mod Framing
 pub mod FreshnessWalks
 pub mod Freshness
@@ -18,7 +19,10 @@ pub mod FeedLemmas
 pub mod TokenizerLaws
 pub mod TokenizerRows
 pub mod RenamingWalks
+pub mod AdoptionGrowth
 pub mod RenamingGrowth
+pub mod AdoptionRenaming
+pub mod PlainRows
 pub mod Renaming
 pub mod RenamingTexts
 pub mod PageExamples
