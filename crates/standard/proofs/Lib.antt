@@ -11,6 +11,8 @@ pub mod Lines
 pub mod AdoptionFraming
 pub mod Framing
 pub mod FreshnessWalks
+pub mod FreshnessOps
+pub mod AdoptionFreshness
 pub mod Freshness
 pub mod FreshnessTexts
 pub mod FreshnessDocs
