@@ -10,14 +10,12 @@ use Rattle.html_types.specs.declared.instruction.Turn.TheVariants.{More, Over, O
 use Rattle.html_types.specs.declared.token.Tag.{Tag}
 use Rattle.html_types.specs.declared.operation.NodeId.{NodeId}
 use Rattle.html_types.specs.declared.operation.Op.{Op}
-use Rattle.html_types.specs.declared.operation.Op.TheVariants as op
-use Rattle.html_types.specs.declared.operation.Place.TheVariants.{Inside}
 use Rattle.html_types.specs.declared.open.OpenElement.{OpenElement}
 use Rattle.html_types.specs.declared.open.Open.{Open}
 use Rattle.standard.specs.Elements.{is_word}
-use Rattle.standard.specs.Stack.{is_open, current_id, pop, without_open, open_in_scope, above, below, with_above, block_above, place_for}
+use Rattle.standard.specs.Stack.{is_open, current_id, pop, open_in_scope, above, below, block_above}
 use Rattle.standard.specs.Formatting.{entry_named, tag_of_entry, without_entry, with_id}
-use Rattle.standard.specs.Adoption.{Climb, climb_at, mark_or, climb_clone, climb_drop, climb_one, climb, Turned, turned, put_mark, children_to, joined, rebuilt, turn_with, turn_at, turn, turns, Adopted, adopted, adopted_by, is_plain, adopt}
+use Rattle.standard.specs.Adoption.{Climb, climb_at, mark_or, climb_clone, climb_drop, climb_one, climb, Turned, turned, joined, rebuilt, turn_with, turn_at, turn, turns, Adopted, adopted, adopted_by, is_plain, adopt}
 
 abbrev climb_behind : List Op → Climb → Climb
 climb_behind p c = climb_at c.formats c.next (p ++ c.ops) c.kept c.last c.mark

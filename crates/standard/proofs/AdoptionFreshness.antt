@@ -1,10 +1,9 @@
 -- The adoption agency algorithm names ids that are bound, and makes clones under ids that aren't.
 use Rattle.std.proofs.Common.{◌≡◌, refl, sym, ap, ◌∙◌, subst, ℕ, zero, suc, ◌-◌, ◌==◌, Bool, true, false, not, ◌||◌, List, [], ◌∷◌, ◌++◌, Option, Some, None}
 use Rattle.std.specs.Prelude.{if◌then◌else◌, IsTrue}
-use Rattle.html_types.specs.Operations.{same_id, later}
+use Rattle.html_types.specs.Operations.{later}
 use Rattle.html_types.specs.declared.word.Word.{Word}
 use Rattle.html_types.specs.declared.name.Name.{Name}
-use Rattle.html_types.specs.declared.attributes.Attribute.{Attribute}
 use Rattle.html_types.specs.declared.instruction.Scope.TheVariants as scope
 use Rattle.html_types.specs.declared.instruction.Turn.{Turn}
 use Rattle.html_types.specs.declared.instruction.Turn.TheVariants.{More, Over, Other}
@@ -19,13 +18,13 @@ use Rattle.html_types.specs.declared.open.Format.{Format}
 use Rattle.html_types.specs.declared.open.Format.TheVariants.{Element}
 use Rattle.html_types.specs.declared.open.Open.{Open}
 use Rattle.standard.specs.Elements.{is_word}
-use Rattle.standard.specs.Stack.{is_open, current_id, pop, without_open, open_in_scope, above, from_on, through, below, with_above, block_above, place_for}
-use Rattle.standard.specs.Formatting.{entry_named, tag_of_entry, without_entry, with_id, with_behind}
+use Rattle.standard.specs.Stack.{is_open, current_id, pop, without_open, open_in_scope, above, from_on, through, below, block_above, place_for}
+use Rattle.standard.specs.Formatting.{entry_named, tag_of_entry, without_entry, with_behind}
 use Rattle.standard.specs.Adoption.{Climb, climb_at, climb_clone, climb_drop, climb_one, climb, Turned, turned, put_mark, children_to, joined, rebuilt, turn_with, turn_at, turn, turns, Adopted, adopted, adopted_by, is_plain, adopt}
 use Rattle.standard.specs.Act.{IsPlaceBound, IsOpBound, AreOpsBound, known_after}
-use Rattle.standard.specs.Naming.{AreOpenBound, AreFormatsBound, IsBoundIfAny, Holds, Serves, known_after_all}
+use Rattle.standard.specs.Naming.{AreOpenBound, AreFormatsBound, IsBoundIfAny, Serves, known_after_all}
 use Rattle.standard.proofs.FreshnessOps.{known-append, bound-append, same-itself, Follows, known-grows}
-use Rattle.standard.proofs.FreshnessWalks.{pop-bound, without_open-bound, open-append, from_on-bound, through-bound, below-bound, with_above-bound, block_above-bound, place_for-bound, without_entry-bound, with_id-bound, with_behind-bound, open-more, formats-more, pointer-more, place-more}
+use Rattle.standard.proofs.FreshnessWalks.{pop-bound, without_open-bound, open-append, from_on-bound, through-bound, below-bound, with_above-bound, block_above-bound, place_for-bound, without_entry-bound, with_id-bound, with_behind-bound, open-more, formats-more, pointer-more}
 
 -- the operations that move children
 children-bound : (known : NodeId → Bool) (from to : NodeId) → IsTrue (known from) → IsTrue (known to) → AreOpsBound known (children_to from to)
@@ -163,26 +162,31 @@ module _ (Coming : (NodeId → Bool) → NodeId → Type 0) (law : Follows Comin
       let clone4 : IsTrue (after o4 c.next) = more-known o3 _ c.next clone3 in
       let put : Bound o1 c.next = put-bound c.ops c.next c.last at g.bound g.last_bound (place_for-bound (after c.ops) b.foster (below f st) st (below-bound (after c.ops) f st a) a) in
       let moved : Bound o3 (later 1 c.next) = moved-bound o2 (later 1 c.next) block c.next (made-bound o1 c.next tag put) (second block (g.more block i)) clone in
-      let done : Bound o4 (later 1 c.next) = put-bound o3 (later 1 c.next) c.next (Inside block) moved clone3 (third block (g.more block i)) in
-      (done.ops_bound, record {
-        stack_bound = with_above-bound (after o4) block (record { id = c.next; name = tag.name }) (without_open (Some f) st) clone4
-          (without_open-bound (after o4) (Some f) st (open-more (after c.ops) (after o4) on st a));
-        formats_bound = mark-bound (after o4) f c.next tag c.mark c.formats clone4 (formats-more (after c.ops) (after o4) on c.formats g.formats_bound);
-        head_bound = pointer-more (after o) (after o4) all b.head s.head_bound;
-        form_bound = pointer-more (after o) (after o4) all b.form s.form_bound;
-        coming = done.coming;
-      })
+      let done : Bound o4 (later 1 c.next) = put-bound o3 (later 1 c.next) c.next (Inside block) moved clone3 (third block (g.more block i)) in (
+        done.ops_bound,
+        record {
+          stack_bound = with_above-bound (after o4) block (record { id = c.next; name = tag.name }) (without_open (Some f) st) clone4
+              (without_open-bound (after o4) (Some f) st (open-more (after c.ops) (after o4) on st a));
+          formats_bound = mark-bound (after o4) f c.next tag c.mark c.formats clone4 (formats-more (after c.ops) (after o4) on c.formats g.formats_bound);
+          head_bound = pointer-more (after o) (after o4) all b.head s.head_bound;
+          form_bound = pointer-more (after o) (after o4) all b.form s.form_bound;
+          coming = done.coming;
+        },
+      )
 
   turn_with-fits : (f : NodeId) (tag : Option Tag) (block : Option NodeId) (b : Open) (o : List Op)
       → AreOpsBound known o → Serves Coming (after o) b → IsBoundIfAny (after o) block → TurnFits (turn_with f tag block b o)
   turn_with-fits f None block b o a s i = (a, s)
-  turn_with-fits f (Some tag) None b o a s i = (a, record {
-    stack_bound = below-bound (after o) f b.stack s.stack_bound;
-    formats_bound = without_entry-bound (after o) f b.formats s.formats_bound;
-    head_bound = s.head_bound;
-    form_bound = s.form_bound;
-    coming = s.coming;
-  })
+  turn_with-fits f (Some tag) None b o a s i = (
+    a,
+    record {
+      stack_bound = below-bound (after o) f b.stack s.stack_bound;
+      formats_bound = without_entry-bound (after o) f b.formats s.formats_bound;
+      head_bound = s.head_bound;
+      form_bound = s.form_bound;
+      coming = s.coming;
+    },
+  )
   turn_with-fits f (Some tag) (Some block) b o a s i =
       let start : Climb = climb_at b.formats b.next o [] block None in
       let es : List OpenElement = above f (below block b.stack) in
@@ -204,14 +208,16 @@ module _ (Coming : (NodeId → Bool) → NodeId → Type 0) (law : Follows Comin
   turn_at-fits : (f : Option NodeId) (b : Open) (o : List Op) → AreOpsBound known o → Serves Coming (after o) b → TurnFits (turn_at f b o)
   turn_at-fits None b o a s = (a, s)
   turn_at-fits (Some f) b o a s =
-      of_two (not (is_open f b.stack)) (turned (record b { formats = without_entry f b.formats }) o Over) _
-      (a, record {
-        stack_bound = s.stack_bound;
-        formats_bound = without_entry-bound (after o) f b.formats s.formats_bound;
-        head_bound = s.head_bound;
-        form_bound = s.form_bound;
-        coming = s.coming;
-      })
+      of_two (not (is_open f b.stack)) (turned (record b { formats = without_entry f b.formats }) o Over) _ (
+        a,
+        record {
+          stack_bound = s.stack_bound;
+          formats_bound = without_entry-bound (after o) f b.formats s.formats_bound;
+          head_bound = s.head_bound;
+          form_bound = s.form_bound;
+          coming = s.coming;
+        },
+      )
       (of_two (not (open_in_scope scope.Default f b.stack)) (turned b o Over) (turn_with f (tag_of_entry f b.formats) (block_above f None b.stack) b o) (a, s)
       (turn_with-fits f (tag_of_entry f b.formats) (block_above f None b.stack) b o a s (block_above-bound (after o) f None b.stack tt s.stack_bound)))
 
@@ -234,12 +240,14 @@ module _ (Coming : (NodeId → Bool) → NodeId → Type 0) (law : Follows Comin
   pub adopt-fits : (w : Word) (b : Open) (o : List Op) → AreOpsBound known o → Serves Coming (known_after_all known o) b → AdoptedFits (adopt w b o)
   unfolding adopt
   adopt-fits w b o a s =
-      of_both (is_plain (is_word w) (current_id b.stack) b) (adopted (record b { stack = pop b.stack }) o false) (adopted_by (turns 8 (is_word w) (turned b o More)))
-      (a, record {
-        stack_bound = pop-bound (after o) b.stack s.stack_bound;
-        formats_bound = s.formats_bound;
-        head_bound = s.head_bound;
-        form_bound = s.form_bound;
-        coming = s.coming;
-      })
+      of_both (is_plain (is_word w) (current_id b.stack) b) (adopted (record b { stack = pop b.stack }) o false) (adopted_by (turns 8 (is_word w) (turned b o More))) (
+        a,
+        record {
+          stack_bound = pop-bound (after o) b.stack s.stack_bound;
+          formats_bound = s.formats_bound;
+          head_bound = s.head_bound;
+          form_bound = s.form_bound;
+          coming = s.coming;
+        },
+      )
       (turns-fit 8 (is_word w) b o More a s)

@@ -1,7 +1,7 @@
 -- The adoption agency algorithm does the same whatever the ids are.
-use Rattle.std.proofs.Common.{◌≡◌, refl, ap, ◌∙◌, sym, ℕ, zero, suc, ◌-◌, ◌==◌, Bool, true, false, not, ◌&&◌, List, [], ◌∷◌, ◌++◌, map, Option, Some, None}
+use Rattle.std.proofs.Common.{◌≡◌, refl, ap, ◌∙◌, sym, ℕ, zero, suc, ◌-◌, ◌==◌, Bool, false, not, ◌&&◌, List, [], ◌∷◌, ◌++◌, map, Option, Some, None}
 use Rattle.std.proofs.lemmas.List.{map-append}
-use Rattle.std.specs.Prelude.{if◌then◌else◌, option_map}
+use Rattle.std.specs.Prelude.{option_map}
 use Rattle.html_types.specs.Operations.{same_id, later}
 use Rattle.html_types.specs.declared.word.Word.{Word}
 use Rattle.html_types.specs.declared.name.Name.{Name}
@@ -10,7 +10,6 @@ use Rattle.html_types.specs.declared.instruction.Turn.{Turn}
 use Rattle.html_types.specs.declared.instruction.Turn.TheVariants.{More, Over, Other}
 use Rattle.html_types.specs.declared.token.Tag.{Tag}
 use Rattle.html_types.specs.declared.operation.NodeId.{NodeId}
-use Rattle.html_types.specs.declared.operation.Place.{Place}
 use Rattle.html_types.specs.declared.operation.Place.TheVariants.{Inside}
 use Rattle.html_types.specs.declared.operation.Op.{Op}
 use Rattle.html_types.specs.declared.operation.Op.TheVariants as op
@@ -20,9 +19,8 @@ use Rattle.html_types.specs.declared.open.Format.TheVariants.{Element}
 use Rattle.html_types.specs.declared.open.Open.{Open}
 use Rattle.standard.specs.Elements.{is_word}
 use Rattle.standard.specs.Stack.{is_open, current_is, current_id, pop, without_open, open_in_scope, above, from_on, through, below, with_above, block_above, place_for}
-use Rattle.standard.specs.Formatting.{entry_named, has_entry, tag_of_entry, without_entry, with_id, with_behind}
+use Rattle.standard.specs.Formatting.{entry_named, has_entry, tag_of_entry, without_entry, with_behind}
 use Rattle.standard.specs.Adoption.{Climb, climb_at, mark_or, climb_clone, climb_drop, climb_one, climb, Turned, turned, put_mark, children_to, joined, rebuilt, turn_with, turn_at, turn, turns, Adopted, adopted, adopted_by, is_plain, adopt}
-use Rattle.standard.specs.Act.{rename_place, rename_op}
 use Rattle.standard.specs.Naming.{Renames, rename_ops, rename_element, rename_format, rename_open}
 use Rattle.standard.proofs.RenamingWalks.{of_two, current_is-renamed, current_id-renamed, pop-renamed, without_open-renamed, is_open-renamed, open_in_scope-renamed, above-renamed, from_on-renamed, through-renamed, below-renamed, with_above-renamed, block_above-renamed, place_for-renamed, entry_named-renamed, has_entry-renamed, tag_of_entry-renamed, without_entry-renamed, with_id-renamed, with_behind-renamed}
 use Rattle.standard.proofs.AdoptionGrowth.{climb_one-grows, climb-grows, turn-grows}

@@ -34,7 +34,7 @@ use Rattle.standard.specs.Adoption.{Adopted, adopt}
 use Rattle.standard.specs.Rules.{Answer, answer, answer_of, row, by_mode, adopting, with_adoption, by_rules, Round, once, stop, round_after, go_round, process, rounds, is_line_feed, construct}
 use Rattle.standard.specs.RulesBody.{after_adopt}
 use Rattle.standard.specs.Naming.{config_behind, answer_behind}
-use Rattle.standard.proofs.AdoptionFraming.{adopted_behind, adopt-framed}
+use Rattle.standard.proofs.AdoptionFraming.{adopt-framed}
 
 by_test : (p : List Op) (v : Bool) (x y x' y' : Config) → x' ≡ config_behind p x → y' ≡ config_behind p y → (if v then x' else y') ≡ config_behind p (if v then x else y)
 by_test p true x y x' y' e g = e

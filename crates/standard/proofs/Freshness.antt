@@ -1,5 +1,5 @@
 -- Operations name ids that are bound, and elements are made under ids that aren't.
-use Rattle.std.proofs.Common.{◌≡◌, refl, sym, ap, ◌∙◌, subst, ℕ, zero, suc, Bool, true, false, ◌||◌, ◌&&◌, List, [], ◌∷◌, ◌++◌, reverse, Option, Some, None, arith}
+use Rattle.std.proofs.Common.{◌≡◌, refl, sym, ap, ◌∙◌, subst, ℕ, zero, suc, Bool, true, false, ◌||◌, ◌&&◌, List, [], ◌∷◌, ◌++◌, reverse, Option, Some, None}
 use Rattle.std.specs.Prelude.{if◌then◌else◌, IsTrue}
 use Rattle.html_types.specs.Operations.{same_id, later}
 use Rattle.html_types.specs.declared.word.Word.{Word}
@@ -217,13 +217,17 @@ module _ (Coming : (NodeId → Bool) → NodeId → Type 0) (law : Follows Comin
   head-fits (Some id) b o f i = of_two (room b) (on _ o) (config b o (Leave next.Deep)) (with_stack b o _ On f (i, f.1.stack_bound) tt) (f.0, f.1, tt)
 
   entry-fits : (tag : Tag) (b : Open) (o : List Op) → Fits b o On → ConfigFits (enlist tag b o)
-  entry-fits tag b o f = (f.0, record {
-    stack_bound = f.1.stack_bound;
-    formats_bound = list_current-bound (after o) tag b.stack b.formats f.1.stack_bound f.1.formats_bound;
-    head_bound = f.1.head_bound;
-    form_bound = f.1.form_bound;
-    coming = f.1.coming;
-  }, tt)
+  entry-fits tag b o f = (
+    f.0,
+    record {
+      stack_bound = f.1.stack_bound;
+      formats_bound = list_current-bound (after o) tag b.stack b.formats f.1.stack_bound f.1.formats_bound;
+      head_bound = f.1.head_bound;
+      form_bound = f.1.form_bound;
+      coming = f.1.coming;
+    },
+    tt,
+  )
 
   closed-bound : (k : NodeId → Bool) (nobody : Name → Bool) (i : Option NodeId) (es : List OpenElement) → AreOpenBound k es → AreOpenBound k (form_closed nobody i es)
   closed-bound k nobody None es a = a

@@ -15,7 +15,7 @@ use Rattle.html_types.specs.declared.open.Format.{Format}
 use Rattle.html_types.specs.declared.open.Format.TheVariants.{Marker, Element}
 use Rattle.standard.specs.Elements.{is_word, is_one_of}
 use Rattle.standard.specs.Stack.{in_scope, is_open, current_id, is_empty, pop, until, pop_to, implied, close, item_found, close_item, end_found, other_end, id_or, foster_place, place_in, place, first_open, second_open, without_open, above, from_on, through, below, with_above, block_above, place_for}
-use Rattle.standard.specs.Formatting.{clear_to_marker, kept, is_like, likes, without_earliest, list_element, entry_named, later_than, entry_on, before_first, renewed, without_entry, with_id, with_behind}
+use Rattle.standard.specs.Formatting.{clear_to_marker, kept, is_like, likes, without_earliest, later_than, entry_on, before_first, renewed, without_entry, with_id, with_behind}
 use Rattle.standard.specs.Instructions.{list_current}
 use Rattle.standard.specs.Act.{IsPlaceBound}
 use Rattle.standard.specs.Naming.{AreOpenBound, AreFormatsBound, IsBoundIfAny}

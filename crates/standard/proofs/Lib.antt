@@ -13,6 +13,7 @@ pub mod Framing
 pub mod FreshnessWalks
 pub mod FreshnessOps
 pub mod AdoptionFreshness
+pub mod AdoptionDepth
 pub mod Freshness
 pub mod FreshnessTexts
 pub mod FreshnessDocs

@@ -1,6 +1,6 @@
 -- The rows of the tables name no element, so they are the same under other ids.
-use Rattle.std.proofs.Common.{◌≡◌, refl, ap, ◌∙◌, true≢false, sym, ℕ, ◌==◌, Bool, true, false, ◌&&◌, List, [], ◌∷◌, map}
-use Rattle.std.proofs.lemmas.Bool.{and_from, and_parts}
+use Rattle.std.proofs.Common.{◌≡◌, refl, ap, ◌∙◌, true≢false, sym, ℕ, ◌==◌, Bool, true, false, ◌&&◌, List, [], ◌∷◌}
+use Rattle.std.proofs.lemmas.Bool.{and_parts}
 use Rattle.std.specs.Prelude.{if◌then◌else◌}
 use Rattle.html_types.specs.declared.word.Word.{Word}
 use Rattle.html_types.specs.declared.name.Name.{Name}
