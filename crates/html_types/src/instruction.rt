@@ -80,6 +80,10 @@ pub enum Test {
     FramesetOk,
     /// The doctype token's name isn't html, or its force-quirks flag is set.
     QuirkyDoctype,
+    /// The form element pointer is set, and no template is open.
+    InForm,
+    /// The token's attribute `type` is `hidden`, in any ASCII case.
+    HiddenInput,
 }
 
 /// An instruction of a row. One that leaves the row stands last.
@@ -104,6 +108,10 @@ pub enum Instr {
     InsertRootA,
     /// An element for the token, which is not left on the stack.
     Void,
+    /// The same for a start tag of that name without attributes.
+    VoidA(Word),
+    /// The same for a start tag of that name with the token's attributes.
+    VoidAs(Word),
     /// The character at the appropriate place.
     InsertText,
     /// The comment at the appropriate place.
@@ -132,8 +140,13 @@ pub enum Instr {
 
     /// Reconstruct the active formatting elements (13.2.4.3).
     Reconstruct,
+    /// The current node, with the token's tag, becomes an entry of the list of active formatting elements. Where three
+    /// entries behind the last marker have its name and its attributes, the earliest of them is dropped before.
+    List,
     Marker,
     ClearToMarker,
+    /// That element is taken off the list of active formatting elements and off the stack.
+    TakeOff(NodeId),
 
     /// The frameset-ok flag is "not ok".
     NotOk,
@@ -147,6 +160,10 @@ pub enum Instr {
     PushHead,
     /// It is taken off the stack, wherever it stands there.
     TakeHeadOff,
+    /// The form element pointer is the current node.
+    PointForm,
+    /// The end tag `form` (13.2.6.4.7).
+    EndForm,
     /// The token's attributes that the first element of the stack lacks are added to it.
     AddToFirst,
     /// The same for the second element.
@@ -157,6 +174,12 @@ pub enum Instr {
     /// The mode is the original mode again.
     Restore,
 
+    /// The adoption agency algorithm (13.2.6.4.7) for the token's name.
+    Adopt,
+    /// The same for `a`; that element is then taken off, and the link is made.
+    AdoptAnchor,
+    /// The same for `nobr`, which is then made.
+    AdoptNobr,
     /// The tokenizer reads on in another way.
     Switch(Reading),
     /// The token is processed by the rules of another mode.
@@ -171,10 +194,32 @@ pub enum Instr {
     Missing,
 }
 
+/// What comes behind the adoption agency algorithm.
+#[derive(Clone, Copy, Debug, PartialEq, Eq)]
+pub enum Then {
+    /// The token is done.
+    Nothing,
+    /// That element is taken off, and a link is made.
+    Link(NodeId),
+    /// A nobr is made.
+    Nobr,
+}
+
+/// How the adoption agency algorithm goes on behind a turn.
+#[derive(Clone, Copy, Debug, PartialEq, Eq)]
+pub enum Turn {
+    More,
+    Over,
+    /// No entry behind the last marker has the name: as "any other end tag" (13.2.6.4.7).
+    Other,
+}
+
 /// What is asked of the caller once a token's row is at its end.
 #[derive(Clone, Copy, Debug, PartialEq, Eq)]
 pub enum Next {
     Done,
+    /// The adoption agency algorithm (13.2.6.4.7), and what comes behind it.
+    Adopt { name: Word, then: Then },
     /// Once more, by the mode as it is now.
     Again,
     /// By the rules of that mode.

@@ -257,6 +257,8 @@ pub struct Open {
     pub formats: Formats,
     /// The head element pointer.
     pub head: Option<NodeId>,
+    /// The form element pointer.
+    pub form: Option<NodeId>,
     pub mode: Mode,
     /// The original insertion mode, in the mode "text" alone.
     pub original: Option<Mode>,

@@ -1,20 +1,25 @@
 -- What each instruction of a row does to the open state (13.2.4), and which operations it asks for (13.2.6.1 to 13.2.6.3).
-use Rattle.std.specs.Prelude.{Bool, true, false, not, ◌||◌, nat_lt, if◌then◌else◌, List, [], ◌∷◌, ◌++◌, Option, Some, None, length, reverse}
+use Rattle.std.specs.Prelude.{ℕ, Bool, true, false, not, ◌&&◌, ◌||◌, nat_lt, if◌then◌else◌, List, [], ◌∷◌, ◌++◌, Option, Some, None, is_some, length, map, reverse, codes}
+use Rattle.std.specs.Char.{to_ascii_lowercase}
+use Rattle.html_types.specs.Text.{same_text}
 use Rattle.html_types.specs.Operations.{later}
 use Rattle.html_types.specs.declared.word.Word.{Word}
 use Rattle.html_types.specs.declared.word.Word.TheVariants as word
 use Rattle.html_types.specs.declared.instruction.Instr.{Instr}
 use Rattle.html_types.specs.declared.instruction.Instr.TheVariants as ins
 use Rattle.html_types.specs.declared.instruction.Test.{Test}
-use Rattle.html_types.specs.declared.instruction.Test.TheVariants.{InScope, Current, OnStack, Listed, Quirks, SecondIsBody, FramesetOk, QuirkyDoctype}
+use Rattle.html_types.specs.declared.instruction.Test.TheVariants.{InScope, Current, OnStack, Listed, Quirks, SecondIsBody, FramesetOk, QuirkyDoctype, InForm, HiddenInput}
+use Rattle.html_types.specs.declared.instruction.Scope.TheVariants as scope
 use Rattle.html_types.specs.declared.instruction.Mode.{Mode}
 use Rattle.html_types.specs.declared.instruction.Mode.TheVariants as mode
 use Rattle.html_types.specs.declared.instruction.Who.TheVariants as who
 use Rattle.html_types.specs.declared.instruction.Flow.{Flow}
 use Rattle.html_types.specs.declared.instruction.Flow.TheVariants.{On, Skip, Leave}
 use Rattle.html_types.specs.declared.instruction.Next.TheVariants as next
+use Rattle.html_types.specs.declared.instruction.Then.TheVariants.{Nothing, Link, Nobr}
 use Rattle.html_types.specs.Names.{name_of}
-use Rattle.html_types.specs.declared.name.Name.TheVariants.{Known}
+use Rattle.html_types.specs.declared.name.Name.{Name}
+use Rattle.html_types.specs.declared.name.Name.TheVariants.{Known, Other}
 use Rattle.html_types.specs.declared.token.Tag.{Tag}
 use Rattle.html_types.specs.declared.token.Token.{Token}
 use Rattle.html_types.specs.declared.token.Token.TheVariants.{StartTag, EndTag, Character, Comment, Doctype}
@@ -24,11 +29,13 @@ use Rattle.html_types.specs.declared.operation.Place.TheVariants.{Page, Inside}
 use Rattle.html_types.specs.declared.operation.Op.{Op}
 use Rattle.html_types.specs.declared.operation.Op.TheVariants as op
 use Rattle.html_types.specs.declared.open.OpenElement.{OpenElement}
+use Rattle.html_types.specs.declared.open.Format.{Format}
 use Rattle.html_types.specs.declared.open.Format.TheVariants.{Marker, Element}
 use Rattle.html_types.specs.declared.open.Open.{Open}
+use Rattle.standard.specs.Tree.{attribute}
 use Rattle.standard.specs.Elements.{is_word, is_meant, is_one_of}
-use Rattle.standard.specs.Stack.{in_scope, on_stack, current_is, current_id, pop, until, pop_to, implied, close, close_item, other_end, place, first_open, second_open, is_the, without_open}
-use Rattle.standard.specs.Formatting.{listed, clear_to_marker, kept, lost}
+use Rattle.standard.specs.Stack.{in_scope, on_stack, current_is, current_id, pop, until, pop_to, implied, close, close_item, other_end, place, first_open, second_open, is_the, without_open, open_in_scope}
+use Rattle.standard.specs.Formatting.{listed, clear_to_marker, kept, lost, list_element, entry_named, without_entry}
 
 -- the open state, the operations so far, and how to go on
 pub record Config : Type 0 where
@@ -49,6 +56,17 @@ abbrev pub is_quirky : Token → Bool
 is_quirky (Doctype name force) = force || not (is_word word.Html (name_of name))
 is_quirky _ = false
 
+abbrev pub is_hidden : Option (List ℕ) → Bool
+is_hidden None = false
+is_hidden (Some text) = same_text (map to_ascii_lowercase text) (codes "hidden")
+
+abbrev pub is_hidden_input : Token → Bool
+is_hidden_input (StartTag tag) = is_hidden (attribute (codes "type") tag.attributes)
+is_hidden_input _ = false
+
+abbrev pub in_form : Open → Bool
+in_form b = is_some b.form && not (on_stack (is_word word.Template) b.stack)
+
 abbrev pub holds : Test → Token → Open → Bool
 holds (InScope s w) t b = in_scope s (is_meant w t) b.stack
 holds (Current w) t b = current_is (is_meant w t) b.stack
@@ -58,6 +76,8 @@ holds Quirks t b = b.quirks
 holds SecondIsBody t b = is_the word.Body (second_open b.stack)
 holds FramesetOk t b = b.frameset_ok
 holds QuirkyDoctype t b = is_quirky t
+holds InForm t b = in_form b
+holds HiddenInput t b = is_hidden_input t
 
 -- ---- elements
 
@@ -94,11 +114,31 @@ void tag b o = if room b then on (record b { next = later 1 b.next }) (made (her
 abbrev pub tag_of : Word → Tag
 tag_of w = record { name = Known w; attributes = []; self_closing = false }
 
+-- the tag under another name
+abbrev pub named : Word → Tag → Tag
+named w tag = record tag { name = Known w }
+
+abbrev pub void_as : Word → Tag → Open → List Op → Config
+void_as w tag b o = void (named w tag) b o
+
 -- an instruction that makes something of the token's tag does nothing at another token
 abbrev pub for_tag : (Tag → Open → List Op → Config) → Token → Open → List Op → Config
 for_tag f (StartTag tag) b o = f tag b o
 for_tag f (EndTag tag) b o = f tag b o
 for_tag f _ b o = on b o
+
+-- ---- the list of active formatting elements (13.2.4.3)
+
+-- the current node becomes an entry, with the tag
+abbrev pub list_current : Tag → List OpenElement → List Format → List Format
+list_current tag [] fs = fs
+list_current tag (e ∷ es) fs = list_element e.id tag fs
+
+abbrev pub enlist : Tag → Open → List Op → Config
+enlist tag b o = on (record b { formats = list_current tag b.stack b.formats }) o
+
+abbrev pub take_off : NodeId → Open → List Op → Config
+take_off i b o = on (record b { stack = without_open (Some i) b.stack; formats = without_entry i b.formats }) o
 
 -- ---- reconstruct the active formatting elements (13.2.4.3)
 
@@ -147,6 +187,21 @@ push_head None b o = on b o
 push_head (Some i) b o =
     if room b then on (record b { stack = record { id = i; name = Known word.Head } ∷ b.stack }) o else config b o (Leave next.Deep)
 
+-- the end tag `form` (13.2.6.4.7) where no template is open: the form element pointer's element, in scope, is taken off the
+-- stack wherever it stands
+abbrev pub form_closed : (Name → Bool) → Option NodeId → List OpenElement → List OpenElement
+form_closed nobody None es = es
+form_closed nobody (Some i) es = if open_in_scope scope.Default i es then without_open (Some i) (implied nobody es) else es
+
+-- and where one is
+abbrev pub form_closed_in_template : (Name → Bool) → List OpenElement → List OpenElement
+form_closed_in_template nobody es = if in_scope scope.Default (is_word word.Form) es then until (is_word word.Form) (implied nobody es) else es
+
+abbrev pub end_form : (Name → Bool) → Open → List Op → Config
+end_form nobody b o =
+    if on_stack (is_word word.Template) b.stack then on (record b { stack = form_closed_in_template nobody b.stack }) o
+    else on (record b { stack = form_closed nobody b.form b.stack; form = None }) o
+
 -- the original mode; there always is one in the mode "text", and m stands for it elsewhere
 abbrev pub original_or : Mode → Option Mode → Mode
 original_or m None = m
@@ -156,6 +211,19 @@ original_or m (Some original) = original
 abbrev pub stop_at_script : List OpenElement → Open → List Op → Config
 stop_at_script [] b o = config b o (Leave next.Done)
 stop_at_script (e ∷ es) b o = config (record b { stack = es }) o (Leave (next.Script e.id))
+
+-- ---- the adoption agency algorithm (13.2.6.4.7) is asked for
+
+abbrev pub adopt_name : Name → Open → List Op → Config
+adopt_name (Known w) b o = config b o (Leave (next.Adopt w Nothing))
+adopt_name (Other text) b o = on b o
+
+abbrev pub adopt_own : Tag → Open → List Op → Config
+adopt_own tag b o = adopt_name tag.name b o
+
+abbrev pub adopt_anchor : Option NodeId → Open → List Op → Config
+adopt_anchor None b o = on b o
+adopt_anchor (Some i) b o = config b o (Leave (next.Adopt word.A (Link i)))
 
 -- ---- the instructions
 
@@ -169,6 +237,8 @@ step (ins.InsertA w) t b o = insert (tag_of w) b o
 step ins.InsertRoot t b o = for_tag insert_root t b o
 step ins.InsertRootA t b o = insert_root (tag_of word.Html) b o
 step ins.Void t b o = for_tag void t b o
+step (ins.VoidA w) t b o = void (tag_of w) b o
+step (ins.VoidAs w) t b o = for_tag (void_as w) t b o
 step ins.InsertText t b o = insert_text t b o
 step ins.InsertComment t b o = insert_comment (here b) t b o
 step ins.CommentToPage t b o = insert_comment Page t b o
@@ -183,19 +253,26 @@ step (ins.Close s w) t b o = on (record b { stack = close s (is_meant w t) b.sta
 step (ins.CloseItem w) t b o = on (record b { stack = close_item (is_meant w t) b.stack }) o
 step ins.AnyOtherEnd t b o = on (record b { stack = other_end (is_meant who.Own t) b.stack }) o
 step ins.Reconstruct t b o = reconstruct b o
+step ins.List t b o = for_tag enlist t b o
 step ins.Marker t b o = on (record b { formats = Marker ∷ b.formats }) o
 step ins.ClearToMarker t b o = on (record b { formats = clear_to_marker b.formats }) o
+step (ins.TakeOff i) t b o = take_off i b o
 step ins.NotOk t b o = on (record b { frameset_ok = false }) o
 step ins.BecomeQuirky t b o = on (record b { quirks = true }) o
 step ins.SkipLineFeed t b o = on (record b { skip_line_feed = true }) o
 step ins.PointHead t b o = on (record b { head = current_id b.stack }) o
 step ins.PushHead t b o = push_head b.head b o
 step ins.TakeHeadOff t b o = on (record b { stack = without_open b.head b.stack }) o
+step ins.PointForm t b o = on (record b { form = current_id b.stack }) o
+step ins.EndForm t b o = end_form (is_meant who.Nobody t) b o
 step ins.AddToFirst t b o = for_tag (add_attributes (first_open b.stack)) t b o
 step ins.AddToSecond t b o = for_tag (add_attributes (second_open b.stack)) t b o
 step (ins.Enter m) t b o = on (record b { mode = m }) o
 step ins.KeepMode t b o = on (record b { original = Some b.mode }) o
 step ins.Restore t b o = on (record b { mode = original_or mode.InBody b.original; original = None }) o
+step ins.Adopt t b o = for_tag adopt_own t b o
+step ins.AdoptAnchor t b o = adopt_anchor (entry_named (is_word word.A) b.formats) b o
+step ins.AdoptNobr t b o = config b o (Leave (next.Adopt word.Nobr Nobr))
 step (ins.Switch r) t b o = config b o (Leave (next.Switch r))
 step (ins.Using m) t b o = config b o (Leave (next.Using m))
 step ins.Again t b o = config b o (Leave next.Again)

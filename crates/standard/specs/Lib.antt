@@ -16,6 +16,7 @@ pub mod Elements
 pub mod Stack
 pub mod Formatting
 pub mod Instructions
+pub mod Adoption
 pub mod RulesHead
 pub mod RulesBody
 pub mod Rules

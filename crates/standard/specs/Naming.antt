@@ -9,6 +9,10 @@ use Rattle.html_types.specs.declared.open.Format.TheVariants.{Marker, Element}
 use Rattle.html_types.specs.declared.open.Open.{Open}
 use Rattle.html_types.specs.declared.instruction.Flow.{Flow}
 use Rattle.html_types.specs.declared.instruction.Flow.TheVariants.{On, Skip, Leave}
+use Rattle.html_types.specs.declared.instruction.Instr.{Instr}
+use Rattle.html_types.specs.declared.instruction.Instr.TheVariants as ins
+use Rattle.html_types.specs.declared.instruction.Then.{Then}
+use Rattle.html_types.specs.declared.instruction.Then.TheVariants.{Nothing, Link, Nobr}
 use Rattle.html_types.specs.declared.instruction.Next.{Next}
 use Rattle.html_types.specs.declared.instruction.Next.TheVariants as next
 use Rattle.html_types.specs.declared.instruction.Stop.{Stop}
@@ -42,10 +46,11 @@ IsBoundIfAny known None = Unit {0}
 IsBoundIfAny known (Some id) = IsTrue (known id)
 
 -- the ids in the parts of an open state are bound; `Coming` is what is asked of the ids that it gives from `next` on
-pub record Holds (Coming : (NodeId → Bool) → NodeId → Type 0) (known : NodeId → Bool) (stack : List OpenElement) (formats : List Format) (head : Option NodeId) (next : NodeId) : Type 0 where
+pub record Holds (Coming : (NodeId → Bool) → NodeId → Type 0) (known : NodeId → Bool) (stack : List OpenElement) (formats : List Format) (head form : Option NodeId) (next : NodeId) : Type 0 where
   pub stack_bound : AreOpenBound known stack
   pub formats_bound : AreFormatsBound known formats
   pub head_bound : IsBoundIfAny known head
+  pub form_bound : IsBoundIfAny known form
   pub coming : Coming known next
 
 -- none of the ids that come is bound
@@ -58,7 +63,7 @@ CameBefore known next = (id : NodeId) → IsTrue (known id) → (id.realm ≡ ne
 
 -- all ids that an open state holds are bound
 abbrev pub Serves : ((NodeId → Bool) → NodeId → Type 0) → (NodeId → Bool) → Open → Type 0
-Serves Coming known b = Holds Coming known b.stack b.formats b.head b.next
+Serves Coming known b = Holds Coming known b.stack b.formats b.head b.form b.next
 
 -- which ids are bound once the operations are done
 unfoldable pub known_after_all : (NodeId → Bool) → List Op → NodeId → Bool
@@ -87,9 +92,15 @@ rename_format r Marker = Marker
 rename_format r (Element id tag) = Element (r id) tag
 
 abbrev pub rename_open : (NodeId → NodeId) → Open → Open
-rename_open r b = record b { stack = map (rename_element r) b.stack; formats = map (rename_format r) b.formats; head = option_map r b.head; next = r b.next }
+rename_open r b = record b { stack = map (rename_element r) b.stack; formats = map (rename_format r) b.formats; head = option_map r b.head; form = option_map r b.form; next = r b.next }
+
+abbrev pub rename_then : (NodeId → NodeId) → Then → Then
+rename_then r Nothing = Nothing
+rename_then r (Link id) = Link (r id)
+rename_then r Nobr = Nobr
 
 abbrev pub rename_next : (NodeId → NodeId) → Next → Next
+rename_next r (next.Adopt w h) = next.Adopt w (rename_then r h)
 rename_next r (next.Script id) = next.Script (r id)
 rename_next r n = n
 
@@ -97,6 +108,14 @@ abbrev pub rename_flow : (NodeId → NodeId) → Flow → Flow
 rename_flow r On = On
 rename_flow r Skip = Skip
 rename_flow r (Leave n) = Leave (rename_next r n)
+
+-- an instruction that names an element
+abbrev pub rename_instr : (NodeId → NodeId) → Instr → Instr
+rename_instr r (ins.TakeOff id) = ins.TakeOff (r id)
+rename_instr r i = i
+
+abbrev pub rename_row : (NodeId → NodeId) → List Instr → List Instr
+rename_row r row = map (rename_instr r) row
 
 abbrev pub rename_config : (NodeId → NodeId) → Config → Config
 rename_config r c = config (rename_open r c.open_state) (rename_ops r c.ops) (rename_flow r c.flow)

@@ -11,7 +11,7 @@ use Rattle.standard.specs.Rules.{Answer, by_mode, process, construct}
 use Rattle.standard.specs.Entities.{Entities}
 use Rattle.standard.specs.Parser.{opening, Parser, Took, took, take_character, Finished, finish, Parsed, parse}
 use Rattle.standard.specs.Act.{AreOpsBound, Doc, new_doc, is_bound, acts}
-use Rattle.standard.specs.Naming.{config_behind, answer_behind, Serves, known_after_all, IsNextBound, IsStopBound, Renames, IsLater, rename_ops, rename_open, rename_config, rename_answer, rename_parser, rename_took, rename_finished, rename_parsed}
+use Rattle.standard.specs.Naming.{config_behind, answer_behind, Serves, known_after_all, IsNextBound, IsStopBound, Renames, IsLater, rename_ops, rename_open, rename_row, rename_config, rename_answer, rename_parser, rename_took, rename_finished, rename_parsed}
 
 -- ---- operations are only appended: what is asked for depends on nothing that was asked for before
 
@@ -86,7 +86,7 @@ DocsServeEnds Coming =
 -- ---- which ids the elements have makes no difference
 
 abbrev pub RowsRename : Type 0
-RowsRename = (r : NodeId → NodeId) (t : Token) (c : Config) (row : List Instr) → Renames r c.open_state.next → run t (rename_config r c) row ≡ rename_config r (run t c row)
+RowsRename = (r : NodeId → NodeId) (t : Token) (c : Config) (row : List Instr) → Renames r c.open_state.next → run t (rename_config r c) (rename_row r row) ≡ rename_config r (run t c row)
 
 abbrev pub TokensRename : Type 0
 TokensRename =

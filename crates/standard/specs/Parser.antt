@@ -33,6 +33,7 @@ opening realm = record {
   stack = [];
   formats = [];
   head = None;
+  form = None;
   mode = mode.Initial;
   original = None;
   frameset_ok = true;

@@ -12,14 +12,16 @@ use Rattle.html_types.specs.declared.instruction.Flow.{Flow}
 use Rattle.html_types.specs.declared.instruction.Flow.TheVariants.{On, Skip, Leave}
 use Rattle.html_types.specs.declared.instruction.Next.{Next}
 use Rattle.html_types.specs.declared.instruction.Next.TheVariants as next
+use Rattle.html_types.specs.declared.instruction.Then.{Then}
 use Rattle.html_types.specs.declared.token.Token.{Token}
 use Rattle.html_types.specs.declared.token.Token.TheVariants.{StartTag, EndTag, Character, Comment, Doctype, EndOfFile, Missing}
 use Rattle.html_types.specs.declared.operation.Op.{Op}
 use Rattle.html_types.specs.declared.open.Open.{Open}
 use Rattle.standard.specs.Rows.{row_for}
 use Rattle.standard.specs.Instructions.{Config, on, run}
+use Rattle.standard.specs.Adoption.{Adopted, adopt}
 use Rattle.standard.specs.RulesHead.{initial_doctype, initial_anything, before_html_start, before_html_end, before_html_anything, before_head_start, before_head_end, before_head_anything, in_head_start, in_head_end, in_head_anything, after_head_start, after_head_end, after_head_anything}
-use Rattle.standard.specs.RulesBody.{in_body_space, in_body_character, in_body_start, in_body_any_start, in_body_end, in_body_any_end, in_text_end_of_file, in_text_end, in_text_any_end, after_body_start, after_body_end, after_body_anything, after_after_body_start, after_after_body_anything}
+use Rattle.standard.specs.RulesBody.{in_body_space, in_body_character, in_body_start, in_body_any_start, in_body_end, in_body_any_end, after_adopt, in_text_end_of_file, in_text_end, in_text_any_end, after_body_start, after_body_end, after_body_anything, after_after_body_start, after_after_body_anything}
 
 -- ---- the table
 
@@ -151,6 +153,23 @@ answer_of c = answer c.open_state c.ops (next_of c.flow)
 unfoldable pub by_mode : Mode → Token → Open → List Op → Answer
 by_mode m t b o = answer_of (run t (on b o) (row m t))
 
+-- the adoption agency algorithm (13.2.6.4.7), and the rest of the row that asked for it
+unfoldable pub adopting : Word → Then → Token → Open → List Op → Answer
+adopting w h t b o =
+    let a : Adopted = adopt w b o in
+    answer_of (run t (on a.open_state a.ops) (after_adopt h a.other))
+
+-- what a row asks for is done where it is the adoption
+abbrev pub with_adoption : Token → Open → List Op → Next → Answer
+with_adoption t b o (next.Adopt w h) = adopting w h t b o
+with_adoption t b o n = answer b o n
+
+-- by the rules of a mode, the adoption too
+abbrev pub by_rules : Mode → Token → Open → List Op → Answer
+by_rules m t b o =
+    let a : Answer = by_mode m t b o in
+    with_adoption t a.open_state a.ops a.next
+
 -- the rules that the token is to go by once more, or what comes next
 pub data Round : Type 0 where
   once : Mode → Round
@@ -170,7 +189,7 @@ go_round more b o (stop x) = answer b o x
 unfoldable pub process : ℕ → Mode → Token → Open → List Op → Answer
 process zero m t b o = answer b o next.Missing
 process (suc n) m t b o =
-    let a : Answer = by_mode m t b o in
+    let a : Answer = by_rules m t b o in
     go_round (λ m'. process n m' t a.open_state a.ops) a.open_state a.ops (round_after a.open_state a.next)
 
 -- no token goes by more rules than this

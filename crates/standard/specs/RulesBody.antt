@@ -1,11 +1,14 @@
 -- The rows of tree construction in "in body" (13.2.6.4.7), "text" (13.2.6.4.8), "after body" (13.2.6.4.19) and "after after
 -- body" (13.2.6.4.22): what is done at each token.
-use Rattle.std.specs.Prelude.{List, [], ◌∷◌}
+use Rattle.std.specs.Prelude.{Bool, true, false, List, [], ◌∷◌}
 use Rattle.html_types.specs.declared.word.Word.{Word}
 use Rattle.html_types.specs.declared.word.Word.TheVariants.{A, Address, Applet, Area, Article, Aside, B, Base, Basefont, Bgsound, Big, Blockquote, Body, Br, Button, Caption, Center, Code, Col, Colgroup, Dd, Details, Dialog, Dir, Div, Dl, Dt, Em, Embed, Fieldset, Figcaption, Figure, Font, Footer, Form, Frame, Frameset, H1, H2, H3, H4, H5, H6, Head, Header, Hgroup, Hr, Html, I, Iframe, Image, Img, Input, Keygen, Li, Link, Listing, Main, Marquee, Menu, Meta, Nav, Nobr, Noembed, Noframes, Noscript, Object, Ol, Optgroup, Option, P, Param, Plaintext, Pre, Rb, Rp, Rt, Rtc, Ruby, S, Script, Search, Section, Select, Small, Source, Strike, Strong, Style, Summary, Table, Tbody, Td, Template, Textarea, Tfoot, Th, Thead, Title, Tr, Track, Tt, U, Ul, Wbr, Xmp}
 use Rattle.html_types.specs.declared.instruction.Instr.{Instr}
-use Rattle.html_types.specs.declared.instruction.Instr.TheVariants.{Need, Forbid, When, Unless, Insert, InsertA, Void, InsertText, Pop, Until, Implied, ImpliedBut, Close, CloseItem, AnyOtherEnd, Reconstruct, Marker, ClearToMarker, NotOk, SkipLineFeed, AddToFirst, AddToSecond, Enter, KeepMode, Restore, Switch, Using, Again, StopAtScript, Missing}
-use Rattle.html_types.specs.declared.instruction.Test.TheVariants.{InScope, Current, OnStack, SecondIsBody}
+use Rattle.html_types.specs.declared.instruction.Instr.TheVariants.{Need, Forbid, When, Unless, Insert, InsertA, Void, VoidA, VoidAs, InsertText, Pop, Until, Implied, ImpliedBut, Close, CloseItem, AnyOtherEnd, Reconstruct, Marker, ClearToMarker, TakeOff, NotOk, SkipLineFeed, PointForm, EndForm, AddToFirst, AddToSecond, Enter, KeepMode, Restore, Adopt, AdoptAnchor, AdoptNobr, Switch, Using, Again, StopAtScript, Missing}
+use Rattle.html_types.specs.declared.instruction.Instr.TheVariants as ins
+use Rattle.html_types.specs.declared.instruction.Then.{Then}
+use Rattle.html_types.specs.declared.instruction.Then.TheVariants as behind
+use Rattle.html_types.specs.declared.instruction.Test.TheVariants.{InScope, Current, OnStack, Listed, SecondIsBody, InForm, HiddenInput}
 use Rattle.html_types.specs.declared.instruction.Who.TheVariants.{Own, The, Any}
 use Rattle.html_types.specs.declared.instruction.Group.TheVariants.{Headings, DefinitionItems}
 use Rattle.html_types.specs.declared.instruction.Scope.TheVariants as scope
@@ -44,7 +47,7 @@ in_body_start = (
   Close scope.Button (The P) ∷ Insert ∷ SkipLineFeed ∷ NotOk ∷ [],
 ) ∷ (
   Form ∷ [],
-  Missing ∷ [],
+  Forbid InForm ∷ Close scope.Button (The P) ∷ Insert ∷ Unless (OnStack (The Template)) ∷ PointForm ∷ [],
 ) ∷ (
   Li ∷ [],
   NotOk ∷ CloseItem (The Li) ∷ Close scope.Button (The P) ∷ Insert ∷ [],
@@ -58,8 +61,14 @@ in_body_start = (
   Button ∷ [],
   Close scope.Default (The Button) ∷ Reconstruct ∷ Insert ∷ NotOk ∷ [],
 ) ∷ (
-  A ∷ B ∷ Big ∷ Code ∷ Em ∷ Font ∷ I ∷ Nobr ∷ S ∷ Small ∷ Strike ∷ Strong ∷ Tt ∷ U ∷ [],
-  Missing ∷ [],
+  A ∷ [],
+  When (Listed (The A)) ∷ AdoptAnchor ∷ Reconstruct ∷ Insert ∷ ins.List ∷ [],
+) ∷ (
+  B ∷ Big ∷ Code ∷ Em ∷ Font ∷ I ∷ S ∷ Small ∷ Strike ∷ Strong ∷ Tt ∷ U ∷ [],
+  Reconstruct ∷ Insert ∷ ins.List ∷ [],
+) ∷ (
+  Nobr ∷ [],
+  Reconstruct ∷ When (InScope scope.Default (The Nobr)) ∷ AdoptNobr ∷ Insert ∷ ins.List ∷ [],
 ) ∷ (
   Applet ∷ Marquee ∷ Object ∷ [],
   Reconstruct ∷ Insert ∷ Marker ∷ NotOk ∷ [],
@@ -71,7 +80,7 @@ in_body_start = (
   Reconstruct ∷ Void ∷ NotOk ∷ [],
 ) ∷ (
   Input ∷ [],
-  Missing ∷ [],
+  Reconstruct ∷ Void ∷ Unless HiddenInput ∷ NotOk ∷ [],
 ) ∷ (
   Param ∷ Source ∷ Track ∷ [],
   Void ∷ [],
@@ -80,7 +89,7 @@ in_body_start = (
   Close scope.Button (The P) ∷ Void ∷ NotOk ∷ [],
 ) ∷ (
   Image ∷ [],
-  Missing ∷ [],
+  Reconstruct ∷ VoidAs Img ∷ NotOk ∷ [],
 ) ∷ (
   Textarea ∷ [],
   Insert ∷ SkipLineFeed ∷ NotOk ∷ KeepMode ∷ Enter InText ∷ Switch Rcdata ∷ [],
@@ -129,7 +138,7 @@ in_body_end = (
   Need (InScope scope.Default Own) ∷ Implied ∷ Until Own ∷ [],
 ) ∷ (
   Form ∷ [],
-  Missing ∷ [],
+  EndForm ∷ [],
 ) ∷ (
   P ∷ [],
   Unless (InScope scope.Button (The P)) ∷ InsertA P ∷ Close scope.Button (The P) ∷ [],
@@ -144,18 +153,29 @@ in_body_end = (
   Need (InScope scope.Default (Any Headings)) ∷ Implied ∷ Until (Any Headings) ∷ [],
 ) ∷ (
   A ∷ B ∷ Big ∷ Code ∷ Em ∷ Font ∷ I ∷ Nobr ∷ S ∷ Small ∷ Strike ∷ Strong ∷ Tt ∷ U ∷ [],
-  Missing ∷ [],
+  Adopt ∷ [],
 ) ∷ (
   Applet ∷ Marquee ∷ Object ∷ [],
   Need (InScope scope.Default Own) ∷ Implied ∷ Until Own ∷ ClearToMarker ∷ [],
 ) ∷ (
   Br ∷ [],
-  Missing ∷ [],
+  Reconstruct ∷ VoidA Br ∷ NotOk ∷ [],
 ) ∷ []
 
 -- any other end tag
 abbrev pub in_body_any_end : List Instr
 in_body_any_end = AnyOtherEnd ∷ []
+
+-- the rest of a row behind the adoption agency algorithm
+abbrev pub behind_adoption : Then → List Instr
+behind_adoption behind.Nothing = []
+behind_adoption (behind.Link i) = TakeOff i ∷ Reconstruct ∷ Insert ∷ ins.List ∷ []
+behind_adoption behind.Nobr = Reconstruct ∷ Insert ∷ ins.List ∷ []
+
+-- where no entry had the name, the token goes by "any other end tag" first
+abbrev pub after_adopt : Then → Bool → List Instr
+after_adopt h true = AnyOtherEnd ∷ behind_adoption h
+after_adopt h false = behind_adoption h
 
 -- 13.2.6.4.8 The "text" insertion mode: a character is inserted
 abbrev pub in_text_end_of_file : List Instr

@@ -1,5 +1,5 @@
 -- The stack of open elements (13.2.4.2), as a list that begins with the current node.
-use Rattle.std.specs.Prelude.{Bool, true, false, not, ◌&&◌, ◌||◌, if◌then◌else◌, List, [], ◌∷◌, Option, Some, None}
+use Rattle.std.specs.Prelude.{Bool, true, false, not, ◌&&◌, ◌||◌, if◌then◌else◌, List, [], ◌∷◌, ◌++◌, Option, Some, None}
 use Rattle.html_types.specs.declared.word.Word.{Word}
 use Rattle.html_types.specs.declared.word.Word.TheVariants as word
 use Rattle.html_types.specs.declared.instruction.Group.TheVariants as group
@@ -118,3 +118,43 @@ abbrev pub without_open : Option NodeId → List OpenElement → List OpenElemen
 without_open None es = es
 without_open (Some i) [] = []
 without_open (Some i) (e ∷ es) = if same_id e.id i then es else e ∷ without_open (Some i) es
+
+-- "has that element in scope"
+abbrev pub open_in_scope : Scope → NodeId → List OpenElement → Bool
+open_in_scope s id [] = false
+open_in_scope s id (e ∷ es) = if same_id e.id id then true else (if ends_scope s e.name then false else open_in_scope s id es)
+
+-- ---- what the adoption agency algorithm asks of the stack
+
+-- the elements above the one of that id, and those from it on
+abbrev pub above : NodeId → List OpenElement → List OpenElement
+above id [] = []
+above id (e ∷ es) = if same_id e.id id then [] else e ∷ above id es
+
+abbrev pub from_on : NodeId → List OpenElement → List OpenElement
+from_on id [] = []
+from_on id (e ∷ es) = if same_id e.id id then e ∷ es else from_on id es
+
+-- the elements through the one of that id, and those below it
+abbrev pub through : NodeId → List OpenElement → List OpenElement
+through id [] = []
+through id (e ∷ es) = if same_id e.id id then e ∷ [] else e ∷ through id es
+
+abbrev pub below : NodeId → List OpenElement → List OpenElement
+below id [] = []
+below id (e ∷ es) = if same_id e.id id then es else below id es
+
+-- another one put right above the one of that id
+abbrev pub with_above : NodeId → OpenElement → List OpenElement → List OpenElement
+with_above id entry es = above id es ++ entry ∷ from_on id es
+
+-- of the special elements above that one, the one that is closest to it; `found` is the one so far
+abbrev pub block_above : NodeId → Option NodeId → List OpenElement → Option NodeId
+block_above id found [] = found
+block_above id found (e ∷ es) =
+    if same_id e.id id then found else block_above id (if is_one_of group.Special e.name then Some e.id else found) es
+
+-- the appropriate place where the target is the first of these elements, on that stack
+abbrev pub place_for : Bool → List OpenElement → List OpenElement → Place
+place_for foster [] st = Page
+place_for foster (e ∷ es) st = if foster && is_one_of group.FosterTargets e.name then foster_place st else place_in e
