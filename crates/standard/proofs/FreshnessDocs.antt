@@ -100,6 +100,7 @@ act-binds d (op.Text place text) id = refl
 act-binds d (op.Note place text) id = refl
 act-binds d (op.Doctype name) id = refl
 act-binds d (op.Detach i) id = refl
+act-binds d (op.MoveChildren from to) id = refl
 act-binds d (op.AddAttributes i attributes) id = refl
 
 pub acts-bind : (d : Doc) (ops : List Op) → is_bound (acts d ops).bound ≡ known_after_all (is_bound d.bound) ops
@@ -150,6 +151,7 @@ known-grows known (o ∷ os) id h = known-grows (known_after known o) os id (one
     one (op.Note place text) = h
     one (op.Doctype name) = h
     one (op.Detach i) = h
+    one (op.MoveChildren from to) = h
     one (op.AddAttributes i attributes) = h
 
 -- an open state is still served where others have bound ids of theirs
