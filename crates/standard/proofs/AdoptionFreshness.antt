@@ -1,5 +1,5 @@
 -- The adoption agency algorithm names ids that are bound, and makes clones under ids that aren't.
-use Rattle.std.proofs.Common.{◌≡◌, refl, sym, ap, ◌∙◌, subst, ℕ, zero, suc, ◌-◌, ◌==◌, Bool, true, false, not, ◌||◌, List, [], ◌∷◌, ◌++◌, Option, Some, None}
+use Rattle.std.proofs.Common.{◌≡◌, sym, ap, subst, ℕ, zero, suc, ◌-◌, ◌==◌, Bool, true, false, not, ◌||◌, List, [], ◌∷◌, ◌++◌, Option, Some, None}
 use Rattle.std.specs.Prelude.{if◌then◌else◌, IsTrue}
 use Rattle.html_types.specs.Operations.{later}
 use Rattle.html_types.specs.declared.word.Word.{Word}
@@ -20,20 +20,11 @@ use Rattle.html_types.specs.declared.open.Open.{Open}
 use Rattle.standard.specs.Elements.{is_word}
 use Rattle.standard.specs.Stack.{is_open, current_id, pop, without_open, open_in_scope, above, from_on, through, below, block_above, place_for}
 use Rattle.standard.specs.Formatting.{entry_named, tag_of_entry, without_entry, with_behind}
-use Rattle.standard.specs.Adoption.{Climb, climb_at, climb_clone, climb_drop, climb_one, climb, Turned, turned, put_mark, children_to, joined, rebuilt, turn_with, turn_at, turn, turns, Adopted, adopted, adopted_by, is_plain, adopt}
+use Rattle.standard.specs.Adoption.{Climb, climb_at, climb_clone, climb_drop, climb_one, climb, Turned, turned, put_mark, joined, rebuilt, turn_with, turn_at, turn, turns, Adopted, adopted, adopted_by, is_plain, adopt}
 use Rattle.standard.specs.Act.{IsPlaceBound, IsOpBound, AreOpsBound, known_after}
 use Rattle.standard.specs.Naming.{AreOpenBound, AreFormatsBound, IsBoundIfAny, Serves, known_after_all}
 use Rattle.standard.proofs.FreshnessOps.{known-append, bound-append, same-itself, Follows, known-grows}
 use Rattle.standard.proofs.FreshnessWalks.{pop-bound, without_open-bound, open-append, from_on-bound, through-bound, below-bound, with_above-bound, block_above-bound, place_for-bound, without_entry-bound, with_id-bound, with_behind-bound, open-more, formats-more, pointer-more}
-
--- the operations that move children
-children-bound : (known : NodeId → Bool) (from to : NodeId) → IsTrue (known from) → IsTrue (known to) → AreOpsBound known (children_to from to)
-unfolding AreOpsBound
-children-bound known from to a b = ((a, b), tt)
-
-children-known : (known : NodeId → Bool) (from to : NodeId) → known_after_all known (children_to from to) ≡ known
-unfolding known_after_all
-children-known known from to = refl
 
 module _ (Coming : (NodeId → Bool) → NodeId → Type 0) (law : Follows Coming) (known : NodeId → Bool) where
   abbrev after : List Op → NodeId → Bool
@@ -79,10 +70,10 @@ module _ (Coming : (NodeId → Bool) → NodeId → Type 0) (law : Follows Comin
     coming = subst (λ k. Coming k id) (sym (last-known o (op.Put i at))) b.coming;
   }
 
-  moved-bound : (o : List Op) (id from to : NodeId) → Bound o id → IsTrue (after o from) → IsTrue (after o to) → Bound (o ++ children_to from to) id
+  moved-bound : (o : List Op) (id from to : NodeId) → Bound o id → IsTrue (after o from) → IsTrue (after o to) → Bound (o ++ op.MoveChildren from to ∷ []) id
   moved-bound o id from to b h g = record {
-    ops_bound = bound-append known o (children_to from to) b.ops_bound (children-bound (after o) from to h g);
-    coming = subst (λ k. Coming k id) (sym (known-append known o (children_to from to) ∙ children-known (after o) from to)) b.coming;
+    ops_bound = last-bound o (op.MoveChildren from to) b.ops_bound (h, g);
+    coming = subst (λ k. Coming k id) (sym (last-known o (op.MoveChildren from to))) b.coming;
   }
 
   -- ---- a climb that began behind the operations o
@@ -151,7 +142,7 @@ module _ (Coming : (NodeId → Bool) → NodeId → Type 0) (law : Follows Comin
       let at : Place = place_for b.foster (below f st) st in
       let o1 : List Op = c.ops ++ op.Put c.last at ∷ [] in
       let o2 : List Op = o1 ++ make c.next tag ∷ [] in
-      let o3 : List Op = o2 ++ children_to block c.next in
+      let o3 : List Op = o2 ++ op.MoveChildren block c.next ∷ [] in
       let o4 : List Op = o3 ++ op.Put c.next (Inside block) ∷ [] in
       let second : (j : NodeId) → IsTrue (after c.ops j) → IsTrue (after o2 j) = λ j h. more-known o1 _ j (more-known c.ops _ j h) in
       let third : (j : NodeId) → IsTrue (after c.ops j) → IsTrue (after o3 j) = λ j h. more-known o2 _ j (second j h) in

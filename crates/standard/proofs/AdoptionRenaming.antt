@@ -20,7 +20,7 @@ use Rattle.html_types.specs.declared.open.Open.{Open}
 use Rattle.standard.specs.Elements.{is_word}
 use Rattle.standard.specs.Stack.{is_open, current_is, current_id, pop, without_open, open_in_scope, above, from_on, through, below, with_above, block_above, place_for}
 use Rattle.standard.specs.Formatting.{entry_named, has_entry, tag_of_entry, without_entry, with_behind}
-use Rattle.standard.specs.Adoption.{Climb, climb_at, mark_or, climb_clone, climb_drop, climb_one, climb, Turned, turned, put_mark, children_to, joined, rebuilt, turn_with, turn_at, turn, turns, Adopted, adopted, adopted_by, is_plain, adopt}
+use Rattle.standard.specs.Adoption.{Climb, climb_at, mark_or, climb_clone, climb_drop, climb_one, climb, Turned, turned, put_mark, joined, rebuilt, turn_with, turn_at, turn, turns, Adopted, adopted, adopted_by, is_plain, adopt}
 use Rattle.standard.specs.Naming.{Renames, rename_ops, rename_element, rename_format, rename_open}
 use Rattle.standard.proofs.RenamingWalks.{of_two, current_is-renamed, current_id-renamed, pop-renamed, without_open-renamed, is_open-renamed, open_in_scope-renamed, above-renamed, from_on-renamed, through-renamed, below-renamed, with_above-renamed, block_above-renamed, place_for-renamed, entry_named-renamed, has_entry-renamed, tag_of_entry-renamed, without_entry-renamed, with_id-renamed, with_behind-renamed}
 use Rattle.standard.proofs.AdoptionGrowth.{climb_one-grows, climb-grows, turn-grows}
@@ -96,7 +96,7 @@ module _ (r : NodeId → NodeId) where
         (ap (with_above (r block) (rename_element r clone)) (without_open-renamed r n.apart (Some f) st) ∙ with_above-renamed r n.apart block clone (without_open (Some f) st))
         (put_mark-renamed n.apart f c.next tag c.mark c.formats)
         (sym (n.in_order 1))
-        (ap (λ at. rename_ops r c.ops ++ op.Put (r c.last) at ∷ [] ++ op.Make (r c.next) tag.name tag.attributes ∷ [] ++ children_to (r block) (r c.next) ++ op.Put (r c.next) (Inside (r block)) ∷ [])
+        (ap (λ at. rename_ops r c.ops ++ op.Put (r c.last) at ∷ [] ++ op.Make (r c.next) tag.name tag.attributes ∷ [] ++ op.MoveChildren (r block) (r c.next) ∷ [] ++ op.Put (r c.next) (Inside (r block)) ∷ [])
         (ap (λ l. place_for b.foster l (stack_of st)) (below-renamed r n.apart f st) ∙ place_for-renamed r b.foster (below f st) st)
         ∙ simp map-append)
 

@@ -379,6 +379,34 @@ formatting_stays_behind_a_marker : written "<b>1<object>2</b>3</object>4</b>5" e
 unfolding serial_on_literals adopting adopt
 formatting_stays_behind_a_marker = refl
 
+block_in_formatting : written "<b>1<p>2</b>3</p>" ending.End ≡ wants "tree \"<html><head></head><body><b>1</b><p><b>2</b>3</p></body></html>\"\n"
+unfolding serial_on_literals adopting adopt
+block_in_formatting = refl
+
+blocks_in_formatting : written "<a>1<div>2<div>3</a>4</div>5</div>" ending.End ≡ wants "tree \"<html><head></head><body><a>1</a><div><a>2</a><div><a>3</a>4</div>5</div></body></html>\"\n"
+unfolding serial_on_literals adopting adopt
+blocks_in_formatting = refl
+
+formatting_between : written "<b>1<i>2<p>3</b>4" ending.End ≡ wants "tree \"<html><head></head><body><b>1<i>2</i></b><i><p><b>3</b>4</p></i></body></html>\"\n"
+unfolding serial_on_literals adopting adopt
+formatting_between = refl
+
+fourth_between_is_dropped : written "<a><b><big><em><strong><div>X</a>" ending.End ≡ wants "tree \"<html><head></head><body><a><b><big><em><strong></strong></em></big></b></a><big><em><strong><div><a>X</a></div></strong></em></big></body></html>\"\n"
+unfolding serial_on_literals adopting adopt
+fourth_between_is_dropped = refl
+
+eight_turns : written "<a><div><div><div><div><div><div><div><div><div>A</a>" ending.End ≡ wants "tree \"<html><head></head><body><a></a><div><a></a><div><a></a><div><a></a><div><a></a><div><a></a><div><a></a><div><a></a><div><a><div>A</div></a></div></div></div></div></div></div></div></div></body></html>\"\n"
+unfolding serial_on_literals adopting adopt
+eight_turns = refl
+
+a_in_a_block_in_a : written "<a>1<p>2<a>3" ending.End ≡ wants "tree \"<html><head></head><body><a>1</a><p><a>2</a><a>3</a></p></body></html>\"\n"
+unfolding serial_on_literals adopting adopt
+a_in_a_block_in_a = refl
+
+nobr_in_a_block_in_nobr : written "<nobr>1<p>2<nobr>3" ending.End ≡ wants "tree \"<html><head></head><body><nobr>1</nobr><p><nobr>2</nobr><nobr>3</nobr></p></body></html>\"\n"
+unfolding serial_on_literals adopting adopt
+nobr_in_a_block_in_nobr = refl
+
 form_in_form : written "<form>1<form>2</form>3" ending.End ≡ wants "tree \"<html><head></head><body><form>12</form>3</body></html>\"\n"
 unfolding serial_on_literals adopting adopt
 form_in_form = refl

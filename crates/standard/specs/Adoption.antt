@@ -78,10 +78,6 @@ abbrev pub put_mark : NodeId → NodeId → Tag → Option NodeId → List Forma
 put_mark f clone tag None fs = with_id f clone fs
 put_mark f clone tag (Some m) fs = without_entry f (with_behind m (Element clone tag) fs)
 
--- the operations that move the children of an element to the end of another
-abbrev pub children_to : NodeId → NodeId → List Op
-children_to from to = op.MoveChildren from to ∷ []
-
 -- the stack with what is left of the elements between
 abbrev pub joined : NodeId → NodeId → List OpenElement → List OpenElement → List OpenElement
 joined f block st kept = through block st ++ kept ++ from_on f (below block st)
@@ -97,7 +93,7 @@ rebuilt f tag block b c st =
       next = later 1 c.next;
     })
     (c.ops ++ op.Put c.last (place_for b.foster (below f st) st) ∷ [] ++ op.Make c.next tag.name tag.attributes ∷ []
-    ++ children_to block c.next ++ op.Put c.next (Inside block) ∷ [])
+    ++ op.MoveChildren block c.next ∷ [] ++ op.Put c.next (Inside block) ∷ [])
     More
 
 -- with the formatting element's tag, and the furthest block
