@@ -1,6 +1,6 @@
 //! The rows of what begins with `<!`, and of bogus comments.
 
-ghost use Rattle.std.specs.Prelude.{◌≡◌, IfOk};
+ghost use Rattle.std.specs.Prelude.{◌≡◌, ◌||◌, IfOk, codes};
 ghost use Rattle.std.specs.Str.{chars};
 ghost use Rattle.standard.specs.Entities.{is_front};
 ghost use Rattle.standard.specs.MarkStates as rows;
@@ -42,7 +42,16 @@ pub(crate) fn begins(text: &Text, word: &str) -> bool
     word.starts_with(text.as_str())
 }
 
+/// Whether so far it is `--` or `DOCTYPE`, in any case; `lower` is `now` in lower case.
+#[tactic(auto, using(crate::proofs::Fronts::chars_dashes, crate::proofs::Fronts::chars_doctype))]
+fn begins_declaration(now: &Text, lower: &Text) -> bool
+    ensures { result ≡ (is_front now.now (codes "--") || is_front lower.now (codes "doctype")) }
+{
+    begins(now, "--") || begins(lower, "doctype")
+}
+
 /// Behind what is held and one character more, which are `now`: `--` begins a comment, and `doctype` in any case a doctype.
+#[tactic(auto, using(crate::proofs::Fronts::chars_dashes, crate::proofs::Fronts::chars_doctype))]
 fn declaration_step(
     alloc: Global,
     held: Text,
@@ -59,7 +68,7 @@ fn declaration_step(
             TokState::Mark(MarkState::Doctype(DoctypeState::Doctype)),
             out,
         )
-    } else if begins(&now, "--") || begins(&lower, "doctype") {
+    } else if begins_declaration(&now, &lower) {
         to(TokState::Mark(MarkState::MarkupDeclarationOpen(now)), out)
     } else {
         again(TokState::Mark(MarkState::BogusComment(held)), out)

@@ -1,6 +1,7 @@
 //! The rows of doctypes. Public and system identifiers are read and dropped.
 
-ghost use Rattle.std.specs.Prelude.{◌≡◌, ◌∷◌, ◌++◌, [], IfOk};
+ghost use Rattle.std.specs.Prelude.{◌≡◌, ◌||◌, IfOk, codes};
+ghost use Rattle.standard.specs.Entities.{is_front};
 ghost use Rattle.standard.specs.DoctypeStates as rows;
 ghost use Rattle.standard.specs.Step as steps;
 ghost use Rattle.char_class.specs.Steps.{Follows};
@@ -133,7 +134,16 @@ fn doctype_name_row(
     }
 }
 
+/// Whether so far it is `public` or `system`.
+#[tactic(auto, using(crate::proofs::Fronts::chars_public, crate::proofs::Fronts::chars_system))]
+fn begins_keyword(now: &Text) -> bool
+    ensures { result ≡ (is_front now.now (codes "public") || is_front now.now (codes "system")) }
+{
+    begins(now, "public") || begins(now, "system")
+}
+
 /// Behind the letters `now`, in lower case: on with `public` or `system`, or nothing of the kind.
+#[tactic(auto, using(crate::proofs::Fronts::chars_public, crate::proofs::Fronts::chars_system))]
 fn keyword_step(name: Text, now: Text, out: &mut Tokens) -> Result<Next, NoMemory>
     ensures { IfOk result (Follows (rows.keyword_step name now) out.old out.new) }
 {
@@ -141,7 +151,7 @@ fn keyword_step(name: Text, now: Text, out: &mut Tokens) -> Result<Next, NoMemor
         to_doctype(DoctypeState::AfterPublicKeyword(name), out)
     } else if now.is("system") {
         to_doctype(DoctypeState::AfterSystemKeyword(name), out)
-    } else if begins(&now, "public") || begins(&now, "system") {
+    } else if begins_keyword(&now) {
         to_doctype(DoctypeState::Keyword(name, now), out)
     } else {
         again_in_doctype(DoctypeState::Bogus(name, true), out)
