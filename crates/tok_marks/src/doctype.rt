@@ -134,25 +134,25 @@ fn doctype_name_row(
     }
 }
 
-/// Whether so far it is `public` or `system`.
+/// Whether `public` or `system` begins with what was read.
 #[tactic(auto, using(crate::proofs::Fronts::chars_public, crate::proofs::Fronts::chars_system))]
-fn begins_keyword(now: &Text) -> bool
-    ensures { result ≡ (is_front now.now (codes "public") || is_front now.now (codes "system")) }
+fn begins_keyword(seen: &Text) -> bool
+    ensures { result ≡ (is_front seen.now (codes "public") || is_front seen.now (codes "system")) }
 {
-    begins(now, "public") || begins(now, "system")
+    begins(seen, "public") || begins(seen, "system")
 }
 
-/// Behind the letters `now`, in lower case: on with `public` or `system`, or nothing of the kind.
+/// Behind the letters `seen`, in lower case: on with `public` or `system`, or nothing of the kind.
 #[tactic(auto, using(crate::proofs::Fronts::chars_public, crate::proofs::Fronts::chars_system))]
-fn keyword_step(name: Text, now: Text, out: &mut Tokens) -> Result<Next, NoMemory>
-    ensures { IfOk result (Follows (rows.keyword_step name now) out.old out.new) }
+fn keyword_step(name: Text, seen: Text, out: &mut Tokens) -> Result<Next, NoMemory>
+    ensures { IfOk result (Follows (rows.keyword_step name seen) out.old out.new) }
 {
-    if now.is("public") {
+    if seen.is("public") {
         to_doctype(DoctypeState::AfterPublicKeyword(name), out)
-    } else if now.is("system") {
+    } else if seen.is("system") {
         to_doctype(DoctypeState::AfterSystemKeyword(name), out)
-    } else if begins_keyword(&now) {
-        to_doctype(DoctypeState::Keyword(name, now), out)
+    } else if begins_keyword(&seen) {
+        to_doctype(DoctypeState::Keyword(name, seen), out)
     } else {
         again_in_doctype(DoctypeState::Bogus(name, true), out)
     }
@@ -173,9 +173,9 @@ fn after_doctype_name_row(
         Class::Greater => emit_doctype(name, false, out),
         Class::InputEnd => finish_doctype(name, true, out),
         _ => {
-            let mut now = Text::new(alloc);
-            now.push(name_char(c))?;
-            keyword_step(name, now, out)
+            let mut seen = Text::new(alloc);
+            seen.push(name_char(c))?;
+            keyword_step(name, seen, out)
         }
     }
 }
