@@ -2,7 +2,9 @@
 #![tactic(auto)]
 
 mod formatting;
+mod inputs;
 mod insert;
+mod likes;
 mod machine;
 mod places;
 mod space;

@@ -50,6 +50,7 @@ impl Builder {
                 stack: Stack::new(alloc),
                 formats: Formats::new(alloc),
                 head: None,
+                form: None,
                 mode: Mode::Initial,
                 original: None,
                 frameset_ok: true,
@@ -156,6 +157,7 @@ impl Builder {
                 stack,
                 formats,
                 head: self.state.head,
+                form: self.state.form,
                 mode: self.state.mode,
                 original: self.state.original,
                 frameset_ok: self.state.frameset_ok,
@@ -173,6 +175,7 @@ impl Builder {
     {
         self.state.stack.same(&other.state.stack)
             && self.state.formats.same(&other.state.formats)
+            && same_pointers(&self.state, &other.state)
             && same_modes(&self.state, &other.state)
             && same_flags(&self.state, &other.state)
     }
@@ -188,11 +191,18 @@ fn asked(flow: Flow) -> Next
     }
 }
 
-/// Whether the head element pointer and the modes are the same.
-fn same_modes(a: &Open, b: &Open) -> bool
-    ensures { IsTrue result ↔ ((a.now.head ≡ b.now.head) × (a.now.mode ≡ b.now.mode) × (a.now.original ≡ b.now.original)) }
+/// Whether the element pointers are the same.
+fn same_pointers(a: &Open, b: &Open) -> bool
+    ensures { IsTrue result ↔ ((a.now.head ≡ b.now.head) × (a.now.form ≡ b.now.form)) }
 {
-    a.head == b.head && a.mode == b.mode && a.original == b.original
+    a.head == b.head && a.form == b.form
+}
+
+/// Whether the modes are the same.
+fn same_modes(a: &Open, b: &Open) -> bool
+    ensures { IsTrue result ↔ ((a.now.mode ≡ b.now.mode) × (a.now.original ≡ b.now.original)) }
+{
+    a.mode == b.mode && a.original == b.original
 }
 
 /// Whether the flags are the same.
