@@ -1,13 +1,13 @@
 //! Walks over the list of active formatting elements (13.2.4.3), from the latest entry up.
 
 ghost use Rattle.std.specs.Prelude.{◌≡◌, ◌<◌, length, reverse, remove, IfOk, MatchOption};
-ghost use Rattle.standard.specs.Elements.{is_meant};
+ghost use Rattle.standard.specs.Elements.{is_meant, is_word};
 ghost use Rattle.standard.specs.Formatting.{listed, clear_to_marker, lost, kept, entry_named, without_entry};
 
 use crate::walks::has_open;
-use html_types::{Format, Formats, NoMemory, NodeId, Stack, Tag, Token, Who};
+use html_types::{Format, Formats, NoMemory, NodeId, Stack, Tag, Token, Who, Word};
 use std::alloc::Global;
-use tag_sets::meant;
+use tag_sets::{is_the, meant};
 
 /// Whether one that is meant stands behind the last marker.
 pub fn is_listed(formats: &Formats, who: Who, token: &Token) -> bool
@@ -28,16 +28,16 @@ pub fn is_listed(formats: &Formats, who: Who, token: &Token) -> bool
     false
 }
 
-/// The element of the latest entry behind the last marker that is meant.
-pub fn entry_of(formats: &Formats, who: Who, token: &Token) -> Option<NodeId>
-    ensures { result ≡ entry_named (is_meant who token.now) formats.now }
+/// The element of the latest entry of that name behind the last marker.
+pub fn entry_of(formats: &Formats, word: Word) -> Option<NodeId>
+    ensures { result ≡ entry_named (is_word word) formats.now }
 {
     let mut items = formats.as_slice();
     while let Some((last, rest)) = items.split_last() {
         match last {
             Format::Marker => return None,
             Format::Element { id, tag } => {
-                if meant(who, token, &tag.name) {
+                if is_the(word, &tag.name) {
                     return Some(*id);
                 }
             }

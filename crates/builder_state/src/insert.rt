@@ -25,6 +25,19 @@ pub fn place_now(state: &Open) -> Place
     appropriate(state.foster, &state.stack)
 }
 
+/// Takes the next id. It answers NoMemory where none is left.
+pub fn take_id(next: &mut NodeId) -> Result<NodeId, NoMemory>
+    ensures id { IfOk result (λ id. id ≡ next.old) }
+    ensures next { IfOk result (λ _. next.new ≡ later 1 next.old) }
+{
+    let id = *next;
+    if id.n == u64::MAX {
+        return Err(NoMemory);
+    }
+    *next = id.later(1);
+    Ok(id)
+}
+
 /// Asks for an element at a place, and takes the next id for it.
 fn make(
     alloc: Global,
@@ -38,19 +51,15 @@ fn make(
     ensures ops { IfOk result (λ _. ops.new ≡ made place tag.now state.old ops.old) }
     ensures stack { state.new.stack ≡ state.old.stack }
 {
-    let id = state.next;
-    if id.n == u64::MAX {
-        return Err(NoMemory);
-    }
     let name = tag.name.copy(alloc)?;
     let attributes = tag.attributes.copy(alloc)?;
+    let id = take_id(&mut state.next)?;
     ops.push(Op::Make {
         id,
         name,
         attributes,
     })?;
     ops.push(Op::Put { node: id, place })?;
-    state.next = id.later(1);
     Ok(id)
 }
 
