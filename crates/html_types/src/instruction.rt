@@ -219,10 +219,7 @@ pub enum Turn {
 pub enum Next {
     Done,
     /// The adoption agency algorithm (13.2.6.4.7), and what comes behind it.
-    Adopt {
-        name: Word,
-        then: Then,
-    },
+    Adopt { name: Word, then: Then },
     /// Once more, by the mode as it is now.
     Again,
     /// By the rules of that mode.

@@ -3,12 +3,18 @@ use Rattle.std.proofs.Common.{◌≡◌, refl, sym, ap, ◌∙◌, ℕ, zero, su
 use Rattle.std.proofs.lemmas.List.{append-nil}
 use Rattle.std.specs.Prelude.{if◌then◌else◌, Option, Some, None}
 use Rattle.html_types.specs.Operations.{later}
+use Rattle.html_types.specs.declared.word.Word.{Word}
 use Rattle.html_types.specs.declared.word.Word.TheVariants as word
+use Rattle.html_types.specs.declared.name.Name.{Name}
+use Rattle.html_types.specs.declared.name.Name.TheVariants.{Known, Other}
+use Rattle.html_types.specs.declared.instruction.Who.TheVariants as who
+use Rattle.html_types.specs.declared.instruction.Then.{Then}
 use Rattle.html_types.specs.declared.instruction.Instr.{Instr}
 use Rattle.html_types.specs.declared.instruction.Instr.TheVariants as ins
 use Rattle.html_types.specs.declared.instruction.Mode.{Mode}
 use Rattle.html_types.specs.declared.instruction.Flow.{Flow}
 use Rattle.html_types.specs.declared.instruction.Flow.TheVariants.{On, Skip, Leave}
+use Rattle.html_types.specs.declared.instruction.Next.{Next}
 use Rattle.html_types.specs.declared.instruction.Next.TheVariants as next
 use Rattle.html_types.specs.declared.token.Tag.{Tag}
 use Rattle.html_types.specs.declared.token.Token.{Token}
@@ -20,11 +26,15 @@ use Rattle.html_types.specs.declared.operation.Op.{Op}
 use Rattle.html_types.specs.declared.open.OpenElement.{OpenElement}
 use Rattle.html_types.specs.declared.open.Format.TheVariants.{Element}
 use Rattle.html_types.specs.declared.open.Open.{Open}
-use Rattle.standard.specs.Stack.{first_open, second_open}
-use Rattle.standard.specs.Formatting.{kept, lost}
-use Rattle.standard.specs.Instructions.{Config, config, on, room, made, pushed, insert_at, here, insert, insert_root, void, tag_of, for_tag, reopen, reopen_all, insert_text, insert_comment, append_doctype, end_of, add_attributes, push_head, stop_at_script, step, turn, run}
-use Rattle.standard.specs.Rules.{Answer, answer, answer_of, row, by_mode, Round, once, stop, round_after, go_round, process, rounds, is_line_feed, construct}
+use Rattle.standard.specs.Elements.{is_word, is_meant}
+use Rattle.standard.specs.Stack.{on_stack, first_open, second_open}
+use Rattle.standard.specs.Formatting.{kept, lost, entry_named}
+use Rattle.standard.specs.Instructions.{Config, config, on, room, made, pushed, insert_at, here, insert, insert_root, void, tag_of, named, void_as, for_tag, enlist, reopen, reopen_all, insert_text, insert_comment, append_doctype, end_of, add_attributes, push_head, form_closed, form_closed_in_template, end_form, stop_at_script, adopt_name, adopt_own, adopt_anchor, step, turn, run}
+use Rattle.standard.specs.Adoption.{Adopted, adopt}
+use Rattle.standard.specs.Rules.{Answer, answer, answer_of, row, by_mode, adopting, with_adoption, by_rules, Round, once, stop, round_after, go_round, process, rounds, is_line_feed, construct}
+use Rattle.standard.specs.RulesBody.{after_adopt}
 use Rattle.standard.specs.Naming.{config_behind, answer_behind}
+use Rattle.standard.proofs.AdoptionFraming.{adopt-framed}
 
 by_test : (p : List Op) (v : Bool) (x y x' y' : Config) → x' ≡ config_behind p x → y' ≡ config_behind p y → (if v then x' else y') ≡ config_behind p (if v then x else y)
 by_test p true x y x' y' e g = e
@@ -105,6 +115,19 @@ head-framed : (p : List Op) (h : Option NodeId) (b : Open) (o : List Op) → pus
 head-framed p None b o = refl
 head-framed p (Some i) b o = by_test p (room b) (on _ o) (config b o (Leave next.Deep)) _ _ refl refl
 
+form-framed : (p : List Op) (nobody : Name → Bool) (b : Open) (o : List Op) → end_form nobody b (p ++ o) ≡ config_behind p (end_form nobody b o)
+form-framed p nobody b o =
+    by_test p (on_stack (is_word word.Template) b.stack) (on (record b { stack = form_closed_in_template nobody b.stack }) o)
+    (on (record b { stack = form_closed nobody b.form b.stack; form = None }) o) _ _ refl refl
+
+adopt_name-framed : (p : List Op) (name : Name) (b : Open) (o : List Op) → adopt_name name b (p ++ o) ≡ config_behind p (adopt_name name b o)
+adopt_name-framed p (Known w) b o = refl
+adopt_name-framed p (Other text) b o = refl
+
+anchor-framed : (p : List Op) (i : Option NodeId) (b : Open) (o : List Op) → adopt_anchor i b (p ++ o) ≡ config_behind p (adopt_anchor i b o)
+anchor-framed p None b o = refl
+anchor-framed p (Some i) b o = refl
+
 script-framed : (p : List Op) (es : List OpenElement) (b : Open) (o : List Op) → stop_at_script es b (p ++ o) ≡ config_behind p (stop_at_script es b o)
 script-framed p [] b o = refl
 script-framed p (e ∷ es) b o = refl
@@ -115,15 +138,21 @@ step-framed p (ins.InsertA w) t b o = insert-framed p (here b) (tag_of w) b o
 step-framed p ins.InsertRoot t b o = by_tag p insert_root t b o (λ tag. insert-framed p Page tag b o)
 step-framed p ins.InsertRootA t b o = insert-framed p Page (tag_of word.Html) b o
 step-framed p ins.Void t b o = by_tag p void t b o (λ tag. void-framed p tag b o)
+step-framed p (ins.VoidA w) t b o = void-framed p (tag_of w) b o
+step-framed p (ins.VoidAs w) t b o = by_tag p (void_as w) t b o (λ tag. void-framed p (named w tag) b o)
 step-framed p ins.InsertText t b o = text-framed p t b o
 step-framed p ins.InsertComment t b o = comment-framed p (here b) t b o
 step-framed p ins.CommentToPage t b o = comment-framed p Page t b o
 step-framed p ins.CommentToRoot t b o = comment-framed p (end_of (first_open b.stack)) t b o
 step-framed p ins.AppendDoctype t b o = doctype-framed p t b o
 step-framed p ins.Reconstruct t b o = reopen_all-framed p (reverse (lost b.stack b.formats)) (record b { formats = kept b.stack b.formats }) o On
+step-framed p ins.List t b o = by_tag p enlist t b o (λ tag. refl)
 step-framed p ins.PushHead t b o = head-framed p b.head b o
+step-framed p ins.EndForm t b o = form-framed p (is_meant who.Nobody t) b o
 step-framed p ins.AddToFirst t b o = by_tag p (add_attributes (first_open b.stack)) t b o (λ tag. attributes-framed p (first_open b.stack) tag b o)
 step-framed p ins.AddToSecond t b o = by_tag p (add_attributes (second_open b.stack)) t b o (λ tag. attributes-framed p (second_open b.stack) tag b o)
+step-framed p ins.Adopt t b o = by_tag p adopt_own t b o (λ tag. adopt_name-framed p tag.name b o)
+step-framed p ins.AdoptAnchor t b o = anchor-framed p (entry_named (is_word word.A) b.formats) b o
 step-framed p ins.StopAtScript t b o = script-framed p b.stack b o
 step-framed p _ t b o = refl
 
@@ -143,6 +172,29 @@ pub by_mode-behind : (p : List Op) (m : Mode) (t : Token) (b : Open) (o : List O
 unfolding by_mode
 by_mode-behind p m t b o = ap answer_of (run-behind p t (on b o) (row m t))
 
+adopting-behind : (p : List Op) (w : Word) (h : Then) (t : Token) (b : Open) (o : List Op) → adopting w h t b (p ++ o) ≡ answer_behind p (adopting w h t b o)
+unfolding adopting
+adopting-behind p w h t b o =
+    let a : Adopted = adopt w b o in
+    ap (λ (x : Adopted). answer_of (run t (on x.open_state x.ops) (after_adopt h x.other))) (adopt-framed p w b o)
+    ∙ ap answer_of (run-behind p t (on a.open_state a.ops) (after_adopt h a.other))
+
+adoption-behind : (p : List Op) (t : Token) (b : Open) (o : List Op) (n : Next) → with_adoption t b (p ++ o) n ≡ answer_behind p (with_adoption t b o n)
+adoption-behind p t b o (next.Adopt w h) = adopting-behind p w h t b o
+adoption-behind p t b o next.Done = refl
+adoption-behind p t b o next.Again = refl
+adoption-behind p t b o (next.Using m) = refl
+adoption-behind p t b o (next.Switch r) = refl
+adoption-behind p t b o (next.Script i) = refl
+adoption-behind p t b o next.Deep = refl
+adoption-behind p t b o next.Finished = refl
+adoption-behind p t b o next.Missing = refl
+
+by_rules-behind : (p : List Op) (m : Mode) (t : Token) (b : Open) (o : List Op) → by_rules m t b (p ++ o) ≡ answer_behind p (by_rules m t b o)
+by_rules-behind p m t b o =
+    let a : Answer = by_mode m t b o in
+    ap (λ (x : Answer). with_adoption t x.open_state x.ops x.next) (by_mode-behind p m t b o) ∙ adoption-behind p t a.open_state a.ops a.next
+
 go_round-behind : (p : List Op) (more : List Op → Mode → Answer) (b : Open) (o : List Op) (r : Round)
     → ((m : Mode) → more (p ++ o) m ≡ answer_behind p (more o m)) → go_round (more (p ++ o)) b (p ++ o) r ≡ answer_behind p (go_round (more o) b o r)
 go_round-behind p more b o (once m) h = h m
@@ -152,8 +204,8 @@ pub process-behind : (p : List Op) (n : ℕ) (m : Mode) (t : Token) (b : Open) (
 unfolding process
 process-behind p zero m t b o = refl
 process-behind p (suc n) m t b o =
-    let a : Answer = by_mode m t b o in
-    ap (λ (x : Answer). go_round (λ m'. process n m' t x.open_state x.ops) x.open_state x.ops (round_after x.open_state x.next)) (by_mode-behind p m t b o)
+    let a : Answer = by_rules m t b o in
+    ap (λ (x : Answer). go_round (λ m'. process n m' t x.open_state x.ops) x.open_state x.ops (round_after x.open_state x.next)) (by_rules-behind p m t b o)
     ∙ go_round-behind p (λ o' m'. process n m' t a.open_state o') a.open_state a.ops (round_after a.open_state a.next) (λ m'. process-behind p n m' t a.open_state a.ops)
 
 pub construct-behind : (p : List Op) (t : Token) (b : Open) (o : List Op) → construct t b (p ++ o) ≡ answer_behind p (construct t b o)

@@ -1,8 +1,13 @@
 -- Operations name ids that are bound, and elements are made under ids that aren't.
-use Rattle.std.proofs.Common.{◌≡◌, refl, sym, ap, ◌∙◌, subst, ℕ, zero, suc, Bool, true, false, ◌||◌, ◌&&◌, List, [], ◌∷◌, ◌++◌, reverse, Option, Some, None, arith}
+use Rattle.std.proofs.Common.{◌≡◌, refl, sym, ap, ◌∙◌, subst, ℕ, zero, suc, Bool, true, false, ◌||◌, ◌&&◌, List, [], ◌∷◌, ◌++◌, reverse, Option, Some, None}
 use Rattle.std.specs.Prelude.{if◌then◌else◌, IsTrue}
 use Rattle.html_types.specs.Operations.{same_id, later}
+use Rattle.html_types.specs.declared.word.Word.{Word}
 use Rattle.html_types.specs.declared.word.Word.TheVariants as word
+use Rattle.html_types.specs.declared.name.Name.{Name}
+use Rattle.html_types.specs.declared.name.Name.TheVariants.{Known, Other}
+use Rattle.html_types.specs.declared.instruction.Scope.TheVariants as scope
+use Rattle.html_types.specs.declared.instruction.Then.{Then}
 use Rattle.html_types.specs.declared.instruction.Instr.{Instr}
 use Rattle.html_types.specs.declared.instruction.Instr.TheVariants as ins
 use Rattle.html_types.specs.declared.instruction.Who.TheVariants as who
@@ -22,34 +27,18 @@ use Rattle.html_types.specs.declared.operation.Op.TheVariants as op
 use Rattle.html_types.specs.declared.open.OpenElement.{OpenElement}
 use Rattle.html_types.specs.declared.open.Format.TheVariants.{Element}
 use Rattle.html_types.specs.declared.open.Open.{Open}
-use Rattle.standard.specs.Elements.{is_meant, is_one_of}
-use Rattle.standard.specs.Stack.{first_open, second_open}
-use Rattle.standard.specs.Formatting.{kept, lost}
-use Rattle.standard.specs.Instructions.{Config, config, on, holds, room, made, pushed, insert_at, here, insert, insert_root, void, tag_of, for_tag, reopen, reopen_all, insert_text, insert_comment, append_doctype, end_of, add_attributes, push_head, stop_at_script, step, turn, run}
-use Rattle.standard.specs.Rules.{Answer, answer, next_of, row, by_mode, round_after, go_round, process, rounds, is_line_feed, construct}
+use Rattle.standard.specs.Elements.{is_word, is_meant, is_one_of}
+use Rattle.standard.specs.Stack.{in_scope, on_stack, until, implied, first_open, second_open, without_open, open_in_scope}
+use Rattle.standard.specs.Formatting.{kept, lost, entry_named}
+use Rattle.standard.specs.Instructions.{Config, config, on, holds, room, made, pushed, insert_at, here, insert, insert_root, void, tag_of, named, void_as, for_tag, enlist, reopen, reopen_all, insert_text, insert_comment, append_doctype, end_of, add_attributes, push_head, form_closed, form_closed_in_template, end_form, stop_at_script, adopt_name, adopt_own, adopt_anchor, step, turn, run}
+use Rattle.standard.specs.Adoption.{Adopted, adopt}
+use Rattle.standard.specs.RulesBody.{after_adopt}
+use Rattle.standard.specs.Rules.{Answer, answer, next_of, row, by_mode, adopting, with_adoption, by_rules, round_after, go_round, process, rounds, is_line_feed, construct}
 use Rattle.standard.specs.Act.{IsPlaceBound, IsOpBound, AreOpsBound, known_after}
 use Rattle.standard.specs.Naming.{AreOpenBound, IsBoundIfAny, Holds, known_after_all, IsNextBound}
-use Rattle.standard.proofs.FreshnessWalks.{IsElementBound, pop-bound, until-bound, pop_to-bound, implied-bound, close-bound, close_item-bound, other_end-bound, without_open-bound, current_id-bound, first_open-bound, second_open-bound, place-bound, clear_to_marker-bound, kept-bound, open-more, formats-more, head-more, place-more}
-
--- ---- lists of operations
-
-pub known-append : (known : NodeId → Bool) (os more : List Op) → known_after_all known (os ++ more) ≡ known_after_all (known_after_all known os) more
-unfolding known_after_all
-known-append known [] more = refl
-known-append known (o ∷ os) more = known-append (known_after known o) os more
-
-pub bound-append : (known : NodeId → Bool) (os more : List Op) → AreOpsBound known os → AreOpsBound (known_after_all known os) more → AreOpsBound known (os ++ more)
-unfolding known_after_all AreOpsBound
-bound-append known [] more a b = b
-bound-append known (o ∷ os) more a b = (a.0, bound-append (known_after known o) os more a.1 b)
-
-pub same-itself : (id : NodeId) → same_id id id ≡ true
-same-itself id = grind arith
-
--- what is asked of the ids that come is kept as elements are made
-pub record Follows (Coming : (NodeId → Bool) → NodeId → Type 0) : Type 0 where
-  pub fresh : (known : NodeId → Bool) (id : NodeId) → Coming known id → known id ≡ false
-  pub made_next : (known : NodeId → Bool) (id : NodeId) → Coming known id → Coming (λ q. same_id q id || known q) (later 1 id)
+use Rattle.standard.proofs.FreshnessOps.{known-append, bound-append, same-itself, Follows}
+use Rattle.standard.proofs.AdoptionFreshness.{AdoptedFits, adopt-fits}
+use Rattle.standard.proofs.FreshnessWalks.{IsElementBound, pop-bound, until-bound, pop_to-bound, implied-bound, close-bound, close_item-bound, other_end-bound, without_open-bound, current_id-bound, list_current-bound, without_entry-bound, first_open-bound, second_open-bound, place-bound, clear_to_marker-bound, kept-bound, open-more, formats-more, pointer-more, place-more}
 
 abbrev IsFlowBound : (NodeId → Bool) → Flow → Type 0
 IsFlowBound known On = Unit {0}
@@ -61,7 +50,7 @@ module _ (Coming : (NodeId → Bool) → NodeId → Type 0) (law : Follows Comin
   after o = known_after_all known o
 
   abbrev State : List Op → Open → Type 0
-  State o b = Holds Coming (after o) b.stack b.formats b.head b.next
+  State o b = Holds Coming (after o) b.stack b.formats b.head b.form b.next
 
   -- the operations so far are bound, and then the open state is
   abbrev Fits : Open → List Op → Flow → Type 0
@@ -74,6 +63,10 @@ module _ (Coming : (NodeId → Bool) → NodeId → Type 0) (law : Follows Comin
   of_two true x y a b = a
   of_two false x y a b = b
 
+  of_stacks : (k : NodeId → Bool) (v : Bool) (x y : List OpenElement) → AreOpenBound k x → AreOpenBound k y → AreOpenBound k (if v then x else y)
+  of_stacks k true x y a b = a
+  of_stacks k false x y a b = b
+
   of_flows : (k : NodeId → Bool) (v : Bool) (x y : Flow) → IsFlowBound k x → IsFlowBound k y → IsFlowBound k (if v then x else y)
   of_flows k true x y a b = a
   of_flows k false x y a b = b
@@ -83,7 +76,7 @@ module _ (Coming : (NodeId → Bool) → NodeId → Type 0) (law : Follows Comin
   one_more : (b : Open) (o : List Op) (x : Op) → known_after (after o) x ≡ after o → Fits b o On → IsOpBound (after o) x → Fits b (o ++ x ∷ []) On
   unfolding known_after_all AreOpsBound
   one_more b o x e f i =
-      (bound-append known o (x ∷ []) f.0 (i, tt), subst (λ k. Holds Coming k b.stack b.formats b.head b.next) (sym (known-append known o (x ∷ []) ∙ e)) f.1, tt)
+      (bound-append known o (x ∷ []) f.0 (i, tt), subst (λ k. Holds Coming k b.stack b.formats b.head b.form b.next) (sym (known-append known o (x ∷ []) ∙ e)) f.1, tt)
 
   -- ---- elements that are made
 
@@ -116,9 +109,9 @@ module _ (Coming : (NodeId → Bool) → NodeId → Type 0) (law : Follows Comin
 
   -- an element is made, and may be pushed, and listed
   made-fits : (at : Place) (tag : Tag) (b : Open) (o : List Op) (b' : Open) → Fits b o On → IsPlaceBound (after o) at
-      → Holds Coming (with_next b o) b'.stack b'.formats b'.head b'.next → Fits b' (made at tag b o) On
+      → Holds Coming (with_next b o) b'.stack b'.formats b'.head b'.form b'.next → Fits b' (made at tag b o) On
   made-fits at tag b o b' f p h =
-      (made-bound at tag b o f p, subst (λ k. Holds Coming k b'.stack b'.formats b'.head b'.next) (sym (made-after at tag b o)) h, tt)
+      (made-bound at tag b o f p, subst (λ k. Holds Coming k b'.stack b'.formats b'.head b'.form b'.next) (sym (made-after at tag b o)) h, tt)
 
   here-bound : (b : Open) (o : List Op) → Fits b o On → IsPlaceBound (after o) (here b)
   here-bound b o f = place-bound (after o) b.foster b.stack f.1.stack_bound
@@ -134,7 +127,8 @@ module _ (Coming : (NodeId → Bool) → NodeId → Type 0) (law : Follows Comin
       (made-fits at tag b o (pushed tag b) f p (record {
         stack_bound = (is_next b o, stack-more b o f);
         formats_bound = formats-more (after o) (with_next b o) (stays b o) b.formats f.1.formats_bound;
-        head_bound = head-more (after o) (with_next b o) (stays b o) b.head f.1.head_bound;
+        head_bound = pointer-more (after o) (with_next b o) (stays b o) b.head f.1.head_bound;
+        form_bound = pointer-more (after o) (with_next b o) (stays b o) b.form f.1.form_bound;
         coming = next-made b o f;
       }))
       (f.0, f.1, tt)
@@ -144,7 +138,8 @@ module _ (Coming : (NodeId → Bool) → NodeId → Type 0) (law : Follows Comin
       (made-fits (here b) tag b o (record b { next = later 1 b.next }) f (here-bound b o f) (record {
         stack_bound = stack-more b o f;
         formats_bound = formats-more (after o) (with_next b o) (stays b o) b.formats f.1.formats_bound;
-        head_bound = head-more (after o) (with_next b o) (stays b o) b.head f.1.head_bound;
+        head_bound = pointer-more (after o) (with_next b o) (stays b o) b.head f.1.head_bound;
+        form_bound = pointer-more (after o) (with_next b o) (stays b o) b.form f.1.form_bound;
         coming = next-made b o f;
       }))
       (f.0, f.1, tt)
@@ -154,7 +149,8 @@ module _ (Coming : (NodeId → Bool) → NodeId → Type 0) (law : Follows Comin
       (made-fits (here b) tag b o (record (pushed tag b) { formats = Element b.next tag ∷ b.formats }) f (here-bound b o f) (record {
         stack_bound = (is_next b o, stack-more b o f);
         formats_bound = (is_next b o, formats-more (after o) (with_next b o) (stays b o) b.formats f.1.formats_bound);
-        head_bound = head-more (after o) (with_next b o) (stays b o) b.head f.1.head_bound;
+        head_bound = pointer-more (after o) (with_next b o) (stays b o) b.head f.1.head_bound;
+        form_bound = pointer-more (after o) (with_next b o) (stays b o) b.form f.1.form_bound;
         coming = next-made b o f;
       }))
       (f.0, f.1, tt)
@@ -214,11 +210,49 @@ module _ (Coming : (NodeId → Bool) → NodeId → Type 0) (law : Follows Comin
 
   -- another stack, bound too
   with_stack : (b : Open) (o : List Op) (es : List OpenElement) (n : Flow) → Fits b o On → AreOpenBound (after o) es → IsFlowBound (after o) n → Fits (record b { stack = es }) o n
-  with_stack b o es n f a i = (f.0, record { stack_bound = a; formats_bound = f.1.formats_bound; head_bound = f.1.head_bound; coming = f.1.coming }, i)
+  with_stack b o es n f a i = (f.0, record { stack_bound = a; formats_bound = f.1.formats_bound; head_bound = f.1.head_bound; form_bound = f.1.form_bound; coming = f.1.coming }, i)
 
   head-fits : (h : Option NodeId) (b : Open) (o : List Op) → Fits b o On → IsBoundIfAny (after o) h → ConfigFits (push_head h b o)
   head-fits None b o f i = f
   head-fits (Some id) b o f i = of_two (room b) (on _ o) (config b o (Leave next.Deep)) (with_stack b o _ On f (i, f.1.stack_bound) tt) (f.0, f.1, tt)
+
+  entry-fits : (tag : Tag) (b : Open) (o : List Op) → Fits b o On → ConfigFits (enlist tag b o)
+  entry-fits tag b o f = (
+    f.0,
+    record {
+      stack_bound = f.1.stack_bound;
+      formats_bound = list_current-bound (after o) tag b.stack b.formats f.1.stack_bound f.1.formats_bound;
+      head_bound = f.1.head_bound;
+      form_bound = f.1.form_bound;
+      coming = f.1.coming;
+    },
+    tt,
+  )
+
+  closed-bound : (k : NodeId → Bool) (nobody : Name → Bool) (i : Option NodeId) (es : List OpenElement) → AreOpenBound k es → AreOpenBound k (form_closed nobody i es)
+  closed-bound k nobody None es a = a
+  closed-bound k nobody (Some i) es a =
+      of_stacks k (open_in_scope scope.Default i es) (without_open (Some i) (implied nobody es)) es
+      (without_open-bound k (Some i) (implied nobody es) (implied-bound k nobody es a)) a
+
+  closed_in_template-bound : (k : NodeId → Bool) (nobody : Name → Bool) (es : List OpenElement) → AreOpenBound k es → AreOpenBound k (form_closed_in_template nobody es)
+  closed_in_template-bound k nobody es a =
+      of_stacks k (in_scope scope.Default (is_word word.Form) es) (until (is_word word.Form) (implied nobody es)) es
+      (until-bound k (is_word word.Form) (implied nobody es) (implied-bound k nobody es a)) a
+
+  form-fits : (nobody : Name → Bool) (b : Open) (o : List Op) → Fits b o On → ConfigFits (end_form nobody b o)
+  form-fits nobody b o f =
+      of_two (on_stack (is_word word.Template) b.stack) (on (record b { stack = form_closed_in_template nobody b.stack }) o) (on (record b { stack = form_closed nobody b.form b.stack; form = None }) o)
+      (with_stack b o _ On f (closed_in_template-bound (after o) nobody b.stack f.1.stack_bound) tt)
+      (f.0, record { stack_bound = closed-bound (after o) nobody b.form b.stack f.1.stack_bound; formats_bound = f.1.formats_bound; head_bound = f.1.head_bound; form_bound = tt; coming = f.1.coming }, tt)
+
+  adopt_name-fits : (name : Name) (b : Open) (o : List Op) → Fits b o On → ConfigFits (adopt_name name b o)
+  adopt_name-fits (Known w) b o f = (f.0, f.1, tt)
+  adopt_name-fits (Other text) b o f = f
+
+  anchor-fits : (i : Option NodeId) (b : Open) (o : List Op) → Fits b o On → ConfigFits (adopt_anchor i b o)
+  anchor-fits None b o f = f
+  anchor-fits (Some i) b o f = (f.0, f.1, tt)
 
   script-fits : (es : List OpenElement) (b : Open) (o : List Op) → Fits b o On → AreOpenBound (after o) es → ConfigFits (stop_at_script es b o)
   script-fits [] b o f a = (f.0, f.1, tt)
@@ -234,6 +268,8 @@ module _ (Coming : (NodeId → Bool) → NodeId → Type 0) (law : Follows Comin
   step-fits ins.InsertRoot t b o f = by_tag insert_root t b o f (λ tag. insert-fits Page tag b o f tt)
   step-fits ins.InsertRootA t b o f = insert-fits Page (tag_of word.Html) b o f tt
   step-fits ins.Void t b o f = by_tag void t b o f (λ tag. void-fits tag b o f)
+  step-fits (ins.VoidA w) t b o f = void-fits (tag_of w) b o f
+  step-fits (ins.VoidAs w) t b o f = by_tag (void_as w) t b o f (λ tag. void-fits (named w tag) b o f)
   step-fits ins.InsertText t b o f = text-fits t b o f
   step-fits ins.InsertComment t b o f = comment-fits (here b) t b o f (here-bound b o f)
   step-fits ins.CommentToPage t b o f = comment-fits Page t b o f tt
@@ -249,16 +285,25 @@ module _ (Coming : (NodeId → Bool) → NodeId → Type 0) (law : Follows Comin
   step-fits ins.AnyOtherEnd t b o f = with_stack b o _ On f (other_end-bound (after o) (is_meant who.Own t) b.stack f.1.stack_bound) tt
   step-fits ins.Reconstruct t b o f =
       reopen_all-fits (reverse (lost b.stack b.formats)) (record b { formats = kept b.stack b.formats }) o On
-      (f.0, record { stack_bound = f.1.stack_bound; formats_bound = kept-bound (after o) b.stack b.formats f.1.formats_bound; head_bound = f.1.head_bound; coming = f.1.coming }, tt)
-  step-fits ins.Marker t b o f = (f.0, record { stack_bound = f.1.stack_bound; formats_bound = f.1.formats_bound; head_bound = f.1.head_bound; coming = f.1.coming }, tt)
+      (f.0, record { stack_bound = f.1.stack_bound; formats_bound = kept-bound (after o) b.stack b.formats f.1.formats_bound; head_bound = f.1.head_bound; form_bound = f.1.form_bound; coming = f.1.coming }, tt)
+  step-fits ins.List t b o f = by_tag enlist t b o f (λ tag. entry-fits tag b o f)
+  step-fits (ins.TakeOff i) t b o f =
+      (f.0, record { stack_bound = without_open-bound (after o) (Some i) b.stack f.1.stack_bound; formats_bound = without_entry-bound (after o) i b.formats f.1.formats_bound; head_bound = f.1.head_bound; form_bound = f.1.form_bound; coming = f.1.coming }, tt)
+  step-fits ins.Marker t b o f = (f.0, record { stack_bound = f.1.stack_bound; formats_bound = f.1.formats_bound; head_bound = f.1.head_bound; form_bound = f.1.form_bound; coming = f.1.coming }, tt)
   step-fits ins.ClearToMarker t b o f =
-      (f.0, record { stack_bound = f.1.stack_bound; formats_bound = clear_to_marker-bound (after o) b.formats f.1.formats_bound; head_bound = f.1.head_bound; coming = f.1.coming }, tt)
+      (f.0, record { stack_bound = f.1.stack_bound; formats_bound = clear_to_marker-bound (after o) b.formats f.1.formats_bound; head_bound = f.1.head_bound; form_bound = f.1.form_bound; coming = f.1.coming }, tt)
   step-fits ins.PointHead t b o f =
-      (f.0, record { stack_bound = f.1.stack_bound; formats_bound = f.1.formats_bound; head_bound = current_id-bound (after o) b.stack f.1.stack_bound; coming = f.1.coming }, tt)
+      (f.0, record { stack_bound = f.1.stack_bound; formats_bound = f.1.formats_bound; head_bound = current_id-bound (after o) b.stack f.1.stack_bound; form_bound = f.1.form_bound; coming = f.1.coming }, tt)
   step-fits ins.PushHead t b o f = head-fits b.head b o f f.1.head_bound
   step-fits ins.TakeHeadOff t b o f = with_stack b o _ On f (without_open-bound (after o) b.head b.stack f.1.stack_bound) tt
+  step-fits ins.PointForm t b o f =
+      (f.0, record { stack_bound = f.1.stack_bound; formats_bound = f.1.formats_bound; head_bound = f.1.head_bound; form_bound = current_id-bound (after o) b.stack f.1.stack_bound; coming = f.1.coming }, tt)
+  step-fits ins.EndForm t b o f = form-fits (is_meant who.Nobody t) b o f
   step-fits ins.AddToFirst t b o f = by_tag (add_attributes (first_open b.stack)) t b o f (λ tag. attributes-fit (first_open b.stack) tag b o f (first_open-bound (after o) b.stack f.1.stack_bound))
   step-fits ins.AddToSecond t b o f = by_tag (add_attributes (second_open b.stack)) t b o f (λ tag. attributes-fit (second_open b.stack) tag b o f (second_open-bound (after o) b.stack f.1.stack_bound))
+  step-fits ins.Adopt t b o f = by_tag adopt_own t b o f (λ tag. adopt_name-fits tag.name b o f)
+  step-fits ins.AdoptAnchor t b o f = anchor-fits (entry_named (is_word word.A) b.formats) b o f
+  step-fits ins.AdoptNobr t b o f = (f.0, f.1, tt)
   step-fits ins.StopAtScript t b o f = script-fits b.stack b o f f.1.stack_bound
   step-fits _ t b o f = (f.0, f.1, tt)
 
@@ -293,10 +338,36 @@ module _ (Coming : (NodeId → Bool) → NodeId → Type 0) (law : Follows Comin
       let g : ConfigFits c = run-fits t (on b o) (row m t) f in
       (g.0, g.1, next_of-bound (after c.ops) c.flow g.2)
 
+  adopting-fits : (w : Word) (h : Then) (t : Token) (b : Open) (o : List Op) → Fits b o On → AnswerFits (adopting w h t b o)
+  unfolding adopting
+  adopting-fits w h t b o f =
+      let a : Adopted = adopt w b o in
+      let g : AdoptedFits Coming law known a = adopt-fits Coming law known w b o f.0 f.1 in
+      let c : Config = run t (on a.open_state a.ops) (after_adopt h a.other) in
+      let k : ConfigFits c = run-fits t (on a.open_state a.ops) (after_adopt h a.other) (g.0, g.1, tt) in
+      (k.0, k.1, next_of-bound (after c.ops) c.flow k.2)
+
+  adoption-fits : (t : Token) (b : Open) (o : List Op) (n : Next) → AreOpsBound known o × State o b × IsNextBound (after o) n → AnswerFits (with_adoption t b o n)
+  adoption-fits t b o (next.Adopt w h) f = adopting-fits w h t b o (f.0, f.1, tt)
+  adoption-fits t b o next.Done f = f
+  adoption-fits t b o next.Again f = f
+  adoption-fits t b o (next.Using m) f = f
+  adoption-fits t b o (next.Switch r) f = f
+  adoption-fits t b o (next.Script i) f = f
+  adoption-fits t b o next.Deep f = f
+  adoption-fits t b o next.Finished f = f
+  adoption-fits t b o next.Missing f = f
+
+  by_rules-fits : (m : Mode) (t : Token) (b : Open) (o : List Op) → Fits b o On → AnswerFits (by_rules m t b o)
+  by_rules-fits m t b o f =
+      let a : Answer = by_mode m t b o in
+      adoption-fits t a.open_state a.ops a.next (by_mode-fits m t b o f)
+
   round-fits : (more : Mode → Answer) (b : Open) (o : List Op) (n : Next) → AreOpsBound known o × State o b × IsNextBound (after o) n
       → ((m : Mode) → AnswerFits (more m)) → AnswerFits (go_round more b o (round_after b n))
   round-fits more b o next.Again f h = h b.mode
   round-fits more b o (next.Using m) f h = h m
+  round-fits more b o (next.Adopt w i) f h = f
   round-fits more b o next.Done f h = f
   round-fits more b o (next.Switch r) f h = f
   round-fits more b o (next.Script i) f h = f
@@ -308,11 +379,11 @@ module _ (Coming : (NodeId → Bool) → NodeId → Type 0) (law : Follows Comin
   unfolding process
   process-fits zero m t b o f = (f.0, f.1, tt)
   process-fits (suc n) m t b o f =
-      let a : Answer = by_mode m t b o in
-      let g : AnswerFits a = by_mode-fits m t b o f in
+      let a : Answer = by_rules m t b o in
+      let g : AnswerFits a = by_rules-fits m t b o f in
       round-fits (λ m'. process n m' t a.open_state a.ops) a.open_state a.ops a.next g (λ m'. process-fits n m' t a.open_state a.ops (g.0, g.1, tt))
 
-  pub construct-fits : (t : Token) (b : Open) (o : List Op) → AreOpsBound known o → Holds Coming (known_after_all known o) b.stack b.formats b.head b.next → AnswerFits (construct t b o)
+  pub construct-fits : (t : Token) (b : Open) (o : List Op) → AreOpsBound known o → Holds Coming (known_after_all known o) b.stack b.formats b.head b.form b.next → AnswerFits (construct t b o)
   unfolding construct
   construct-fits t b o a s = either (b.skip_line_feed && is_line_feed t)
     where

@@ -15,8 +15,8 @@ use Rattle.standard.specs.Parser.{Parsed, parse, finish}
 use Rattle.standard.specs.Act.{id_cmp, Bound, bound_to, is_bound, Doc, act, acts, known_after}
 use Rattle.standard.specs.Naming.{Serves, AreFresh, CameBefore, known_after_all, IsStopBound}
 use Rattle.standard.specs.NamingLaws.{StaysBound, StaysServed, ActsBind, NewDocServes, DocsServeTexts, DocsServeEnds}
-use Rattle.standard.proofs.Freshness.{Follows}
-use Rattle.standard.proofs.FreshnessWalks.{open-more, formats-more, head-more}
+use Rattle.standard.proofs.FreshnessOps.{Follows}
+use Rattle.standard.proofs.FreshnessWalks.{open-more, formats-more, pointer-more}
 use Rattle.standard.proofs.FreshnessTexts.{texts-bound, ends-bound}
 
 -- ---- two ids are at the same place exactly if they are the same
@@ -126,31 +126,12 @@ module _ (Coming : (NodeId → Bool) → NodeId → Type 0) (law : Follows Comin
   ends-served d es p h = served d (finish es p).ops (finish es p).parser.open_state (ends-bound Coming law (is_bound d.bound) es p h)
 
 pub new-serves : NewDocServes AreFresh
-new-serves realm = record { stack_bound = tt; formats_bound = tt; head_bound = tt; coming = λ k. refl }
+new-serves realm = record { stack_bound = tt; formats_bound = tt; head_bound = tt; form_bound = tt; coming = λ k. refl }
 
 pub new-serves_alone : NewDocServes CameBefore
-new-serves_alone realm = record { stack_bound = tt; formats_bound = tt; head_bound = tt; coming = λ id h. absurd (true≢false (sym h)) }
+new-serves_alone realm = record { stack_bound = tt; formats_bound = tt; head_bound = tt; form_bound = tt; coming = λ id h. absurd (true≢false (sym h)) }
 
 -- ---- where more is bound
-
--- what was bound stays bound
-pub known-grows : (known : NodeId → Bool) (ops : List Op) (id : NodeId) → IsTrue (known id) → IsTrue (known_after_all known ops id)
-unfolding known_after_all
-known-grows known [] id h = h
-known-grows known (o ∷ os) id h = known-grows (known_after known o) os id (one o)
-  where
-    or-true : (v : Bool) → IsTrue (v || known id)
-    or-true true = refl
-    or-true false = h
-
-    one : (x : Op) → IsTrue (known_after known x id)
-    one (op.Make i name attributes) = or-true (same_id id i)
-    one (op.Put i place) = h
-    one (op.Text place text) = h
-    one (op.Note place text) = h
-    one (op.Doctype name) = h
-    one (op.Detach i) = h
-    one (op.AddAttributes i attributes) = h
 
 -- an open state is still served where others have bound ids of theirs
 pub serves-more : (Coming : (NodeId → Bool) → NodeId → Type 0) (known known' : NodeId → Bool) (b : Open) → ((id : NodeId) → IsTrue (known id) → IsTrue (known' id)) → Coming known' b.next
@@ -158,6 +139,7 @@ pub serves-more : (Coming : (NodeId → Bool) → NodeId → Type 0) (known know
 serves-more Coming known known' b more c s = record {
   stack_bound = open-more known known' more b.stack s.stack_bound;
   formats_bound = formats-more known known' more b.formats s.formats_bound;
-  head_bound = head-more known known' more b.head s.head_bound;
+  head_bound = pointer-more known known' more b.head s.head_bound;
+  form_bound = pointer-more known known' more b.form s.form_bound;
   coming = c;
 }

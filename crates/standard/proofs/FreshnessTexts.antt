@@ -18,7 +18,8 @@ use Rattle.standard.specs.Parser.{Parser, read_as, Took, took, after_ops, build_
 use Rattle.standard.specs.Act.{AreOpsBound}
 use Rattle.standard.specs.Naming.{Serves, AreFresh, CameBefore, known_after_all, IsNextBound, IsStopBound}
 use Rattle.standard.specs.NamingLaws.{StaysBound, TookBound, TokensStayBound, CharactersStayBound, EndsStayBound, TextsStayBound}
-use Rattle.standard.proofs.Freshness.{known-append, bound-append, Follows, construct-fits}
+use Rattle.standard.proofs.FreshnessOps.{known-append, bound-append, Follows}
+use Rattle.standard.proofs.Freshness.{construct-fits}
 
 module _ (Coming : (NodeId → Bool) → NodeId → Type 0) (law : Follows Coming) where
   pub tokens-bound : TokensStayBound Coming
@@ -48,6 +49,7 @@ module _ (Coming : (NodeId → Bool) → NodeId → Type 0) (law : Follows Comin
   build_on-bound known s cr t b rest next.Done h i each = each s
   build_on-bound known s cr t b rest (next.Switch r) h i each = each (read_as r t)
   build_on-bound known s cr t b rest (next.Script id) h i each = (none-bound known b h, none-stop known (stop.Script id) i)
+  build_on-bound known s cr t b rest (next.Adopt w x) h i each = (none-bound known b h, tt)
   build_on-bound known s cr t b rest next.Deep h i each = (none-bound known b h, tt)
   build_on-bound known s cr t b rest next.Again h i each = (none-bound known b h, tt)
   build_on-bound known s cr t b rest (next.Using m) h i each = (none-bound known b h, tt)
@@ -85,6 +87,7 @@ module _ (Coming : (NodeId → Bool) → NodeId → Type 0) (law : Follows Comin
   build_end_on-bound known s cr b rest next.Done h f = f
   build_end_on-bound known s cr b rest (next.Switch r) h f = none-bound known b h
   build_end_on-bound known s cr b rest (next.Script id) h f = none-bound known b h
+  build_end_on-bound known s cr b rest (next.Adopt w x) h f = none-bound known b h
   build_end_on-bound known s cr b rest next.Deep h f = none-bound known b h
   build_end_on-bound known s cr b rest next.Again h f = none-bound known b h
   build_end_on-bound known s cr b rest (next.Using m) h f = none-bound known b h

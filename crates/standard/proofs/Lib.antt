@@ -8,8 +8,12 @@ pub mod Passing
 pub mod Scripts
 pub mod Kept
 pub mod Lines
+pub mod AdoptionFraming
 pub mod Framing
 pub mod FreshnessWalks
+pub mod FreshnessOps
+pub mod AdoptionFreshness
+pub mod AdoptionDepth
 pub mod Freshness
 pub mod FreshnessTexts
 pub mod FreshnessDocs
@@ -18,7 +22,10 @@ pub mod FeedLemmas
 pub mod TokenizerLaws
 pub mod TokenizerRows
 pub mod RenamingWalks
+pub mod AdoptionGrowth
 pub mod RenamingGrowth
+pub mod AdoptionRenaming
+pub mod PlainRows
 pub mod Renaming
 pub mod RenamingTexts
 pub mod PageExamples

@@ -1,20 +1,25 @@
 -- Each instruction does the same whatever the ids are, and so do a row and the processing of a token.
 use Rattle.std.proofs.Common.{◌≡◌, refl, ap, ◌∙◌, sym, ℕ, zero, suc, ◌+◌, ◌&&◌, Bool, false, List, [], ◌∷◌, ◌++◌, map, reverse, Option, Some, None, arith}
 use Rattle.std.proofs.lemmas.List.{map-append, length-map}
-use Rattle.std.specs.Prelude.{if◌then◌else◌, nat_lt, option_map}
+use Rattle.std.specs.Prelude.{if◌then◌else◌, nat_lt, is_some, not, true, option_map}
 use Rattle.html_types.specs.Operations.{later}
+use Rattle.html_types.specs.declared.word.Word.{Word}
 use Rattle.html_types.specs.declared.word.Word.TheVariants as word
 use Rattle.html_types.specs.declared.instruction.Instr.{Instr}
 use Rattle.html_types.specs.declared.instruction.Instr.TheVariants as ins
 use Rattle.html_types.specs.declared.instruction.Test.{Test}
-use Rattle.html_types.specs.declared.instruction.Test.TheVariants.{InScope, Current, OnStack, Listed, Quirks, SecondIsBody, FramesetOk, QuirkyDoctype}
+use Rattle.html_types.specs.declared.instruction.Test.TheVariants.{InScope, Current, OnStack, Listed, Quirks, SecondIsBody, FramesetOk, QuirkyDoctype, InForm, HiddenInput}
+use Rattle.html_types.specs.declared.instruction.Scope.TheVariants as scope
+use Rattle.html_types.specs.declared.instruction.Then.{Then}
+use Rattle.html_types.specs.declared.instruction.Then.TheVariants.{Nothing, Link, Nobr}
 use Rattle.html_types.specs.declared.instruction.Mode.{Mode}
 use Rattle.html_types.specs.declared.instruction.Who.TheVariants as who
 use Rattle.html_types.specs.declared.instruction.Flow.{Flow}
 use Rattle.html_types.specs.declared.instruction.Flow.TheVariants.{On, Skip, Leave}
 use Rattle.html_types.specs.declared.instruction.Next.{Next}
 use Rattle.html_types.specs.declared.instruction.Next.TheVariants as next
-use Rattle.html_types.specs.declared.name.Name.TheVariants.{Known}
+use Rattle.html_types.specs.declared.name.Name.{Name}
+use Rattle.html_types.specs.declared.name.Name.TheVariants.{Known, Other}
 use Rattle.html_types.specs.declared.token.Tag.{Tag}
 use Rattle.html_types.specs.declared.token.Token.{Token}
 use Rattle.html_types.specs.declared.token.Token.TheVariants.{StartTag, EndTag, Character, Comment, Doctype, EndOfFile, Missing}
@@ -27,15 +32,20 @@ use Rattle.html_types.specs.declared.open.OpenElement.{OpenElement}
 use Rattle.html_types.specs.declared.open.Format.{Format}
 use Rattle.html_types.specs.declared.open.Format.TheVariants.{Element}
 use Rattle.html_types.specs.declared.open.Open.{Open}
-use Rattle.standard.specs.Elements.{is_meant, is_one_of}
-use Rattle.standard.specs.Stack.{first_open, second_open, is_the}
-use Rattle.standard.specs.Formatting.{kept, lost}
-use Rattle.standard.specs.Instructions.{Config, config, on, holds, room, made, pushed, insert_at, here, insert, insert_root, void, tag_of, for_tag, reopen, reopen_all, reconstruct, insert_text, insert_comment, append_doctype, end_of, add_attributes, push_head, stop_at_script, step, turn, run}
-use Rattle.standard.specs.Rules.{Answer, answer, answer_of, row, by_mode, round_after, go_round, process, rounds, is_line_feed, construct}
+use Rattle.standard.specs.Elements.{is_word, is_meant, is_one_of}
+use Rattle.standard.specs.Stack.{in_scope, on_stack, until, implied, first_open, second_open, is_the, without_open, open_in_scope}
+use Rattle.standard.specs.Formatting.{kept, lost, entry_named, without_entry}
+use Rattle.standard.specs.Instructions.{Config, config, on, holds, room, made, pushed, insert_at, here, insert, insert_root, void, tag_of, named, void_as, for_tag, list_current, enlist, reopen, reopen_all, reconstruct, insert_text, insert_comment, append_doctype, end_of, add_attributes, push_head, form_closed, form_closed_in_template, end_form, stop_at_script, adopt_name, adopt_own, adopt_anchor, step, turn, run}
+use Rattle.standard.specs.Adoption.{Adopted, adopt}
+use Rattle.standard.specs.RulesBody.{after_adopt}
+use Rattle.standard.specs.Rules.{Answer, answer, answer_of, row, by_mode, adopting, with_adoption, by_rules, round_after, go_round, process, rounds, is_line_feed, construct}
 use Rattle.standard.specs.Act.{rename_place, rename_op}
-use Rattle.standard.specs.Naming.{Renames, rename_ops, rename_element, rename_format, rename_open, rename_next, rename_flow, rename_config, rename_answer}
-use Rattle.standard.proofs.RenamingWalks.{of_two, in_scope-renamed, on_stack-renamed, current_is-renamed, current_id-renamed, first_open-renamed, second_open-renamed, is_the-renamed, pop-renamed, until-renamed, pop_to-renamed, implied-renamed, close-renamed, close_item-renamed, other_end-renamed, place-renamed, listed-renamed, clear_to_marker-renamed, without_open-renamed, kept-renamed, lost-renamed}
-use Rattle.standard.proofs.RenamingGrowth.{reopen-grows, turn-grows, by_mode-grows}
+use Rattle.standard.specs.Naming.{Renames, rename_ops, rename_element, rename_format, rename_open, rename_then, rename_next, rename_flow, rename_instr, rename_row, rename_config, rename_answer}
+use Rattle.standard.proofs.RenamingWalks.{of_two, in_scope-renamed, on_stack-renamed, current_is-renamed, current_id-renamed, first_open-renamed, second_open-renamed, is_the-renamed, pop-renamed, until-renamed, pop_to-renamed, implied-renamed, close-renamed, close_item-renamed, other_end-renamed, place-renamed, listed-renamed, clear_to_marker-renamed, without_open-renamed, kept-renamed, lost-renamed, open_in_scope-renamed, list_element-renamed, entry_named-renamed, without_entry-renamed}
+use Rattle.standard.proofs.PlainRows.{row-renamed}
+use Rattle.standard.proofs.AdoptionGrowth.{adopt-grows}
+use Rattle.standard.proofs.AdoptionRenaming.{adopt-renamed}
+use Rattle.standard.proofs.RenamingGrowth.{reopen-grows, turn-grows, by_mode-grows, by_rules-grows}
 
 -- ---- the ids that come
 
@@ -53,6 +63,10 @@ renames-one r id n = record {
 module _ (r : NodeId → NodeId) where
   -- ---- tests
 
+  some-renamed : (i : Option NodeId) → is_some (option_map r i) ≡ is_some i
+  some-renamed None = refl
+  some-renamed (Some i) = refl
+
   holds-renamed : (c : Test) (t : Token) (b : Open) → holds c t (rename_open r b) ≡ holds c t b
   holds-renamed (InScope s w) t b = in_scope-renamed r s (is_meant w t) b.stack
   holds-renamed (Current w) t b = current_is-renamed r (is_meant w t) b.stack
@@ -62,6 +76,10 @@ module _ (r : NodeId → NodeId) where
   holds-renamed SecondIsBody t b = ap (is_the word.Body) (second_open-renamed r b.stack) ∙ is_the-renamed r word.Body (second_open b.stack)
   holds-renamed FramesetOk t b = refl
   holds-renamed QuirkyDoctype t b = refl
+  holds-renamed InForm t b =
+      ap (λ v. v && not (on_stack (is_word word.Template) (map (rename_element r) b.stack))) (some-renamed b.form)
+      ∙ ap (λ v. is_some b.form && not v) (on_stack-renamed r (is_word word.Template) b.stack)
+  holds-renamed HiddenInput t b = refl
 
   room-renamed : (b : Open) → room (rename_open r b) ≡ room b
   room-renamed b = ap (λ n. nat_lt n 512) (length-map b.stack (rename_element r))
@@ -179,6 +197,45 @@ module _ (r : NodeId → NodeId) where
   head-renamed (Some i) b o =
       of_two (rename_config r) (room b) (room (rename_open r b)) (on (record b { stack = record { id = i; name = Known word.Head } ∷ b.stack }) o) (config b o (Leave next.Deep)) _ _ (room-renamed b) refl refl
 
+  list_current-renamed : (tag : Tag) (es : List OpenElement) (fs : List Format)
+      → list_current tag (map (rename_element r) es) (map (rename_format r) fs) ≡ map (rename_format r) (list_current tag es fs)
+  list_current-renamed tag [] fs = refl
+  list_current-renamed tag (e ∷ es) fs = list_element-renamed r e.id tag fs
+
+  off-renamed : (i : NodeId) (b : Open) (o : List Op) → Renames r b.next → step (ins.TakeOff (r i)) Missing (rename_open r b) (rename_ops r o) ≡ rename_config r (step (ins.TakeOff i) Missing b o)
+  off-renamed i b o n =
+      ap (λ l. on (record (rename_open r b) { stack = l; formats = without_entry (r i) (map (rename_format r) b.formats) }) (rename_ops r o)) (without_open-renamed r n.apart (Some i) b.stack)
+      ∙ ap (λ l. on (record (rename_open r b) { stack = map (rename_element r) (without_open (Some i) b.stack); formats = l }) (rename_ops r o)) (without_entry-renamed r n.apart i b.formats)
+
+  form_closed-renamed : (nobody : Name → Bool) (i : Option NodeId) (b : Open) → Renames r b.next
+      → form_closed nobody (option_map r i) (map (rename_element r) b.stack) ≡ map (rename_element r) (form_closed nobody i b.stack)
+  form_closed-renamed nobody None b n = refl
+  form_closed-renamed nobody (Some i) b n =
+      of_two (map (rename_element r)) (open_in_scope scope.Default i b.stack) (open_in_scope scope.Default (r i) (map (rename_element r) b.stack)) (without_open (Some i) (implied nobody b.stack)) b.stack _ _
+      (open_in_scope-renamed r n.apart scope.Default i b.stack)
+      (ap (without_open (Some (r i))) (implied-renamed r nobody b.stack) ∙ without_open-renamed r n.apart (Some i) (implied nobody b.stack)) refl
+
+  form_closed_in_template-renamed : (nobody : Name → Bool) (es : List OpenElement) → form_closed_in_template nobody (map (rename_element r) es) ≡ map (rename_element r) (form_closed_in_template nobody es)
+  form_closed_in_template-renamed nobody es =
+      of_two (map (rename_element r)) (in_scope scope.Default (is_word word.Form) es) (in_scope scope.Default (is_word word.Form) (map (rename_element r) es)) (until (is_word word.Form) (implied nobody es)) es _ _
+      (in_scope-renamed r scope.Default (is_word word.Form) es) (ap (until (is_word word.Form)) (implied-renamed r nobody es) ∙ until-renamed r (is_word word.Form) (implied nobody es)) refl
+
+  form-renamed : (nobody : Name → Bool) (b : Open) (o : List Op) → Renames r b.next → end_form nobody (rename_open r b) (rename_ops r o) ≡ rename_config r (end_form nobody b o)
+  form-renamed nobody b o n =
+      of_two (rename_config r) (on_stack (is_word word.Template) b.stack) (on_stack (is_word word.Template) (map (rename_element r) b.stack))
+      (on (record b { stack = form_closed_in_template nobody b.stack }) o) (on (record b { stack = form_closed nobody b.form b.stack; form = None }) o) _ _
+      (on_stack-renamed r (is_word word.Template) b.stack)
+      (ap (λ l. on (record (rename_open r b) { stack = l }) (rename_ops r o)) (form_closed_in_template-renamed nobody b.stack))
+      (ap (λ l. on (record (rename_open r b) { stack = l; form = None }) (rename_ops r o)) (form_closed-renamed nobody b.form b n))
+
+  adopt_name-renamed : (name : Name) (b : Open) (o : List Op) → adopt_name name (rename_open r b) (rename_ops r o) ≡ rename_config r (adopt_name name b o)
+  adopt_name-renamed (Known w) b o = refl
+  adopt_name-renamed (Other text) b o = refl
+
+  anchor-renamed : (i : Option NodeId) (b : Open) (o : List Op) → adopt_anchor (option_map r i) (rename_open r b) (rename_ops r o) ≡ rename_config r (adopt_anchor i b o)
+  anchor-renamed None b o = refl
+  anchor-renamed (Some i) b o = refl
+
   script-renamed : (es : List OpenElement) (b : Open) (o : List Op) → stop_at_script (map (rename_element r) es) (rename_open r b) (rename_ops r o) ≡ rename_config r (stop_at_script es b o)
   script-renamed [] b o = refl
   script-renamed (e ∷ es) b o = refl
@@ -195,7 +252,7 @@ module _ (r : NodeId → NodeId) where
       → on (record (rename_open r b) { formats = fs' }) (rename_ops r o) ≡ rename_config r (on (record b { formats = fs }) o)
   with_formats b o fs fs' e = ap (λ x. on (record (rename_open r b) { formats = x }) (rename_ops r o)) e
 
-  step-renamed : (i : Instr) (t : Token) (b : Open) (o : List Op) → Renames r b.next → step i t (rename_open r b) (rename_ops r o) ≡ rename_config r (step i t b o)
+  step-renamed : (i : Instr) (t : Token) (b : Open) (o : List Op) → Renames r b.next → step (rename_instr r i) t (rename_open r b) (rename_ops r o) ≡ rename_config r (step i t b o)
   step-renamed (ins.Need c) t b o n = with_flow b o _ _ On (Leave next.Done) (holds-renamed c t b)
   step-renamed (ins.Forbid c) t b o n = with_flow b o _ _ (Leave next.Done) On (holds-renamed c t b)
   step-renamed (ins.When c) t b o n = with_flow b o _ _ On Skip (holds-renamed c t b)
@@ -205,6 +262,8 @@ module _ (r : NodeId → NodeId) where
   step-renamed ins.InsertRoot t b o n = by_tag insert_root insert_root t b o (λ tag. insert-renamed Page tag b o n)
   step-renamed ins.InsertRootA t b o n = insert-renamed Page (tag_of word.Html) b o n
   step-renamed ins.Void t b o n = by_tag void void t b o (λ tag. void-renamed tag b o n)
+  step-renamed (ins.VoidA w) t b o n = void-renamed (tag_of w) b o n
+  step-renamed (ins.VoidAs w) t b o n = by_tag (void_as w) (void_as w) t b o (λ tag. void-renamed (named w tag) b o n)
   step-renamed ins.InsertText t b o n = text-renamed t b o
   step-renamed ins.InsertComment t b o n = comment-renamed (here b) _ t b o (here-renamed b)
   step-renamed ins.CommentToPage t b o n = comment-renamed Page Page t b o refl
@@ -219,27 +278,34 @@ module _ (r : NodeId → NodeId) where
   step-renamed (ins.CloseItem w) t b o n = with_stack b o _ _ (close_item-renamed r (is_meant w t) b.stack)
   step-renamed ins.AnyOtherEnd t b o n = with_stack b o _ _ (other_end-renamed r (is_meant who.Own t) b.stack)
   step-renamed ins.Reconstruct t b o n = reconstruct-renamed b o n
+  step-renamed ins.List t b o n = by_tag enlist enlist t b o (λ tag. with_formats b o _ _ (list_current-renamed tag b.stack b.formats))
+  step-renamed (ins.TakeOff i) t b o n = off-renamed i b o n
   step-renamed ins.ClearToMarker t b o n = with_formats b o _ _ (clear_to_marker-renamed r b.formats)
   step-renamed ins.PointHead t b o n = ap (λ h. on (record (rename_open r b) { head = h }) (rename_ops r o)) (current_id-renamed r b.stack)
   step-renamed ins.PushHead t b o n = head-renamed b.head b o
   step-renamed ins.TakeHeadOff t b o n = with_stack b o _ _ (without_open-renamed r n.apart b.head b.stack)
+  step-renamed ins.PointForm t b o n = ap (λ i. on (record (rename_open r b) { form = i }) (rename_ops r o)) (current_id-renamed r b.stack)
+  step-renamed ins.EndForm t b o n = form-renamed (is_meant who.Nobody t) b o n
   step-renamed ins.AddToFirst t b o n = add-renamed (first_open b.stack) _ t b o (first_open-renamed r b.stack)
   step-renamed ins.AddToSecond t b o n = add-renamed (second_open b.stack) _ t b o (second_open-renamed r b.stack)
+  step-renamed ins.Adopt t b o n = by_tag adopt_own adopt_own t b o (λ tag. adopt_name-renamed tag.name b o)
+  step-renamed ins.AdoptAnchor t b o n =
+      ap (λ i. adopt_anchor i (rename_open r b) (rename_ops r o)) (entry_named-renamed r (is_word word.A) b.formats) ∙ anchor-renamed (entry_named (is_word word.A) b.formats) b o
   step-renamed ins.StopAtScript t b o n = script-renamed b.stack b o
   step-renamed _ t b o n = refl
 
-  turn-renamed : (t : Token) (b : Open) (o : List Op) (f : Flow) (i : Instr) → Renames r b.next → turn t (rename_config r (config b o f)) i ≡ rename_config r (turn t (config b o f) i)
+  turn-renamed : (t : Token) (b : Open) (o : List Op) (f : Flow) (i : Instr) → Renames r b.next → turn t (rename_config r (config b o f)) (rename_instr r i) ≡ rename_config r (turn t (config b o f) i)
   turn-renamed t b o On i n = step-renamed i t b o n
   turn-renamed t b o Skip i n = refl
   turn-renamed t b o (Leave x) i n = refl
 
   -- ---- rows, and the rules that a token goes by
 
-  run-renamed : (t : Token) (c : Config) (row : List Instr) → Renames r c.open_state.next → run t (rename_config r c) row ≡ rename_config r (run t c row)
+  run-renamed : (t : Token) (c : Config) (row : List Instr) → Renames r c.open_state.next → run t (rename_config r c) (rename_row r row) ≡ rename_config r (run t c row)
   unfolding run
   run-renamed t c [] n = refl
   run-renamed t c (i ∷ is) n =
-      ap (λ x. run t x is) (turn-renamed t c.open_state c.ops c.flow i n)
+      ap (λ x. run t x (rename_row r is)) (turn-renamed t c.open_state c.ops c.flow i n)
       ∙ run-renamed t (turn t c i) is (turn-grows (Renames r) (renames-one r) t c.open_state c.ops c.flow i n)
 
   answer-renamed : (b : Open) (o : List Op) (f : Flow) → answer_of (rename_config r (config b o f)) ≡ rename_answer r (answer_of (config b o f))
@@ -251,12 +317,50 @@ module _ (r : NodeId → NodeId) where
   unfolding by_mode
   by_mode-renamed m t b o n =
       let c : Config = run t (on b o) (row m t) in
-      ap answer_of (run-renamed t (on b o) (row m t) n) ∙ answer-renamed c.open_state c.ops c.flow
+      ap (λ l. answer_of (run t (rename_config r (on b o)) l)) (sym (row-renamed r m t))
+      ∙ (ap answer_of (run-renamed t (on b o) (row m t) n) ∙ answer-renamed c.open_state c.ops c.flow)
+
+  after_adopt-renamed : (h : Then) (v : Bool) → after_adopt (rename_then r h) v ≡ rename_row r (after_adopt h v)
+  after_adopt-renamed Nothing true = refl
+  after_adopt-renamed Nothing false = refl
+  after_adopt-renamed (Link i) true = refl
+  after_adopt-renamed (Link i) false = refl
+  after_adopt-renamed Nobr true = refl
+  after_adopt-renamed Nobr false = refl
+
+  adopting-renamed : (w : Word) (h : Then) (t : Token) (b : Open) (o : List Op) → Renames r b.next
+      → adopting w (rename_then r h) t (rename_open r b) (rename_ops r o) ≡ rename_answer r (adopting w h t b o)
+  unfolding adopting
+  adopting-renamed w h t b o n =
+      let a : Adopted = adopt w b o in
+      let c : Config = run t (on a.open_state a.ops) (after_adopt h a.other) in
+      ap (λ (x : Adopted). answer_of (run t (on x.open_state x.ops) (after_adopt (rename_then r h) x.other))) (adopt-renamed r (renames-one r) w b o n)
+      ∙ (ap (λ l. answer_of (run t (rename_config r (on a.open_state a.ops)) l)) (after_adopt-renamed h a.other)
+      ∙ (ap answer_of (run-renamed t (on a.open_state a.ops) (after_adopt h a.other) (adopt-grows (Renames r) (renames-one r) w b o n)) ∙ answer-renamed c.open_state c.ops c.flow))
+
+  adoption-renamed : (t : Token) (b : Open) (o : List Op) (x : Next) → Renames r b.next
+      → with_adoption t (rename_open r b) (rename_ops r o) (rename_next r x) ≡ rename_answer r (with_adoption t b o x)
+  adoption-renamed t b o (next.Adopt w h) n = adopting-renamed w h t b o n
+  adoption-renamed t b o next.Done n = refl
+  adoption-renamed t b o next.Again n = refl
+  adoption-renamed t b o (next.Using m) n = refl
+  adoption-renamed t b o (next.Switch reading) n = refl
+  adoption-renamed t b o (next.Script i) n = refl
+  adoption-renamed t b o next.Deep n = refl
+  adoption-renamed t b o next.Finished n = refl
+  adoption-renamed t b o next.Missing n = refl
+
+  by_rules-renamed : (m : Mode) (t : Token) (b : Open) (o : List Op) → Renames r b.next → by_rules m t (rename_open r b) (rename_ops r o) ≡ rename_answer r (by_rules m t b o)
+  by_rules-renamed m t b o n =
+      let a : Answer = by_mode m t b o in
+      ap (λ (x : Answer). with_adoption t x.open_state x.ops x.next) (by_mode-renamed m t b o n)
+      ∙ adoption-renamed t a.open_state a.ops a.next (by_mode-grows (Renames r) (renames-one r) m t b o n)
 
   round-renamed : (more more' : Mode → Answer) (b : Open) (o : List Op) (x : Next) → ((m : Mode) → more' m ≡ rename_answer r (more m))
       → go_round more' (rename_open r b) (rename_ops r o) (round_after (rename_open r b) (rename_next r x)) ≡ rename_answer r (go_round more b o (round_after b x))
   round-renamed more more' b o next.Again h = h b.mode
   round-renamed more more' b o (next.Using m) h = h m
+  round-renamed more more' b o (next.Adopt w x) h = refl
   round-renamed more more' b o next.Done h = refl
   round-renamed more more' b o (next.Switch reading) h = refl
   round-renamed more more' b o (next.Script i) h = refl
@@ -268,11 +372,11 @@ module _ (r : NodeId → NodeId) where
   unfolding process
   process-renamed zero m t b o n = refl
   process-renamed (suc k) m t b o n =
-      let a : Answer = by_mode m t b o in
+      let a : Answer = by_rules m t b o in
       let a' : Answer = rename_answer r a in
-      ap (λ (x : Answer). go_round (λ m'. process k m' t x.open_state x.ops) x.open_state x.ops (round_after x.open_state x.next)) (by_mode-renamed m t b o n)
+      ap (λ (x : Answer). go_round (λ m'. process k m' t x.open_state x.ops) x.open_state x.ops (round_after x.open_state x.next)) (by_rules-renamed m t b o n)
       ∙ round-renamed (λ m'. process k m' t a.open_state a.ops) (λ m'. process k m' t a'.open_state a'.ops) a.open_state a.ops a.next
-      (λ m'. process-renamed k m' t a.open_state a.ops (by_mode-grows (Renames r) (renames-one r) m t b o n))
+      (λ m'. process-renamed k m' t a.open_state a.ops (by_rules-grows (Renames r) (renames-one r) m t b o n))
 
   construct-by : (t : Token) (b : Open) (o : List Op) → Renames r b.next → construct t (rename_open r b) (rename_ops r o) ≡ rename_answer r (construct t b o)
   unfolding construct
@@ -281,7 +385,7 @@ module _ (r : NodeId → NodeId) where
       let b' : Open = record b { skip_line_feed = false } in
       of_two (rename_answer r) v v (answer b' o next.Done) (process rounds b.mode t b' o) _ _ refl refl (process-renamed rounds b.mode t b' o n)
 
-pub rows-renamed : (r : NodeId → NodeId) (t : Token) (c : Config) (row : List Instr) → Renames r c.open_state.next → run t (rename_config r c) row ≡ rename_config r (run t c row)
+pub rows-renamed : (r : NodeId → NodeId) (t : Token) (c : Config) (row : List Instr) → Renames r c.open_state.next → run t (rename_config r c) (rename_row r row) ≡ rename_config r (run t c row)
 rows-renamed r t c row n = run-renamed r t c row n
 
 pub construct-renamed : (r : NodeId → NodeId) (t : Token) (b : Open) (o : List Op) → Renames r b.next → construct t (rename_open r b) (rename_ops r o) ≡ rename_answer r (construct t b o)

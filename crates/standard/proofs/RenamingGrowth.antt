@@ -2,7 +2,12 @@
 use Rattle.std.proofs.Common.{ℕ, zero, suc, ◌==◌, Bool, true, false, ◌&&◌, List, [], ◌∷◌, reverse, Option, Some, None}
 use Rattle.std.specs.Prelude.{if◌then◌else◌}
 use Rattle.html_types.specs.Operations.{later}
+use Rattle.html_types.specs.declared.word.Word.{Word}
 use Rattle.html_types.specs.declared.word.Word.TheVariants as word
+use Rattle.html_types.specs.declared.name.Name.{Name}
+use Rattle.html_types.specs.declared.name.Name.TheVariants.{Known, Other}
+use Rattle.html_types.specs.declared.instruction.Who.TheVariants as who
+use Rattle.html_types.specs.declared.instruction.Then.{Then}
 use Rattle.html_types.specs.declared.instruction.Instr.{Instr}
 use Rattle.html_types.specs.declared.instruction.Instr.TheVariants as ins
 use Rattle.html_types.specs.declared.instruction.Mode.{Mode}
@@ -21,14 +26,18 @@ use Rattle.html_types.specs.declared.operation.Place.TheVariants.{Page}
 use Rattle.html_types.specs.declared.operation.Op.{Op}
 use Rattle.html_types.specs.declared.open.OpenElement.{OpenElement}
 use Rattle.html_types.specs.declared.open.Open.{Open}
-use Rattle.standard.specs.Stack.{first_open, second_open}
-use Rattle.standard.specs.Formatting.{kept, lost}
+use Rattle.standard.specs.Elements.{is_word, is_meant}
+use Rattle.standard.specs.Stack.{on_stack, first_open, second_open}
+use Rattle.standard.specs.Formatting.{kept, lost, entry_named}
 use Rattle.standard.specs.Entities.{Entities}
 use Rattle.standard.specs.Tokenizer.{read, read_end}
-use Rattle.standard.specs.Instructions.{Config, config, on, room, insert_at, here, insert, insert_root, void, tag_of, for_tag, reopen, reopen_all, insert_text, insert_comment, append_doctype, end_of, add_attributes, push_head, stop_at_script, step, turn, run}
-use Rattle.standard.specs.Rules.{Answer, answer, row, by_mode, round_after, go_round, process, rounds, is_line_feed, construct}
+use Rattle.standard.specs.Instructions.{Config, config, on, room, insert_at, here, insert, insert_root, void, tag_of, named, void_as, for_tag, enlist, reopen, reopen_all, insert_text, insert_comment, append_doctype, end_of, add_attributes, push_head, form_closed, form_closed_in_template, end_form, stop_at_script, adopt_name, adopt_own, adopt_anchor, step, turn, run}
+use Rattle.standard.specs.Adoption.{Adopted, adopt}
+use Rattle.standard.specs.RulesBody.{after_adopt}
+use Rattle.standard.specs.Rules.{Answer, answer, row, by_mode, adopting, with_adoption, by_rules, round_after, go_round, process, rounds, is_line_feed, construct}
 use Rattle.standard.specs.Parser.{Parser, read_as, Took, took, after_ops, build_on, build, built, take_character, Finished, build_end_on, build_end, finish, Parsed, and_rest, parse}
 use Rattle.standard.specs.NamingLaws.{parser_of}
+use Rattle.standard.proofs.AdoptionGrowth.{adopt-grows}
 
 module _ (P : NodeId → Type 0) (one : (id : NodeId) → P id → P (later 1 id)) where
   of_two : (v : Bool) (x y : Config) → P x.open_state.next → P y.open_state.next → P (if v then x else y).open_state.next
@@ -94,6 +103,19 @@ module _ (P : NodeId → Type 0) (one : (id : NodeId) → P id → P (later 1 id
   head-grows None b o h = h
   head-grows (Some i) b o h = of_two (room b) (on _ o) (config b o (Leave next.Deep)) h h
 
+  form-grows : (nobody : Name → Bool) (b : Open) (o : List Op) → P b.next → P (end_form nobody b o).open_state.next
+  form-grows nobody b o h =
+      of_two (on_stack (is_word word.Template) b.stack) (on (record b { stack = form_closed_in_template nobody b.stack }) o)
+      (on (record b { stack = form_closed nobody b.form b.stack; form = None }) o) h h
+
+  adopt_name-grows : (name : Name) (b : Open) (o : List Op) → P b.next → P (adopt_name name b o).open_state.next
+  adopt_name-grows (Known w) b o h = h
+  adopt_name-grows (Other text) b o h = h
+
+  anchor-grows : (i : Option NodeId) (b : Open) (o : List Op) → P b.next → P (adopt_anchor i b o).open_state.next
+  anchor-grows None b o h = h
+  anchor-grows (Some i) b o h = h
+
   script-grows : (es : List OpenElement) (b : Open) (o : List Op) → P b.next → P (stop_at_script es b o).open_state.next
   script-grows [] b o h = h
   script-grows (e ∷ es) b o h = h
@@ -104,15 +126,21 @@ module _ (P : NodeId → Type 0) (one : (id : NodeId) → P id → P (later 1 id
   step-grows ins.InsertRoot t b o h = by_tag insert_root t b o h (λ tag. insert-grows Page tag b o h)
   step-grows ins.InsertRootA t b o h = insert-grows Page (tag_of word.Html) b o h
   step-grows ins.Void t b o h = by_tag void t b o h (λ tag. void-grows tag b o h)
+  step-grows (ins.VoidA w) t b o h = void-grows (tag_of w) b o h
+  step-grows (ins.VoidAs w) t b o h = by_tag (void_as w) t b o h (λ tag. void-grows (named w tag) b o h)
   step-grows ins.InsertText t b o h = text-grows t b o h
   step-grows ins.InsertComment t b o h = comment-grows (here b) t b o h
   step-grows ins.CommentToPage t b o h = comment-grows Page t b o h
   step-grows ins.CommentToRoot t b o h = comment-grows (end_of (first_open b.stack)) t b o h
   step-grows ins.AppendDoctype t b o h = doctype-grows t b o h
   step-grows ins.Reconstruct t b o h = reopen_all-grows (reverse (lost b.stack b.formats)) (record b { formats = kept b.stack b.formats }) o On h
+  step-grows ins.List t b o h = by_tag enlist t b o h (λ tag. h)
   step-grows ins.PushHead t b o h = head-grows b.head b o h
+  step-grows ins.EndForm t b o h = form-grows (is_meant who.Nobody t) b o h
   step-grows ins.AddToFirst t b o h = by_tag (add_attributes (first_open b.stack)) t b o h (λ tag. attributes-grow (first_open b.stack) tag b o h)
   step-grows ins.AddToSecond t b o h = by_tag (add_attributes (second_open b.stack)) t b o h (λ tag. attributes-grow (second_open b.stack) tag b o h)
+  step-grows ins.Adopt t b o h = by_tag adopt_own t b o h (λ tag. adopt_name-grows tag.name b o h)
+  step-grows ins.AdoptAnchor t b o h = anchor-grows (entry_named (is_word word.A) b.formats) b o h
   step-grows ins.StopAtScript t b o h = script-grows b.stack b o h
   step-grows _ t b o h = h
 
@@ -130,9 +158,32 @@ module _ (P : NodeId → Type 0) (one : (id : NodeId) → P id → P (later 1 id
   unfolding by_mode
   by_mode-grows m t b o h = run-grows t (on b o) (row m t) h
 
+  adopting-grows : (w : Word) (h : Then) (t : Token) (b : Open) (o : List Op) → P b.next → P (adopting w h t b o).open_state.next
+  unfolding adopting
+  adopting-grows w h t b o g =
+      let a : Adopted = adopt w b o in
+      run-grows t (on a.open_state a.ops) (after_adopt h a.other) (adopt-grows P one w b o g)
+
+  adoption-grows : (t : Token) (b : Open) (o : List Op) (n : Next) → P b.next → P (with_adoption t b o n).open_state.next
+  adoption-grows t b o (next.Adopt w h) g = adopting-grows w h t b o g
+  adoption-grows t b o next.Done g = g
+  adoption-grows t b o next.Again g = g
+  adoption-grows t b o (next.Using m) g = g
+  adoption-grows t b o (next.Switch r) g = g
+  adoption-grows t b o (next.Script i) g = g
+  adoption-grows t b o next.Deep g = g
+  adoption-grows t b o next.Finished g = g
+  adoption-grows t b o next.Missing g = g
+
+  pub by_rules-grows : (m : Mode) (t : Token) (b : Open) (o : List Op) → P b.next → P (by_rules m t b o).open_state.next
+  by_rules-grows m t b o h =
+      let a : Answer = by_mode m t b o in
+      adoption-grows t a.open_state a.ops a.next (by_mode-grows m t b o h)
+
   round-grows : (more : Mode → Answer) (b : Open) (o : List Op) (n : Next) → P b.next → ((m : Mode) → P (more m).open_state.next) → P (go_round more b o (round_after b n)).open_state.next
   round-grows more b o next.Again h each = each b.mode
   round-grows more b o (next.Using m) h each = each m
+  round-grows more b o (next.Adopt w i) h each = h
   round-grows more b o next.Done h each = h
   round-grows more b o (next.Switch r) h each = h
   round-grows more b o (next.Script i) h each = h
@@ -144,8 +195,8 @@ module _ (P : NodeId → Type 0) (one : (id : NodeId) → P id → P (later 1 id
   unfolding process
   process-grows zero m t b o h = h
   process-grows (suc n) m t b o h =
-      let a : Answer = by_mode m t b o in
-      let g : P a.open_state.next = by_mode-grows m t b o h in
+      let a : Answer = by_rules m t b o in
+      let g : P a.open_state.next = by_rules-grows m t b o h in
       round-grows (λ m'. process n m' t a.open_state a.ops) a.open_state a.ops a.next g (λ m'. process-grows n m' t a.open_state a.ops g)
 
   pub construct-grows : (t : Token) (b : Open) (o : List Op) → P b.next → P (construct t b o).open_state.next
@@ -170,6 +221,7 @@ module _ (P : NodeId → Type 0) (one : (id : NodeId) → P id → P (later 1 id
   build_on-grows s cr t b rest (next.Switch r) h each = each (read_as r t)
   build_on-grows s cr t b rest (next.Script id) h each = h
   build_on-grows s cr t b rest next.Deep h each = h
+  build_on-grows s cr t b rest (next.Adopt w i) h each = h
   build_on-grows s cr t b rest next.Again h each = h
   build_on-grows s cr t b rest (next.Using m) h each = h
   build_on-grows s cr t b rest next.Finished h each = h
@@ -201,6 +253,7 @@ module _ (P : NodeId → Type 0) (one : (id : NodeId) → P id → P (later 1 id
   build_end_on-grows s cr b rest (next.Switch r) h g = h
   build_end_on-grows s cr b rest (next.Script id) h g = h
   build_end_on-grows s cr b rest next.Deep h g = h
+  build_end_on-grows s cr b rest (next.Adopt w i) h g = h
   build_end_on-grows s cr b rest next.Again h g = h
   build_end_on-grows s cr b rest (next.Using m) h g = h
   build_end_on-grows s cr b rest next.Finished h g = h

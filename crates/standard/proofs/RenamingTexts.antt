@@ -29,6 +29,7 @@ module _ (r : NodeId → NodeId) where
   build_on-renamed s cr t b rest rest' next.Done h = h s
   build_on-renamed s cr t b rest rest' (next.Switch reading) h = h (read_as reading t)
   build_on-renamed s cr t b rest rest' (next.Script id) h = refl
+  build_on-renamed s cr t b rest rest' (next.Adopt w x) h = refl
   build_on-renamed s cr t b rest rest' next.Deep h = refl
   build_on-renamed s cr t b rest rest' next.Again h = refl
   build_on-renamed s cr t b rest rest' (next.Using m) h = refl
@@ -68,6 +69,7 @@ module _ (r : NodeId → NodeId) where
   build_end_on-renamed s cr b rest rest' next.Done h = h
   build_end_on-renamed s cr b rest rest' (next.Switch reading) h = refl
   build_end_on-renamed s cr b rest rest' (next.Script id) h = refl
+  build_end_on-renamed s cr b rest rest' (next.Adopt w x) h = refl
   build_end_on-renamed s cr b rest rest' next.Deep h = refl
   build_end_on-renamed s cr b rest rest' next.Again h = refl
   build_end_on-renamed s cr b rest rest' (next.Using m) h = refl

@@ -1,6 +1,7 @@
 -- The walks over the stack and the list look at names alone, or at whether two ids are the same.
-use Rattle.std.proofs.Common.{◌≡◌, refl, ap, ◌∙◌, Bool, true, false, not, ◌&&◌, ◌||◌, List, [], ◌∷◌, map, Option, Some, None}
-use Rattle.std.specs.Prelude.{if◌then◌else◌, option_map}
+use Rattle.std.proofs.Common.{◌≡◌, refl, sym, ap, ◌∙◌, ◌+◌, ◌==◌, nat_le, Bool, true, false, not, ◌&&◌, ◌||◌, List, [], ◌∷◌, ◌++◌, map, Option, Some, None}
+use Rattle.std.proofs.lemmas.List.{map-append}
+use Rattle.std.specs.Prelude.{if◌then◌else◌, cond, option_map}
 use Rattle.html_types.specs.Operations.{same_id}
 use Rattle.html_types.specs.declared.word.Word.{Word}
 use Rattle.html_types.specs.declared.word.Word.TheVariants as word
@@ -14,8 +15,8 @@ use Rattle.html_types.specs.declared.open.Format.{Format}
 use Rattle.html_types.specs.declared.open.Format.TheVariants.{Marker, Element}
 use Rattle.html_types.specs.declared.token.Tag.{Tag}
 use Rattle.standard.specs.Elements.{is_word, is_one_of, ends_scope}
-use Rattle.standard.specs.Stack.{in_scope, on_stack, is_open, current_is, current_id, is_empty, pop, until, pop_to, implied, close, item_found, close_item, end_found, other_end, id_or, foster_place, place_in, place, first_open, second_open, is_the, without_open}
-use Rattle.standard.specs.Formatting.{listed, clear_to_marker, kept, lost}
+use Rattle.standard.specs.Stack.{in_scope, on_stack, is_open, current_is, current_id, is_empty, pop, until, pop_to, implied, close, item_found, close_item, end_found, other_end, id_or, foster_place, place_in, place, first_open, second_open, is_the, without_open, open_in_scope, above, from_on, through, below, with_above, block_above, place_for}
+use Rattle.standard.specs.Formatting.{listed, clear_to_marker, kept, lost, is_like, likes, without_earliest, list_element, entry_named, has_entry, tag_of_entry, later_than, entry_on, before_first, renewed, without_entry, with_id, with_behind}
 use Rattle.standard.specs.Act.{rename_place}
 use Rattle.standard.specs.Naming.{rename_element, rename_format}
 
@@ -133,6 +134,13 @@ module _ (r : NodeId → NodeId) where
       of_two (rename_place r) v v (foster_place (e ∷ es)) (place_in e) _ _ refl (foster_place-renamed (e ∷ es))
       (of_two (rename_place r) (is_word word.Template e.name) (is_word word.Template e.name) (Contents e.id) (Inside e.id) _ _ refl refl refl)
 
+  pub place_for-renamed : (foster : Bool) (es st : List OpenElement) → place_for foster (map (rename_element r) es) (map (rename_element r) st) ≡ rename_place r (place_for foster es st)
+  place_for-renamed foster [] st = refl
+  place_for-renamed foster (e ∷ es) st =
+      let v : Bool = foster && is_one_of group.FosterTargets e.name in
+      of_two (rename_place r) v v (foster_place st) (place_in e) _ _ refl (foster_place-renamed st)
+      (of_two (rename_place r) (is_word word.Template e.name) (is_word word.Template e.name) (Contents e.id) (Inside e.id) _ _ refl refl refl)
+
   -- ---- the list of active formatting elements
 
   pub listed-renamed : (is : Name → Bool) (fs : List Format) → listed is (map (rename_format r) fs) ≡ listed is fs
@@ -145,8 +153,41 @@ module _ (r : NodeId → NodeId) where
   clear_to_marker-renamed (Marker ∷ fs) = refl
   clear_to_marker-renamed (Element id tag ∷ fs) = clear_to_marker-renamed fs
 
+  likes-renamed : (tag : Tag) (fs : List Format) → likes tag (list_of fs) ≡ likes tag fs
+  likes-renamed tag [] = refl
+  likes-renamed tag (Marker ∷ fs) = refl
+  likes-renamed tag (Element id t ∷ fs) = ap (λ n. cond (is_like tag t) 1 0 + n) (likes-renamed tag fs)
+
+  without_earliest-renamed : (tag : Tag) (fs : List Format) → without_earliest tag (list_of fs) ≡ list_of (without_earliest tag fs)
+  without_earliest-renamed tag [] = refl
+  without_earliest-renamed tag (Marker ∷ fs) = refl
+  without_earliest-renamed tag (Element id t ∷ fs) =
+      of_two list_of (is_like tag t && (likes tag fs == 0)) (is_like tag t && (likes tag (list_of fs) == 0)) fs (Element id t ∷ without_earliest tag fs) _ _
+      (ap (λ n. is_like tag t && (n == 0)) (likes-renamed tag fs)) refl (ap (λ l. Element (r id) t ∷ l) (without_earliest-renamed tag fs))
+
+  pub list_element-renamed : (id : NodeId) (tag : Tag) (fs : List Format) → list_element (r id) tag (map (rename_format r) fs) ≡ map (rename_format r) (list_element id tag fs)
+  list_element-renamed id tag fs =
+      ap (λ l. Element (r id) tag ∷ l)
+      (of_two list_of (nat_le 3 (likes tag fs)) (nat_le 3 (likes tag (list_of fs))) (without_earliest tag fs) fs _ _
+      (ap (nat_le 3) (likes-renamed tag fs)) (without_earliest-renamed tag fs) refl)
+
+  pub entry_named-renamed : (is : Name → Bool) (fs : List Format) → entry_named is (map (rename_format r) fs) ≡ option_map r (entry_named is fs)
+  entry_named-renamed is [] = refl
+  entry_named-renamed is (Marker ∷ fs) = refl
+  entry_named-renamed is (Element id tag ∷ fs) =
+      of_two (option_map r) (is tag.name) (is tag.name) (Some id) (entry_named is fs) _ _ refl refl (entry_named-renamed is fs)
+
+  before_first-renamed : (fs : List Format) → before_first (list_of fs) ≡ list_of (before_first fs)
+  before_first-renamed [] = refl
+  before_first-renamed (f ∷ fs) = refl
+
+  renewed-renamed : (id : NodeId) (fs : List Format) → renewed (r id) (list_of fs) ≡ list_of (renewed id fs)
+  renewed-renamed id [] = refl
+  renewed-renamed id (Marker ∷ fs) = refl
+  renewed-renamed id (Element i tag ∷ fs) = refl
+
   module _ (apart : (a b : NodeId) → same_id (r a) (r b) ≡ same_id a b) where
-    is_open-renamed : (id : NodeId) (es : List OpenElement) → is_open (r id) (stack_of es) ≡ is_open id es
+    pub is_open-renamed : (id : NodeId) (es : List OpenElement) → is_open (r id) (map (rename_element r) es) ≡ is_open id es
     is_open-renamed id [] = refl
     is_open-renamed id (e ∷ es) = ap (λ v. v || is_open (r id) (stack_of es)) (apart e.id id) ∙ ap (λ v. same_id e.id id || v) (is_open-renamed id es)
 
@@ -168,3 +209,88 @@ module _ (r : NodeId → NodeId) where
     lost-renamed es (Marker ∷ fs) = refl
     lost-renamed es (Element id tag ∷ fs) =
         of_two (λ (l : List Tag). l) (is_open id es) (is_open (r id) (stack_of es)) [] (tag ∷ lost es fs) _ _ (is_open-renamed id es) refl (ap (λ l. tag ∷ l) (lost-renamed es fs))
+
+    pub open_in_scope-renamed : (s : Scope) (id : NodeId) (es : List OpenElement) → open_in_scope s (r id) (map (rename_element r) es) ≡ open_in_scope s id es
+    open_in_scope-renamed s id [] = refl
+    open_in_scope-renamed s id (e ∷ es) =
+        ap (λ v. if v then true else (if ends_scope s e.name then false else open_in_scope s (r id) (stack_of es))) (apart e.id id)
+        ∙ ap (λ v. if same_id e.id id then true else (if ends_scope s e.name then false else v)) (open_in_scope-renamed s id es)
+
+    -- ---- what the adoption agency algorithm asks for
+
+    pub above-renamed : (id : NodeId) (es : List OpenElement) → above (r id) (map (rename_element r) es) ≡ map (rename_element r) (above id es)
+    above-renamed id [] = refl
+    above-renamed id (e ∷ es) =
+        of_two stack_of (same_id e.id id) (same_id (r e.id) (r id)) [] (e ∷ above id es) _ _ (apart e.id id) refl (ap (λ l. rename_element r e ∷ l) (above-renamed id es))
+
+    pub from_on-renamed : (id : NodeId) (es : List OpenElement) → from_on (r id) (map (rename_element r) es) ≡ map (rename_element r) (from_on id es)
+    from_on-renamed id [] = refl
+    from_on-renamed id (e ∷ es) =
+        of_two stack_of (same_id e.id id) (same_id (r e.id) (r id)) (e ∷ es) (from_on id es) _ _ (apart e.id id) refl (from_on-renamed id es)
+
+    pub through-renamed : (id : NodeId) (es : List OpenElement) → through (r id) (map (rename_element r) es) ≡ map (rename_element r) (through id es)
+    through-renamed id [] = refl
+    through-renamed id (e ∷ es) =
+        of_two stack_of (same_id e.id id) (same_id (r e.id) (r id)) (e ∷ []) (e ∷ through id es) _ _ (apart e.id id) refl (ap (λ l. rename_element r e ∷ l) (through-renamed id es))
+
+    pub below-renamed : (id : NodeId) (es : List OpenElement) → below (r id) (map (rename_element r) es) ≡ map (rename_element r) (below id es)
+    below-renamed id [] = refl
+    below-renamed id (e ∷ es) = of_two stack_of (same_id e.id id) (same_id (r e.id) (r id)) es (below id es) _ _ (apart e.id id) refl (below-renamed id es)
+
+    pub with_above-renamed : (id : NodeId) (e : OpenElement) (es : List OpenElement)
+        → with_above (r id) (rename_element r e) (map (rename_element r) es) ≡ map (rename_element r) (with_above id e es)
+    with_above-renamed id e es =
+        ap (λ l. l ++ rename_element r e ∷ from_on (r id) (stack_of es)) (above-renamed id es)
+        ∙ (ap (λ l. stack_of (above id es) ++ rename_element r e ∷ l) (from_on-renamed id es)
+        ∙ sym (map-append (rename_element r) (above id es) (e ∷ from_on id es)))
+
+    pub block_above-renamed : (id : NodeId) (found : Option NodeId) (es : List OpenElement)
+        → block_above (r id) (option_map r found) (map (rename_element r) es) ≡ option_map r (block_above id found es)
+    block_above-renamed id found [] = refl
+    block_above-renamed id found (e ∷ es) =
+        let v : Bool = is_one_of group.Special e.name in
+        of_two (option_map r) (same_id e.id id) (same_id (r e.id) (r id)) found (block_above id (if v then Some e.id else found) es) _ _ (apart e.id id) refl
+        (ap (λ x. block_above (r id) x (stack_of es)) (of_two (option_map r) v v (Some e.id) found _ _ refl refl refl)
+        ∙ block_above-renamed id (if v then Some e.id else found) es)
+
+    pub has_entry-renamed : (id : NodeId) (fs : List Format) → has_entry (r id) (map (rename_format r) fs) ≡ has_entry id fs
+    has_entry-renamed id [] = refl
+    has_entry-renamed id (Marker ∷ fs) = has_entry-renamed id fs
+    has_entry-renamed id (Element i tag ∷ fs) = ap (λ v. v || has_entry (r id) (list_of fs)) (apart i id) ∙ ap (λ v. same_id i id || v) (has_entry-renamed id fs)
+
+    pub tag_of_entry-renamed : (id : NodeId) (fs : List Format) → tag_of_entry (r id) (map (rename_format r) fs) ≡ tag_of_entry id fs
+    tag_of_entry-renamed id [] = refl
+    tag_of_entry-renamed id (Marker ∷ fs) = tag_of_entry-renamed id fs
+    tag_of_entry-renamed id (Element i tag ∷ fs) =
+        of_two (λ (t : Option Tag). t) (same_id i id) (same_id (r i) (r id)) (Some tag) (tag_of_entry id fs) _ _ (apart i id) refl (tag_of_entry-renamed id fs)
+
+    later_than-renamed : (id : NodeId) (fs : List Format) → later_than (r id) (list_of fs) ≡ list_of (later_than id fs)
+    later_than-renamed id [] = refl
+    later_than-renamed id (Marker ∷ fs) = ap (λ l. Marker ∷ l) (later_than-renamed id fs)
+    later_than-renamed id (Element i tag ∷ fs) =
+        of_two list_of (same_id i id) (same_id (r i) (r id)) [] (Element i tag ∷ later_than id fs) _ _ (apart i id) refl (ap (λ l. Element (r i) tag ∷ l) (later_than-renamed id fs))
+
+    entry_on-renamed : (id : NodeId) (fs : List Format) → entry_on (r id) (list_of fs) ≡ list_of (entry_on id fs)
+    entry_on-renamed id [] = refl
+    entry_on-renamed id (Marker ∷ fs) = entry_on-renamed id fs
+    entry_on-renamed id (Element i tag ∷ fs) =
+        of_two list_of (same_id i id) (same_id (r i) (r id)) (Element i tag ∷ fs) (entry_on id fs) _ _ (apart i id) refl (entry_on-renamed id fs)
+
+    pub without_entry-renamed : (id : NodeId) (fs : List Format) → without_entry (r id) (map (rename_format r) fs) ≡ map (rename_format r) (without_entry id fs)
+    without_entry-renamed id fs =
+        ap (λ l. l ++ before_first (entry_on (r id) (list_of fs))) (later_than-renamed id fs)
+        ∙ (ap (λ l. list_of (later_than id fs) ++ l) (ap before_first (entry_on-renamed id fs) ∙ before_first-renamed (entry_on id fs))
+        ∙ sym (map-append (rename_format r) (later_than id fs) (before_first (entry_on id fs))))
+
+    pub with_id-renamed : (id new : NodeId) (fs : List Format) → with_id (r id) (r new) (map (rename_format r) fs) ≡ map (rename_format r) (with_id id new fs)
+    with_id-renamed id new fs =
+        ap (λ l. l ++ renewed (r new) (entry_on (r id) (list_of fs))) (later_than-renamed id fs)
+        ∙ (ap (λ l. list_of (later_than id fs) ++ l) (ap (renewed (r new)) (entry_on-renamed id fs) ∙ renewed-renamed new (entry_on id fs))
+        ∙ sym (map-append (rename_format r) (later_than id fs) (renewed new (entry_on id fs))))
+
+    pub with_behind-renamed : (id : NodeId) (e : Format) (fs : List Format)
+        → with_behind (r id) (rename_format r e) (map (rename_format r) fs) ≡ map (rename_format r) (with_behind id e fs)
+    with_behind-renamed id e fs =
+        ap (λ l. l ++ rename_format r e ∷ entry_on (r id) (list_of fs)) (later_than-renamed id fs)
+        ∙ (ap (λ l. list_of (later_than id fs) ++ rename_format r e ∷ l) (entry_on-renamed id fs)
+        ∙ sym (map-append (rename_format r) (later_than id fs) (e ∷ entry_on id fs)))

@@ -1,9 +1,12 @@
 -- Worked pages: what is written for each, by computation. Where nothing is written the page meets a row that isn't there yet.
-use Rattle.std.proofs.Common.{◌≡◌, ℕ, zero, suc, ◌++◌, List, [], Option, Some, option_map, refl, codes}
+use Rattle.std.proofs.Common.{◌≡◌, ℕ, zero, suc, ◌++◌, true, false, List, [], Option, Some, option_map, refl, codes}
 use Prim.Native.String.{String}
 use Rattle.std.specs.Prelude.{encode_utf8_all}
 use Rattle.html_types.specs.declared.script.Ending.{Ending}
 use Rattle.html_types.specs.declared.script.Ending.TheVariants as ending
+use Rattle.standard.specs.Instructions.{is_hidden}
+use Rattle.standard.specs.Adoption.{adopt}
+use Rattle.standard.specs.Rules.{adopting}
 use Rattle.standard.specs.Serial.{serial_with}
 use Rattle.standard.specs.Output.{output}
 use Rattle.standard.proofs.OnLiterals.{serial_on_literals}
@@ -118,9 +121,9 @@ xmp : written "<p>a<xmp><b></xmp>c" ending.End ≡ wants "tree \"<html><head></h
 unfolding serial_on_literals
 xmp = refl
 
-formatting_is_missing : written "<p>a<b>c" ending.End ≡ wants ""
+formatting_left_open : written "<p>a<b>c" ending.End ≡ wants "tree \"<html><head></head><body><p>a<b>c</b></p></body></html>\"\n"
 unfolding serial_on_literals
-formatting_is_missing = refl
+formatting_left_open = refl
 
 table_is_missing : written "<p>a<table>c" ending.End ≡ wants ""
 unfolding serial_on_literals
@@ -270,9 +273,75 @@ returns : written "a\rb\r\nc\n\rd" ending.End ≡ wants "tree \"<html><head></he
 unfolding serial_on_literals
 returns = refl
 
-br_end_is_missing : written "a</br>b" ending.End ≡ wants ""
+br_end : written "a</br>b" ending.End ≡ wants "tree \"<html><head></head><body>a<br>b</body></html>\"\n"
 unfolding serial_on_literals
-br_end_is_missing = refl
+br_end = refl
+
+misnested_formatting : written "<p>1<b>2<i>3</b>4</i>5</p>" ending.End ≡ wants "tree \"<html><head></head><body><p>1<b>2<i>3</i></b><i>4</i>5</p></body></html>\"\n"
+unfolding serial_on_literals adopting adopt
+misnested_formatting = refl
+
+formatting_goes_on_behind_a_p : written "<p>1<b>2<i>3</p>4" ending.End ≡ wants "tree \"<html><head></head><body><p>1<b>2<i>3</i></b></p><b><i>4</i></b></body></html>\"\n"
+unfolding serial_on_literals adopting adopt
+formatting_goes_on_behind_a_p = refl
+
+end_of_no_formatting : written "<b>1</i>2" ending.End ≡ wants "tree \"<html><head></head><body><b>12</b></body></html>\"\n"
+unfolding serial_on_literals adopting adopt
+end_of_no_formatting = refl
+
+a_in_a : written "<a>1<a>2" ending.End ≡ wants "tree \"<html><head></head><body><a>1</a><a>2</a></body></html>\"\n"
+unfolding serial_on_literals adopting adopt
+a_in_a = refl
+
+nobr_in_nobr : written "<nobr>1<nobr>2" ending.End ≡ wants "tree \"<html><head></head><body><nobr>1</nobr><nobr>2</nobr></body></html>\"\n"
+unfolding serial_on_literals adopting adopt
+nobr_in_nobr = refl
+
+four_alike : written "<p><b><b><b><b>1</p>2" ending.End ≡ wants "tree \"<html><head></head><body><p><b><b><b><b>1</b></b></b></b></p><b><b><b>2</b></b></b></body></html>\"\n"
+unfolding serial_on_literals adopting adopt
+four_alike = refl
+
+four_alike_are_closed : written "<b><b><b><b>1</b>2</b>3</b>4</b>5" ending.End ≡ wants "tree \"<html><head></head><body><b><b><b><b>1</b>2</b>3</b>4</b>5</body></html>\"\n"
+unfolding serial_on_literals adopting adopt
+four_alike_are_closed = refl
+
+alike_whatever_the_order : written "<p><b k=1 l=2><b l=2 k=1><b k=1 l=2><b k=1 l=2>1</p>2" ending.End ≡ wants "tree \"<html><head></head><body><p><b k=\\\"1\\\" l=\\\"2\\\"><b l=\\\"2\\\" k=\\\"1\\\"><b k=\\\"1\\\" l=\\\"2\\\"><b k=\\\"1\\\" l=\\\"2\\\">1</b></b></b></b></p><b l=\\\"2\\\" k=\\\"1\\\"><b k=\\\"1\\\" l=\\\"2\\\"><b k=\\\"1\\\" l=\\\"2\\\">2</b></b></b></body></html>\"\n"
+unfolding serial_on_literals adopting adopt
+alike_whatever_the_order = refl
+
+unclosed_formatting : written "<p><b class=x><b class=x><b><b class=x><b class=x><b>X\n<p>X\n<p><b><b class=x><b>X\n<p></b></b></b></b></b></b>X" ending.End ≡ wants "tree \"<html><head></head><body><p><b class=\\\"x\\\"><b class=\\\"x\\\"><b><b class=\\\"x\\\"><b class=\\\"x\\\"><b>X\\n</b></b></b></b></b></b></p><p><b class=\\\"x\\\"><b><b class=\\\"x\\\"><b class=\\\"x\\\"><b>X\\n</b></b></b></b></b></p><p><b class=\\\"x\\\"><b><b class=\\\"x\\\"><b class=\\\"x\\\"><b><b><b class=\\\"x\\\"><b>X\\n</b></b></b></b></b></b></b></b></p><p>X</p></body></html>\"\n"
+unfolding serial_on_literals adopting adopt
+unclosed_formatting = refl
+
+formatting_stays_behind_a_marker : written "<b>1<object>2</b>3</object>4</b>5" ending.End ≡ wants "tree \"<html><head></head><body><b>1<object>23</object>4</b>5</body></html>\"\n"
+unfolding serial_on_literals adopting adopt
+formatting_stays_behind_a_marker = refl
+
+form_in_form : written "<form>1<form>2</form>3" ending.End ≡ wants "tree \"<html><head></head><body><form>12</form>3</body></html>\"\n"
+unfolding serial_on_literals adopting adopt
+form_in_form = refl
+
+form_closed_under_a_div : written "<form><div></form>1" ending.End ≡ wants "tree \"<html><head></head><body><form><div>1</div></form></body></html>\"\n"
+unfolding serial_on_literals adopting adopt
+form_closed_under_a_div = refl
+
+end_of_no_form : written "<p>1</form>2" ending.End ≡ wants "tree \"<html><head></head><body><p>12</p></body></html>\"\n"
+unfolding serial_on_literals adopting adopt
+end_of_no_form = refl
+
+image : written "<p>1<image src=x>2" ending.End ≡ wants "tree \"<html><head></head><body><p>1<img src=\\\"x\\\">2</p></body></html>\"\n"
+unfolding serial_on_literals adopting adopt
+image = refl
+
+hidden_input : written "<p>1<input type=Hidden>2" ending.End ≡ wants "tree \"<html><head></head><body><p>1<input type=\\\"Hidden\\\">2</p></body></html>\"\n"
+unfolding serial_on_literals adopting adopt
+hidden_input = refl
+
+hidden_in_any_case : is_hidden (Some (codes "hIDDEN")) ≡ true
+hidden_in_any_case = refl
+
+hidden_alone : is_hidden (Some (codes "hidden ")) ≡ false
+hidden_alone = refl
 
 script_after_head : written "<head></head><script>x</script>b" ending.End ≡ wants "syntax 1\ntree \"<html><head><script>x</script></head><body>b</body></html>\"\n"
 unfolding serial_on_literals

@@ -16,7 +16,6 @@ use Rattle.html_types.specs.declared.instruction.Who.TheVariants as who
 use Rattle.html_types.specs.declared.instruction.Flow.{Flow}
 use Rattle.html_types.specs.declared.instruction.Flow.TheVariants.{On, Skip, Leave}
 use Rattle.html_types.specs.declared.instruction.Next.TheVariants as next
-use Rattle.html_types.specs.declared.instruction.Then.{Then}
 use Rattle.html_types.specs.declared.instruction.Then.TheVariants.{Nothing, Link, Nobr}
 use Rattle.html_types.specs.Names.{name_of}
 use Rattle.html_types.specs.declared.name.Name.{Name}
