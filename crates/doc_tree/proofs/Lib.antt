@@ -8,3 +8,4 @@ pub mod Runs
 pub mod Folds
 pub mod Order
 pub mod Templates
+pub mod Moving

@@ -130,7 +130,7 @@ module _ (t : Nodes) (n : ℕ) (tree : IsTree t) (n_below : n < length t) where
     | inr link ↦ rw link.1 (length-relinked t link.0 _ n None (parent_below t tree n link.0 link.1) n_below)
   ]
 
-  parent_of-detached : (m : ℕ) → parent_of (detached t n) m ≡ cond (eqb m n) None (parent_of t m)
+  pub parent_of-detached : (m : ℕ) → parent_of (detached t n) m ≡ cond (eqb m n) None (parent_of t m)
   parent_of-detached m = elim (cases_option (parent_of t n)) [
     | inl none ↦ rw none (grind (arith, nat_tests))
     | inr link ↦ rw link.1 (parent_of-relinked t link.0 _ n None (parent_below t tree n link.0 link.1) n_below m)
@@ -142,20 +142,20 @@ module _ (t : Nodes) (n : ℕ) (tree : IsTree t) (n_below : n < length t) where
     | inr link ↦ rw link.1 (host_of-relinked t link.0 _ n None (parent_below t tree n link.0 link.1) n_below m)
   ]
 
-  kind_of-detached : (m : ℕ) → kind_of (detached t n) m ≡ kind_of t m
+  pub kind_of-detached : (m : ℕ) → kind_of (detached t n) m ≡ kind_of t m
   kind_of-detached m = elim (cases_option (parent_of t n)) [
     | inl none ↦ rw none refl
     | inr link ↦ rw link.1 (kind_of-relinked t link.0 _ n None (parent_below t tree n link.0 link.1) n_below m)
   ]
 
-  contents_of-detached : (m : ℕ) → contents_of (detached t n) m ≡ contents_of t m
+  pub contents_of-detached : (m : ℕ) → contents_of (detached t n) m ≡ contents_of t m
   contents_of-detached m = elim (cases_option (parent_of t n)) [
     | inl none ↦ rw none refl
     | inr link ↦ rw link.1 (contents_of-relinked t link.0 _ n None (parent_below t tree n link.0 link.1) n_below m)
   ]
 
   -- n is a child of nothing then, and no other child is lost
-  children_of-detached : (m : ℕ) → children_of (detached t n) m ≡ without n (children_of t m)
+  pub children_of-detached : (m : ℕ) → children_of (detached t n) m ≡ without n (children_of t m)
   children_of-detached m = elim (cases_option (parent_of t n)) [
     | inl none ↦ rw none (sym (without_absent n (children_of t m) (grind (arith, tree.kinship n m))))
     | inr link ↦ rw link.1 (elim (cases_eq m link.0) [

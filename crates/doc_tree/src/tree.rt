@@ -1,6 +1,6 @@
 //! The tree (DOM 4.2, 4.4), its changes and its readers.
 
-ghost use Rattle.std.specs.Prelude.{◌≡◌, ◌≢◌, ◌<◌, ◌≤◌, ◌++◌, ◌∷◌, [], false, if◌then◌else◌, codes, ◌↔◌, IsTrue, IsFalse, length, reverse, vec_len, IfOk, OnOk, OnErr, IsSome};
+ghost use Rattle.std.specs.Prelude.{◌≡◌, ◌≢◌, ◌<◌, ◌≤◌, ◌++◌, ◌∷◌, [], false, if◌then◌else◌, codes, ◌↔◌, ℕ, ◌||◌, ◌&&◌, IsTrue, IsFalse, length, slice_index, reverse, vec_len, IfOk, OnOk, OnErr, IsSome};
 ghost use Rattle.std.specs.Str.{chars};
 ghost use Rattle.std.specs.Option.{ForSome};
 
@@ -8,6 +8,7 @@ use crate::attributes::{joined, value_of};
 use html_types::{Attributes, Children, Kind, NoMemory, Node, Text};
 use std::alloc::Global;
 use std::marker::Model;
+use std::mem;
 
 /// A tree: a contract sees the list of its nodes. The nodes have the numbers below `len`, and the Document is number 0.
 #[derive(Drop)]
@@ -467,6 +468,134 @@ impl Tree {
         }
         let place = self.place(parent, before);
         self.put_text(parent, place, text)?;
+        Ok(())
+    }
+}
+
+// The children of a node that go to the end of another's, and those that stay, each in order.
+#[derive(Drop)]
+struct Parting {
+    going: Vec<usize>,
+    staying: Vec<usize>,
+    // Whether one goes of which the place takes only one.
+    taken: bool,
+}
+
+impl Parting {
+    fn new(alloc: Global) -> Parting
+        ensures going { result.going.items ≡ [] }
+        ensures staying { result.staying.items ≡ [] }
+        ensures taken { result.taken ≡ false }
+    {
+        Parting {
+            going: Vec::new(alloc),
+            staying: Vec::new(alloc),
+            taken: false,
+        }
+    }
+
+    // With one more child, which stays where it is stuck, or where the place takes only one such and one goes already.
+    fn with(mut self, child: usize, stuck: bool, single: bool) -> Result<Parting, NoMemory>
+        ensures going { IfOk result (λ p. p.going.items ≡ self.going.items ++ (if stuck || (self.taken && single) then [] else child ∷ [])) }
+        ensures staying { IfOk result (λ p. p.staying.items ≡ self.staying.items ++ (if stuck || (self.taken && single) then child ∷ [] else [])) }
+        ensures taken { IfOk result (λ p. p.taken ≡ (if stuck || (self.taken && single) then self.taken else (self.taken || single))) }
+    {
+        if stuck || (self.taken && single) {
+            self.staying.push(child)?;
+            return Ok(self);
+        }
+        self.going.push(child)?;
+        self.taken = self.taken || single;
+        Ok(self)
+    }
+}
+
+ghost use Rattle.doc_tree.specs.Moving.{going, staying, is_stuck, is_single, adopted, handed_over};
+
+// The nodes' parent is now another: nothing else changes.
+fn adopt(nodes: &mut Vec<Node>, children: &[usize], parent: usize)
+    requires { (k : ℕ) → k < length children.now → slice_index children.now k < length nodes.old.items }
+    ensures { nodes.new.items ≡ adopted nodes.old.items children.now parent }
+{
+    for child in children {
+        nodes[*child].parent = Some(parent);
+    }
+}
+
+// The children that go now stand behind the other node's own. Where memory runs out, all is as it was.
+fn hand_over(
+    nodes: &mut Vec<Node>,
+    from: usize,
+    to: usize,
+    parting: Parting,
+) -> Result<(), NoMemory>
+    requires from_here { from < length nodes.old.items }
+    requires to_here { to < length nodes.old.items }
+    requires going_here { (k : ℕ) → k < length parting.going.items → slice_index parting.going.items k < length nodes.old.items }
+    ensures ok { OnOk result (nodes.new.items ≡ handed_over nodes.old.items from to parting.going.items parting.staying.items) }
+    ensures err { OnErr result (nodes.new.items ≡ nodes.old.items) }
+{
+    let kept = mem::replace(
+        &mut nodes[from].children,
+        Children::from_vec(parting.staying),
+    );
+    if let Err(error) = nodes[to].children.extend(&parting.going) {
+        nodes[from].children = kept;
+        return Err(error);
+    }
+    adopt(nodes, &parting.going, to);
+    Ok(())
+}
+
+// All children of a node move at once.
+impl Tree {
+    ghost use Rattle.standard.specs.Tree.{Keeps, children_of, children_moved, is_impossible, is_document, is_element_at, kind_of};
+
+    // Whether the node can't be put at the end of the parent's children.
+    fn is_stuck(&self, node: usize, parent: usize) -> bool
+        requires node_here { node < length self.now }
+        requires parent_here { parent < length self.now }
+        ensures { result ≡ is_stuck self.now parent node }
+    {
+        self.lies_in(parent, node) || self.is_second_element(node, parent)
+    }
+
+    // Whether the parent takes only one node such as this, as a Document one element.
+    fn is_single(&self, node: usize, parent: usize) -> bool
+        requires node_here { node < length self.now }
+        requires parent_here { parent < length self.now }
+        ensures { result ≡ is_single self.now parent node }
+    {
+        is_document(&self.nodes[parent].kind) && is_element(&self.nodes[node].kind)
+    }
+
+    // Which children of a node can go to the end of another's, one after another.
+    fn parting(&self, from: usize, to: usize) -> Result<Parting, NoMemory>
+        requires from_here { from < length self.now }
+        requires to_here { to < length self.now }
+        ensures going { IfOk result (λ p. p.going.items ≡ going (is_stuck self.now to) (is_single self.now to) false (children_of self.now from)) }
+        ensures staying { IfOk result (λ p. p.staying.items ≡ staying (is_stuck self.now to) (is_single self.now to) false (children_of self.now from)) }
+    {
+        let mut parting = Parting::new(self.alloc);
+        let children = self.nodes[from].children.as_slice();
+        for child in children {
+            let stuck = self.is_stuck(*child, to);
+            let single = self.is_single(*child, to);
+            parting = parting.with(*child, stuck, single)?;
+        }
+        Ok(parting)
+    }
+
+    /// Puts the children of a node, in order, each at the end of another's. One that can't be put there stays where it is.
+    pub fn move_children(&mut self, from: usize, to: usize) -> Result<(), NoMemory>
+        requires from_here { from < length self.old }
+        requires to_here { to < length self.old }
+        ensures ok { OnOk result (self.new ≡ children_moved self.old from to) }
+        ensures err { OnErr result (self.new ≡ self.old) }
+        ensures keeps { Keeps self.old self.new }
+    {
+        let parting = self.parting(from, to)?;
+        hand_over(&mut self.nodes, from, to, parting)?;
         Ok(())
     }
 }

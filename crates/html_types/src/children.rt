@@ -30,6 +30,12 @@ impl Children {
         }
     }
 
+    pub fn from_vec(list: Vec<usize>) -> Self
+        ensures { result ≡ list.items }
+    {
+        Children { list }
+    }
+
     pub fn len(&self) -> usize
         ensures { result ≡ length self.now }
     {
@@ -62,6 +68,13 @@ impl Children {
         ensures err { OnErr result (self.new ≡ self.old) }
     {
         Ok(self.list.push(node)?)
+    }
+
+    pub fn extend(&mut self, more: &[usize]) -> Result<(), NoMemory>
+        ensures ok { OnOk result (self.new ≡ self.old ++ more.now) }
+        ensures err { OnErr result (self.new ≡ self.old) }
+    {
+        Ok(self.list.extend_from_slice(more)?)
     }
 
     pub fn insert(&mut self, place: usize, node: usize) -> Result<(), NoMemory>

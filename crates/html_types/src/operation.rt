@@ -102,6 +102,12 @@ pub enum Op {
     Detach {
         node: NodeId,
     },
+    /// Moves the children of an element, in order, each to the end of another element's, or of its contents where that is a template; one
+    /// that can't stand there stays where it is. What stands in a template's contents isn't among its children, and doesn't move.
+    MoveChildren {
+        from: NodeId,
+        to: NodeId,
+    },
     /// Gives an element those attributes that it lacks.
     AddAttributes {
         node: NodeId,

@@ -8,7 +8,7 @@ use Rattle.html_types.specs.Operations.{same_id, spelled, spelled_one}
 use Rattle.html_types.specs.declared.operation.NodeId.{NodeId}
 use Rattle.html_types.specs.declared.operation.Place.{Place}
 use Rattle.html_types.specs.declared.operation.Op.{Op}
-use Rattle.html_types.specs.declared.operation.Op.TheVariants.{Make, Put, Text, Note, Doctype, Detach, AddAttributes}
+use Rattle.html_types.specs.declared.operation.Op.TheVariants.{Make, Put, Text, Note, Doctype, Detach, MoveChildren, AddAttributes}
 use Rattle.standard.specs.Act.{Doc, id_cmp, bound_to, act, acts, is_bound, IsPlaceBound, IsOpBound, known_after, AreOpsBound}
 use Rattle.op_exec.specs.Docs.{inserts_nothing, IsDoneInPart}
 use Rattle.op_exec.proofs.Renamed.{tells, bound_to-insert}
@@ -54,6 +54,7 @@ known_after-is d (Text place text) q = refl
 known_after-is d (Note place text) q = refl
 known_after-is d (Doctype name) q = refl
 known_after-is d (Detach id) q = refl
+known_after-is d (MoveChildren from to) q = refl
 known_after-is d (AddAttributes id attributes) q = refl
 
 AreOpsBound-after : (d : Doc) (xs ys : List Op) → AreOpsBound (is_bound d.bound) (xs ++ ys) → AreOpsBound (is_bound (acts d xs).bound) ys
@@ -76,6 +77,7 @@ IsOpBound-from_spelled known (Text place (c ∷ cs)) some bound = bound.0
 IsOpBound-from_spelled known (Note place text) some bound = bound.0
 IsOpBound-from_spelled known (Doctype name) some bound = bound.0
 IsOpBound-from_spelled known (Detach id) some bound = bound.0
+IsOpBound-from_spelled known (MoveChildren from to) some bound = bound.0
 IsOpBound-from_spelled known (AddAttributes id attributes) some bound = bound.0
 
 AreOpsBound-run : (known : NodeId → Bool) (place : Place) (text : List ℕ) → IsPlaceBound known place → AreOpsBound known (map (λ c. Text place (c ∷ [])) text)
@@ -92,6 +94,7 @@ AreOpsBound-spelled known (Text place text) bound = AreOpsBound-run known place 
 AreOpsBound-spelled known (Note place text) bound = (bound, tt)
 AreOpsBound-spelled known (Doctype name) bound = (bound, tt)
 AreOpsBound-spelled known (Detach id) bound = (bound, tt)
+AreOpsBound-spelled known (MoveChildren from to) bound = (bound, tt)
 AreOpsBound-spelled known (AddAttributes id attributes) bound = (bound, tt)
 
 pub acts-nothing : (d : Doc) (o : Op) → inserts_nothing o ≡ true → acts d (spelled_one o) ≡ d
@@ -103,6 +106,7 @@ acts-nothing d (Put id place) none = absurd (cc)
 acts-nothing d (Note place text) none = absurd (cc)
 acts-nothing d (Doctype name) none = absurd (cc)
 acts-nothing d (Detach id) none = absurd (cc)
+acts-nothing d (MoveChildren from to) none = absurd (cc)
 acts-nothing d (AddAttributes id attributes) none = absurd (cc)
 
 -- ---- a turn of the loop over operations

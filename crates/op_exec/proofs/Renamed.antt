@@ -10,7 +10,7 @@ use Rattle.html_types.specs.declared.operation.NodeId.{NodeId}
 use Rattle.html_types.specs.declared.operation.Place.{Place}
 use Rattle.html_types.specs.declared.operation.Place.TheVariants.{Page, Inside, Contents, Foster}
 use Rattle.html_types.specs.declared.operation.Op.{Op}
-use Rattle.html_types.specs.declared.operation.Op.TheVariants.{Make, Put, Text, Note, Doctype, Detach, AddAttributes}
+use Rattle.html_types.specs.declared.operation.Op.TheVariants.{Make, Put, Text, Note, Doctype, Detach, MoveChildren, AddAttributes}
 use Rattle.standard.specs.Act.{Bound, id_cmp, bound_to, node_of}
 use Rattle.standard.specs.Act.{Doc, act, acts, spot_of, rename_place, rename_op, SameUpTo}
 use Rattle.op_exec.proofs.Docs.{id_cmp-same}
@@ -87,6 +87,10 @@ module _ (r : NodeId → NodeId) (one : (a b : NodeId) → r a ≡ r b → a ≡
   }
   act-renamed d d' same (Detach id) = record {
     tree = rw (node_of-renamed d d' same id, same.tree) refl;
+    bound = same.bound;
+  }
+  act-renamed d d' same (MoveChildren from to) = record {
+    tree = rw (node_of-renamed d d' same from, node_of-renamed d d' same to, same.tree) refl;
     bound = same.bound;
   }
   act-renamed d d' same (AddAttributes id attributes) = record {

@@ -223,6 +223,18 @@ impl Doc {
     }
 
     #[tactic(auto, unfolding(standard::specs::Act::act))]
+    fn move_children(&mut self, from: NodeId, to: NodeId) -> Result<(), NoMemory>
+        requires from_bound { IsTrue (is_bound self.old.bound from) }
+        requires to_bound { IsTrue (is_bound self.old.bound to) }
+        ensures ok { OnOk result (self.new ≡ act self.old (op.MoveChildren from to)) }
+        ensures err { OnErr result (self.new ≡ self.old) }
+    {
+        let from = self.node(from);
+        let spot = end_of(&self.tree, self.node(to));
+        self.tree.move_children(from, spot.parent)
+    }
+
+    #[tactic(auto, unfolding(standard::specs::Act::act))]
     fn add_attributes(&mut self, id: NodeId, attributes: &Attributes) -> Result<(), NoMemory>
         requires { IsTrue (is_bound self.old.bound id) }
         ensures ok { OnOk result (self.new ≡ act self.old (op.AddAttributes id attributes.now)) }
@@ -253,6 +265,7 @@ impl Doc {
                 self.detach(*node);
                 Ok(())
             }
+            Op::MoveChildren { from, to } => self.move_children(*from, *to),
             Op::AddAttributes { node, attributes } => self.add_attributes(*node, attributes),
         }
     }

@@ -100,6 +100,7 @@ act-binds d (op.Text place text) id = refl
 act-binds d (op.Note place text) id = refl
 act-binds d (op.Doctype name) id = refl
 act-binds d (op.Detach i) id = refl
+act-binds d (op.MoveChildren from to) id = refl
 act-binds d (op.AddAttributes i attributes) id = refl
 
 pub acts-bind : (d : Doc) (ops : List Op) → is_bound (acts d ops).bound ≡ known_after_all (is_bound d.bound) ops

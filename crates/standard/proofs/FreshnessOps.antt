@@ -45,4 +45,5 @@ known-grows known (o ∷ os) id h = known-grows (known_after known o) os id (one
     one (op.Note place text) = h
     one (op.Doctype name) = h
     one (op.Detach i) = h
+    one (op.MoveChildren from to) = h
     one (op.AddAttributes i attributes) = h

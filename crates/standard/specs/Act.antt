@@ -10,10 +10,10 @@ use Rattle.html_types.specs.declared.operation.NodeId.{NodeId}
 use Rattle.html_types.specs.declared.operation.Place.{Place}
 use Rattle.html_types.specs.declared.operation.Place.TheVariants.{Page, Inside, Contents, Foster}
 use Rattle.html_types.specs.declared.operation.Op.{Op}
-use Rattle.html_types.specs.declared.operation.Op.TheVariants.{Make, Put, Text, Note, Doctype, Detach, AddAttributes}
+use Rattle.html_types.specs.declared.operation.Op.TheVariants.{Make, Put, Text, Note, Doctype, Detach, MoveChildren, AddAttributes}
 use Rattle.html_types.specs.declared.tree.Kind.{Kind}
 use Rattle.html_types.specs.declared.tree.Kind.TheVariants as kind
-use Rattle.standard.specs.Tree.{Nodes, new_tree, parent_of, children_of, contents_of, lone, put_of, put_before_of, detached, with_new, text_added, attributes_added}
+use Rattle.standard.specs.Tree.{Nodes, new_tree, parent_of, children_of, contents_of, lone, put_of, put_before_of, detached, children_moved, with_new, text_added, attributes_added}
 
 -- ---- which node each id stands for
 
@@ -89,6 +89,7 @@ act d (Text place text) = record d { tree = text_at d.tree text (spot_of d place
 act d (Note place text) = record d { tree = new_at d.tree (kind.Comment text) (spot_of d place) }
 act d (Doctype name) = record d { tree = new_at d.tree (kind.Doctype name) (end_of d.tree 0) }
 act d (Detach id) = record d { tree = detached d.tree (node_of d.bound id) }
+act d (MoveChildren from to) = record d { tree = children_moved d.tree (node_of d.bound from) (end_of d.tree (node_of d.bound to)).parent }
 act d (AddAttributes id attributes) = record d { tree = attributes_added d.tree (node_of d.bound id) attributes }
 
 unfoldable pub acts : Doc → List Op → Doc
@@ -114,6 +115,7 @@ IsOpBound known (Text place text) = IsPlaceBound known place
 IsOpBound known (Note place text) = IsPlaceBound known place
 IsOpBound known (Doctype name) = Unit {0}
 IsOpBound known (Detach id) = IsTrue (known id)
+IsOpBound known (MoveChildren from to) = IsTrue (known from) × IsTrue (known to)
 IsOpBound known (AddAttributes id attributes) = IsTrue (known id)
 
 -- which ids are bound once the operation is done
@@ -140,6 +142,7 @@ rename_op r (Text place text) = Text (rename_place r place) text
 rename_op r (Note place text) = Note (rename_place r place) text
 rename_op r (Doctype name) = Doctype name
 rename_op r (Detach id) = Detach (r id)
+rename_op r (MoveChildren from to) = MoveChildren (r from) (r to)
 rename_op r (AddAttributes id attributes) = AddAttributes (r id) attributes
 
 -- one tree, its nodes under other ids

@@ -175,6 +175,15 @@ is_impossible_before t n b = not (n == b) && is_impossible t n (unwrap_or (paren
 abbrev pub put_before_of : Nodes → ℕ → ℕ → Nodes
 put_before_of t n b = if n == b then t else put_of t n (unwrap_or (parent_of t b) 0) (Some b)
 
+-- nodes put one by one at the end of p's children: one that can't be put there stays where it is
+abbrev pub all_put : Nodes → List ℕ → ℕ → Nodes
+all_put t [] p = t
+all_put t (c ∷ cs) p = all_put (put_of t c p None) cs p
+
+-- the children of a node put at the end of p's, in order
+abbrev pub children_moved : Nodes → ℕ → ℕ → Nodes
+children_moved t from p = all_put t (children_of t from) p
+
 -- ---- new nodes, and text that joins a Text (13.2.6.1, insert a character and insert a comment)
 
 -- n, which has no parent, put at a place among p's children
