@@ -29,7 +29,7 @@ use Rattle.standard.proofs.FreshnessWalks.{pop-bound, without_open-bound, open-a
 -- the operations that move children
 children-bound : (known : NodeId → Bool) (from to : NodeId) → IsTrue (known from) → IsTrue (known to) → AreOpsBound known (children_to from to)
 unfolding AreOpsBound
-children-bound known from to a b = tt
+children-bound known from to a b = ((a, b), tt)
 
 children-known : (known : NodeId → Bool) (from to : NodeId) → known_after_all known (children_to from to) ≡ known
 unfolding known_after_all

@@ -78,9 +78,9 @@ abbrev pub put_mark : NodeId → NodeId → Tag → Option NodeId → List Forma
 put_mark f clone tag None fs = with_id f clone fs
 put_mark f clone tag (Some m) fs = without_entry f (with_behind m (Element clone tag) fs)
 
--- the operations that move the children of an element to the end of another. No operation moves children yet, so there are none
+-- the operations that move the children of an element to the end of another
 abbrev pub children_to : NodeId → NodeId → List Op
-children_to from to = []
+children_to from to = op.MoveChildren from to ∷ []
 
 -- the stack with what is left of the elements between
 abbrev pub joined : NodeId → NodeId → List OpenElement → List OpenElement → List OpenElement
