@@ -1,2 +1,4 @@
 pub mod Runs
 pub mod Bottom
+pub mod Literals
+pub mod Lowered

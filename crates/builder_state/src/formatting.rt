@@ -1,13 +1,13 @@
 //! Walks over the list of active formatting elements (13.2.4.3), from the latest entry up.
 
-ghost use Rattle.std.specs.Prelude.{◌≡◌, IfOk};
-ghost use Rattle.standard.specs.Elements.{is_meant};
-ghost use Rattle.standard.specs.Formatting.{listed, clear_to_marker, lost, kept};
+ghost use Rattle.std.specs.Prelude.{◌≡◌, ◌<◌, length, reverse, remove, IfOk, MatchOption};
+ghost use Rattle.standard.specs.Elements.{is_meant, is_word};
+ghost use Rattle.standard.specs.Formatting.{listed, clear_to_marker, lost, kept, entry_named, without_entry};
 
 use crate::walks::has_open;
-use html_types::{Format, Formats, NoMemory, Stack, Tag, Token, Who};
+use html_types::{Format, Formats, NoMemory, NodeId, Stack, Tag, Token, Who, Word};
 use std::alloc::Global;
-use tag_sets::meant;
+use tag_sets::{is_the, meant};
 
 /// Whether one that is meant stands behind the last marker.
 pub fn is_listed(formats: &Formats, who: Who, token: &Token) -> bool
@@ -26,6 +26,55 @@ pub fn is_listed(formats: &Formats, who: Who, token: &Token) -> bool
         items = rest;
     }
     false
+}
+
+/// The element of the latest entry of that name behind the last marker.
+pub fn entry_of(formats: &Formats, word: Word) -> Option<NodeId>
+    ensures { result ≡ entry_named (is_word word) formats.now }
+{
+    let mut items = formats.as_slice();
+    while let Some((last, rest)) = items.split_last() {
+        match last {
+            Format::Marker => return None,
+            Format::Element { id, tag } => {
+                if is_the(word, &tag.name) {
+                    return Some(*id);
+                }
+            }
+        }
+        items = rest;
+    }
+    None
+}
+
+/// Where the entry of an element stands, counted from the first entry.
+fn place_of_entry(all: &[Format], id: NodeId) -> Option<usize>
+    ensures { MatchOption result
+        (without_entry id (reverse all.now) ≡ reverse all.now)
+        (λ i. (i < length all.now) × (without_entry id (reverse all.now) ≡ reverse (remove all.now i))) }
+{
+    let mut items = all;
+    while let Some((last, rest)) = items.split_last() {
+        match last {
+            Format::Marker => {}
+            Format::Element { id: other, tag: _ } => {
+                if other.same(id) {
+                    return Some(rest.len());
+                }
+            }
+        }
+        items = rest;
+    }
+    None
+}
+
+/// Takes the entry of an element off the list, wherever it stands there.
+pub fn take_entry_off(formats: &mut Formats, id: NodeId)
+    ensures { formats.new ≡ without_entry id formats.old }
+{
+    if let Some(place) = place_of_entry(formats.as_slice(), id) {
+        formats.take_out(place);
+    }
 }
 
 /// Clears the list up to the last marker, which goes too.

@@ -5,7 +5,7 @@ ghost use Rattle.html_types.specs.Operations.{later};
 ghost use Rattle.html_types.specs.declared.word.Word.TheVariants as word;
 ghost use Rattle.html_types.specs.declared.operation.Op.TheVariants as op;
 ghost use Rattle.standard.specs.Stack.{first_open, second_open};
-ghost use Rattle.standard.specs.Instructions.{on, config, made, insert_at, insert, insert_root, void, tag_of, for_tag, here, reopen, reconstruct, insert_text, insert_comment, append_doctype, add_attributes, push_head};
+ghost use Rattle.standard.specs.Instructions.{on, config, made, insert_at, insert, insert_root, void, void_as, tag_of, named, for_tag, here, reopen, reconstruct, insert_text, insert_comment, append_doctype, add_attributes, push_head};
 
 use crate::formatting::take_lost;
 use crate::places::appropriate;
@@ -25,6 +25,19 @@ pub fn place_now(state: &Open) -> Place
     appropriate(state.foster, &state.stack)
 }
 
+/// Takes the next id. It answers NoMemory where none is left.
+pub fn take_id(next: &mut NodeId) -> Result<NodeId, NoMemory>
+    ensures id { IfOk result (λ id. id ≡ next.old) }
+    ensures next { IfOk result (λ _. next.new ≡ later 1 next.old) }
+{
+    let id = *next;
+    if id.n == u64::MAX {
+        return Err(NoMemory);
+    }
+    *next = id.later(1);
+    Ok(id)
+}
+
 /// Asks for an element at a place, and takes the next id for it.
 fn make(
     alloc: Global,
@@ -38,19 +51,15 @@ fn make(
     ensures ops { IfOk result (λ _. ops.new ≡ made place tag.now state.old ops.old) }
     ensures stack { state.new.stack ≡ state.old.stack }
 {
-    let id = state.next;
-    if id.n == u64::MAX {
-        return Err(NoMemory);
-    }
     let name = tag.name.copy(alloc)?;
     let attributes = tag.attributes.copy(alloc)?;
+    let id = take_id(&mut state.next)?;
     ops.push(Op::Make {
         id,
         name,
         attributes,
     })?;
     ops.push(Op::Put { node: id, place })?;
-    state.next = id.later(1);
     Ok(id)
 }
 
@@ -149,7 +158,25 @@ pub fn insert_bare_root(alloc: Global, state: &mut Open, ops: &mut Ops) -> Resul
     insert_element(alloc, state, Place::Page, &bare_tag(alloc, Word::Html), ops)
 }
 
-/// Inserts an element for the token's tag at the appropriate place, and doesn't leave it on the stack.
+/// Inserts an element for a tag at the appropriate place, and doesn't leave it on the stack.
+fn insert_closed(
+    alloc: Global,
+    state: &mut Open,
+    tag: &Tag,
+    ops: &mut Ops,
+) -> Result<Flow, NoMemory>
+    ensures done { IfOk result (λ flow. config state.new ops.new flow ≡ void tag.now state.old ops.old) }
+    ensures stack { state.new.stack ≡ state.old.stack }
+{
+    if state.stack.len() >= LIMIT {
+        return Ok(Flow::Leave(Next::Deep));
+    }
+    let place = place_now(state);
+    let _ = make(alloc, state, place, tag, ops)?;
+    Ok(Flow::On)
+}
+
+/// Inserts an element for the token's tag, and doesn't leave it on the stack.
 pub fn insert_void(
     alloc: Global,
     state: &mut Open,
@@ -160,13 +187,51 @@ pub fn insert_void(
     ensures stack { state.new.stack ≡ state.old.stack }
 {
     match token {
+        Token::StartTag(tag) | Token::EndTag(tag) => insert_closed(alloc, state, tag, ops),
+        _ => Ok(Flow::On),
+    }
+}
+
+/// The same for a start tag of that name without attributes.
+pub fn insert_bare_void(
+    alloc: Global,
+    state: &mut Open,
+    word: Word,
+    ops: &mut Ops,
+) -> Result<Flow, NoMemory>
+    ensures done { IfOk result (λ flow. config state.new ops.new flow ≡ void (tag_of word) state.old ops.old) }
+    ensures stack { state.new.stack ≡ state.old.stack }
+{
+    insert_closed(alloc, state, &bare_tag(alloc, word), ops)
+}
+
+/// The tag under another name.
+fn renamed(alloc: Global, tag: &Tag, word: Word) -> Result<Tag, NoMemory>
+    ensures { IfOk result (λ t. t ≡ named word tag.now) }
+{
+    let attributes = tag.attributes.copy(alloc)?;
+    Ok(Tag {
+        name: Name::Known(word),
+        attributes,
+        self_closing: tag.self_closing,
+    })
+}
+
+/// The same for a start tag of that name with the token's attributes.
+pub fn insert_void_as(
+    alloc: Global,
+    state: &mut Open,
+    word: Word,
+    token: &Token,
+    ops: &mut Ops,
+) -> Result<Flow, NoMemory>
+    ensures done { IfOk result (λ flow. config state.new ops.new flow ≡ for_tag (void_as word) token.now state.old ops.old) }
+    ensures stack { state.new.stack ≡ state.old.stack }
+{
+    match token {
         Token::StartTag(tag) | Token::EndTag(tag) => {
-            if state.stack.len() >= LIMIT {
-                return Ok(Flow::Leave(Next::Deep));
-            }
-            let place = place_now(state);
-            let _ = make(alloc, state, place, tag, ops)?;
-            Ok(Flow::On)
+            let tag = renamed(alloc, tag, word)?;
+            insert_closed(alloc, state, &tag, ops)
         }
         _ => Ok(Flow::On),
     }

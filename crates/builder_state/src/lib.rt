@@ -1,8 +1,12 @@
 //! The open state of tree construction (13.2.4), and what the instructions of a row do to it (13.2.6).
 #![tactic(auto)]
 
+mod checks;
 mod formatting;
+mod forms;
+mod inputs;
 mod insert;
+mod likes;
 mod machine;
 mod places;
 mod space;
@@ -11,5 +15,9 @@ mod state;
 mod tests;
 mod walks;
 
+pub use formatting::{entry_of, take_entry_off};
+pub use insert::take_id;
+pub use places::place_for_last;
 pub use space::is_space;
-pub use state::{Builder, Pushed};
+pub use state::{Adopted, Builder, Pushed};
+pub use walks::{has_in_scope, has_open, take_off};

@@ -1,51 +1,33 @@
 //! What each instruction of a row does, and the row as a whole.
 
-ghost use Rattle.std.specs.Prelude.{◌≡◌, ◌≤◌, length, IfOk, None, if◌then◌else◌};
-ghost use Rattle.html_types.specs.declared.instruction.Flow.TheVariants.{On};
+ghost use Rattle.std.specs.Prelude.{◌≡◌, ◌≤◌, length, IsTrue, IfOk, None, Some, if◌then◌else◌};
+ghost use Rattle.html_types.specs.declared.instruction.Flow.TheVariants.{On, Skip, Leave};
+ghost use Rattle.html_types.specs.declared.instruction.Next.TheVariants as next;
+ghost use Rattle.standard.specs.Formatting.{entry_named, without_entry};
 ghost use Rattle.standard.specs.Stack.{without_open};
-ghost use Rattle.standard.specs.Instructions.{config, on, holds, is_quirky, original_or, stop_at_script, step, run};
+ghost use Rattle.standard.specs.Elements.{is_word};
+ghost use Rattle.standard.specs.Instructions.{config, on, original_or, stop_at_script, for_tag, enlist, adopt_own, adopt_anchor, step, run};
+ghost use Rattle.builder_state.specs.Kinds.{goes_on, is_change};
 
-use crate::formatting::{clear_back, is_listed};
+use crate::checks::test_holds;
+use crate::formatting::{clear_back, entry_of, take_entry_off};
+use crate::forms::end_form_element;
 use crate::insert::{
-    add_to_first, add_to_second, insert_bare, insert_bare_root, insert_character, insert_doctype,
-    insert_for, insert_note, insert_root_for, insert_void, place_now, push_pointed_head,
-    reopen_lost,
+    add_to_first, add_to_second, insert_bare, insert_bare_root, insert_bare_void, insert_character,
+    insert_doctype, insert_for, insert_note, insert_root_for, insert_void, insert_void_as,
+    place_now, push_pointed_head, reopen_lost,
 };
-use crate::places::{root_place, second_is_body};
+use crate::likes::enter;
+use crate::places::root_place;
 use crate::walks::{
-    close_found_item, close_in_scope, close_other_end, current_node, is_current, is_in_scope,
-    is_on_stack, pop_back_to, pop_implied, pop_until, take_off,
+    close_found_item, close_in_scope, close_other_end, current_node, pop_back_to, pop_implied,
+    pop_until, take_off,
 };
 use html_types::{
-    Flow, Format, Instr, Mode, Next, NoMemory, Open, Ops, Place, Test, Token, Who, Word,
+    Flow, Format, Instr, Mode, Name, Next, NoMemory, NodeId, Open, Ops, Place, Then, Token, Who,
+    Word,
 };
 use std::alloc::Global;
-
-/// Whether a document of the token's doctype is in quirks mode.
-fn is_quirky_doctype(token: &Token) -> bool
-    ensures { result ≡ is_quirky token.now }
-{
-    match token {
-        Token::Doctype { name, force_quirks } => *force_quirks || !name.is(Word::Html.text()),
-        _ => false,
-    }
-}
-
-/// Whether a test holds.
-fn test_holds(state: &Open, test: Test, token: &Token) -> bool
-    ensures { result ≡ holds test token.now state.now }
-{
-    match test {
-        Test::InScope(scope, who) => is_in_scope(&state.stack, scope, who, token),
-        Test::Current(who) => is_current(&state.stack, who, token),
-        Test::OnStack(who) => is_on_stack(&state.stack, who, token),
-        Test::Listed(who) => is_listed(&state.formats, who, token),
-        Test::Quirks => state.quirks,
-        Test::SecondIsBody => second_is_body(&state.stack),
-        Test::FramesetOk => state.frameset_ok,
-        Test::QuirkyDoctype => is_quirky_doctype(token),
-    }
-}
 
 /// Takes the head element pointer's node off the stack.
 fn take_head_off(state: &mut Open)
@@ -76,11 +58,137 @@ fn stop_at(state: &mut Open, ops: &Ops) -> Flow
     }
 }
 
-/// The row goes on where it may, and else as said.
-fn on_or(may: bool, other: Flow) -> Flow
-    ensures { result ≡ (if may then On else other) }
+/// The current node becomes an entry of the list of active formatting elements, with the token's tag.
+fn list_current(alloc: Global, state: &mut Open, token: &Token, ops: &Ops) -> Result<(), NoMemory>
+    ensures done { IfOk result (λ _. on state.new ops.now ≡ for_tag enlist token.now state.old ops.now) }
+    ensures stack { state.new.stack ≡ state.old.stack }
 {
-    if may { Flow::On } else { other }
+    match token {
+        Token::StartTag(tag) | Token::EndTag(tag) => {
+            if let Some(id) = current_node(&state.stack) {
+                enter(&mut state.formats, id, tag.copy(alloc)?)?;
+            }
+        }
+        _ => {}
+    }
+    Ok(())
+}
+
+/// Takes an element off the list of active formatting elements and off the stack.
+fn take_element_off(state: &mut Open, id: NodeId)
+    ensures left { state.new ≡ record state.old { stack = without_open (Some id) state.old.stack; formats = without_entry id state.old.formats } }
+    ensures shorter { length state.new.stack ≤ length state.old.stack }
+{
+    take_off(&mut state.stack, id);
+    take_entry_off(&mut state.formats, id);
+}
+
+/// The adoption agency algorithm (13.2.6.4.7) for the token's name.
+fn ask_adoption(state: &Open, token: &Token, ops: &Ops) -> Flow
+    ensures { config state.now ops.now result ≡ for_tag adopt_own token.now state.now ops.now }
+{
+    match token {
+        Token::StartTag(tag) | Token::EndTag(tag) => match &tag.name {
+            Name::Known(word) => adoption(*word, Then::Nothing),
+            Name::Other(_) => Flow::On,
+        },
+        _ => Flow::On,
+    }
+}
+
+/// The same for `a`, where one is listed.
+fn ask_anchor_adoption(state: &Open, ops: &Ops) -> Flow
+    ensures { config state.now ops.now result ≡ adopt_anchor (entry_named (is_word Word.A) state.now.formats) state.now ops.now }
+{
+    match entry_of(&state.formats, Word::A) {
+        None => Flow::On,
+        Some(id) => adoption(Word::A, Then::Link(id)),
+    }
+}
+
+/// The adoption agency algorithm is asked for.
+fn adoption(name: Word, behind: Then) -> Flow
+    ensures { result ≡ Leave (next.Adopt name behind) }
+{
+    Flow::Leave(Next::Adopt { name, then: behind })
+}
+
+/// The rest of the row counts only where a test holds.
+fn need(holds: bool) -> Flow
+    ensures { result ≡ (if holds then On else Leave next.Done) }
+{
+    if holds {
+        Flow::On
+    } else {
+        Flow::Leave(Next::Done)
+    }
+}
+
+/// The next instruction counts only where a test holds.
+fn when(holds: bool) -> Flow
+    ensures { result ≡ (if holds then On else Skip) }
+{
+    if holds { Flow::On } else { Flow::Skip }
+}
+
+/// An instruction that closes elements, or changes the list, a flag, a pointer or a mode. It takes no memory.
+fn change(state: &mut Open, instr: Instr, token: &Token, ops: &Ops)
+    requires { IsTrue (is_change instr) }
+    ensures done { on state.new ops.now ≡ step instr token.now state.old ops.now }
+    ensures shorter { length state.new.stack ≤ length state.old.stack }
+{
+    match instr {
+        Instr::Pop => {
+            let _ = state.stack.pop();
+        }
+        Instr::Until(who) => pop_until(&mut state.stack, who, token),
+        Instr::PopTo(group) => pop_back_to(&mut state.stack, group),
+        Instr::Implied => pop_implied(&mut state.stack, Who::Nobody, token),
+        Instr::ImpliedBut(who) => pop_implied(&mut state.stack, who, token),
+        Instr::Close(scope, who) => close_in_scope(&mut state.stack, scope, who, token),
+        Instr::CloseItem(who) => close_found_item(&mut state.stack, who, token),
+        Instr::AnyOtherEnd => close_other_end(&mut state.stack, token),
+        Instr::ClearToMarker => clear_back(&mut state.formats),
+        Instr::TakeOff(id) => take_element_off(state, id),
+        Instr::NotOk => state.frameset_ok = false,
+        Instr::BecomeQuirky => state.quirks = true,
+        Instr::SkipLineFeed => state.skip_line_feed = true,
+        Instr::PointHead => state.head = current_node(&state.stack),
+        Instr::TakeHeadOff => take_head_off(state),
+        Instr::PointForm => state.form = current_node(&state.stack),
+        Instr::EndForm => end_form_element(state, token, ops),
+        Instr::Enter(mode) => state.mode = mode,
+        Instr::KeepMode => state.original = Some(state.mode),
+        Instr::Restore => restore(state),
+        _ => {}
+    }
+}
+
+/// An instruction behind which the row goes on, whatever the open state is.
+fn exec_on(
+    alloc: Global,
+    state: &mut Open,
+    instr: Instr,
+    token: &Token,
+    ops: &mut Ops,
+) -> Result<(), NoMemory>
+    requires { IsTrue (goes_on instr) }
+    ensures done { IfOk result (λ _. on state.new ops.new ≡ step instr token.now state.old ops.old) }
+    ensures shorter { length state.new.stack ≤ length state.old.stack }
+{
+    match instr {
+        Instr::InsertText => insert_character(alloc, state, token, ops)?,
+        Instr::InsertComment => insert_note(alloc, state, place_now(state), token, ops)?,
+        Instr::CommentToPage => insert_note(alloc, state, Place::Page, token, ops)?,
+        Instr::CommentToRoot => { insert_note(alloc, state, root_place(&state.stack), token, ops)? }
+        Instr::AppendDoctype => insert_doctype(alloc, state, token, ops)?,
+        Instr::AddToFirst => add_to_first(alloc, state, token, ops)?,
+        Instr::AddToSecond => add_to_second(alloc, state, token, ops)?,
+        Instr::List => list_current(alloc, state, token, ops)?,
+        Instr::Marker => state.formats.push(Format::Marker)?,
+        _ => change(state, instr, token, ops),
+    }
+    Ok(())
 }
 
 /// One instruction.
@@ -96,58 +204,33 @@ fn exec(
     ensures bounded { length state.new.stack ≤ 512 }
 {
     match instr {
-        Instr::Need(test) => return Ok(on_or(
-            test_holds(state, test, token),
-            Flow::Leave(Next::Done),
-        )),
-        Instr::Forbid(test) => return Ok(on_or(
-            !test_holds(state, test, token),
-            Flow::Leave(Next::Done),
-        )),
-        Instr::When(test) => return Ok(on_or(test_holds(state, test, token), Flow::Skip)),
-        Instr::Unless(test) => return Ok(on_or(!test_holds(state, test, token), Flow::Skip)),
-        Instr::Insert => return insert_for(alloc, state, token, ops),
-        Instr::InsertA(word) => return insert_bare(alloc, state, word, ops),
-        Instr::InsertRoot => return insert_root_for(alloc, state, token, ops),
-        Instr::InsertRootA => return insert_bare_root(alloc, state, ops),
-        Instr::Void => return insert_void(alloc, state, token, ops),
-        Instr::Reconstruct => return reopen_lost(alloc, state, ops),
-        Instr::PushHead => return push_pointed_head(state, ops),
-        Instr::StopAtScript => return Ok(stop_at(state, ops)),
-        Instr::Switch(reading) => return Ok(Flow::Leave(Next::Switch(reading))),
-        Instr::Using(mode) => return Ok(Flow::Leave(Next::Using(mode))),
-        Instr::Again => return Ok(Flow::Leave(Next::Again)),
-        Instr::Finish => return Ok(Flow::Leave(Next::Finished)),
-        Instr::Missing => return Ok(Flow::Leave(Next::Missing)),
-        Instr::InsertText => insert_character(alloc, state, token, ops)?,
-        Instr::InsertComment => insert_note(alloc, state, place_now(state), token, ops)?,
-        Instr::CommentToPage => insert_note(alloc, state, Place::Page, token, ops)?,
-        Instr::CommentToRoot => { insert_note(alloc, state, root_place(&state.stack), token, ops)? }
-        Instr::AppendDoctype => insert_doctype(alloc, state, token, ops)?,
-        Instr::AddToFirst => add_to_first(alloc, state, token, ops)?,
-        Instr::AddToSecond => add_to_second(alloc, state, token, ops)?,
-        Instr::Pop => {
-            let _ = state.stack.pop();
+        Instr::Need(test) => Ok(need(test_holds(state, test, token))),
+        Instr::Forbid(test) => Ok(need(!test_holds(state, test, token))),
+        Instr::When(test) => Ok(when(test_holds(state, test, token))),
+        Instr::Unless(test) => Ok(when(!test_holds(state, test, token))),
+        Instr::Insert => insert_for(alloc, state, token, ops),
+        Instr::InsertA(word) => insert_bare(alloc, state, word, ops),
+        Instr::InsertRoot => insert_root_for(alloc, state, token, ops),
+        Instr::InsertRootA => insert_bare_root(alloc, state, ops),
+        Instr::Void => insert_void(alloc, state, token, ops),
+        Instr::VoidA(word) => insert_bare_void(alloc, state, word, ops),
+        Instr::VoidAs(word) => insert_void_as(alloc, state, word, token, ops),
+        Instr::Reconstruct => reopen_lost(alloc, state, ops),
+        Instr::PushHead => push_pointed_head(state, ops),
+        Instr::Adopt => Ok(ask_adoption(state, token, ops)),
+        Instr::AdoptAnchor => Ok(ask_anchor_adoption(state, ops)),
+        Instr::AdoptNobr => Ok(adoption(Word::Nobr, Then::Nobr)),
+        Instr::Switch(reading) => Ok(Flow::Leave(Next::Switch(reading))),
+        Instr::Using(mode) => Ok(Flow::Leave(Next::Using(mode))),
+        Instr::Again => Ok(Flow::Leave(Next::Again)),
+        Instr::StopAtScript => Ok(stop_at(state, ops)),
+        Instr::Finish => Ok(Flow::Leave(Next::Finished)),
+        Instr::Missing => Ok(Flow::Leave(Next::Missing)),
+        _ => {
+            exec_on(alloc, state, instr, token, ops)?;
+            Ok(Flow::On)
         }
-        Instr::Until(who) => pop_until(&mut state.stack, who, token),
-        Instr::PopTo(group) => pop_back_to(&mut state.stack, group),
-        Instr::Implied => pop_implied(&mut state.stack, Who::Nobody, token),
-        Instr::ImpliedBut(who) => pop_implied(&mut state.stack, who, token),
-        Instr::Close(scope, who) => close_in_scope(&mut state.stack, scope, who, token),
-        Instr::CloseItem(who) => close_found_item(&mut state.stack, who, token),
-        Instr::AnyOtherEnd => close_other_end(&mut state.stack, token),
-        Instr::Marker => state.formats.push(Format::Marker)?,
-        Instr::ClearToMarker => clear_back(&mut state.formats),
-        Instr::NotOk => state.frameset_ok = false,
-        Instr::BecomeQuirky => state.quirks = true,
-        Instr::SkipLineFeed => state.skip_line_feed = true,
-        Instr::PointHead => state.head = current_node(&state.stack),
-        Instr::TakeHeadOff => take_head_off(state),
-        Instr::Enter(mode) => state.mode = mode,
-        Instr::KeepMode => state.original = Some(state.mode),
-        Instr::Restore => restore(state),
     }
-    Ok(Flow::On)
 }
 
 /// A row's instructions, one after another.

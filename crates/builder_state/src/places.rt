@@ -2,7 +2,7 @@
 
 ghost use Rattle.std.specs.Prelude.{◌≡◌, reverse};
 ghost use Rattle.standard.specs.Elements.{is_word};
-ghost use Rattle.standard.specs.Stack.{place, foster_place, first_open, second_open, is_the};
+ghost use Rattle.standard.specs.Stack.{place, place_for, foster_place, first_open, second_open, is_the};
 ghost use Rattle.standard.specs.Instructions.{end_of};
 
 use html_types::{Group, OpenElement, Place, Stack, Word};
@@ -12,7 +12,14 @@ use tag_sets::{is_any, is_the as is_word_of};
 pub fn appropriate(foster: bool, stack: &Stack) -> Place
     ensures { result ≡ place foster stack.now }
 {
-    match stack.as_slice().split_last() {
+    place_for_last(foster, stack.as_slice(), stack)
+}
+
+/// The appropriate place where the target is the last of these elements.
+pub fn place_for_last(foster: bool, items: &[OpenElement], stack: &Stack) -> Place
+    ensures { result ≡ place_for foster (reverse items.now) stack.now }
+{
+    match items.split_last() {
         None => Place::Page,
         Some((last, _)) => {
             if foster && is_any(Group::FosterTargets, &last.name) {

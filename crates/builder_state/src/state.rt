@@ -1,6 +1,6 @@
 //! The builder of a tree: the open state with at most 512 open elements.
 
-ghost use Rattle.std.specs.Prelude.{◌≡◌, ◌↔◌, IsTrue, IfOk, false};
+ghost use Rattle.std.specs.Prelude.{◌≡◌, ◌≤◌, ◌↔◌, length, IsTrue, IfOk, false};
 ghost use Rattle.standard.specs.Instructions.{config, on, here, reconstruct, run};
 ghost use Rattle.standard.specs.Rules.{answer, answer_of, next_of};
 ghost use Rattle.standard.specs.Parser.{opening};
@@ -13,6 +13,7 @@ use html_types::{
 };
 use std::alloc::Global;
 use std::marker::Model;
+use std::mem;
 
 /// Whether an element was pushed.
 #[derive(Clone, Copy, Debug, PartialEq, Eq)]
@@ -20,6 +21,14 @@ pub enum Pushed {
     Done,
     /// 512 elements are open, and nothing is changed.
     Deep,
+}
+
+/// What the adoption agency algorithm (13.2.6.4.7) came to.
+#[derive(Clone, Copy, Debug, PartialEq, Eq)]
+pub enum Adopted {
+    Done,
+    /// At a turn no entry behind the last marker has the name: the token goes by "any other end tag".
+    Other,
 }
 
 /// The open state of tree construction (13.2.4). At most 512 elements are open. Where one of its calls answers NoMemory,
@@ -46,19 +55,24 @@ impl Builder {
         ensures { result ≡ opening realm }
     {
         Builder {
-            state: Open {
-                stack: Stack::new(alloc),
-                formats: Formats::new(alloc),
-                head: None,
-                mode: Mode::Initial,
-                original: None,
-                frameset_ok: true,
-                quirks: false,
-                skip_line_feed: false,
-                foster: false,
-                next: NodeId { realm, n: 0 },
-            },
+            state: first_state(alloc, realm),
         }
+    }
+
+    /// Takes the open state out, for a change that no row makes. The builder is as at the beginning of a page then.
+    pub fn take(&mut self, alloc: Global) -> Open
+        ensures taken { result ≡ self.old }
+        ensures bounded { length result.stack ≤ 512 }
+    {
+        mem::replace(&mut self.state, first_state(alloc, 0))
+    }
+
+    /// Puts an open state in.
+    pub fn put(&mut self, state: Open)
+        requires { length state.stack ≤ 512 }
+        ensures { self.new ≡ state }
+    {
+        self.state = state;
     }
 
     /// Does a row's instructions for a token, and adds the operations that they ask for. It also answers NoMemory where no
@@ -156,6 +170,7 @@ impl Builder {
                 stack,
                 formats,
                 head: self.state.head,
+                form: self.state.form,
                 mode: self.state.mode,
                 original: self.state.original,
                 frameset_ok: self.state.frameset_ok,
@@ -173,8 +188,28 @@ impl Builder {
     {
         self.state.stack.same(&other.state.stack)
             && self.state.formats.same(&other.state.formats)
+            && same_pointers(&self.state, &other.state)
             && same_modes(&self.state, &other.state)
             && same_flags(&self.state, &other.state)
+    }
+}
+
+/// The open state at the beginning of a page.
+fn first_state(alloc: Global, realm: u64) -> Open
+    ensures { result ≡ opening realm }
+{
+    Open {
+        stack: Stack::new(alloc),
+        formats: Formats::new(alloc),
+        head: None,
+        form: None,
+        mode: Mode::Initial,
+        original: None,
+        frameset_ok: true,
+        quirks: false,
+        skip_line_feed: false,
+        foster: false,
+        next: NodeId { realm, n: 0 },
     }
 }
 
@@ -188,11 +223,18 @@ fn asked(flow: Flow) -> Next
     }
 }
 
-/// Whether the head element pointer and the modes are the same.
-fn same_modes(a: &Open, b: &Open) -> bool
-    ensures { IsTrue result ↔ ((a.now.head ≡ b.now.head) × (a.now.mode ≡ b.now.mode) × (a.now.original ≡ b.now.original)) }
+/// Whether the element pointers are the same.
+fn same_pointers(a: &Open, b: &Open) -> bool
+    ensures { IsTrue result ↔ ((a.now.head ≡ b.now.head) × (a.now.form ≡ b.now.form)) }
 {
-    a.head == b.head && a.mode == b.mode && a.original == b.original
+    a.head == b.head && a.form == b.form
+}
+
+/// Whether the modes are the same.
+fn same_modes(a: &Open, b: &Open) -> bool
+    ensures { IsTrue result ↔ ((a.now.mode ≡ b.now.mode) × (a.now.original ≡ b.now.original)) }
+{
+    a.mode == b.mode && a.original == b.original
 }
 
 /// Whether the flags are the same.

@@ -2,7 +2,7 @@
 
 ghost use Rattle.std.specs.Prelude.{◌≡◌, ◌≤◌, ◌<◌, length, reverse, remove, Some, MatchOption};
 ghost use Rattle.standard.specs.Elements.{is_meant, is_one_of};
-ghost use Rattle.standard.specs.Stack.{in_scope, on_stack, is_open, current_is, current_id, until, pop_to, implied, close, item_found, close_item, end_found, other_end, without_open};
+ghost use Rattle.standard.specs.Stack.{in_scope, on_stack, is_open, current_is, current_id, until, pop_to, implied, close, item_found, close_item, end_found, other_end, without_open, open_in_scope};
 
 use html_types::{Group, NodeId, OpenElement, Scope, Stack, Token, Who};
 use tag_sets::{ends, is_any, meant};
@@ -66,6 +66,23 @@ pub fn has_open(stack: &Stack, id: NodeId) -> bool
     while let Some((last, rest)) = items.split_last() {
         if last.id.same(id) {
             return true;
+        }
+        items = rest;
+    }
+    false
+}
+
+/// Whether the element of that id is in scope.
+pub fn has_in_scope(stack: &Stack, scope: Scope, id: NodeId) -> bool
+    ensures { result ≡ open_in_scope scope id stack.now }
+{
+    let mut items = stack.as_slice();
+    while let Some((last, rest)) = items.split_last() {
+        if last.id.same(id) {
+            return true;
+        }
+        if ends(scope, &last.name) {
+            return false;
         }
         items = rest;
     }

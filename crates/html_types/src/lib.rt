@@ -23,7 +23,9 @@ pub mod word;
 pub use attributes::{Attribute, Attributes};
 pub use children::Children;
 pub use class::Class;
-pub use instruction::{Finish, Flow, Group, Instr, Mode, Next, Reading, Scope, Stop, Test, Who};
+pub use instruction::{
+    Finish, Flow, Group, Instr, Mode, Next, Reading, Scope, Stop, Test, Then, Turn, Who,
+};
 pub use mark_state::{CommentState, DoctypeState, MarkState};
 pub use memory::NoMemory;
 pub use name::Name;

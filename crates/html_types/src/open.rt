@@ -210,6 +210,14 @@ impl Formats {
         self.items.pop()
     }
 
+    /// Takes an entry out, wherever it stands: the earliest has place 0.
+    pub fn take_out(&mut self, place: usize)
+        requires { place < length self.old }
+        ensures { self.new ≡ reverse (remove (reverse self.old) place) }
+    {
+        let _ = self.items.remove(place);
+    }
+
     /// The entries, the latest last.
     pub fn as_slice(&self) -> &[Format]
         ensures { reverse result.now ≡ self.now }

@@ -1,0 +1,47 @@
+-- The kinds of instructions.
+use Rattle.std.specs.Prelude.{Bool, true, false, not, ◌&&◌}
+use Rattle.html_types.specs.declared.instruction.Instr.{Instr}
+use Rattle.html_types.specs.declared.instruction.Instr.TheVariants as ins
+
+-- behind it the row goes on, whatever the open state is
+abbrev pub goes_on : Instr → Bool
+goes_on (ins.Need c) = false
+goes_on (ins.Forbid c) = false
+goes_on (ins.When c) = false
+goes_on (ins.Unless c) = false
+goes_on ins.Insert = false
+goes_on (ins.InsertA w) = false
+goes_on ins.InsertRoot = false
+goes_on ins.InsertRootA = false
+goes_on ins.Void = false
+goes_on (ins.VoidA w) = false
+goes_on (ins.VoidAs w) = false
+goes_on ins.Reconstruct = false
+goes_on ins.PushHead = false
+goes_on ins.Adopt = false
+goes_on ins.AdoptAnchor = false
+goes_on ins.AdoptNobr = false
+goes_on (ins.Switch r) = false
+goes_on (ins.Using m) = false
+goes_on ins.Again = false
+goes_on ins.StopAtScript = false
+goes_on ins.Finish = false
+goes_on ins.Missing = false
+goes_on _ = true
+
+-- it adds an entry to the list of active formatting elements, or asks for an operation that makes no element
+abbrev pub adds : Instr → Bool
+adds ins.InsertText = true
+adds ins.InsertComment = true
+adds ins.CommentToPage = true
+adds ins.CommentToRoot = true
+adds ins.AppendDoctype = true
+adds ins.AddToFirst = true
+adds ins.AddToSecond = true
+adds ins.List = true
+adds ins.Marker = true
+adds _ = false
+
+-- it only changes the open state, and takes no memory
+abbrev pub is_change : Instr → Bool
+is_change i = goes_on i && not (adds i)

@@ -1,0 +1,45 @@
+//! The questions that a row asks.
+
+ghost use Rattle.std.specs.Prelude.{◌≡◌};
+ghost use Rattle.standard.specs.Instructions.{holds, in_form, is_quirky};
+
+use crate::formatting::is_listed;
+use crate::inputs::is_hidden_input;
+use crate::places::second_is_body;
+use crate::walks::{is_current, is_in_scope, is_on_stack};
+use html_types::{Open, Test, Token, Who, Word};
+
+/// Whether a document of the token's doctype is in quirks mode.
+fn is_quirky_doctype(token: &Token) -> bool
+    ensures { result ≡ is_quirky token.now }
+{
+    match token {
+        Token::Doctype { name, force_quirks } => *force_quirks || !name.is(Word::Html.text()),
+        _ => false,
+    }
+}
+
+/// Whether the form element pointer is set, and no template is open.
+fn is_in_form(state: &Open, token: &Token) -> bool
+    ensures { result ≡ in_form state.now }
+{
+    state.form.is_some() && !is_on_stack(&state.stack, Who::The(Word::Template), token)
+}
+
+/// Whether a test holds.
+pub fn test_holds(state: &Open, test: Test, token: &Token) -> bool
+    ensures { result ≡ holds test token.now state.now }
+{
+    match test {
+        Test::InScope(scope, who) => is_in_scope(&state.stack, scope, who, token),
+        Test::Current(who) => is_current(&state.stack, who, token),
+        Test::OnStack(who) => is_on_stack(&state.stack, who, token),
+        Test::Listed(who) => is_listed(&state.formats, who, token),
+        Test::Quirks => state.quirks,
+        Test::SecondIsBody => second_is_body(&state.stack),
+        Test::FramesetOk => state.frameset_ok,
+        Test::QuirkyDoctype => is_quirky_doctype(token),
+        Test::InForm => is_in_form(state, token),
+        Test::HiddenInput => is_hidden_input(token),
+    }
+}
