@@ -1,8 +1,13 @@
 pub mod Class
 pub mod Entities
 pub mod Step
+pub mod EscapeStates
 pub mod TextStates
 pub mod TagStates
+pub mod CommentStates
+pub mod DoctypeStates
+pub mod MarkStates
+pub mod ReferenceStates
 pub mod Tokenizer
 pub mod TokenizerLaws
 pub mod Rows

@@ -10,6 +10,8 @@ use Rattle.html_types.specs.declared.token.Token.TheVariants as token
 use Rattle.html_types.specs.declared.state.TextState.{TextState}
 use Rattle.html_types.specs.declared.state.TextState.TheVariants as text_state
 use Rattle.html_types.specs.declared.state.TagState.{TagState}
+use Rattle.html_types.specs.declared.mark_state.MarkState.{MarkState}
+use Rattle.html_types.specs.declared.reference_state.ReferenceState.{ReferenceState}
 use Rattle.html_types.specs.declared.state.TokState.{TokState}
 use Rattle.html_types.specs.declared.state.TokState.TheVariants as group
 
@@ -24,6 +26,12 @@ in_text s = group.Text s
 
 abbrev pub in_tag : TagState → TokState
 in_tag s = group.Tag s
+
+abbrev pub in_mark : MarkState → TokState
+in_mark s = group.Mark s
+
+abbrev pub in_reference : ReferenceState → TokState
+in_reference s = group.Reference s
 
 abbrev pub data_state : TokState
 data_state = in_text text_state.Data
@@ -45,10 +53,6 @@ again s = emit_again [] s
 -- the end-of-file token
 abbrev pub finish : Step
 finish = emit (token.EndOfFile ∷ []) data_state
-
--- a row that isn't there yet
-abbrev pub missing : Step
-missing = emit (token.Missing ∷ []) data_state
 
 -- a new tag of this name
 abbrev pub new_tag : TagKind → List ℕ → PartialTag

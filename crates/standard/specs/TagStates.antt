@@ -9,10 +9,13 @@ use Rattle.html_types.specs.declared.token.Quote.TheVariants.{Single, Double}
 use Rattle.html_types.specs.declared.token.Token.TheVariants.{Character, EndOfFile}
 use Rattle.html_types.specs.declared.state.TagState.{TagState}
 use Rattle.html_types.specs.declared.state.TagState.TheVariants.{TagOpen, EndTagOpen, TagName, BeforeAttributeName, AttributeName, AfterAttributeName, BeforeAttributeValue, AttributeValueQuoted, AttributeValueUnquoted, AfterAttributeValueQuoted, SelfClosingStartTag}
+use Rattle.html_types.specs.declared.mark_state.MarkState.TheVariants.{MarkupDeclarationOpen, BogusComment}
+use Rattle.html_types.specs.declared.reference_state.ReturnState.TheVariants as back
+use Rattle.html_types.specs.declared.reference_state.ReferenceState.TheVariants as reference
 use Rattle.html_types.specs.declared.class.Class.{Class}
 use Rattle.html_types.specs.declared.class.Class.TheVariants.{Space, Bang, DoubleQuote, Ampersand, SingleQuote, Slash, Equals, Greater, Question, Alpha, InputEnd}
 use Rattle.standard.specs.Class.{shown, name_char}
-use Rattle.standard.specs.Step.{Step, in_tag, data_state, emit, to, emit_again, again, finish, missing, new_tag, emit_tag, emit_tag_as}
+use Rattle.standard.specs.Step.{Step, in_tag, in_mark, in_reference, data_state, emit, to, emit_again, again, finish, new_tag, emit_tag, emit_tag_as}
 
 -- one more character in a tag's name
 abbrev pub longer_name : PartialTag → ℕ → PartialTag
@@ -43,10 +46,10 @@ with_bare tag held = with_attribute tag (bare held)
 
 -- 13.2.5.6 Tag open state
 abbrev pub tag_open_row : Class → ℕ → Step
-tag_open_row Bang c = missing
+tag_open_row Bang c = to (in_mark (MarkupDeclarationOpen []))
 tag_open_row Slash c = to (in_tag EndTagOpen)
 tag_open_row Alpha c = again (in_tag (TagName (new_tag kind.Start [])))
-tag_open_row Question c = missing
+tag_open_row Question c = again (in_mark (BogusComment []))
 tag_open_row InputEnd c = emit (Character 60 ∷ EndOfFile ∷ []) data_state
 tag_open_row _ c = emit_again (Character 60 ∷ []) data_state
 
@@ -55,7 +58,7 @@ abbrev pub end_tag_open_row : Class → ℕ → Step
 end_tag_open_row Alpha c = again (in_tag (TagName (new_tag kind.End [])))
 end_tag_open_row Greater c = to data_state
 end_tag_open_row InputEnd c = emit (Character 60 ∷ Character 47 ∷ EndOfFile ∷ []) data_state
-end_tag_open_row _ c = missing
+end_tag_open_row _ c = again (in_mark (BogusComment []))
 
 -- 13.2.5.8 Tag name state
 abbrev pub tag_name_row : PartialTag → Class → ℕ → Step
@@ -103,14 +106,14 @@ before_attribute_value_row tag held _ c = again (in_tag (AttributeValueUnquoted 
 -- 13.2.5.36 Attribute value (double-quoted) state
 abbrev pub double_quoted_row : PartialTag → Option Attribute → Class → ℕ → Step
 double_quoted_row tag held DoubleQuote c = to (in_tag (AfterAttributeValueQuoted (with_attribute tag held)))
-double_quoted_row tag held Ampersand c = missing
+double_quoted_row tag held Ampersand c = to (in_reference (reference.Ampersand (back.AttributeValueQuoted tag held Double)))
 double_quoted_row tag held InputEnd c = finish
 double_quoted_row tag held _ c = to (in_tag (AttributeValueQuoted tag (longer_value held c) Double))
 
 -- 13.2.5.37 Attribute value (single-quoted) state
 abbrev pub single_quoted_row : PartialTag → Option Attribute → Class → ℕ → Step
 single_quoted_row tag held SingleQuote c = to (in_tag (AfterAttributeValueQuoted (with_attribute tag held)))
-single_quoted_row tag held Ampersand c = missing
+single_quoted_row tag held Ampersand c = to (in_reference (reference.Ampersand (back.AttributeValueQuoted tag held Single)))
 single_quoted_row tag held InputEnd c = finish
 single_quoted_row tag held _ c = to (in_tag (AttributeValueQuoted tag (longer_value held c) Single))
 
@@ -121,7 +124,7 @@ quoted_row tag held Single k c = single_quoted_row tag held k c
 -- 13.2.5.38 Attribute value (unquoted) state
 abbrev pub unquoted_row : PartialTag → Option Attribute → Class → ℕ → Step
 unquoted_row tag held Space c = to (in_tag (BeforeAttributeName (with_attribute tag held)))
-unquoted_row tag held Ampersand c = missing
+unquoted_row tag held Ampersand c = to (in_reference (reference.Ampersand (back.AttributeValueUnquoted tag held)))
 unquoted_row tag held Greater c = emit_tag (with_attribute tag held)
 unquoted_row tag held InputEnd c = finish
 unquoted_row tag held _ c = to (in_tag (AttributeValueUnquoted tag (longer_value held c)))

@@ -1,5 +1,5 @@
--- The states of text (13.2.5.1 to 13.2.5.5) and those in which the end tag of RCDATA, RAWTEXT and script data is sought
--- (13.2.5.9 to 13.2.5.17).
+-- The states of text (13.2.5.1 to 13.2.5.5), escaped script data (13.2.5.20), and the states in which the end tag of RCDATA,
+-- RAWTEXT and script data is sought (13.2.5.9 to 13.2.5.17, 13.2.5.23 to 13.2.5.25).
 use Rattle.std.specs.Prelude.{ℕ, Bool, false, List, [], ◌∷◌, ◌++◌, Option, Some, None, if◌then◌else◌, map}
 use Rattle.std.specs.Char.{to_ascii_lowercase}
 use Rattle.html_types.specs.Text.{same_text}
@@ -9,25 +9,29 @@ use Rattle.html_types.specs.declared.token.PartialTag.{PartialTag}
 use Rattle.html_types.specs.declared.token.TagKind.TheVariants as kind
 use Rattle.html_types.specs.declared.token.Token.TheVariants.{Character}
 use Rattle.html_types.specs.declared.state.RawText.{RawText}
-use Rattle.html_types.specs.declared.state.RawText.TheVariants.{Rcdata, ScriptData}
+use Rattle.html_types.specs.declared.state.RawText.TheVariants.{Rcdata, ScriptData, ScriptDataEscaped}
 use Rattle.html_types.specs.declared.state.TextState.{TextState}
-use Rattle.html_types.specs.declared.state.TextState.TheVariants.{Data, Raw, Plaintext, RawLessThan, RawEndTagOpen, RawEndTagName}
+use Rattle.html_types.specs.declared.state.TextState.TheVariants.{Data, Raw, Plaintext, RawLessThan, RawEndTagOpen, RawEndTagName, EscapeStart, EscapeStartDash, EscapedDash, EscapedDashDash, DoubleEscapeStart, DoubleEscaped, DoubleEscapedDash, DoubleEscapedDashDash, DoubleEscapedLessThan, DoubleEscapeEnd}
 use Rattle.html_types.specs.declared.state.TagState.TheVariants.{TagOpen, BeforeAttributeName, SelfClosingStartTag}
+use Rattle.html_types.specs.declared.reference_state.ReturnState.TheVariants as back
+use Rattle.html_types.specs.declared.reference_state.ReferenceState.TheVariants as reference
 use Rattle.html_types.specs.declared.class.Class.{Class}
-use Rattle.html_types.specs.declared.class.Class.TheVariants.{Space, Bang, Ampersand, Slash, Less, Greater, Alpha, InputEnd}
+use Rattle.html_types.specs.declared.class.Class.TheVariants.{Space, Bang, Ampersand, Hyphen, Slash, Less, Greater, Alpha, InputEnd}
 use Rattle.standard.specs.Class.{shown}
-use Rattle.standard.specs.Step.{Step, in_text, in_tag, emit, to, emit_again, again, finish, missing, new_tag, emit_tag}
+use Rattle.standard.specs.Step.{Step, in_text, in_tag, in_reference, emit, to, emit_again, again, finish, new_tag, emit_tag}
+use Rattle.standard.specs.EscapeStates.{escape_start_row, escape_start_dash_row, escaped_dash_row, escaped_dash_dash_row, double_escape_start_row, double_escaped_row, double_escaped_dash_row, double_escaped_dash_dash_row, double_escaped_less_than_row, double_escape_end_row}
 
 -- 13.2.5.1 Data state
 abbrev pub data_row : Class → ℕ → Step
-data_row Ampersand c = missing
+data_row Ampersand c = to (in_reference (reference.Ampersand back.Data))
 data_row Less c = to (in_tag TagOpen)
 data_row InputEnd c = finish
 data_row _ c = emit (Character c ∷ []) (in_text Data)
 
--- 13.2.5.2 RCDATA state, 13.2.5.3 RAWTEXT state, 13.2.5.4 Script data state
+-- 13.2.5.2 RCDATA, 13.2.5.3 RAWTEXT, 13.2.5.4 Script data, 13.2.5.20 Script data escaped state
 abbrev pub raw_row : RawText → Option Word → Class → ℕ → Step
-raw_row Rcdata last Ampersand c = missing
+raw_row Rcdata last Ampersand c = to (in_reference (reference.Ampersand (back.Rcdata last)))
+raw_row ScriptDataEscaped last Hyphen c = emit (Character c ∷ []) (in_text (EscapedDash last))
 raw_row raw last Less c = to (in_text (RawLessThan raw last))
 raw_row raw last InputEnd c = finish
 raw_row raw last _ c = emit (Character (shown c) ∷ []) (in_text (Raw raw last))
@@ -37,13 +41,14 @@ abbrev pub plaintext_row : Class → ℕ → Step
 plaintext_row InputEnd c = finish
 plaintext_row _ c = emit (Character (shown c) ∷ []) (in_text Plaintext)
 
--- 13.2.5.9 RCDATA, 13.2.5.12 RAWTEXT, 13.2.5.15 Script data less-than sign state
+-- 13.2.5.9 RCDATA, 13.2.5.12 RAWTEXT, 13.2.5.15 Script data, 13.2.5.23 Script data escaped less-than sign state
 abbrev pub raw_less_than_row : RawText → Option Word → Class → ℕ → Step
 raw_less_than_row raw last Slash c = to (in_text (RawEndTagOpen raw last))
-raw_less_than_row ScriptData last Bang c = missing
+raw_less_than_row ScriptData last Bang c = emit (Character 60 ∷ Character 33 ∷ []) (in_text (EscapeStart last))
+raw_less_than_row ScriptDataEscaped last Alpha c = emit_again (Character 60 ∷ []) (in_text (DoubleEscapeStart last []))
 raw_less_than_row raw last _ c = emit_again (Character 60 ∷ []) (in_text (Raw raw last))
 
--- 13.2.5.10 RCDATA, 13.2.5.13 RAWTEXT, 13.2.5.16 Script data end tag open state
+-- 13.2.5.10 RCDATA, 13.2.5.13 RAWTEXT, 13.2.5.16 Script data, 13.2.5.24 Script data escaped end tag open state
 abbrev pub raw_end_tag_open_row : RawText → Option Word → Class → ℕ → Step
 raw_end_tag_open_row raw last Alpha c = again (in_text (RawEndTagName raw last []))
 raw_end_tag_open_row raw last _ c = emit_again (Character 60 ∷ Character 47 ∷ []) (in_text (Raw raw last))
@@ -66,7 +71,7 @@ no_end_tag raw last written = emit_again (Character 60 ∷ Character 47 ∷ map 
 abbrev pub if_appropriate : RawText → Option Word → List ℕ → Step → Step
 if_appropriate raw last written step = if is_appropriate last (in_lower_case written) then step else no_end_tag raw last written
 
--- 13.2.5.11 RCDATA, 13.2.5.14 RAWTEXT, 13.2.5.17 Script data end tag name state
+-- 13.2.5.11 RCDATA, 13.2.5.14 RAWTEXT, 13.2.5.17 Script data, 13.2.5.25 Script data escaped end tag name state
 abbrev pub raw_end_tag_name_row : RawText → Option Word → List ℕ → Class → ℕ → Step
 raw_end_tag_name_row raw last written Space c = if_appropriate raw last written (to (in_tag (BeforeAttributeName (end_tag_named written))))
 raw_end_tag_name_row raw last written Slash c = if_appropriate raw last written (to (in_tag (SelfClosingStartTag (end_tag_named written))))
@@ -82,3 +87,13 @@ text_row Plaintext = plaintext_row
 text_row (RawLessThan raw last) = raw_less_than_row raw last
 text_row (RawEndTagOpen raw last) = raw_end_tag_open_row raw last
 text_row (RawEndTagName raw last written) = raw_end_tag_name_row raw last written
+text_row (EscapeStart last) = escape_start_row last
+text_row (EscapeStartDash last) = escape_start_dash_row last
+text_row (EscapedDash last) = escaped_dash_row last
+text_row (EscapedDashDash last) = escaped_dash_dash_row last
+text_row (DoubleEscapeStart last name) = double_escape_start_row last name
+text_row (DoubleEscaped last) = double_escaped_row last
+text_row (DoubleEscapedDash last) = double_escaped_dash_row last
+text_row (DoubleEscapedDashDash last) = double_escaped_dash_dash_row last
+text_row (DoubleEscapedLessThan last) = double_escaped_less_than_row last
+text_row (DoubleEscapeEnd last name) = double_escape_end_row last name

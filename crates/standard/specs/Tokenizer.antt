@@ -11,11 +11,15 @@ use Rattle.standard.specs.Entities.{Entities}
 use Rattle.standard.specs.Step.{Step}
 use Rattle.standard.specs.TextStates.{text_row}
 use Rattle.standard.specs.TagStates.{tag_row}
+use Rattle.standard.specs.MarkStates.{mark_row}
+use Rattle.standard.specs.ReferenceStates.{reference_row}
 
 -- the table: the row of a state for a class of characters, or for the end of the input
 abbrev pub row : Entities → TokState → Class → ℕ → Step
 row es (group.Text s) k c = text_row s k c
 row es (group.Tag s) k c = tag_row s k c
+row es (group.Mark s) k c = mark_row s k c
+row es (group.Reference s) k c = reference_row es s k c
 
 -- the tokens that were made, and the state
 pub record Reached : Type 0 where
