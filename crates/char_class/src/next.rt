@@ -3,6 +3,7 @@
 ghost use Rattle.std.specs.Prelude.{◌≡◌, [], ◌∷◌, IfOk};
 ghost use Rattle.standard.specs.Step as steps;
 ghost use Rattle.char_class.specs.Steps.{Follows};
+ghost use Rattle.html_types.specs.declared.token.Token.TheVariants.{Comment, EndOfFile};
 
 use html_types::{
     Attributes, Name, NoMemory, PartialTag, Tag, TagKind, Text, TextState, TokState, Token, Tokens,
@@ -49,6 +50,19 @@ pub fn emit_again(token: Token, state: TokState, out: &mut Tokens) -> Result<Nex
     again(state, out)
 }
 
+/// Emits two tokens and switches to a state.
+pub fn emit_two(
+    first: Token,
+    second: Token,
+    state: TokState,
+    out: &mut Tokens,
+) -> Result<Next, NoMemory>
+    ensures { IfOk result (Follows (steps.emit (first ∷ second ∷ []) state) out.old out.new) }
+{
+    out.push(first)?;
+    emit(second, state, out)
+}
+
 /// The data state.
 pub fn data_state() -> TokState
     ensures { result ≡ steps.data_state }
@@ -61,6 +75,21 @@ pub fn finish(out: &mut Tokens) -> Result<Next, NoMemory>
     ensures { IfOk result (Follows steps.finish out.old out.new) }
 {
     emit(Token::EndOfFile, data_state(), out)
+}
+
+/// Emits a token, and then the end-of-file token.
+pub fn finish_after(token: Token, out: &mut Tokens) -> Result<Next, NoMemory>
+    ensures { IfOk result (Follows (steps.emit (token ∷ EndOfFile ∷ []) steps.data_state) out.old out.new) }
+{
+    out.push(token)?;
+    finish(out)
+}
+
+/// Emits a comment, and switches to the data state.
+pub fn emit_comment(text: Text, out: &mut Tokens) -> Result<Next, NoMemory>
+    ensures { IfOk result (Follows (steps.emit (Comment text ∷ []) steps.data_state) out.old out.new) }
+{
+    emit(Token::Comment(text), data_state(), out)
 }
 
 /// A row that isn't there yet.

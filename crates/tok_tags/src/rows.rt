@@ -7,10 +7,11 @@ ghost use Rattle.char_class.specs.Steps.{Follows};
 use crate::parts::{bare, fresh, longer_value, with_attribute, with_bare};
 use char_class::name_char;
 use char_class::next::{
-    Next, again, data_state, emit_again, emit_tag, emit_tag_as, finish, missing, new_tag, to,
+    Next, again, data_state, emit_again, emit_tag, emit_tag_as, finish, finish_after, new_tag, to,
 };
 use html_types::{
-    Attribute, Class, NoMemory, PartialTag, Quote, TagKind, TagState, Text, TokState, Token, Tokens,
+    Attribute, Class, MarkState, NoMemory, PartialTag, Quote, ReferenceState, ReturnState, TagKind,
+    TagState, Text, TokState, Token, Tokens,
 };
 use std::alloc::Global;
 
@@ -50,16 +51,20 @@ fn tag_open_row(alloc: Global, class: Class, c: char, out: &mut Tokens) -> Resul
     ensures { IfOk result (Follows (rows.tag_open_row class c) out.old out.new) }
 {
     match class {
-        Class::Bang | Class::Question => missing(out),
+        Class::Bang => {
+            let held = Text::new(alloc);
+            to(TokState::Mark(MarkState::MarkupDeclarationOpen(held)), out)
+        }
         Class::Slash => to(TokState::Tag(TagState::EndTagOpen), out),
         Class::Alpha => {
             let tag = new_tag(alloc, TagKind::Start, Text::new(alloc));
             again(TokState::Tag(TagState::TagName(tag)), out)
         }
-        Class::InputEnd => {
-            out.push(Token::Character('<'))?;
-            finish(out)
+        Class::Question => {
+            let text = Text::new(alloc);
+            again(TokState::Mark(MarkState::BogusComment(text)), out)
         }
+        Class::InputEnd => finish_after(Token::Character('<'), out),
         _ => emit_again(Token::Character('<'), data_state(), out),
     }
 }
@@ -81,10 +86,12 @@ fn end_tag_open_row(
         Class::Greater => to(data_state(), out),
         Class::InputEnd => {
             out.push(Token::Character('<'))?;
-            out.push(Token::Character('/'))?;
-            finish(out)
+            finish_after(Token::Character('/'), out)
         }
-        _ => missing(out),
+        _ => {
+            let text = Text::new(alloc);
+            again(TokState::Mark(MarkState::BogusComment(text)), out)
+        }
     }
 }
 
@@ -249,7 +256,10 @@ fn quoted_row(
             let tag = with_attribute(tag, held)?;
             to(TokState::Tag(TagState::AfterAttributeValueQuoted(tag)), out)
         }
-        (_, Class::Ampersand) => missing(out),
+        (_, Class::Ampersand) => {
+            let back = ReturnState::AttributeValueQuoted(tag, held, quote);
+            to(TokState::Reference(ReferenceState::Ampersand(back)), out)
+        }
         (_, Class::InputEnd) => finish(out),
         _ => {
             let longer = longer_value(held, c)?;
@@ -276,7 +286,10 @@ fn unquoted_row(
             let tag = with_attribute(tag, held)?;
             to(TokState::Tag(TagState::BeforeAttributeName(tag)), out)
         }
-        Class::Ampersand => missing(out),
+        Class::Ampersand => {
+            let back = ReturnState::AttributeValueUnquoted(tag, held);
+            to(TokState::Reference(ReferenceState::Ampersand(back)), out)
+        }
         Class::Greater => emit_tag(with_attribute(tag, held)?, out),
         Class::InputEnd => finish(out),
         _ => {

@@ -1,7 +1,8 @@
-//! The tokenizer's states of text: data, RCDATA, RAWTEXT, script data and PLAINTEXT, and those in which the end tag of the
-//! middle three is sought (13.2.5.1 to 13.2.5.5, 13.2.5.9 to 13.2.5.17).
+//! The tokenizer's states of text: data, RCDATA, RAWTEXT, script data and PLAINTEXT, those in which the end tag of the
+//! middle three is sought, and those of script data behind `<!--` (13.2.5.1 to 13.2.5.5, 13.2.5.9 to 13.2.5.31).
 #![tactic(auto)]
 
+mod escapes;
 pub mod plain;
 pub mod rows;
 

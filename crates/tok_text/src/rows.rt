@@ -4,11 +4,16 @@ ghost use Rattle.std.specs.Prelude.{◌≡◌, IfOk, MatchOption, true, false};
 ghost use Rattle.standard.specs.TextStates as rows;
 ghost use Rattle.char_class.specs.Steps.{Follows};
 
-use char_class::next::{Next, again, emit, emit_again, emit_tag, finish, missing, new_tag, to};
+use crate::escapes::{
+    double_escape_end_row, double_escape_start_row, double_escaped_dash_dash_row,
+    double_escaped_dash_row, double_escaped_less_than_row, double_escaped_row,
+    escape_start_dash_row, escape_start_row, escaped_dash_dash_row, escaped_dash_row,
+};
+use char_class::next::{Next, again, emit, emit_again, emit_tag, emit_two, finish, new_tag, to};
 use char_class::shown;
 use html_types::{
-    Class, NoMemory, PartialTag, RawText, TagKind, TagState, Text, TextState, TokState, Token,
-    Tokens, Word,
+    Class, NoMemory, PartialTag, RawText, ReferenceState, ReturnState, TagKind, TagState, Text,
+    TextState, TokState, Token, Tokens, Word,
 };
 use std::alloc::Global;
 
@@ -26,13 +31,29 @@ pub fn step(
         TextState::Data => data_row(class, c, out),
         TextState::Raw(raw, last) => raw_row(raw, last, class, c, out),
         TextState::Plaintext => plaintext_row(class, c, out),
-        TextState::RawLessThan(raw, last) => raw_less_than_row(raw, last, class, c, out),
+        TextState::RawLessThan(raw, last) => raw_less_than_row(alloc, raw, last, class, c, out),
         TextState::RawEndTagOpen(raw, last) => {
             raw_end_tag_open_row(alloc, raw, last, class, c, out)
         }
         TextState::RawEndTagName(raw, last, written) => {
             raw_end_tag_name_row(alloc, raw, last, written, class, c, out)
         }
+        TextState::EscapeStart(last) => escape_start_row(last, class, c, out),
+        TextState::EscapeStartDash(last) => escape_start_dash_row(last, class, c, out),
+        TextState::EscapedDash(last) => escaped_dash_row(last, class, c, out),
+        TextState::EscapedDashDash(last) => escaped_dash_dash_row(last, class, c, out),
+        TextState::DoubleEscapeStart(last, name) => {
+            double_escape_start_row(last, name, class, c, out)
+        }
+        TextState::DoubleEscaped(last) => double_escaped_row(last, class, c, out),
+        TextState::DoubleEscapedDash(last) => double_escaped_dash_row(last, class, c, out),
+        TextState::DoubleEscapedDashDash(last) => {
+            double_escaped_dash_dash_row(last, class, c, out)
+        }
+        TextState::DoubleEscapedLessThan(last) => {
+            double_escaped_less_than_row(alloc, last, class, c, out)
+        }
+        TextState::DoubleEscapeEnd(last, name) => double_escape_end_row(last, name, class, c, out),
     }
 }
 
@@ -41,14 +62,17 @@ fn data_row(class: Class, c: char, out: &mut Tokens) -> Result<Next, NoMemory>
     ensures { IfOk result (Follows (rows.data_row class c) out.old out.new) }
 {
     match class {
-        Class::Ampersand => missing(out),
+        Class::Ampersand => {
+            let back = ReturnState::Data;
+            to(TokState::Reference(ReferenceState::Ampersand(back)), out)
+        }
         Class::Less => to(TokState::Tag(TagState::TagOpen), out),
         Class::InputEnd => finish(out),
         _ => emit(Token::Character(c), TokState::Text(TextState::Data), out),
     }
 }
 
-/// 13.2.5.2 RCDATA state, 13.2.5.3 RAWTEXT state, 13.2.5.4 Script data state
+/// 13.2.5.2 RCDATA state, 13.2.5.3 RAWTEXT state, 13.2.5.4 Script data state, 13.2.5.20 Script data escaped state
 fn raw_row(
     raw: RawText,
     last: Option<Word>,
@@ -59,7 +83,15 @@ fn raw_row(
     ensures { IfOk result (Follows (rows.raw_row raw last class c) out.old out.new) }
 {
     match (raw, class) {
-        (RawText::Rcdata, Class::Ampersand) => missing(out),
+        (RawText::Rcdata, Class::Ampersand) => {
+            let back = ReturnState::Rcdata(last);
+            to(TokState::Reference(ReferenceState::Ampersand(back)), out)
+        }
+        (RawText::ScriptDataEscaped, Class::Hyphen) => emit(
+            Token::Character('-'),
+            TokState::Text(TextState::EscapedDash(last)),
+            out,
+        ),
         (_, Class::Less) => to(TokState::Text(TextState::RawLessThan(raw, last)), out),
         (_, Class::InputEnd) => finish(out),
         _ => emit(
@@ -84,8 +116,9 @@ fn plaintext_row(class: Class, c: char, out: &mut Tokens) -> Result<Next, NoMemo
     }
 }
 
-/// 13.2.5.9 RCDATA, 13.2.5.12 RAWTEXT, 13.2.5.15 Script data less-than sign state
+/// 13.2.5.9 RCDATA, 13.2.5.12 RAWTEXT, 13.2.5.15 Script data, 13.2.5.23 Script data escaped less-than sign state
 fn raw_less_than_row(
+    alloc: Global,
     raw: RawText,
     last: Option<Word>,
     class: Class,
@@ -96,7 +129,20 @@ fn raw_less_than_row(
 {
     match (raw, class) {
         (_, Class::Slash) => to(TokState::Text(TextState::RawEndTagOpen(raw, last)), out),
-        (RawText::ScriptData, Class::Bang) => missing(out),
+        (RawText::ScriptData, Class::Bang) => emit_two(
+            Token::Character('<'),
+            Token::Character('!'),
+            TokState::Text(TextState::EscapeStart(last)),
+            out,
+        ),
+        (RawText::ScriptDataEscaped, Class::Alpha) => {
+            let name = Text::new(alloc);
+            emit_again(
+                Token::Character('<'),
+                TokState::Text(TextState::DoubleEscapeStart(last, name)),
+                out,
+            )
+        }
         _ => emit_again(
             Token::Character('<'),
             TokState::Text(TextState::Raw(raw, last)),
@@ -105,7 +151,7 @@ fn raw_less_than_row(
     }
 }
 
-/// 13.2.5.10 RCDATA, 13.2.5.13 RAWTEXT, 13.2.5.16 Script data end tag open state
+/// 13.2.5.10 RCDATA, 13.2.5.13 RAWTEXT, 13.2.5.16 Script data, 13.2.5.24 Script data escaped end tag open state
 fn raw_end_tag_open_row(
     alloc: Global,
     raw: RawText,
@@ -180,7 +226,7 @@ fn appropriate_tag(
     }
 }
 
-/// 13.2.5.11 RCDATA, 13.2.5.14 RAWTEXT, 13.2.5.17 Script data end tag name state
+/// 13.2.5.11 RCDATA, 13.2.5.14 RAWTEXT, 13.2.5.17 Script data, 13.2.5.25 Script data escaped end tag name state
 fn raw_end_tag_name_row(
     alloc: Global,
     raw: RawText,
