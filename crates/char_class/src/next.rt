@@ -34,33 +34,20 @@ pub fn again(state: TokState, out: &mut Tokens) -> Result<Next, NoMemory>
     Ok(Next { state, again: true })
 }
 
-/// Emits a token and switches to a state.
-pub fn emit(token: Token, state: TokState, out: &mut Tokens) -> Result<Next, NoMemory>
-    ensures { IfOk result (Follows (steps.emit (token ∷ []) state) out.old out.new) }
+/// Emits a token and switches to a state of text, where every row goes that emits one.
+pub fn emit(token: Token, state: TextState, out: &mut Tokens) -> Result<Next, NoMemory>
+    ensures { IfOk result (Follows (steps.emit (token ∷ []) (steps.in_text state)) out.old out.new) }
 {
     out.push(token)?;
-    to(state, out)
+    to(TokState::Text(state), out)
 }
 
-/// Emits a token and reconsumes the character in a state.
-pub fn emit_again(token: Token, state: TokState, out: &mut Tokens) -> Result<Next, NoMemory>
-    ensures { IfOk result (Follows (steps.emit_again (token ∷ []) state) out.old out.new) }
+/// Emits a token and reconsumes the character in a state of text.
+pub fn emit_again(token: Token, state: TextState, out: &mut Tokens) -> Result<Next, NoMemory>
+    ensures { IfOk result (Follows (steps.emit_again (token ∷ []) (steps.in_text state)) out.old out.new) }
 {
     out.push(token)?;
-    again(state, out)
-}
-
-/// Emits two tokens and switches to a state.
-pub fn emit_two(
-    first: Token,
-    second: Token,
-    state: TokState,
-    out: &mut Tokens,
-) -> Result<Next, NoMemory>
-    ensures { IfOk result (Follows (steps.emit (first ∷ second ∷ []) state) out.old out.new) }
-{
-    out.push(first)?;
-    emit(second, state, out)
+    again(TokState::Text(state), out)
 }
 
 /// The data state.
@@ -74,7 +61,7 @@ pub fn data_state() -> TokState
 pub fn finish(out: &mut Tokens) -> Result<Next, NoMemory>
     ensures { IfOk result (Follows steps.finish out.old out.new) }
 {
-    emit(Token::EndOfFile, data_state(), out)
+    emit(Token::EndOfFile, TextState::Data, out)
 }
 
 /// Emits a token, and then the end-of-file token.
@@ -89,14 +76,7 @@ pub fn finish_after(token: Token, out: &mut Tokens) -> Result<Next, NoMemory>
 pub fn emit_comment(text: Text, out: &mut Tokens) -> Result<Next, NoMemory>
     ensures { IfOk result (Follows (steps.emit (Comment text ∷ []) steps.data_state) out.old out.new) }
 {
-    emit(Token::Comment(text), data_state(), out)
-}
-
-/// A row that isn't there yet.
-pub fn missing(out: &mut Tokens) -> Result<Next, NoMemory>
-    ensures { IfOk result (Follows steps.missing out.old out.new) }
-{
-    emit(Token::Missing, data_state(), out)
+    emit(Token::Comment(text), TextState::Data, out)
 }
 
 /// A new tag of this name.
@@ -125,8 +105,8 @@ pub fn emit_tag_as(closing: bool, partial: PartialTag, out: &mut Tokens) -> Resu
         self_closing: closing,
     };
     match kind {
-        TagKind::Start => emit(Token::StartTag(tag), data_state(), out),
-        TagKind::End => emit(Token::EndTag(tag), data_state(), out),
+        TagKind::Start => emit(Token::StartTag(tag), TextState::Data, out),
+        TagKind::End => emit(Token::EndTag(tag), TextState::Data, out),
     }
 }
 

@@ -4,9 +4,6 @@ ghost use Rattle.std.specs.Prelude.{◌≡◌, ◌∷◌, ◌++◌, [], IfOk};
 ghost use Rattle.standard.specs.CommentStates as rows;
 ghost use Rattle.standard.specs.Step as steps;
 ghost use Rattle.char_class.specs.Steps.{Follows};
-ghost use Rattle.html_types.specs.declared.token.Token.TheVariants.{Comment, EndOfFile};
-ghost use Rattle.html_types.specs.declared.state.TokState.TheVariants as group;
-ghost use Rattle.html_types.specs.declared.mark_state.MarkState.TheVariants as mark;
 
 use char_class::next::{Next, again, emit_comment, finish_after, to};
 use char_class::shown;
@@ -14,14 +11,14 @@ use html_types::{Class, CommentState, MarkState, NoMemory, Text, TokState, Token
 use std::alloc::Global;
 
 /// The row of a state of comments.
-pub fn comment_row(
+pub fn comment_state_row(
     alloc: Global,
     state: CommentState,
     class: Class,
     c: char,
     out: &mut Tokens,
 ) -> Result<Next, NoMemory>
-    ensures { IfOk result (Follows (rows.comment_row state class c) out.old out.new) }
+    ensures { IfOk result (Follows (rows.comment_state_row state class c) out.old out.new) }
 {
     match state {
         CommentState::Start => comment_start_row(alloc, class, c, out),
@@ -39,21 +36,21 @@ pub fn comment_row(
 
 /// Switches to a state of comments.
 fn to_comment(state: CommentState, out: &mut Tokens) -> Result<Next, NoMemory>
-    ensures { IfOk result (Follows (steps.to (group.Mark (mark.Comment state))) out.old out.new) }
+    ensures { IfOk result (Follows (steps.to (rows.in_comment state)) out.old out.new) }
 {
     to(TokState::Mark(MarkState::Comment(state)), out)
 }
 
 /// Reconsumes the character in a state of comments.
 fn again_in_comment(state: CommentState, out: &mut Tokens) -> Result<Next, NoMemory>
-    ensures { IfOk result (Follows (steps.again (group.Mark (mark.Comment state))) out.old out.new) }
+    ensures { IfOk result (Follows (steps.again (rows.in_comment state)) out.old out.new) }
 {
     again(TokState::Mark(MarkState::Comment(state)), out)
 }
 
 /// Emits a comment as it is, at the end of the input.
-fn end_in_comment(text: Text, out: &mut Tokens) -> Result<Next, NoMemory>
-    ensures { IfOk result (Follows (steps.emit (Comment text ∷ EndOfFile ∷ []) steps.data_state) out.old out.new) }
+fn finish_comment(text: Text, out: &mut Tokens) -> Result<Next, NoMemory>
+    ensures { IfOk result (Follows (rows.finish_comment text) out.old out.new) }
 {
     finish_after(Token::Comment(text), out)
 }
@@ -89,6 +86,7 @@ fn comment_start_row(
     match class {
         Class::Hyphen => to_comment(CommentState::StartDash, out),
         Class::Greater => emit_comment(Text::new(alloc), out),
+        Class::InputEnd => finish_comment(Text::new(alloc), out),
         _ => again_in_comment(CommentState::Inside(Text::new(alloc)), out),
     }
 }
@@ -106,7 +104,7 @@ fn comment_start_dash_row(
     match class {
         Class::Hyphen => to_comment(CommentState::End(text), out),
         Class::Greater => emit_comment(text, out),
-        Class::InputEnd => end_in_comment(text, out),
+        Class::InputEnd => finish_comment(text, out),
         _ => {
             text.push('-')?;
             again_in_comment(CommentState::Inside(text), out)
@@ -125,11 +123,11 @@ fn comment_inside_row(
 {
     match class {
         Class::Less => {
-            text.push('<')?;
+            text.push(c)?;
             to_comment(CommentState::LessThan(text), out)
         }
         Class::Hyphen => to_comment(CommentState::EndDash(text), out),
-        Class::InputEnd => end_in_comment(text, out),
+        Class::InputEnd => finish_comment(text, out),
         _ => {
             text.push(shown(c))?;
             to_comment(CommentState::Inside(text), out)
@@ -148,13 +146,14 @@ fn comment_less_than_row(
 {
     match class {
         Class::Bang => {
-            text.push('!')?;
+            text.push(c)?;
             to_comment(CommentState::LessThanBang(text), out)
         }
         Class::Less => {
-            text.push('<')?;
+            text.push(c)?;
             to_comment(CommentState::LessThan(text), out)
         }
+        Class::InputEnd => finish_comment(text, out),
         _ => again_in_comment(CommentState::Inside(text), out),
     }
 }
@@ -165,6 +164,7 @@ fn comment_bang_row(text: Text, class: Class, c: char, out: &mut Tokens) -> Resu
 {
     match class {
         Class::Hyphen => to_comment(CommentState::LessThanBangDash(text), out),
+        Class::InputEnd => finish_comment(text, out),
         _ => again_in_comment(CommentState::Inside(text), out),
     }
 }
@@ -180,6 +180,7 @@ fn comment_bang_dash_row(
 {
     match class {
         Class::Hyphen => to_comment(CommentState::LessThanBangDashDash(text), out),
+        Class::InputEnd => finish_comment(text, out),
         _ => again_in_comment(CommentState::EndDash(text), out),
     }
 }
@@ -193,7 +194,10 @@ fn comment_bang_dash_dash_row(
 ) -> Result<Next, NoMemory>
     ensures { IfOk result (Follows (rows.comment_bang_dash_dash_row text class c) out.old out.new) }
 {
-    again_in_comment(CommentState::End(text), out)
+    match class {
+        Class::InputEnd => finish_comment(text, out),
+        _ => again_in_comment(CommentState::End(text), out),
+    }
 }
 
 /// 13.2.5.50 Comment end dash state
@@ -207,7 +211,7 @@ fn comment_end_dash_row(
 {
     match class {
         Class::Hyphen => to_comment(CommentState::End(text), out),
-        Class::InputEnd => end_in_comment(text, out),
+        Class::InputEnd => finish_comment(text, out),
         _ => {
             text.push('-')?;
             again_in_comment(CommentState::Inside(text), out)
@@ -231,7 +235,7 @@ fn comment_end_row(
             text.push('-')?;
             to_comment(CommentState::End(text), out)
         }
-        Class::InputEnd => end_in_comment(text, out),
+        Class::InputEnd => finish_comment(text, out),
         _ => again_in_comment(CommentState::Inside(with_dashes(text)?), out),
     }
 }
@@ -248,7 +252,7 @@ fn comment_end_bang_row(
     match class {
         Class::Hyphen => to_comment(CommentState::EndDash(with_dashes_bang(text)?), out),
         Class::Greater => emit_comment(text, out),
-        Class::InputEnd => end_in_comment(text, out),
+        Class::InputEnd => finish_comment(text, out),
         _ => again_in_comment(CommentState::Inside(with_dashes_bang(text)?), out),
     }
 }

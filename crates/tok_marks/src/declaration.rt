@@ -1,11 +1,12 @@
 //! The rows of what begins with `<!`, and of bogus comments.
 
-ghost use Rattle.std.specs.Prelude.{◌≡◌, ◌∷◌, [], IfOk};
+ghost use Rattle.std.specs.Prelude.{◌≡◌, IfOk};
+ghost use Rattle.std.specs.Str.{chars};
+ghost use Rattle.standard.specs.Entities.{is_front};
 ghost use Rattle.standard.specs.MarkStates as rows;
-ghost use Rattle.standard.specs.Step as steps;
 ghost use Rattle.char_class.specs.Steps.{Follows};
 
-use crate::comment::comment_row;
+use crate::comment::comment_state_row;
 use crate::doctype::doctype_state_row;
 use char_class::next::{Next, again, emit_comment, finish_after, to};
 use char_class::shown;
@@ -29,14 +30,40 @@ pub fn step(
             markup_declaration_open_row(alloc, held, class, c, out)
         }
         MarkState::BogusComment(text) => bogus_comment_row(text, class, c, out),
-        MarkState::Comment(state) => comment_row(alloc, state, class, c, out),
+        MarkState::Comment(state) => comment_state_row(alloc, state, class, c, out),
         MarkState::Doctype(state) => doctype_state_row(alloc, state, class, c, out),
     }
 }
 
 /// Whether a word begins with this text.
-pub(crate) fn begins(text: &Text, word: &str) -> bool {
+pub(crate) fn begins(text: &Text, word: &str) -> bool
+    ensures { result ≡ is_front text.now (chars word.now) }
+{
     word.starts_with(text.as_str())
+}
+
+/// Behind what is held and one character more, which are `now`: `--` begins a comment, and `doctype` in any case a doctype.
+fn declaration_step(
+    alloc: Global,
+    held: Text,
+    now: Text,
+    out: &mut Tokens,
+) -> Result<Next, NoMemory>
+    ensures { IfOk result (Follows (rows.declaration_step held now) out.old out.new) }
+{
+    let lower = now.lower(alloc)?;
+    if now.is("--") {
+        to(TokState::Mark(MarkState::Comment(CommentState::Start)), out)
+    } else if lower.is("doctype") {
+        to(
+            TokState::Mark(MarkState::Doctype(DoctypeState::Doctype)),
+            out,
+        )
+    } else if begins(&now, "--") || begins(&lower, "doctype") {
+        to(TokState::Mark(MarkState::MarkupDeclarationOpen(now)), out)
+    } else {
+        again(TokState::Mark(MarkState::BogusComment(held)), out)
+    }
 }
 
 /// 13.2.5.42 Markup declaration open state
@@ -52,24 +79,9 @@ fn markup_declaration_open_row(
     match class {
         Class::InputEnd => again(TokState::Mark(MarkState::BogusComment(held)), out),
         _ => {
-            let mut longer = held.copy(alloc)?;
-            longer.push(c)?;
-            let lower = longer.lower(alloc)?;
-            if lower.is("--") {
-                to(TokState::Mark(MarkState::Comment(CommentState::Start)), out)
-            } else if lower.is("doctype") {
-                to(
-                    TokState::Mark(MarkState::Doctype(DoctypeState::Doctype)),
-                    out,
-                )
-            } else if begins(&lower, "--") || begins(&lower, "doctype") {
-                to(
-                    TokState::Mark(MarkState::MarkupDeclarationOpen(longer)),
-                    out,
-                )
-            } else {
-                again(TokState::Mark(MarkState::BogusComment(held)), out)
-            }
+            let mut now = held.copy(alloc)?;
+            now.push(c)?;
+            declaration_step(alloc, held, now, out)
         }
     }
 }

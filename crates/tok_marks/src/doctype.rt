@@ -4,14 +4,13 @@ ghost use Rattle.std.specs.Prelude.{◌≡◌, ◌∷◌, ◌++◌, [], IfOk};
 ghost use Rattle.standard.specs.DoctypeStates as rows;
 ghost use Rattle.standard.specs.Step as steps;
 ghost use Rattle.char_class.specs.Steps.{Follows};
-ghost use Rattle.html_types.specs.declared.token.Token.TheVariants.{Doctype, EndOfFile};
-ghost use Rattle.html_types.specs.declared.state.TokState.TheVariants as group;
-ghost use Rattle.html_types.specs.declared.mark_state.MarkState.TheVariants as mark;
 
 use crate::declaration::begins;
 use char_class::name_char;
-use char_class::next::{Next, again, data_state, emit, finish_after, to};
-use html_types::{Class, DoctypeState, MarkState, NoMemory, Quote, Text, TokState, Token, Tokens};
+use char_class::next::{Next, again, emit, finish_after, to};
+use html_types::{
+    Class, DoctypeState, MarkState, NoMemory, Quote, Text, TextState, TokState, Token, Tokens,
+};
 use std::alloc::Global;
 
 /// The row of a state of doctypes.
@@ -26,10 +25,10 @@ pub fn doctype_state_row(
 {
     match state {
         DoctypeState::Doctype => doctype_row(alloc, class, c, out),
-        DoctypeState::BeforeName => before_name_row(alloc, class, c, out),
-        DoctypeState::Name(name) => name_row(name, class, c, out),
-        DoctypeState::AfterName(name) => after_name_row(alloc, name, class, c, out),
-        DoctypeState::Keyword(name, held) => keyword_row(name, held, class, c, out),
+        DoctypeState::BeforeName => before_doctype_name_row(alloc, class, c, out),
+        DoctypeState::Name(name) => doctype_name_row(name, class, c, out),
+        DoctypeState::AfterName(name) => after_doctype_name_row(alloc, name, class, c, out),
+        DoctypeState::Keyword(name, held) => doctype_keyword_row(name, held, class, c, out),
         DoctypeState::AfterPublicKeyword(name) => after_public_keyword_row(name, class, c, out),
         DoctypeState::PublicIdentifier(name, quote) => {
             public_identifier_row(name, quote, class, c, out)
@@ -44,34 +43,40 @@ pub fn doctype_state_row(
         DoctypeState::AfterSystemIdentifier(name) => {
             after_system_identifier_row(name, class, c, out)
         }
-        DoctypeState::Bogus(name, force_quirks) => bogus_row(name, force_quirks, class, c, out),
+        DoctypeState::Bogus(name, force_quirks) => bogus_doctype_row(
+            name,
+            force_quirks,
+            class,
+            c,
+            out,
+        ),
     }
 }
 
 /// Switches to a state of doctypes.
 fn to_doctype(state: DoctypeState, out: &mut Tokens) -> Result<Next, NoMemory>
-    ensures { IfOk result (Follows (steps.to (group.Mark (mark.Doctype state))) out.old out.new) }
+    ensures { IfOk result (Follows (steps.to (rows.in_doctype state)) out.old out.new) }
 {
     to(TokState::Mark(MarkState::Doctype(state)), out)
 }
 
 /// Reconsumes the character in a state of doctypes.
 fn again_in_doctype(state: DoctypeState, out: &mut Tokens) -> Result<Next, NoMemory>
-    ensures { IfOk result (Follows (steps.again (group.Mark (mark.Doctype state))) out.old out.new) }
+    ensures { IfOk result (Follows (steps.again (rows.in_doctype state)) out.old out.new) }
 {
     again(TokState::Mark(MarkState::Doctype(state)), out)
 }
 
 /// Emits the doctype, and switches to the data state.
 fn emit_doctype(name: Text, force_quirks: bool, out: &mut Tokens) -> Result<Next, NoMemory>
-    ensures { IfOk result (Follows (steps.emit (Doctype name force_quirks ∷ []) steps.data_state) out.old out.new) }
+    ensures { IfOk result (Follows (rows.emit_doctype name force_quirks) out.old out.new) }
 {
-    emit(Token::Doctype { name, force_quirks }, data_state(), out)
+    emit(Token::Doctype { name, force_quirks }, TextState::Data, out)
 }
 
 /// Emits the doctype at the end of the input.
-fn end_in_doctype(name: Text, force_quirks: bool, out: &mut Tokens) -> Result<Next, NoMemory>
-    ensures { IfOk result (Follows (steps.emit (Doctype name force_quirks ∷ EndOfFile ∷ []) steps.data_state) out.old out.new) }
+fn finish_doctype(name: Text, force_quirks: bool, out: &mut Tokens) -> Result<Next, NoMemory>
+    ensures { IfOk result (Follows (rows.finish_doctype name force_quirks) out.old out.new) }
 {
     finish_after(Token::Doctype { name, force_quirks }, out)
 }
@@ -82,19 +87,24 @@ fn doctype_row(alloc: Global, class: Class, c: char, out: &mut Tokens) -> Result
 {
     match class {
         Class::Space => to_doctype(DoctypeState::BeforeName, out),
-        Class::InputEnd => end_in_doctype(Text::new(alloc), true, out),
+        Class::InputEnd => finish_doctype(Text::new(alloc), true, out),
         _ => again_in_doctype(DoctypeState::BeforeName, out),
     }
 }
 
 /// 13.2.5.54 Before DOCTYPE name state
-fn before_name_row(alloc: Global, class: Class, c: char, out: &mut Tokens) -> Result<Next, NoMemory>
-    ensures { IfOk result (Follows (rows.before_name_row class c) out.old out.new) }
+fn before_doctype_name_row(
+    alloc: Global,
+    class: Class,
+    c: char,
+    out: &mut Tokens,
+) -> Result<Next, NoMemory>
+    ensures { IfOk result (Follows (rows.before_doctype_name_row class c) out.old out.new) }
 {
     match class {
         Class::Space => to_doctype(DoctypeState::BeforeName, out),
         Class::Greater => emit_doctype(Text::new(alloc), true, out),
-        Class::InputEnd => end_in_doctype(Text::new(alloc), true, out),
+        Class::InputEnd => finish_doctype(Text::new(alloc), true, out),
         _ => {
             let mut name = Text::new(alloc);
             name.push(name_char(c))?;
@@ -104,13 +114,18 @@ fn before_name_row(alloc: Global, class: Class, c: char, out: &mut Tokens) -> Re
 }
 
 /// 13.2.5.55 DOCTYPE name state
-fn name_row(mut name: Text, class: Class, c: char, out: &mut Tokens) -> Result<Next, NoMemory>
-    ensures { IfOk result (Follows (rows.name_row name class c) out.old out.new) }
+fn doctype_name_row(
+    mut name: Text,
+    class: Class,
+    c: char,
+    out: &mut Tokens,
+) -> Result<Next, NoMemory>
+    ensures { IfOk result (Follows (rows.doctype_name_row name class c) out.old out.new) }
 {
     match class {
         Class::Space => to_doctype(DoctypeState::AfterName(name), out),
         Class::Greater => emit_doctype(name, false, out),
-        Class::InputEnd => end_in_doctype(name, true, out),
+        Class::InputEnd => finish_doctype(name, true, out),
         _ => {
             name.push(name_char(c))?;
             to_doctype(DoctypeState::Name(name), out)
@@ -118,55 +133,59 @@ fn name_row(mut name: Text, class: Class, c: char, out: &mut Tokens) -> Result<N
     }
 }
 
-/// The rest of a doctype whose keyword has been read up to here.
-fn begun_keyword(name: Text, held: Text, out: &mut Tokens) -> Result<Next, NoMemory>
-    ensures { IfOk result (Follows (rows.begun_keyword name held) out.old out.new) }
+/// Behind the letters `now`, in lower case: on with `public` or `system`, or nothing of the kind.
+fn keyword_step(name: Text, now: Text, out: &mut Tokens) -> Result<Next, NoMemory>
+    ensures { IfOk result (Follows (rows.keyword_step name now) out.old out.new) }
 {
-    if held.is("public") {
+    if now.is("public") {
         to_doctype(DoctypeState::AfterPublicKeyword(name), out)
-    } else if held.is("system") {
+    } else if now.is("system") {
         to_doctype(DoctypeState::AfterSystemKeyword(name), out)
-    } else if begins(&held, "public") || begins(&held, "system") {
-        to_doctype(DoctypeState::Keyword(name, held), out)
+    } else if begins(&now, "public") || begins(&now, "system") {
+        to_doctype(DoctypeState::Keyword(name, now), out)
     } else {
         again_in_doctype(DoctypeState::Bogus(name, true), out)
     }
 }
 
 /// 13.2.5.56 After DOCTYPE name state
-fn after_name_row(
+fn after_doctype_name_row(
     alloc: Global,
     name: Text,
     class: Class,
     c: char,
     out: &mut Tokens,
 ) -> Result<Next, NoMemory>
-    ensures { IfOk result (Follows (rows.after_name_row name class c) out.old out.new) }
+    ensures { IfOk result (Follows (rows.after_doctype_name_row name class c) out.old out.new) }
 {
     match class {
         Class::Space => to_doctype(DoctypeState::AfterName(name), out),
         Class::Greater => emit_doctype(name, false, out),
-        Class::InputEnd => end_in_doctype(name, true, out),
-        _ => keyword_row(name, Text::new(alloc), class, c, out),
+        Class::InputEnd => finish_doctype(name, true, out),
+        _ => {
+            let mut now = Text::new(alloc);
+            now.push(name_char(c))?;
+            keyword_step(name, now, out)
+        }
     }
 }
 
 /// 13.2.5.56 After DOCTYPE name state, within `PUBLIC` or `SYSTEM`
-fn keyword_row(
+fn doctype_keyword_row(
     name: Text,
     mut held: Text,
     class: Class,
     c: char,
     out: &mut Tokens,
 ) -> Result<Next, NoMemory>
-    ensures { IfOk result (Follows (rows.keyword_row name held class c) out.old out.new) }
+    ensures { IfOk result (Follows (rows.doctype_keyword_row name held class c) out.old out.new) }
 {
     match class {
-        Class::Alpha => {
-            held.push(c.to_ascii_lowercase())?;
-            begun_keyword(name, held, out)
+        Class::InputEnd => finish_doctype(name, true, out),
+        _ => {
+            held.push(name_char(c))?;
+            keyword_step(name, held, out)
         }
-        _ => again_in_doctype(DoctypeState::Bogus(name, true), out),
     }
 }
 
@@ -184,7 +203,7 @@ fn after_public_keyword_row(
         Class::DoubleQuote => to_doctype(DoctypeState::PublicIdentifier(name, Quote::Double), out),
         Class::SingleQuote => to_doctype(DoctypeState::PublicIdentifier(name, Quote::Single), out),
         Class::Greater => emit_doctype(name, true, out),
-        Class::InputEnd => end_in_doctype(name, true, out),
+        Class::InputEnd => finish_doctype(name, true, out),
         _ => again_in_doctype(DoctypeState::Bogus(name, true), out),
     }
 }
@@ -204,7 +223,7 @@ fn public_identifier_row(
             to_doctype(DoctypeState::AfterPublicIdentifier(name), out)
         }
         (_, Class::Greater) => emit_doctype(name, true, out),
-        (_, Class::InputEnd) => end_in_doctype(name, true, out),
+        (_, Class::InputEnd) => finish_doctype(name, true, out),
         _ => to_doctype(DoctypeState::PublicIdentifier(name, quote), out),
     }
 }
@@ -223,7 +242,7 @@ fn after_public_identifier_row(
         Class::Greater => emit_doctype(name, false, out),
         Class::DoubleQuote => to_doctype(DoctypeState::SystemIdentifier(name, Quote::Double), out),
         Class::SingleQuote => to_doctype(DoctypeState::SystemIdentifier(name, Quote::Single), out),
-        Class::InputEnd => end_in_doctype(name, true, out),
+        Class::InputEnd => finish_doctype(name, true, out),
         _ => again_in_doctype(DoctypeState::Bogus(name, true), out),
     }
 }
@@ -242,7 +261,7 @@ fn after_system_keyword_row(
         Class::DoubleQuote => to_doctype(DoctypeState::SystemIdentifier(name, Quote::Double), out),
         Class::SingleQuote => to_doctype(DoctypeState::SystemIdentifier(name, Quote::Single), out),
         Class::Greater => emit_doctype(name, true, out),
-        Class::InputEnd => end_in_doctype(name, true, out),
+        Class::InputEnd => finish_doctype(name, true, out),
         _ => again_in_doctype(DoctypeState::Bogus(name, true), out),
     }
 }
@@ -262,7 +281,7 @@ fn system_identifier_row(
             to_doctype(DoctypeState::AfterSystemIdentifier(name), out)
         }
         (_, Class::Greater) => emit_doctype(name, true, out),
-        (_, Class::InputEnd) => end_in_doctype(name, true, out),
+        (_, Class::InputEnd) => finish_doctype(name, true, out),
         _ => to_doctype(DoctypeState::SystemIdentifier(name, quote), out),
     }
 }
@@ -279,24 +298,24 @@ fn after_system_identifier_row(
     match class {
         Class::Space => to_doctype(DoctypeState::AfterSystemIdentifier(name), out),
         Class::Greater => emit_doctype(name, false, out),
-        Class::InputEnd => end_in_doctype(name, true, out),
+        Class::InputEnd => finish_doctype(name, true, out),
         _ => again_in_doctype(DoctypeState::Bogus(name, false), out),
     }
 }
 
 /// 13.2.5.68 Bogus DOCTYPE state
-fn bogus_row(
+fn bogus_doctype_row(
     name: Text,
     force_quirks: bool,
     class: Class,
     c: char,
     out: &mut Tokens,
 ) -> Result<Next, NoMemory>
-    ensures { IfOk result (Follows (rows.bogus_row name force_quirks class c) out.old out.new) }
+    ensures { IfOk result (Follows (rows.bogus_doctype_row name force_quirks class c) out.old out.new) }
 {
     match class {
         Class::Greater => emit_doctype(name, force_quirks, out),
-        Class::InputEnd => end_in_doctype(name, force_quirks, out),
+        Class::InputEnd => finish_doctype(name, force_quirks, out),
         _ => to_doctype(DoctypeState::Bogus(name, force_quirks), out),
     }
 }

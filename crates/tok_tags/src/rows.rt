@@ -11,7 +11,7 @@ use char_class::next::{
 };
 use html_types::{
     Attribute, Class, MarkState, NoMemory, PartialTag, Quote, ReferenceState, ReturnState, TagKind,
-    TagState, Text, TokState, Token, Tokens,
+    TagState, Text, TextState, TokState, Token, Tokens,
 };
 use std::alloc::Global;
 
@@ -65,7 +65,7 @@ fn tag_open_row(alloc: Global, class: Class, c: char, out: &mut Tokens) -> Resul
             again(TokState::Mark(MarkState::BogusComment(text)), out)
         }
         Class::InputEnd => finish_after(Token::Character('<'), out),
-        _ => emit_again(Token::Character('<'), data_state(), out),
+        _ => emit_again(Token::Character('<'), TextState::Data, out),
     }
 }
 

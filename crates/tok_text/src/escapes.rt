@@ -1,22 +1,15 @@
 //! The rows of script data behind `<!--`, but for those that every raw text has.
 
-ghost use Rattle.std.specs.Prelude.{◌≡◌, ◌∷◌, [], IfOk};
+ghost use Rattle.std.specs.Prelude.{◌≡◌, IfOk, codes};
+ghost use Rattle.html_types.specs.Text.{same_text};
 ghost use Rattle.standard.specs.EscapeStates as rows;
 ghost use Rattle.standard.specs.Step as steps;
 ghost use Rattle.char_class.specs.Steps.{Follows};
-ghost use Rattle.html_types.specs.declared.token.Token.TheVariants.{Character};
 
 use char_class::next::{Next, again, emit, finish, to};
-use char_class::shown;
+use char_class::{name_char, shown};
 use html_types::{Class, NoMemory, RawText, Text, TextState, TokState, Token, Tokens, Word};
 use std::alloc::Global;
-
-/// Emits a character, and switches to a state of text.
-fn say(c: char, state: TextState, out: &mut Tokens) -> Result<Next, NoMemory>
-    ensures { IfOk result (Follows (steps.emit (Character c ∷ []) (steps.in_text state)) out.old out.new) }
-{
-    emit(Token::Character(c), TokState::Text(state), out)
-}
 
 /// Reconsumes the character in a state of text.
 fn again_in(state: TextState, out: &mut Tokens) -> Result<Next, NoMemory>
@@ -27,138 +20,265 @@ fn again_in(state: TextState, out: &mut Tokens) -> Result<Next, NoMemory>
 
 /// Whether the name is `script`.
 fn is_script(name: &Text) -> bool
-    ensures { result ≡ rows.is_script name.now }
+    ensures { result ≡ same_text name.now (codes "script") }
 {
     name.is(Word::Script.text())
 }
 
 /// 13.2.5.18 Script data escape start state
-pub fn escape_start_row(last: Option<Word>, class: Class, c: char, out: &mut Tokens) -> Result<Next, NoMemory>
+pub fn escape_start_row(
+    last: Option<Word>,
+    class: Class,
+    c: char,
+    out: &mut Tokens,
+) -> Result<Next, NoMemory>
     ensures { IfOk result (Follows (rows.escape_start_row last class c) out.old out.new) }
 {
     match class {
-        Class::Hyphen => say('-', TextState::EscapeStartDash(last), out),
+        Class::Hyphen => emit(Token::Character(c), TextState::EscapeStartDash(last), out),
         _ => again_in(TextState::Raw(RawText::ScriptData, last), out),
     }
 }
 
 /// 13.2.5.19 Script data escape start dash state
-pub fn escape_start_dash_row(last: Option<Word>, class: Class, c: char, out: &mut Tokens) -> Result<Next, NoMemory>
+pub fn escape_start_dash_row(
+    last: Option<Word>,
+    class: Class,
+    c: char,
+    out: &mut Tokens,
+) -> Result<Next, NoMemory>
     ensures { IfOk result (Follows (rows.escape_start_dash_row last class c) out.old out.new) }
 {
     match class {
-        Class::Hyphen => say('-', TextState::EscapedDashDash(last), out),
+        Class::Hyphen => emit(Token::Character(c), TextState::EscapedDashDash(last), out),
         _ => again_in(TextState::Raw(RawText::ScriptData, last), out),
     }
 }
 
 /// 13.2.5.21 Script data escaped dash state
-pub fn escaped_dash_row(last: Option<Word>, class: Class, c: char, out: &mut Tokens) -> Result<Next, NoMemory>
+pub fn escaped_dash_row(
+    last: Option<Word>,
+    class: Class,
+    c: char,
+    out: &mut Tokens,
+) -> Result<Next, NoMemory>
     ensures { IfOk result (Follows (rows.escaped_dash_row last class c) out.old out.new) }
 {
     match class {
-        Class::Hyphen => say('-', TextState::EscapedDashDash(last), out),
-        Class::Less => to(TokState::Text(TextState::RawLessThan(RawText::ScriptDataEscaped, last)), out),
+        Class::Hyphen => emit(Token::Character(c), TextState::EscapedDashDash(last), out),
+        Class::Less => to(
+            TokState::Text(TextState::RawLessThan(RawText::ScriptDataEscaped, last)),
+            out,
+        ),
         Class::InputEnd => finish(out),
-        _ => say(shown(c), TextState::Raw(RawText::ScriptDataEscaped, last), out),
+        _ => emit(
+            Token::Character(shown(c)),
+            TextState::Raw(RawText::ScriptDataEscaped, last),
+            out,
+        ),
     }
 }
 
 /// 13.2.5.22 Script data escaped dash dash state
-pub fn escaped_dash_dash_row(last: Option<Word>, class: Class, c: char, out: &mut Tokens) -> Result<Next, NoMemory>
+pub fn escaped_dash_dash_row(
+    last: Option<Word>,
+    class: Class,
+    c: char,
+    out: &mut Tokens,
+) -> Result<Next, NoMemory>
     ensures { IfOk result (Follows (rows.escaped_dash_dash_row last class c) out.old out.new) }
 {
     match class {
-        Class::Hyphen => say('-', TextState::EscapedDashDash(last), out),
-        Class::Less => to(TokState::Text(TextState::RawLessThan(RawText::ScriptDataEscaped, last)), out),
-        Class::Greater => say('>', TextState::Raw(RawText::ScriptData, last), out),
+        Class::Hyphen => emit(Token::Character(c), TextState::EscapedDashDash(last), out),
+        Class::Less => to(
+            TokState::Text(TextState::RawLessThan(RawText::ScriptDataEscaped, last)),
+            out,
+        ),
+        Class::Greater => emit(
+            Token::Character(c),
+            TextState::Raw(RawText::ScriptData, last),
+            out,
+        ),
         Class::InputEnd => finish(out),
-        _ => say(shown(c), TextState::Raw(RawText::ScriptDataEscaped, last), out),
+        _ => emit(
+            Token::Character(shown(c)),
+            TextState::Raw(RawText::ScriptDataEscaped, last),
+            out,
+        ),
     }
 }
 
 /// 13.2.5.26 Script data double escape start state
-pub fn double_escape_start_row(last: Option<Word>, mut name: Text, class: Class, c: char, out: &mut Tokens) -> Result<Next, NoMemory>
+pub fn double_escape_start_row(
+    last: Option<Word>,
+    mut name: Text,
+    class: Class,
+    c: char,
+    out: &mut Tokens,
+) -> Result<Next, NoMemory>
     ensures { IfOk result (Follows (rows.double_escape_start_row last name class c) out.old out.new) }
 {
     match class {
         Class::Space | Class::Slash | Class::Greater => {
             if is_script(&name) {
-                say(c, TextState::DoubleEscaped(last), out)
+                emit(Token::Character(c), TextState::DoubleEscaped(last), out)
             } else {
-                say(c, TextState::Raw(RawText::ScriptDataEscaped, last), out)
+                emit(
+                    Token::Character(c),
+                    TextState::Raw(RawText::ScriptDataEscaped, last),
+                    out,
+                )
             }
         }
         Class::Alpha => {
-            name.push(c.to_ascii_lowercase())?;
-            say(c, TextState::DoubleEscapeStart(last, name), out)
+            name.push(name_char(c))?;
+            emit(
+                Token::Character(c),
+                TextState::DoubleEscapeStart(last, name),
+                out,
+            )
         }
         _ => again_in(TextState::Raw(RawText::ScriptDataEscaped, last), out),
     }
 }
 
 /// 13.2.5.27 Script data double escaped state
-pub fn double_escaped_row(last: Option<Word>, class: Class, c: char, out: &mut Tokens) -> Result<Next, NoMemory>
+pub fn double_escaped_row(
+    last: Option<Word>,
+    class: Class,
+    c: char,
+    out: &mut Tokens,
+) -> Result<Next, NoMemory>
     ensures { IfOk result (Follows (rows.double_escaped_row last class c) out.old out.new) }
 {
     match class {
-        Class::Hyphen => say('-', TextState::DoubleEscapedDash(last), out),
-        Class::Less => say('<', TextState::DoubleEscapedLessThan(last), out),
+        Class::Hyphen => emit(Token::Character(c), TextState::DoubleEscapedDash(last), out),
+        Class::Less => emit(
+            Token::Character(c),
+            TextState::DoubleEscapedLessThan(last),
+            out,
+        ),
         Class::InputEnd => finish(out),
-        _ => say(shown(c), TextState::DoubleEscaped(last), out),
+        _ => emit(
+            Token::Character(shown(c)),
+            TextState::DoubleEscaped(last),
+            out,
+        ),
     }
 }
 
 /// 13.2.5.28 Script data double escaped dash state
-pub fn double_escaped_dash_row(last: Option<Word>, class: Class, c: char, out: &mut Tokens) -> Result<Next, NoMemory>
+pub fn double_escaped_dash_row(
+    last: Option<Word>,
+    class: Class,
+    c: char,
+    out: &mut Tokens,
+) -> Result<Next, NoMemory>
     ensures { IfOk result (Follows (rows.double_escaped_dash_row last class c) out.old out.new) }
 {
     match class {
-        Class::Hyphen => say('-', TextState::DoubleEscapedDashDash(last), out),
-        Class::Less => say('<', TextState::DoubleEscapedLessThan(last), out),
+        Class::Hyphen => emit(
+            Token::Character(c),
+            TextState::DoubleEscapedDashDash(last),
+            out,
+        ),
+        Class::Less => emit(
+            Token::Character(c),
+            TextState::DoubleEscapedLessThan(last),
+            out,
+        ),
         Class::InputEnd => finish(out),
-        _ => say(shown(c), TextState::DoubleEscaped(last), out),
+        _ => emit(
+            Token::Character(shown(c)),
+            TextState::DoubleEscaped(last),
+            out,
+        ),
     }
 }
 
 /// 13.2.5.29 Script data double escaped dash dash state
-pub fn double_escaped_dash_dash_row(last: Option<Word>, class: Class, c: char, out: &mut Tokens) -> Result<Next, NoMemory>
+pub fn double_escaped_dash_dash_row(
+    last: Option<Word>,
+    class: Class,
+    c: char,
+    out: &mut Tokens,
+) -> Result<Next, NoMemory>
     ensures { IfOk result (Follows (rows.double_escaped_dash_dash_row last class c) out.old out.new) }
 {
     match class {
-        Class::Hyphen => say('-', TextState::DoubleEscapedDashDash(last), out),
-        Class::Less => say('<', TextState::DoubleEscapedLessThan(last), out),
-        Class::Greater => say('>', TextState::Raw(RawText::ScriptData, last), out),
+        Class::Hyphen => emit(
+            Token::Character(c),
+            TextState::DoubleEscapedDashDash(last),
+            out,
+        ),
+        Class::Less => emit(
+            Token::Character(c),
+            TextState::DoubleEscapedLessThan(last),
+            out,
+        ),
+        Class::Greater => emit(
+            Token::Character(c),
+            TextState::Raw(RawText::ScriptData, last),
+            out,
+        ),
         Class::InputEnd => finish(out),
-        _ => say(shown(c), TextState::DoubleEscaped(last), out),
+        _ => emit(
+            Token::Character(shown(c)),
+            TextState::DoubleEscaped(last),
+            out,
+        ),
     }
 }
 
 /// 13.2.5.30 Script data double escaped less-than sign state
-pub fn double_escaped_less_than_row(alloc: Global, last: Option<Word>, class: Class, c: char, out: &mut Tokens) -> Result<Next, NoMemory>
+pub fn double_escaped_less_than_row(
+    alloc: Global,
+    last: Option<Word>,
+    class: Class,
+    c: char,
+    out: &mut Tokens,
+) -> Result<Next, NoMemory>
     ensures { IfOk result (Follows (rows.double_escaped_less_than_row last class c) out.old out.new) }
 {
     match class {
-        Class::Slash => say('/', TextState::DoubleEscapeEnd(last, Text::new(alloc)), out),
+        Class::Slash => emit(
+            Token::Character(c),
+            TextState::DoubleEscapeEnd(last, Text::new(alloc)),
+            out,
+        ),
         _ => again_in(TextState::DoubleEscaped(last), out),
     }
 }
 
 /// 13.2.5.31 Script data double escape end state
-pub fn double_escape_end_row(last: Option<Word>, mut name: Text, class: Class, c: char, out: &mut Tokens) -> Result<Next, NoMemory>
+pub fn double_escape_end_row(
+    last: Option<Word>,
+    mut name: Text,
+    class: Class,
+    c: char,
+    out: &mut Tokens,
+) -> Result<Next, NoMemory>
     ensures { IfOk result (Follows (rows.double_escape_end_row last name class c) out.old out.new) }
 {
     match class {
         Class::Space | Class::Slash | Class::Greater => {
             if is_script(&name) {
-                say(c, TextState::Raw(RawText::ScriptDataEscaped, last), out)
+                emit(
+                    Token::Character(c),
+                    TextState::Raw(RawText::ScriptDataEscaped, last),
+                    out,
+                )
             } else {
-                say(c, TextState::DoubleEscaped(last), out)
+                emit(Token::Character(c), TextState::DoubleEscaped(last), out)
             }
         }
         Class::Alpha => {
-            name.push(c.to_ascii_lowercase())?;
-            say(c, TextState::DoubleEscapeEnd(last, name), out)
+            name.push(name_char(c))?;
+            emit(
+                Token::Character(c),
+                TextState::DoubleEscapeEnd(last, name),
+                out,
+            )
         }
         _ => again_in(TextState::DoubleEscaped(last), out),
     }

@@ -9,7 +9,7 @@ use crate::escapes::{
     double_escaped_dash_row, double_escaped_less_than_row, double_escaped_row,
     escape_start_dash_row, escape_start_row, escaped_dash_dash_row, escaped_dash_row,
 };
-use char_class::next::{Next, again, emit, emit_again, emit_tag, emit_two, finish, new_tag, to};
+use char_class::next::{Next, again, emit, emit_again, emit_tag, finish, new_tag, to};
 use char_class::shown;
 use html_types::{
     Class, NoMemory, PartialTag, RawText, ReferenceState, ReturnState, TagKind, TagState, Text,
@@ -68,7 +68,7 @@ fn data_row(class: Class, c: char, out: &mut Tokens) -> Result<Next, NoMemory>
         }
         Class::Less => to(TokState::Tag(TagState::TagOpen), out),
         Class::InputEnd => finish(out),
-        _ => emit(Token::Character(c), TokState::Text(TextState::Data), out),
+        _ => emit(Token::Character(c), TextState::Data, out),
     }
 }
 
@@ -88,17 +88,13 @@ fn raw_row(
             to(TokState::Reference(ReferenceState::Ampersand(back)), out)
         }
         (RawText::ScriptDataEscaped, Class::Hyphen) => emit(
-            Token::Character('-'),
-            TokState::Text(TextState::EscapedDash(last)),
+            Token::Character(c),
+            TextState::EscapedDash(last),
             out,
         ),
         (_, Class::Less) => to(TokState::Text(TextState::RawLessThan(raw, last)), out),
         (_, Class::InputEnd) => finish(out),
-        _ => emit(
-            Token::Character(shown(c)),
-            TokState::Text(TextState::Raw(raw, last)),
-            out,
-        ),
+        _ => emit(Token::Character(shown(c)), TextState::Raw(raw, last), out),
     }
 }
 
@@ -108,11 +104,7 @@ fn plaintext_row(class: Class, c: char, out: &mut Tokens) -> Result<Next, NoMemo
 {
     match class {
         Class::InputEnd => finish(out),
-        _ => emit(
-            Token::Character(shown(c)),
-            TokState::Text(TextState::Plaintext),
-            out,
-        ),
+        _ => emit(Token::Character(shown(c)), TextState::Plaintext, out),
     }
 }
 
@@ -129,25 +121,19 @@ fn raw_less_than_row(
 {
     match (raw, class) {
         (_, Class::Slash) => to(TokState::Text(TextState::RawEndTagOpen(raw, last)), out),
-        (RawText::ScriptData, Class::Bang) => emit_two(
-            Token::Character('<'),
-            Token::Character('!'),
-            TokState::Text(TextState::EscapeStart(last)),
-            out,
-        ),
+        (RawText::ScriptData, Class::Bang) => {
+            out.push(Token::Character('<'))?;
+            emit(Token::Character('!'), TextState::EscapeStart(last), out)
+        }
         (RawText::ScriptDataEscaped, Class::Alpha) => {
             let name = Text::new(alloc);
             emit_again(
                 Token::Character('<'),
-                TokState::Text(TextState::DoubleEscapeStart(last, name)),
+                TextState::DoubleEscapeStart(last, name),
                 out,
             )
         }
-        _ => emit_again(
-            Token::Character('<'),
-            TokState::Text(TextState::Raw(raw, last)),
-            out,
-        ),
+        _ => emit_again(Token::Character('<'), TextState::Raw(raw, last), out),
     }
 }
 
@@ -172,11 +158,7 @@ fn raw_end_tag_open_row(
         }
         _ => {
             out.push(Token::Character('<'))?;
-            emit_again(
-                Token::Character('/'),
-                TokState::Text(TextState::Raw(raw, last)),
-                out,
-            )
+            emit_again(Token::Character('/'), TextState::Raw(raw, last), out)
         }
     }
 }
