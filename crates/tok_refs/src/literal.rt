@@ -1,35 +1,30 @@
-//! What a reference comes to: a text, for the text or the attribute value in which it stands, and the state to which it
-//! returns.
+//! What a reference comes to: characters for the text, or for the attribute's value, in which it stands.
 
-use char_class::next::{Next, again};
+ghost use Rattle.std.specs.Prelude.{◌≡◌, ◌++◌, map, true, IfOk, OnOk};
+ghost use Rattle.std.specs.Str.{chars};
+ghost use Rattle.char_class.specs.Steps.{Follows};
+ghost use Rattle.standard.specs.ReferenceStates as rows;
+ghost use Rattle.html_types.specs.declared.token.Token.TheVariants.{Character};
+
+use char_class::Next;
 use html_types::{
     Attribute, NoMemory, RawText, ReturnState, TagState, TextState, TokState, Token, Tokens,
 };
 
-/// The state to which a reference returns.
-pub fn return_state(back: ReturnState) -> TokState {
-    match back {
-        ReturnState::Data => TokState::Text(TextState::Data),
-        ReturnState::Rcdata(last) => TokState::Text(TextState::Raw(RawText::Rcdata, last)),
-        ReturnState::AttributeValueQuoted(tag, held, quote) => {
-            TokState::Tag(TagState::AttributeValueQuoted(tag, held, quote))
-        }
-        ReturnState::AttributeValueUnquoted(tag, held) => {
-            TokState::Tag(TagState::AttributeValueUnquoted(tag, held))
-        }
-    }
-}
-
-// The characters as tokens.
-fn emit_text(text: &str, out: &mut Tokens) -> Result<(), NoMemory> {
+// A token for each character.
+fn emit_characters(text: &str, out: &mut Tokens) -> Result<(), NoMemory>
+    ensures { OnOk result (out.new ≡ out.old ++ map Character (chars text.now)) }
+{
     for c in text.chars() {
         out.push(Token::Character(c))?;
     }
     Ok(())
 }
 
-// The value with the characters at its end. A value that is dropped stays so.
-fn append(held: Option<Attribute>, text: &str) -> Result<Option<Attribute>, NoMemory> {
+// The characters behind a value. A value that is dropped stays so.
+fn append(held: Option<Attribute>, text: &str) -> Result<Option<Attribute>, NoMemory>
+    ensures { IfOk result (λ h. h ≡ rows.value_with held (chars text.now)) }
+{
     match held {
         None => Ok(None),
         Some(mut attribute) => {
@@ -39,32 +34,43 @@ fn append(held: Option<Attribute>, text: &str) -> Result<Option<Attribute>, NoMe
     }
 }
 
-/// Puts a text where the reference stands: as tokens, or at the end of the value. Gives the state to which it returns.
-pub fn put(back: ReturnState, text: &str, out: &mut Tokens) -> Result<TokState, NoMemory> {
-    match back {
+/// Returns from a reference with the characters of this text: they are emitted, or added to the value. The character at hand
+/// may be reconsumed there.
+pub fn put(
+    back: ReturnState,
+    text: &str,
+    reconsumes: bool,
+    out: &mut Tokens,
+) -> Result<Next, NoMemory>
+    ensures { IfOk result (Follows (rows.literally back (chars text.now) reconsumes) out.old out.new) }
+{
+    let state = match back {
         ReturnState::Data => {
-            emit_text(text, out)?;
-            Ok(return_state(ReturnState::Data))
+            emit_characters(text, out)?;
+            TokState::Text(TextState::Data)
         }
         ReturnState::Rcdata(last) => {
-            emit_text(text, out)?;
-            Ok(return_state(ReturnState::Rcdata(last)))
+            emit_characters(text, out)?;
+            TokState::Text(TextState::Raw(RawText::Rcdata, last))
         }
         ReturnState::AttributeValueQuoted(tag, held, quote) => {
-            let held = append(held, text)?;
-            Ok(return_state(ReturnState::AttributeValueQuoted(
-                tag, held, quote,
-            )))
+            let longer = append(held, text)?;
+            TokState::Tag(TagState::AttributeValueQuoted(tag, longer, quote))
         }
         ReturnState::AttributeValueUnquoted(tag, held) => {
-            let held = append(held, text)?;
-            Ok(return_state(ReturnState::AttributeValueUnquoted(tag, held)))
+            let longer = append(held, text)?;
+            TokState::Tag(TagState::AttributeValueUnquoted(tag, longer))
         }
-    }
+    };
+    Ok(Next {
+        state,
+        again: reconsumes,
+    })
 }
 
-/// Puts a text where the reference stands, and reads the character again in the state to which it returns.
-pub fn literally(back: ReturnState, text: &str, out: &mut Tokens) -> Result<Next, NoMemory> {
-    let state = put(back, text, out)?;
-    again(state, out)
+/// Returns from what was no reference: its text stands as it was written.
+pub fn literally(back: ReturnState, text: &str, out: &mut Tokens) -> Result<Next, NoMemory>
+    ensures { IfOk result (Follows (rows.literally back (chars text.now) true) out.old out.new) }
+{
+    put(back, text, true, out)
 }

@@ -1,8 +1,17 @@
 //! The longest name, and what stands in its place.
 
+ghost use Rattle.std.specs.Prelude.{◌≡◌, ◌++◌, drop, Option, IfOk};
+ghost use Rattle.std.specs.Str.{chars};
+ghost use Rattle.char_class.specs.Steps.{Follows};
+ghost use Rattle.standard.specs.Entities.{Entity};
+ghost use Rattle.standard.specs.ReferenceStates as rows;
+ghost use Rattle.entity_table.specs.Matches.{IsMatch, Tells};
+ghost use Rattle.entity_table.specs.View.{characters_in};
+
 use crate::literal::literally;
+use char_class::class_of;
 use char_class::next::{Next, to};
-use entity_table::{Cursor, Match, Step, Table};
+use entity_table::{Characters, Cursor, Match, Step, Table};
 use html_types::{Class, NoMemory, ReferenceState, ReturnState, Text, TokState, Tokens};
 use std::alloc::Global;
 
@@ -15,26 +24,23 @@ pub fn named_row(
     class: Class,
     c: char,
     out: &mut Tokens,
-) -> Result<Next, NoMemory> {
-    match read_on(table, &held, class, c) {
-        Step::More => {
-            held.push(c)?;
-            to(TokState::Reference(ReferenceState::Named(back, held)), out)
-        }
-        Step::Stop(best) => end_of_name(alloc, back, &held, best, class, out),
-    }
-}
-
-// What the character makes of the text that is held. Nothing follows the end of the input.
-fn read_on(table: &Table, held: &Text, class: Class, c: char) -> Step {
+) -> Result<Next, NoMemory>
+    ensures { IfOk result (Follows (rows.named_row table.now back held class c) out.old out.new) }
+{
     let mut cursor = Cursor::over(table, held.as_str());
     match class {
-        Class::InputEnd => Step::Stop(cursor.best()),
-        _ => cursor.push(table, c),
+        Class::InputEnd => end_of_name(alloc, back, &held, cursor.best(), class, out),
+        _ => match cursor.push(table, c) {
+            Step::More => {
+                held.push(c)?;
+                to(TokState::Reference(ReferenceState::Named(back, held)), out)
+            }
+            Step::Stop(best) => end_of_name(alloc, back, &held, best, class, out),
+        },
     }
 }
 
-// No name begins with what is held and the character behind it.
+// No name begins with what is held and the character behind it, which is of this class.
 fn end_of_name(
     alloc: Global,
     back: ReturnState,
@@ -42,58 +48,86 @@ fn end_of_name(
     best: Option<Match>,
     class: Class,
     out: &mut Tokens,
-) -> Result<Next, NoMemory> {
+) -> Result<Next, NoMemory>
+    ensures { (found : Option Entity) → Tells found best
+        → IfOk result (Follows (rows.named_step back held.now found class) out.old out.new) }
+{
     match best {
         None => literally(back, held.as_str(), out),
-        Some(found) => {
-            let rest = skipped(held.as_str(), found.length);
-            if is_in_value(&back) && !found.ends_in_semicolon && goes_on(rest, class) {
-                literally(back, held.as_str(), out)
-            } else {
-                let text = replaced(alloc, &found, rest)?;
-                literally(back, text.as_str(), out)
-            }
-        }
+        Some(found) => end_of_match(alloc, back, held, found, class, out),
+    }
+}
+
+// This is the longest name that what is held begins with.
+fn end_of_match(
+    alloc: Global,
+    back: ReturnState,
+    held: &Text,
+    found: Match,
+    class: Class,
+    out: &mut Tokens,
+) -> Result<Next, NoMemory>
+    ensures { (e : Entity) → IsMatch e found
+        → IfOk result (Follows (rows.named_step back held.now (Option.Some e) class) out.old out.new) }
+{
+    let rest = skip(held.as_str(), found.length);
+    if is_in_attribute(&back) && !found.ends_in_semicolon && goes_on(class_behind(rest, class)) {
+        literally(back, held.as_str(), out)
+    } else {
+        let text = replace(alloc, found.characters, rest)?;
+        literally(back, text.as_str(), out)
     }
 }
 
 // The text without its first characters.
-fn skipped(text: &str, count: usize) -> &str {
+fn skip(text: &str, count: usize) -> &str
+    ensures { chars result.now ≡ drop count (chars text.now) }
+{
     let mut rest = text.chars();
-    for _ in 0..count {
-        if rest.next().is_none() {
-            break;
-        }
+    for i in 0..count {
+        let Some(_) = rest.next() else {
+            return "";
+        };
     }
     rest.as_str()
 }
 
-fn is_in_value(back: &ReturnState) -> bool {
+// Whether the reference stands in an attribute's value.
+fn is_in_attribute(back: &ReturnState) -> bool
+    ensures { result ≡ rows.is_in_attribute back.now }
+{
     match back {
-        ReturnState::Data | ReturnState::Rcdata(_) => false,
-        ReturnState::AttributeValueQuoted(_, _, _) | ReturnState::AttributeValueUnquoted(_, _) => {
-            true
-        }
+        ReturnState::Data => false,
+        ReturnState::Rcdata(_) => false,
+        ReturnState::AttributeValueQuoted(_, _, _) => true,
+        ReturnState::AttributeValueUnquoted(_, _) => true,
     }
 }
 
-// Whether a name would go on behind the match: the next character is `=`, or an ASCII letter or digit. Behind what is held,
-// that is the character of this class.
-fn goes_on(rest: &str, class: Class) -> bool {
+// The class of the character next behind a name: of the rest of what was held, or else of the one at hand.
+fn class_behind(rest: &str, class: Class) -> Class
+    ensures { result ≡ rows.class_behind (chars rest.now) class }
+{
     match rest.chars().next() {
-        Some(next) => next == '=' || next.is_ascii_alphanumeric(),
-        None => match class {
-            Class::Equals | Class::Digit | Class::Alpha => true,
-            _ => false,
-        },
+        None => class,
+        Some(c) => class_of(c),
     }
 }
 
-// What the name stands for, and the rest of what was held.
-fn replaced(alloc: Global, found: &Match, rest: &str) -> Result<Text, NoMemory> {
+// Whether a character of this class may belong to a longer name, or to what a script reads behind it.
+fn goes_on(class: Class) -> bool
+    ensures { result ≡ rows.goes_on class }
+{
+    matches!(&class, Class::Equals | Class::Alpha | Class::Digit)
+}
+
+// What a name stands for, and the rest of what was held.
+fn replace(alloc: Global, characters: Characters, rest: &str) -> Result<Text, NoMemory>
+    ensures { IfOk result (λ t. t ≡ characters_in characters ++ chars rest.now) }
+{
     let mut text = Text::new(alloc);
-    text.push(found.characters.first)?;
-    if let Some(second) = found.characters.second {
+    text.push(characters.first)?;
+    if let Some(second) = characters.second {
         text.push(second)?;
     }
     text.push_str(rest)?;

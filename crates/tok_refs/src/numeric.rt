@@ -1,29 +1,34 @@
 //! References by the number of a character.
 
+ghost use Rattle.std.specs.Prelude.{◌≡◌, ◌+◌, ◌*◌, ◌≤◌, [], ◌∷◌, min, true, false, MatchOption, IfOk};
+ghost use Rattle.std.specs.Char.{is_digit};
+ghost use Rattle.char_class.specs.Steps.{Follows};
+ghost use Rattle.standard.specs.ReferenceStates as rows;
+
 use crate::literal::{literally, put};
 use char_class::next::{Next, again, to};
 use html_types::{Class, NoMemory, ReferenceState, ReturnState, Text, TokState, Tokens};
 use std::alloc::Global;
 
-/// All codes beyond the last character stand as this one.
+// All codes beyond the last character stand as this one.
 const BEYOND: u32 = 0x11_0000;
 
 /// 13.2.5.75 Numeric character reference state, 13.2.5.77 Decimal character reference start state
+#[tactic(auto, using(crate::proofs::Marks::mark_and_hash))]
 pub fn numeric_row(
     back: ReturnState,
     class: Class,
     c: char,
     out: &mut Tokens,
-) -> Result<Next, NoMemory> {
+) -> Result<Next, NoMemory>
+    ensures { IfOk result (Follows (rows.numeric_row back class c) out.old out.new) }
+{
     match class {
         Class::Alpha if c == 'x' || c == 'X' => to(
             TokState::Reference(ReferenceState::HexadecimalStart(back, c)),
             out,
         ),
-        Class::Digit => again(
-            TokState::Reference(ReferenceState::Decimal(back, 0)),
-            out,
-        ),
+        Class::Digit => again(TokState::Reference(ReferenceState::Decimal(back, 0)), out),
         _ => literally(back, "&#", out),
     }
 }
@@ -36,19 +41,36 @@ pub fn hexadecimal_start_row(
     class: Class,
     c: char,
     out: &mut Tokens,
-) -> Result<Next, NoMemory> {
-    match digit_of(class, c, 16) {
-        Some(_) => again(
-            TokState::Reference(ReferenceState::Hexadecimal(back, 0)),
-            out,
-        ),
-        None => {
-            let mut text = Text::new(alloc);
-            text.push_str("&#")?;
-            text.push(x)?;
-            literally(back, text.as_str(), out)
-        }
+) -> Result<Next, NoMemory>
+    ensures { IfOk result (Follows (rows.hexadecimal_start_row back x class c) out.old out.new) }
+{
+    match class {
+        Class::InputEnd => no_digits(alloc, back, x, out),
+        _ => if c.is_digit(16) {
+            again(
+                TokState::Reference(ReferenceState::Hexadecimal(back, 0)),
+                out,
+            )
+        } else {
+            no_digits(alloc, back, x, out)
+        },
     }
+}
+
+// No digit stands behind `&#x`.
+fn no_digits(
+    alloc: Global,
+    back: ReturnState,
+    x: char,
+    out: &mut Tokens,
+) -> Result<Next, NoMemory>
+    ensures { IfOk result (Follows (rows.literally back (38 ∷ 35 ∷ x ∷ []) true) out.old out.new) }
+{
+    let mut text = Text::new(alloc);
+    text.push('&')?;
+    text.push('#')?;
+    text.push(x)?;
+    literally(back, text.as_str(), out)
 }
 
 /// 13.2.5.78 Hexadecimal character reference state
@@ -59,13 +81,21 @@ pub fn hexadecimal_row(
     class: Class,
     c: char,
     out: &mut Tokens,
-) -> Result<Next, NoMemory> {
-    match digit_of(class, c, 16) {
-        Some(digit) => to(
-            TokState::Reference(ReferenceState::Hexadecimal(back, longer(code, 16, digit))),
-            out,
-        ),
-        None => end_of_digits(alloc, back, code, class, out),
+) -> Result<Next, NoMemory>
+    ensures { IfOk result (Follows (rows.hexadecimal_row back code class c) out.old out.new) }
+{
+    match class {
+        Class::Semicolon => end_of_digits(alloc, back, code, false, out),
+        Class::InputEnd => end_of_digits(alloc, back, code, true, out),
+        _ => match with_digit(code, 16, c) {
+            Some(longer) => {
+                to(
+                    TokState::Reference(ReferenceState::Hexadecimal(back, longer)),
+                    out,
+                )
+            }
+            None => end_of_digits(alloc, back, code, true, out),
+        },
     }
 }
 
@@ -77,48 +107,63 @@ pub fn decimal_row(
     class: Class,
     c: char,
     out: &mut Tokens,
-) -> Result<Next, NoMemory> {
-    match digit_of(class, c, 10) {
-        Some(digit) => to(
-            TokState::Reference(ReferenceState::Decimal(back, longer(code, 10, digit))),
-            out,
-        ),
-        None => end_of_digits(alloc, back, code, class, out),
-    }
-}
-
-// The value of a digit.
-fn digit_of(class: Class, c: char, radix: u32) -> Option<u32> {
+) -> Result<Next, NoMemory>
+    ensures { IfOk result (Follows (rows.decimal_row back code class c) out.old out.new) }
+{
     match class {
-        Class::Digit | Class::Alpha => c.to_digit(radix),
-        _ => None,
+        Class::Semicolon => end_of_digits(alloc, back, code, false, out),
+        Class::InputEnd => end_of_digits(alloc, back, code, true, out),
+        _ => match with_digit(code, 10, c) {
+            Some(longer) => {
+                to(
+                    TokState::Reference(ReferenceState::Decimal(back, longer)),
+                    out,
+                )
+            }
+            None => end_of_digits(alloc, back, code, true, out),
+        },
     }
 }
 
-// The code with one more digit.
-fn longer(code: u32, radix: u32, digit: u32) -> u32 {
-    code.saturating_mul(radix).saturating_add(digit).min(BEYOND)
+// The code with one more digit, where the character is one.
+fn with_digit(code: u32, radix: u32, c: char) -> Option<u32>
+    requires low { 2 ≤ radix }
+    requires high { radix ≤ 36 }
+    ensures { MatchOption result
+        (is_digit c radix ≡ false)
+        (λ longer. (is_digit c radix ≡ true) × (longer ≡ rows.longer_code radix code c)) }
+{
+    let digit = c.to_digit(radix)?;
+    Some(longer_code(code, radix, digit))
 }
 
-// Behind the digits. A `;` ends the reference; any other character is read again.
+fn longer_code(code: u32, radix: u32, digit: u32) -> u32
+    ensures { result ≡ min (code * radix + digit) 0x11_0000 }
+{
+    code.saturating_mul(radix)
+        .saturating_add(digit)
+        .min(BEYOND)
+}
+
+// Behind the digits. The character at hand is a `;`, which belongs to the reference, or it is reconsumed.
 fn end_of_digits(
     alloc: Global,
     back: ReturnState,
     code: u32,
-    class: Class,
+    reconsumes: bool,
     out: &mut Tokens,
-) -> Result<Next, NoMemory> {
+) -> Result<Next, NoMemory>
+    ensures { IfOk result (Follows (rows.referred back code reconsumes) out.old out.new) }
+{
     let mut text = Text::new(alloc);
     text.push(character_of(code))?;
-    let state = put(back, text.as_str(), out)?;
-    match class {
-        Class::Semicolon => to(state, out),
-        _ => again(state, out),
-    }
+    put(back, text.as_str(), reconsumes, out)
 }
 
 /// 13.2.5.80 Numeric character reference end state
-fn character_of(code: u32) -> char {
+fn character_of(code: u32) -> char
+    ensures { result ≡ rows.character_of code }
+{
     match code {
         0 => '\u{fffd}',
         0x80 => '\u{20ac}',

@@ -1,5 +1,9 @@
 //! The rows of these states: what each does with a character of each class, or at the end of the input.
 
+ghost use Rattle.std.specs.Prelude.{IfOk};
+ghost use Rattle.char_class.specs.Steps.{Follows};
+ghost use Rattle.standard.specs.ReferenceStates as rows;
+
 use crate::literal::literally;
 use crate::named::named_row;
 use crate::numeric::{decimal_row, hexadecimal_row, hexadecimal_start_row, numeric_row};
@@ -16,9 +20,11 @@ pub fn step(
     class: Class,
     c: char,
     out: &mut Tokens,
-) -> Result<Next, NoMemory> {
+) -> Result<Next, NoMemory>
+    ensures { IfOk result (Follows (rows.reference_row table.now state class c) out.old out.new) }
+{
     match state {
-        ReferenceState::Ampersand(back) => ampersand_row(alloc, back, class, out),
+        ReferenceState::Ampersand(back) => ampersand_row(alloc, back, class, c, out),
         ReferenceState::Named(back, held) => named_row(alloc, table, back, held, class, c, out),
         ReferenceState::Numeric(back) => numeric_row(back, class, c, out),
         ReferenceState::HexadecimalStart(back, x) => {
@@ -30,12 +36,16 @@ pub fn step(
 }
 
 /// 13.2.5.72 Character reference state
+#[tactic(auto, using(crate::proofs::Marks::mark))]
 fn ampersand_row(
     alloc: Global,
     back: ReturnState,
     class: Class,
+    c: char,
     out: &mut Tokens,
-) -> Result<Next, NoMemory> {
+) -> Result<Next, NoMemory>
+    ensures { IfOk result (Follows (rows.ampersand_row back class c) out.old out.new) }
+{
     match class {
         Class::Alpha | Class::Digit => {
             let mut held = Text::new(alloc);
