@@ -15,6 +15,10 @@ pub mod FreshnessTexts
 pub mod FreshnessDocs
 pub mod SettleLemmas
 pub mod FeedLemmas
+pub mod EndsLemmas
+pub mod EscapeLaws
+pub mod MarkLaws
+pub mod ReferenceLaws
 pub mod TokenizerLaws
 pub mod TokenizerRows
 pub mod RenamingWalks

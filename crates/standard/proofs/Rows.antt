@@ -4,13 +4,19 @@ use Prim.Native.String.{String}
 use Rattle.std.specs.Prelude.{encode_utf8_all}
 use Rattle.html_types.specs.declared.script.Ending.{Ending}
 use Rattle.html_types.specs.declared.script.Ending.TheVariants as ending
+use Rattle.standard.specs.Entities.{Entities}
 use Rattle.standard.specs.Serial.{serial_with}
 use Rattle.standard.specs.Output.{output}
 use Rattle.standard.proofs.OnLiterals.{serial_on_literals}
+use Rattle.standard.proofs.TokenizerRows.{some_names}
 
--- what is written for a page of this text and ending
+-- what is written for a page of this text and ending, where these names are listed
+abbrev written_with : Entities → List ℕ → Ending → Option (List ℕ)
+written_with names text ending = option_map output (serial_with 10000 (record { text = text; ending = ending }) (record { entities = names }))
+
+-- and where none is
 abbrev written_for : List ℕ → Ending → Option (List ℕ)
-written_for text ending = option_map output (serial_with 10000 (record { text = text; ending = ending }) (record { entities = [] }))
+written_for text ending = written_with [] text ending
 
 abbrev written : String → Ending → Option (List ℕ)
 written page ending = written_for (codes page) ending
@@ -30,9 +36,9 @@ a_write_in_head : written "<script>document.write(\"<p>x\");</script>y" ending.E
 unfolding serial_on_literals
 a_write_in_head = refl
 
-doctype_is_missing : written "<!DOCTYPE html><p>Hi" ending.End ≡ wants ""
+doctype : written "<!DOCTYPE html><p>Hi" ending.End ≡ wants "tree \"<!DOCTYPE html><html><head></head><body><p>Hi</p></body></html>\"\n"
 unfolding serial_on_literals
-doctype_is_missing = refl
+doctype = refl
 
 tag_begun_by_a_write : written "<script>document.write(\"<i-i\");</script> class=\"k\">z" ending.End ≡ wants "tree \"<html><head><script>document.write(\\\"<i-i\\\");</script></head><body><i-i class=\\\"k\\\">z</i-i></body></html>\"\n"
 unfolding serial_on_literals
@@ -126,9 +132,9 @@ table_is_missing : written "<p>a<table>c" ending.End ≡ wants ""
 unfolding serial_on_literals
 table_is_missing = refl
 
-reference_is_missing : written "<p>a&amp;c" ending.End ≡ wants ""
+reference : written_with some_names (codes "<p>a&amp;c") ending.End ≡ wants "tree \"<html><head></head><body><p>a&amp;c</p></body></html>\"\n"
 unfolding serial_on_literals
-reference_is_missing = refl
+reference = refl
 
 syntax_line : written "<script>foo();</script><p>a" ending.End ≡ wants "syntax 1\ntree \"<html><head><script>foo();</script></head><body><p>a</p></body></html>\"\n"
 unfolding serial_on_literals
@@ -166,9 +172,65 @@ text_after_body : written "<body>a</body> b</html> c" ending.End ≡ wants "tree
 unfolding serial_on_literals
 text_after_body = refl
 
-comment_is_missing : written "<p>a<!--b-->" ending.End ≡ wants ""
+comment : written "<p>a<!--b-->" ending.End ≡ wants "tree \"<html><head></head><body><p>a<!--b--></p></body></html>\"\n"
 unfolding serial_on_literals
-comment_is_missing = refl
+comment = refl
+
+shortest_comment : written "<p><!--->x" ending.End ≡ wants "tree \"<html><head></head><body><p><!---->x</p></body></html>\"\n"
+unfolding serial_on_literals
+shortest_comment = refl
+
+comments_everywhere : written "<!--a--><!DOCTYPE html><!--b--><html><!--c--><head><!--d--></head><!--e--><body>f</body><!--g--></html><!--h-->" ending.End ≡ wants "tree \"<!--a--><!DOCTYPE html><!--b--><html><!--c--><head><!--d--></head><!--e--><body>f</body><!--g--></html><!--h-->\"\n"
+unfolding serial_on_literals
+comments_everywhere = refl
+
+comment_cut_by_the_end : written "a<!--b-" ending.End ≡ wants "tree \"<html><head></head><body>a<!--b--></body></html>\"\n"
+unfolding serial_on_literals
+comment_cut_by_the_end = refl
+
+bogus_comments : written "a<?b></1><!c>" ending.End ≡ wants "tree \"<html><head></head><body>a<!--?b--><!--1--><!--c--></body></html>\"\n"
+unfolding serial_on_literals
+bogus_comments = refl
+
+doctype_in_body : written "<p>a<!DOCTYPE html>b" ending.End ≡ wants "tree \"<html><head></head><body><p>ab</p></body></html>\"\n"
+unfolding serial_on_literals
+doctype_in_body = refl
+
+doctype_with_no_name : written "<!DOCTYPE>a" ending.End ≡ wants "tree \"<!DOCTYPE ><html><head></head><body>a</body></html>\"\n"
+unfolding serial_on_literals
+doctype_with_no_name = refl
+
+script_in_a_script : written "<script><!--<script></script>--></script>a" ending.End ≡ wants "syntax 1\ntree \"<html><head><script><!--<script></script>--></script></head><body>a</body></html>\"\n"
+unfolding serial_on_literals
+script_in_a_script = refl
+
+reference_begun_by_a_write : written_with some_names (codes "<body><script>document.write(\"&am\");</script>p;") ending.End ≡ wants "tree \"<html><head></head><body><script>document.write(\\\"&am\\\");</script>&amp;</body></html>\"\n"
+unfolding serial_on_literals
+reference_begun_by_a_write = refl
+
+references : written_with some_names (codes "<p title=\"&notit;&amp;x\">&notit;&#128;</p>") ending.End ≡ wants "tree \"<html><head></head><body><p title=\\\"&amp;notit;&amp;x\\\">¬it;€</p></body></html>\"\n"
+unfolding serial_on_literals
+references = refl
+
+reference_in_a_title : written_with some_names (codes "<title>&lt;x</title><li>1<li>2") ending.End ≡ wants "tree \"<html><head><title>&lt;x</title></head><body><li>1</li><li>2</li></body></html>\"\n"
+unfolding serial_on_literals
+reference_in_a_title = refl
+
+reference_cut_by_the_end : written_with some_names (codes "a&am") ending.End ≡ wants "tree \"<html><head></head><body>a&amp;am</body></html>\"\n"
+unfolding serial_on_literals
+reference_cut_by_the_end = refl
+
+no_names_listed : written "<p>a&amp;c" ending.End ≡ wants "tree \"<html><head></head><body><p>a&amp;amp;c</p></body></html>\"\n"
+unfolding serial_on_literals
+no_names_listed = refl
+
+numeric_references : written "<p a=1 A='2' b>x&#x41;&#0;" ending.End ≡ wants "tree \"<html><head></head><body><p a=\\\"1\\\" b=\\\"\\\">xA�</p></body></html>\"\n"
+unfolding serial_on_literals
+numeric_references = refl
+
+reference_to_a_return : written "a&#13;b" ending.End ≡ wants "tree \"<html><head></head><body>a\\rb</body></html>\"\n"
+unfolding serial_on_literals
+reference_to_a_return = refl
 
 unknown_element : written "<foo Bar=\"a'b\" q='\"' z=y k>a</FOO>b" ending.End ≡ wants "tree \"<html><head></head><body><foo bar=\\\"a'b\\\" q=\\\"&quot;\\\" z=\\\"y\\\" k=\\\"\\\">a</foo>b</body></html>\"\n"
 unfolding serial_on_literals
@@ -301,3 +363,9 @@ one_open_element_more = refl
 pub void_element_beyond_the_limit : written_for (times 510 (codes "<div>") ++ codes "<br>") ending.Bad ≡ wants "refused depth\n"
 unfolding serial_on_literals
 void_element_beyond_the_limit = refl
+
+-- `times 600 "<div>"` behind a comment's beginning that was written: no element is opened
+comment_begun_by_a_write : written_for (codes "<script>document.write(\"<!--\");</script>" ++ times 600 (codes "<div>")) ending.End
+    ≡ Some (encode_utf8_all (codes "tree \"<html><head><script>document.write(\\\"<!--\\\");</script><!--" ++ times 600 (codes "<div>") ++ codes "--></head><body></body></html>\"\n"))
+unfolding serial_on_literals
+comment_begun_by_a_write = refl

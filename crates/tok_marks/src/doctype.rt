@@ -1,6 +1,7 @@
 //! The rows of doctypes. Public and system identifiers are read and dropped.
 
-ghost use Rattle.std.specs.Prelude.{◌≡◌, ◌∷◌, ◌++◌, [], IfOk};
+ghost use Rattle.std.specs.Prelude.{◌≡◌, ◌||◌, IfOk, codes};
+ghost use Rattle.standard.specs.Entities.{is_front};
 ghost use Rattle.standard.specs.DoctypeStates as rows;
 ghost use Rattle.standard.specs.Step as steps;
 ghost use Rattle.char_class.specs.Steps.{Follows};
@@ -133,16 +134,25 @@ fn doctype_name_row(
     }
 }
 
-/// Behind the letters `now`, in lower case: on with `public` or `system`, or nothing of the kind.
-fn keyword_step(name: Text, now: Text, out: &mut Tokens) -> Result<Next, NoMemory>
-    ensures { IfOk result (Follows (rows.keyword_step name now) out.old out.new) }
+/// Whether `public` or `system` begins with what was read.
+#[tactic(auto, using(crate::proofs::Fronts::chars_public, crate::proofs::Fronts::chars_system))]
+fn begins_keyword(seen: &Text) -> bool
+    ensures { result ≡ (is_front seen.now (codes "public") || is_front seen.now (codes "system")) }
 {
-    if now.is("public") {
+    begins(seen, "public") || begins(seen, "system")
+}
+
+/// Behind the letters `seen`, in lower case: on with `public` or `system`, or nothing of the kind.
+#[tactic(auto, using(crate::proofs::Fronts::chars_public, crate::proofs::Fronts::chars_system))]
+fn keyword_step(name: Text, seen: Text, out: &mut Tokens) -> Result<Next, NoMemory>
+    ensures { IfOk result (Follows (rows.keyword_step name seen) out.old out.new) }
+{
+    if seen.is("public") {
         to_doctype(DoctypeState::AfterPublicKeyword(name), out)
-    } else if now.is("system") {
+    } else if seen.is("system") {
         to_doctype(DoctypeState::AfterSystemKeyword(name), out)
-    } else if begins(&now, "public") || begins(&now, "system") {
-        to_doctype(DoctypeState::Keyword(name, now), out)
+    } else if begins_keyword(&seen) {
+        to_doctype(DoctypeState::Keyword(name, seen), out)
     } else {
         again_in_doctype(DoctypeState::Bogus(name, true), out)
     }
@@ -163,9 +173,9 @@ fn after_doctype_name_row(
         Class::Greater => emit_doctype(name, false, out),
         Class::InputEnd => finish_doctype(name, true, out),
         _ => {
-            let mut now = Text::new(alloc);
-            now.push(name_char(c))?;
-            keyword_step(name, now, out)
+            let mut seen = Text::new(alloc);
+            seen.push(name_char(c))?;
+            keyword_step(name, seen, out)
         }
     }
 }

@@ -4,5 +4,7 @@
 pub mod comment;
 pub mod declaration;
 pub mod doctype;
+pub mod in_place;
 
 pub use declaration::step;
+pub use in_place::add_in_place;
