@@ -1,0 +1,3 @@
+pub mod Marks
+pub mod NameRow
+pub mod Skipping
