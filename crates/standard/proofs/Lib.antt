@@ -33,3 +33,4 @@ pub mod PlainRows
 pub mod Renaming
 pub mod RenamingTexts
 pub mod PageExamples
+mod DumpExamples

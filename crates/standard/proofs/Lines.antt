@@ -1,5 +1,5 @@
 -- The lines of every moment that a parse passes through begin those of its outcome.
-use Rattle.std.proofs.Common.{◌≡◌, ℕ, zero, suc, ◌+◌, List, [], ◌∷◌, ◌++◌, Option, Some, None, option_and_then, refl, sym, ◌∙◌, ap, arith, append_assoc, append-nil, flat_map}
+use Rattle.std.proofs.Common.{◌≡◌, ℕ, false, zero, suc, ◌+◌, List, [], ◌∷◌, ◌++◌, Option, Some, None, option_and_then, refl, sym, ◌∙◌, ap, arith, append_assoc, append-nil, flat_map}
 use Rattle.std.proofs.lemmas.Grind.{flat_map-append}
 use Rattle.html_types.specs.declared.script.Ending.{Ending}
 use Rattle.html_types.specs.declared.script.Ending.TheVariants as ending
@@ -7,11 +7,13 @@ use Rattle.html_types.specs.declared.script.Line.{Line}
 use Rattle.html_types.specs.declared.instruction.Stop.TheVariants as stop
 use Rattle.html_types.specs.declared.instruction.Finish.{Finish}
 use Rattle.html_types.specs.declared.instruction.Finish.TheVariants as finale
+use Rattle.standard.specs.Page.{Page}
+use Rattle.standard.specs.Tree.{Nodes}
 use Rattle.standard.specs.Act.{Doc, acts}
 use Rattle.standard.specs.Parser.{Parser, Took, took, take_character, Finished, finish}
-use Rattle.standard.specs.Serial.{World, Outcome, Serial, Flow, goes, refuses, starved, inside, prepared, Moment, reading, tag_ended, over, at_end, after_character, after_script, read_next, moment_after, moments_on, first}
-use Rattle.standard.specs.Output.{line_text, result_text, output}
-use Rattle.standard.specs.Laws.{outcome_at, lines_of, GoesOnFrom, LinesBegin, OutputBegins}
+use Rattle.standard.specs.Serial.{World, Outcome, Serial, Flow, goes, refuses, starved, inside, prepared, Moment, reading, tag_ended, over, at_end, after_character, after_script, read_next, moment_after, moments_on, first, Passes, IsSerial, Result, finished, refused}
+use Rattle.standard.specs.Output.{line_text, result_text, output, result_with, output_with}
+use Rattle.standard.specs.Laws.{outcome_at, lines_of, GoesOnFrom, LinesBegin, OutputBegins, OutputWithBegins}
 use Rattle.standard.proofs.Kept.{Kept, Grows, Grows-steps, run_prepared-kept}
 use Rattle.standard.proofs.Fuel.{moments_on-by, over-by, serial-over}
 use Rattle.standard.proofs.Passing.{moments-add, finished-at}
@@ -83,12 +85,28 @@ passed-lines page w m o (k, n, p) (j, q) =
     let g : Follows (lines_of m) (Some (over o)) = rw on at f in
     g
 
--- what is written for a list of lines begins what is written for a longer one
-pub passed-output : OutputBegins
-unfolding output
-passed-output page w m o p q =
-    let (more, e) = passed-lines page w m o p q in
-    let tail : List ℕ = result_text o.result o.last.side.doc.tree in (
+-- what is written for the lines of a moment that was passed begins what is written for all of them and what follows
+passed_before : (page : Page) (w : World) (m : Moment) (o : Outcome) (tail : List ℕ) → Passes page w m → IsSerial page w o
+    → (rest : List ℕ) × (flat_map line_text o.last.side.lines ++ tail ≡ flat_map line_text (lines_of m) ++ rest)
+passed_before page w m o tail p q =
+    let (more, e) = passed-lines page w m o p q in (
       flat_map line_text more ++ tail,
       ap (λ k. flat_map line_text k ++ tail) e ∙ (ap (λ k. k ++ tail) (flat_map-append line_text (lines_of m) more) ∙ append_assoc (flat_map line_text (lines_of m)) (flat_map line_text more) tail),
     )
+
+pub passed-output : OutputBegins
+unfolding output
+passed-output page w m o p q = passed_before page w m o (result_text o.result o.last.side.doc.tree) p q
+
+pub passed-output_with : OutputWithBegins
+unfolding output_with
+passed-output_with dump page w m o p q = passed_before page w m o (result_with dump o.result o.last.side.doc.tree) p q
+
+result-plain : (r : Result) (t : Nodes) → result_with false r t ≡ result_text r t
+result-plain finished t = refl
+result-plain (refused w) t = refl
+
+-- without the dump it is what is written
+pub output-plain : (o : Outcome) → output_with false o ≡ output o
+unfolding output output_with
+output-plain o = ap (λ (r : List ℕ). flat_map line_text o.last.side.lines ++ r) (result-plain o.result o.last.side.doc.tree)

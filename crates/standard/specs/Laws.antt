@@ -1,5 +1,5 @@
 -- What is proved of the serial parse itself.
-use Rattle.std.specs.Prelude.{◌≡◌, ℕ, suc, ◌+◌, ◌≤◌, ◌<◌, List, [], ◌∷◌, ◌++◌, length, drop, flat_map, Option, Some, None}
+use Rattle.std.specs.Prelude.{◌≡◌, ℕ, suc, ◌+◌, ◌≤◌, ◌<◌, Bool, List, [], ◌∷◌, ◌++◌, length, drop, flat_map, Option, Some, None}
 use Rattle.html_types.specs.declared.operation.NodeId.{NodeId}
 use Rattle.html_types.specs.declared.script.Ending.{Ending}
 use Rattle.html_types.specs.declared.script.Ending.TheVariants as ending
@@ -20,7 +20,7 @@ use Rattle.standard.specs.Prepare.{still, inline, external}
 use Rattle.standard.specs.Parser.{Parser, Parsed, parse, finish}
 use Rattle.standard.specs.Page.{Page}
 use Rattle.standard.specs.Serial.{World, Outcome, IsSerial, Advanced, advanced, advance, Serial, Flow, goes, refuses, with_line, write_limit, one_more_executed, back_at, inside, run_statements, run_prepared, prepared, Moment, reading, tag_ended, over, finished, refusal, taken, ended, Leads, Passes}
-use Rattle.standard.specs.Output.{line_text, output}
+use Rattle.standard.specs.Output.{line_text, output, output_with}
 
 -- ---- outcomes
 
@@ -222,3 +222,8 @@ LinesBegin = (page : Page) (w : World) (m : Moment) (o : Outcome) → Passes pag
 abbrev pub OutputBegins : Type 0
 OutputBegins = (page : Page) (w : World) (m : Moment) (o : Outcome) → Passes page w m → IsSerial page w o →
     (rest : List ℕ) × (output o ≡ flat_map line_text (lines_of m) ++ rest)
+
+-- so it does with the dump of the tree, or without
+abbrev pub OutputWithBegins : Type 0
+OutputWithBegins = (dump : Bool) (page : Page) (w : World) (m : Moment) (o : Outcome) → Passes page w m → IsSerial page w o →
+    (rest : List ℕ) × (output_with dump o ≡ flat_map line_text (lines_of m) ++ rest)

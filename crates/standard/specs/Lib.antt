@@ -23,6 +23,7 @@ pub mod Rules
 pub mod Tree
 pub mod Act
 pub mod Outer
+pub mod Dump
 pub mod Statements
 pub mod Prepare
 pub mod Page

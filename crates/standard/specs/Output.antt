@@ -1,17 +1,14 @@
 -- What the program writes, in bytes.
-use Rattle.std.specs.Prelude.{ℕ, List, [], ◌++◌, flat_map, decimal, encode_utf8_all, codes}
-use Rattle.json.specs.Print.{quoted}
+use Rattle.std.specs.Prelude.{ℕ, Bool, true, false, List, [], ◌++◌, flat_map, decimal, codes}
 use Rattle.html_types.specs.declared.script.Why.{Why}
 use Rattle.html_types.specs.declared.script.Why.TheVariants as why
 use Rattle.html_types.specs.declared.script.Line.{Line}
 use Rattle.html_types.specs.declared.script.Line.TheVariants.{Log, Throw, Syntax, Miss}
 use Rattle.standard.specs.Tree.{Nodes}
 use Rattle.standard.specs.Outer.{document_text}
+use Rattle.standard.specs.Dump.{dump_text}
+pub use Rattle.standard.specs.Dump.{json_string}
 use Rattle.standard.specs.Serial.{Result, finished, refused, Outcome}
-
--- the text as serde_json writes a string
-abbrev pub json_string : List ℕ → List ℕ
-json_string t = quoted (encode_utf8_all t)
 
 abbrev pub line_text : Line → List ℕ
 line_text (Log n t) = codes "log " ++ decimal n ++ codes " " ++ json_string t ++ codes "\n"
@@ -37,3 +34,18 @@ result_text (refused w) t = refusal_text w
 -- the lines of the scripts in order, then what the parse came to
 unfoldable pub output : Outcome → List ℕ
 output o = flat_map line_text o.last.side.lines ++ result_text o.result o.last.side.doc.tree
+
+-- ---- with the dump of the tree or without
+
+-- the text of the tree, or its dump
+abbrev pub tree_lines : Bool → Nodes → List ℕ
+tree_lines false t = tree_text t
+tree_lines true t = dump_text t
+
+abbrev pub result_with : Bool → Result → Nodes → List ℕ
+result_with dump finished t = tree_lines dump t
+result_with dump (refused w) t = refusal_text w
+
+-- the same lines, and the result with the tree's dump in place of its text where it is asked for
+unfoldable pub output_with : Bool → Outcome → List ℕ
+output_with dump o = flat_map line_text o.last.side.lines ++ result_with dump o.result o.last.side.doc.tree

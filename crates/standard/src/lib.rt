@@ -1,11 +1,11 @@
 //! The definitions of the parser, in the terms of the WHATWG HTML Standard, and the laws that are proved of them.
 //!
 //! Reading order of `specs/`: Class, Step, TextStates, TagStates, Tokenizer (13.2.5); Elements, Stack, Formatting,
-//! Instructions (13.2.4); Groups, RulesHead, RulesBody, Rules (13.2.6); Tree, Act, Outer (the tree and its text); Statements,
-//! Prepare (scripts); Parser, Serial (the serial parse); Page, Output; Laws.
+//! Instructions (13.2.4); Groups, RulesHead, RulesBody, Rules (13.2.6); Tree, Act, Outer, Dump (the tree and its texts);
+//! Statements, Prepare (scripts); Parser, Serial (the serial parse); Page, Output; Laws.
 #![tactic(auto)]
 
-ghost use Rattle.standard.specs.Laws.{HasOneOutcome, ParsesInPieces, AdvancesByParse, BatchesLead, WholeBatchesLead, LeavesNothing, EndLeads, FinishLeads, OverIsSerial, ScriptLeads, ScriptRefuses, StillScripts, ExternalScripts, SyntaxErrors, ScriptsRun, StatementsEnd, WritesGoOn, WritesRefuse, LongWritesRefuse, OthersRefuse, LinesBegin, OutputBegins};
+ghost use Rattle.standard.specs.Laws.{HasOneOutcome, ParsesInPieces, AdvancesByParse, BatchesLead, WholeBatchesLead, LeavesNothing, EndLeads, FinishLeads, OverIsSerial, ScriptLeads, ScriptRefuses, StillScripts, ExternalScripts, SyntaxErrors, ScriptsRun, StatementsEnd, WritesGoOn, WritesRefuse, LongWritesRefuse, OthersRefuse, LinesBegin, OutputBegins, OutputWithBegins};
 
 /// Every page has exactly one outcome.
 pub fn has_one_outcome()
@@ -61,10 +61,11 @@ pub fn statements_run()
 {}
 
 /// The lines of every moment that a parse passes through begin those of its outcome, and what is written for them begins
-/// what is written for the page.
+/// what is written for the page, with the dump of the tree or without.
 pub fn lines_begin()
     ensures lines { LinesBegin }
     ensures output { OutputBegins }
+    ensures output_with { OutputWithBegins }
 {}
 
 ghost use Rattle.standard.specs.Naming.{AreFresh, CameBefore};
