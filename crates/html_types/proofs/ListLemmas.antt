@@ -1,5 +1,5 @@
 -- Lists that are seen in reverse, and lists of operations.
-use Rattle.std.proofs.Common.{◌≡◌, List, [], ◌∷◌, ◌++◌, ℕ, suc, ◌+◌, length, get_or, set, take, drop, reverse, arith, refl, sym, ap, ◌∙◌, append-nil}
+use Rattle.std.proofs.Common.{◌≡◌, List, [], ◌∷◌, ◌++◌, ℕ, suc, ◌+◌, length, get_or, set, take, reverse, arith, sym, ap, ◌∙◌, append-nil}
 use Rattle.std.proofs.lemmas.List.{reverse-reverse, append_assoc, set_split, set-get_or, drop_all}
 use Rattle.html_types.specs.Operations.{spelled, spelled_one}
 use Rattle.html_types.specs.declared.operation.Op.{Op}

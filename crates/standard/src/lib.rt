@@ -1,8 +1,9 @@
 //! The definitions of the parser, in the terms of the WHATWG HTML Standard, and the laws that are proved of them.
 //!
-//! Reading order of `specs/`: Class, Step, TextStates, TagStates, Tokenizer (13.2.5); Elements, Stack, Formatting,
-//! Instructions (13.2.4); Groups, RulesHead, RulesBody, Rules (13.2.6); Tree, Act, Outer, Dump (the tree and its texts);
-//! Statements, Prepare (scripts); Parser, Serial (the serial parse); Page, Output; Laws.
+//! Reading order of `specs/`: Class, Step, TextStates, EscapeStates, TagStates, CommentStates, DoctypeStates, MarkStates,
+//! Entities, ReferenceStates, Tokenizer (13.2.5); Elements, Stack, Formatting, Instructions (13.2.4); Groups, RulesHead,
+//! RulesBody, Adoption, Rules (13.2.6); Tree, Act, Outer, Dump (the tree and its texts); Statements, Prepare (scripts);
+//! Parser, Serial (the serial parse); Page, Output; Laws.
 #![tactic(auto)]
 
 ghost use Rattle.standard.specs.Laws.{HasOneOutcome, ParsesInPieces, AdvancesByParse, BatchesLead, WholeBatchesLead, LeavesNothing, EndLeads, FinishLeads, OverIsSerial, ScriptLeads, ScriptRefuses, StillScripts, ExternalScripts, SyntaxErrors, ScriptsRun, StatementsEnd, WritesGoOn, WritesRefuse, LongWritesRefuse, OthersRefuse, LinesBegin, OutputBegins, OutputWithBegins};

@@ -1,4 +1,4 @@
-use Rattle.std.proofs.Common.{◌≡◌, ◌∙◌, sym, ap, reverse}
+use Rattle.std.proofs.Common.{◌∙◌, sym, ap, reverse}
 use Rattle.html_types.proofs.ListLemmas.{same-from_reverse}
 use Rattle.html_types.proofs.open.Formats.same.Goals as goal
 

@@ -1,4 +1,4 @@
-use Rattle.std.proofs.Common.{rules, ◌≡◌, ◌+◌, ◌-◌, ◌<◌, length, sym}
+use Rattle.std.proofs.Common.{rules, ◌≡◌, ◌+◌, ◌-◌, length, sym}
 use Rattle.html_types.proofs.ListLemmas.{spelled-last}
 use Rattle.html_types.proofs.operation.Ops.join_last.Goals as goal
 

@@ -1,5 +1,5 @@
-use Rattle.std.proofs.Common.{◌++◌, ap, ◌∙◌}
-use Rattle.html_types.specs.Operations.{spelled, spelled_one}
+use Rattle.std.proofs.Common.{ap, ◌∙◌}
+use Rattle.html_types.specs.Operations.{spelled}
 use Rattle.html_types.proofs.ListLemmas.{spelled-append}
 use Rattle.html_types.proofs.operation.Ops.push.Goals as goal
 

@@ -1,5 +1,4 @@
 use Rattle.std.proofs.Common.{◌∙◌}
-use Rattle.std.proofs.lemmas.Str.{IsUtf8-string_bytes}
 use Rattle.html_types.proofs.TextLemmas.{same_text-chars}
 use Rattle.html_types.proofs.text.Text.is.Goals as goal
 
