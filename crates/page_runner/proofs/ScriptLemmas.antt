@@ -1,5 +1,5 @@
 -- A script of the driver against the definition of scripts: its statements, and how it begins.
-use Rattle.std.proofs.Common.{◌≡◌, ℕ, suc, Bool, true, false, ◌||◌, if◌then◌else◌, codes, Option, ◌+◌, ◌<◌, ◌≤◌, List, [], ◌∷◌, ◌++◌, length, drop, Some, None, refl, sym, ap, ◌∙◌, subst, arith}
+use Rattle.std.proofs.Common.{◌≡◌, ℕ, suc, Bool, true, false, ◌||◌, if◌then◌else◌, codes, Option, ◌+◌, ◌<◌, ◌≤◌, List, [], ◌∷◌, ◌++◌, length, drop, get_or, drop-cons, add-one, Some, None, refl, sym, ap, ◌∙◌, subst, arith}
 use Rattle.std.proofs.lemmas.List.{append-nil}
 use Rattle.std.specs.Str.{chars}
 use Rattle.html_types.specs.declared.operation.NodeId.{NodeId}
@@ -98,6 +98,18 @@ leaves_halts es old v list rest behind a reason leaves is halts = record {
     refused : (lines : List Line) (input : List ℕ) → ComeToRefusal es (a ∷ behind) v lines input reason → ComeToRefusal es list old lines input reason
     refused lines input (last, are, come) =
         (last, are, leaves.comes lines input (refuses reason last) (subst (λ l. Come es l v lines input (refuses reason last)) (sym is) come))
+
+-- the next statement of a list
+next_is : (list : List Statement) (i : ℕ) (a : Statement) → i < length list → a ≡ get_or list i a → drop i list ≡ a ∷ drop (i + 1) list
+next_is list i a lt is = rw add-one (drop-cons list i a lt ∙ ap (λ x. x ∷ drop (suc i) list) (sym is))
+
+pub leaves_at : (es : Entities) (old v new : View) (list : List Statement) (i : ℕ) (a : Statement) → Leaves es old v list (drop i list) → i < length list →
+    a ≡ get_or list i a → Steps es v new a → Leaves es old new list (drop (i + 1) list)
+leaves_at es old v new list i a leaves lt is steps = leaves_more es old v new list (drop i list) (drop (i + 1) list) a leaves (next_is list i a lt is) steps
+
+pub halts_at : (es : Entities) (old v : View) (list : List Statement) (i : ℕ) (a : Statement) (reason : Why) → Leaves es old v list (drop i list) → i < length list →
+    a ≡ get_or list i a → Halts es v a reason → ListHalts es old list reason
+halts_at es old v list i a reason leaves lt is halts = leaves_halts es old v list (drop i list) (drop (i + 1) list) a reason leaves (next_is list i a lt is) halts
 
 -- ---- how a script was prepared
 
