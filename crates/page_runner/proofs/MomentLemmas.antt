@@ -1,16 +1,20 @@
 -- The moments that the driver passes through, and what the sink took until then.
-use Rattle.std.proofs.Common.{◌≡◌, ℕ, ◌+◌, ◌^◌, ◌<◌, ◌≤◌, ◌⊎◌, List, [], ◌∷◌, ◌++◌, drop, flat_map, Option, Some, None, refl, sym, ap, ◌∙◌, subst, append_assoc, inl, inr, arith}
+use Rattle.std.proofs.Common.{◌≡◌, ℕ, suc, Result, Ok, Err, OnErr, ◌+◌, ◌^◌, ◌<◌, ◌≤◌, ◌⊎◌, List, [], ◌∷◌, ◌++◌, drop, flat_map, Option, Some, None, refl, sym, ap, ◌∙◌, subst, append_assoc, inl, inr, arith}
 use Rattle.std.proofs.lemmas.Grind.{flat_map-append}
 use Rattle.std.proofs.lemmas.List.{append-nil}
 use Rattle.std.specs.Str.{chars}
 use Rattle.outside.specs.Outside.{Rose}
+use Rattle.html_types.specs.declared.operation.NodeId.{NodeId}
 use Rattle.html_types.specs.declared.script.Ending.{Ending}
 use Rattle.html_types.specs.declared.script.Why.{Why}
 use Rattle.html_types.specs.declared.script.Why.TheVariants as why
 use Rattle.html_types.specs.declared.script.Line.{Line}
+use Rattle.html_types.specs.declared.script.Line.TheVariants as line
+use Rattle.html_types.specs.declared.script.Statement.{Statement}
 use Rattle.html_types.specs.declared.instruction.Stop.{Stop}
 use Rattle.html_types.specs.declared.instruction.Stop.TheVariants as stop
 use Rattle.standard.specs.Entities.{Entities}
+use Rattle.standard.specs.Statements.{statements}
 use Rattle.standard.specs.Serial.{Serial, Moment, reading, over, refusal, Leads}
 use Rattle.standard.specs.Laws.{HasParsed, moment_at, lines_of}
 use Rattle.standard.specs.Output.{line_text}
@@ -20,7 +24,8 @@ use Rattle.page_runner.specs.Taken.{Took, TookFront}
 use Rattle.page_runner.specs.Driving.{View, Parses}
 use Rattle.page_runner.specs.declared.driver.Went.{Went}
 use Rattle.page_runner.specs.declared.driver.Went.TheVariants.{On, Refused}
-use Rattle.page_runner.specs.Moments.{world_of, serial_of, Start, before_text, at_stop, Goes, Ends, Comes, Meets, Passes, PassesInPart, GoesOn, IsOver, Reaches, Takes, TakesFront}
+use Rattle.page_runner.specs.Moments.{world_of, serial_of, DoesAll, Start, before_text, at_script, at_stop, HasText, Goes, Ends, Comes, Meets, Passes, PassesInPart, GoesOn, IsOver, Reaches, Takes, TakesFront}
+use Rattle.page_runner.proofs.ScriptLemmas.{goes_by_line, goes_through, ends_through}
 
 -- ---- what the sink took
 
@@ -90,6 +95,50 @@ pub meets_behind : (es : Entities) (start : Start) (new : View) (more : List Lin
 meets_behind es start new more goes = record {
   leads = λ e m lines rest at. (reading (serial_of new (lines ++ more) rest), refl, goes.leads e m lines rest at);
 }
+
+pub script_has_lines : (v : View) (id : NodeId) → HasLines (at_script v id)
+script_has_lines v id lines rest = refl
+
+-- what a failed call owes
+pub on_err : {T E : Type 0} (p : Type 0) (r : Result T E) → p → OnErr r p
+on_err p (Ok x) h = tt
+on_err p (Err e) h = h
+
+-- ---- a script's text
+
+one_line : (a : Line) → flat_map line_text (a ∷ []) ≡ line_text a
+one_line a = append-nil (line_text a)
+
+-- a text that isn't in the language, where its line was written
+pub passes_by_line : (es : Entities) (v new : View) (id : NodeId) (text : List ℕ) (n : ℕ) (script : Option (List Statement)) (taken taken' : Option (List ℕ)) →
+    new ≡ record v { executed = suc v.executed } → n ≡ suc v.executed → script ≡ statements text → script ≡ None → Took taken taken' (line_text (line.Syntax n)) →
+    HasText v id text → Passes es (at_script v id) new taken taken' On
+passes_by_line es v new id text n script taken taken' is number read none took has = record {
+  more = line.Syntax n ∷ [];
+  took = subst (λ t. Took taken taken' t) (sym (one_line (line.Syntax n))) took;
+  comes = rw (is, number) (goes_by_line es v id text has (sym read ∙ none));
+}
+
+-- the same where it was written in part
+pub in_part_by_line : (es : Entities) (v : View) (id : NodeId) (text : List ℕ) (n : ℕ) (script : Option (List Statement)) (taken taken' : Option (List ℕ)) →
+    n ≡ suc v.executed → script ≡ statements text → script ≡ None → TookFront taken taken' (line_text (line.Syntax n)) →
+    HasText v id text → PassesInPart es (at_script v id) taken taken'
+in_part_by_line es v id text n script taken taken' number read none took has = record {
+  more = line.Syntax n ∷ [];
+  took = subst (λ t. TookFront taken taken' t) (sym (one_line (line.Syntax n))) took;
+  meets = rw number (meets_behind es (at_script v id) (record v { executed = suc v.executed }) (line.Syntax (suc v.executed) ∷ []) (goes_by_line es v id text has (sym read ∙ none)));
+}
+
+-- a text in the language, which gives no lines
+pub passes_through : (es : Entities) (v mid new : View) (id : NodeId) (text : List ℕ) (script : Option (List Statement)) (list : List Statement) (taken : Option (List ℕ)) (went : Went) →
+    mid ≡ record v { executed = suc v.executed } → script ≡ statements text → script ≡ Some list → DoesAll es mid new list went →
+    HasText v id text → Passes es (at_script v id) new taken taken went
+passes_through es v mid new id text script list taken went is read some does has =
+    passes_quietly es (at_script v id) new taken went (by_went went (subst (λ m. DoesAll es m new list went) is does))
+  where
+    by_went : (w : Went) → DoesAll es (record v { executed = suc v.executed }) new list w → Comes es (at_script v id) new [] w
+    by_went On all = goes_through es v new id text list has (sym read ∙ some) all
+    by_went (Refused reason) all = ends_through es v id text list reason has (sym read ∙ some) all
 
 -- ---- stops without a script
 
