@@ -1,5 +1,5 @@
 -- The moments that the driver passes through, and what the sink took until then.
-use Rattle.std.proofs.Common.{◌≡◌, ℕ, suc, Result, Ok, Err, OnErr, ◌+◌, ◌^◌, ◌<◌, ◌≤◌, ◌⊎◌, List, [], ◌∷◌, ◌++◌, drop, flat_map, Option, Some, None, refl, sym, ap, ◌∙◌, subst, append_assoc, inl, inr, arith}
+use Rattle.std.proofs.Common.{◌≡◌, ℕ, suc, Result, Ok, Err, IfOk, OnErr, ◌+◌, ◌^◌, ◌<◌, ◌≤◌, ◌⊎◌, List, [], ◌∷◌, ◌++◌, drop, flat_map, Option, Some, None, refl, sym, ap, ◌∙◌, subst, append_assoc, inl, inr, arith}
 use Rattle.std.proofs.lemmas.Grind.{flat_map-append}
 use Rattle.std.proofs.lemmas.List.{append-nil}
 use Rattle.std.specs.Str.{chars}
@@ -14,6 +14,9 @@ use Rattle.html_types.specs.declared.script.Statement.{Statement}
 use Rattle.html_types.specs.declared.instruction.Stop.{Stop}
 use Rattle.html_types.specs.declared.instruction.Stop.TheVariants as stop
 use Rattle.standard.specs.Entities.{Entities}
+use Rattle.standard.specs.Act.{Doc, node_of}
+use Rattle.standard.specs.Tree.{script_text}
+use Rattle.standard.specs.Prepare.{inline, external, prepare}
 use Rattle.standard.specs.Statements.{statements}
 use Rattle.standard.specs.Serial.{Serial, Moment, reading, over, refusal, Leads}
 use Rattle.standard.specs.Laws.{HasParsed, moment_at, lines_of}
@@ -25,7 +28,9 @@ use Rattle.page_runner.specs.Driving.{View, Parses}
 use Rattle.page_runner.specs.declared.driver.Went.{Went}
 use Rattle.page_runner.specs.declared.driver.Went.TheVariants.{On, Refused}
 use Rattle.page_runner.specs.Moments.{world_of, serial_of, DoesAll, Start, before_text, at_script, at_stop, HasText, Goes, Ends, Comes, Meets, Passes, PassesInPart, GoesOn, IsOver, Reaches, Takes, TakesFront}
-use Rattle.page_runner.proofs.ScriptLemmas.{goes_by_line, goes_through, ends_through}
+use Rattle.op_exec.specs.Scripts.{script_kind}
+use Rattle.op_exec.specs.declared.script.ScriptKind.TheVariants.{Still, Inline, External}
+use Rattle.page_runner.proofs.ScriptLemmas.{is_still, is_external, is_inline, goes_still, ends_external, goes_by_line, goes_through, ends_through}
 
 -- ---- what the sink took
 
@@ -103,6 +108,34 @@ script_has_lines v id lines rest = refl
 pub on_err : {T E : Type 0} (p : Type 0) (r : Result T E) → p → OnErr r p
 on_err p (Ok x) h = tt
 on_err p (Err e) h = h
+
+pub if_ok_by : {T E : Type 0} (p q : T → Type 0) (r : Result T E) → ((x : T) → p x → q x) → IfOk r p → IfOk r q
+if_ok_by p q (Ok x) by h = by x h
+if_ok_by p q (Err e) by h = tt
+
+pub on_err_by : {T E : Type 0} (p q : Type 0) (r : Result T E) → (p → q) → OnErr r p → OnErr r q
+on_err_by p q (Ok x) by h = tt
+on_err_by p q (Err e) by h = by h
+
+-- ---- a script, as it was prepared
+
+pub passes_still : (es : Entities) (v : View) (d : Doc) (id : NodeId) (taken : Option (List ℕ)) → d ≡ v.doc →
+    Still ≡ script_kind (prepare d.tree (node_of d.bound id)) → Passes es (at_script v id) v taken taken On
+passes_still es v d id taken is kind =
+    passes_quietly es (at_script v id) v taken On (goes_still es v id (is_still _ (sym (subst (λ x. Still ≡ script_kind (prepare x.tree (node_of x.bound id))) is kind))))
+
+pub passes_external : (es : Entities) (v : View) (d : Doc) (id : NodeId) (taken : Option (List ℕ)) → d ≡ v.doc →
+    External ≡ script_kind (prepare d.tree (node_of d.bound id)) → Passes es (at_script v id) v taken taken (Refused why.Unready)
+passes_external es v d id taken is kind =
+    by_name (is_external _ (sym (subst (λ x. External ≡ script_kind (prepare x.tree (node_of x.bound id))) is kind)))
+  where
+    by_name : (name : List ℕ) × (prepare v.doc.tree (node_of v.doc.bound id) ≡ external name) → Passes es (at_script v id) v taken taken (Refused why.Unready)
+    by_name (name, prepared) = passes_quietly es (at_script v id) v taken (Refused why.Unready) (ends_external es v id name prepared)
+
+pub has_text : (v : View) (d : Doc) (id : NodeId) (text read : List ℕ) → d ≡ v.doc → Inline ≡ script_kind (prepare d.tree (node_of d.bound id)) →
+    text ≡ script_text d.tree (node_of d.bound id) → read ≡ text → HasText v id read
+has_text v d id text read is kind whole same =
+    subst (λ x. prepare x.tree (node_of x.bound id) ≡ inline read) is (is_inline d.tree (node_of d.bound id) (sym kind) ∙ ap inline (sym (same ∙ whole)))
 
 -- ---- a script's text
 
