@@ -175,14 +175,16 @@ passes_through es v mid new id text script list taken went is read some does has
 
 -- ---- stops without a script
 
-pub goes_on_stop : (es : Entities) (v : View) → Goes es (at_stop v stop.InputEnd) v []
-goes_on_stop es v = record { leads = λ e m lines rest at. rw append-nil at }
+pub passes_no_stop : (es : Entities) (v : View) (k : Stop) (taken : Option (List ℕ)) → k ≡ stop.InputEnd → Passes es (at_stop v k) v taken taken On
+passes_no_stop es v k taken is = rw is (passes_quietly es (at_stop v stop.InputEnd) v taken On (record { leads = λ e m lines rest at. rw append-nil at }))
 
-pub ends_deep : (es : Entities) (v : View) → Ends es (at_stop v stop.Deep) [] why.Depth
-ends_deep es v = record { leads = λ e m lines rest at. (serial_of v lines rest, sym (append-nil lines), at) }
+pub passes_deep : (es : Entities) (v : View) (k : Stop) (taken : Option (List ℕ)) → k ≡ stop.Deep → Passes es (at_stop v k) v taken taken (Refused why.Depth)
+passes_deep es v k taken is =
+    rw is (passes_quietly es (at_stop v stop.Deep) v taken (Refused why.Depth) (record { leads = λ e m lines rest at. (serial_of v lines rest, sym (append-nil lines), at) }))
 
-pub ends_missing : (es : Entities) (v : View) → Ends es (at_stop v stop.Missing) [] why.Unready
-ends_missing es v = record { leads = λ e m lines rest at. (serial_of v lines rest, sym (append-nil lines), at) }
+pub passes_missing : (es : Entities) (v : View) (k : Stop) (taken : Option (List ℕ)) → k ≡ stop.Missing → Passes es (at_stop v k) v taken taken (Refused why.Unready)
+passes_missing es v k taken is =
+    rw is (passes_quietly es (at_stop v stop.Missing) v taken (Refused why.Unready) (record { leads = λ e m lines rest at. (serial_of v lines rest, sym (append-nil lines), at) }))
 
 -- ---- a text of the page, from stop to stop
 
