@@ -4,3 +4,4 @@ pub mod WordsExamples
 pub mod DrivingLemmas
 pub mod ScriptLemmas
 pub mod MomentLemmas
+pub mod ShowLemmas
