@@ -27,7 +27,7 @@ use Rattle.page_runner.specs.Taken.{Took, TookFront}
 use Rattle.page_runner.specs.Driving.{View, Parses}
 use Rattle.page_runner.specs.declared.driver.Went.{Went}
 use Rattle.page_runner.specs.declared.driver.Went.TheVariants.{On, Refused}
-use Rattle.page_runner.specs.Moments.{world_of, serial_of, DoesAll, Start, before_text, at_script, at_stop, HasText, Goes, Ends, Comes, Meets, Passes, PassesInPart, GoesOn, IsOver, Reaches, Takes, TakesFront}
+use Rattle.page_runner.specs.Moments.{world_of, serial_of, DoesAll, Start, before_text, at_script, at_stop, HasText, TextPasses, TextPassesInPart, Goes, Ends, Comes, Meets, Passes, PassesInPart, GoesOn, IsOver, Reaches, Takes, TakesFront}
 use Rattle.op_exec.specs.Scripts.{script_kind}
 use Rattle.op_exec.specs.declared.script.ScriptKind.TheVariants.{Still, Inline, External}
 use Rattle.page_runner.proofs.ScriptLemmas.{is_still, is_external, is_inline, goes_still, ends_external, goes_by_line, goes_through, ends_through}
@@ -109,13 +109,16 @@ pub on_err : {T E : Type 0} (p : Type 0) (r : Result T E) → p → OnErr r p
 on_err p (Ok x) h = tt
 on_err p (Err e) h = h
 
-pub if_ok_by : {T E : Type 0} (p q : T → Type 0) (r : Result T E) → ((x : T) → p x → q x) → IfOk r p → IfOk r q
-if_ok_by p q (Ok x) by h = by x h
-if_ok_by p q (Err e) by h = tt
+-- the script of a text
+pub script_passes : {E : Type 0} (es : Entities) (v new : View) (id : NodeId) (text : List ℕ) (taken taken' : Option (List ℕ)) (r : Result Went E) → HasText v id text →
+    IfOk r (λ went. TextPasses es v new text taken taken' went) → IfOk r (λ went. Passes es (at_script v id) new taken taken' went)
+script_passes es v new id text taken taken' (Ok went) has passes = passes id has
+script_passes es v new id text taken taken' (Err e) has passes = tt
 
-pub on_err_by : {T E : Type 0} (p q : Type 0) (r : Result T E) → (p → q) → OnErr r p → OnErr r q
-on_err_by p q (Ok x) by h = tt
-on_err_by p q (Err e) by h = by h
+pub script_in_part : {T E : Type 0} (es : Entities) (v : View) (id : NodeId) (text : List ℕ) (taken taken' : Option (List ℕ)) (r : Result T E) → HasText v id text →
+    OnErr r (TextPassesInPart es v text taken taken') → OnErr r (PassesInPart es (at_script v id) taken taken')
+script_in_part es v id text taken taken' (Ok x) has part = tt
+script_in_part es v id text taken taken' (Err e) has part = part id has
 
 -- ---- a script, as it was prepared
 

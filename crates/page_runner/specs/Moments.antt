@@ -142,6 +142,13 @@ pub record PassesInPart (es : Entities) (start : Start) (taken taken' : Option (
 abbrev pub HasText : View → NodeId → List ℕ → Type 0
 HasText v id text = prepare v.doc.tree (node_of v.doc.bound id) ≡ inline text
 
+-- Whichever script runs by this text, it was passed.
+abbrev pub TextPasses : Entities → View → View → List ℕ → Option (List ℕ) → Option (List ℕ) → Went → Type 0
+TextPasses es old new text taken taken' went = (id : NodeId) → HasText old id text → Passes es (at_script old id) new taken taken' went
+
+abbrev pub TextPassesInPart : Entities → View → List ℕ → Option (List ℕ) → Option (List ℕ) → Type 0
+TextPassesInPart es old text taken taken' = (id : NodeId) → HasText old id text → PassesInPart es (at_script old id) taken taken'
+
 -- ---- a text of the page
 
 -- The text was used: from any moment at which it is the next of the input the parse goes to one behind it, with these

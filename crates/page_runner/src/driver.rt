@@ -1,13 +1,12 @@
 // The parser and its document, and the scripts between them: what runs of a page in one thread.
 ghost use Rattle.std.specs.Prelude.{◌≡◌, ◌≤◌, suc, IfOk, OnErr, IsErrOf, IsTrue};
 ghost use Rattle.std.specs.Str.{chars};
-ghost use Rattle.html_types.specs.declared.operation.NodeId.{NodeId};
 ghost use Rattle.standard.specs.Act.{is_bound, new_doc};
 ghost use Rattle.standard.specs.Parser.{new_parser};
 ghost use Rattle.standard.specs.Naming.{IsStopBound};
 ghost use Rattle.outside.specs.Outside.{Rose};
 ghost use Rattle.page_runner.specs.Driving.{View, IsServed, Parses, Finishes};
-ghost use Rattle.page_runner.specs.Moments.{went_of, Does, DoesAll, at_script, at_stop, HasText, Passes, PassesInPart, Takes, TakesFront};
+ghost use Rattle.page_runner.specs.Moments.{went_of, Does, DoesAll, at_script, at_stop, TextPasses, TextPassesInPart, Passes, PassesInPart, Takes, TakesFront};
 
 use crate::output::write_syntax;
 use crate::page::Failure;
@@ -175,10 +174,8 @@ impl Driver {
     ) -> Result<Went, Failure>
         requires { IsServed self.old }
         ensures served { IfOk result (λ _. IsServed self.new) }
-        ensures passes { IfOk result (λ went. (id : NodeId) → HasText self.old id (chars text.now)
-            → Passes table.now (at_script self.old id) self.new (K.taken out.old) (K.taken out.new) went) }
-        ensures part { OnErr result ((id : NodeId) → HasText self.old id (chars text.now)
-            → PassesInPart table.now (at_script self.old id) (K.taken out.old) (K.taken out.new)) }
+        ensures passes { IfOk result (λ went. TextPasses table.now self.old self.new (chars text.now) (K.taken out.old) (K.taken out.new) went) }
+        ensures part { OnErr result (TextPassesInPart table.now self.old (chars text.now) (K.taken out.old) (K.taken out.new)) }
         ensures write { IsErrOf result Failure.Write → Rose (K.faults out.old) (K.faults out.new) }
         ensures faults { K.faults out.old ≤ K.faults out.new }
     {

@@ -2,13 +2,13 @@ use Rattle.std.proofs.Common.{◌≡◌, ap}
 use Rattle.std.specs.Str.{chars}
 use Rattle.standard.specs.Act.{Doc}
 use Rattle.page_runner.specs.Driving.{View}
-use Rattle.page_runner.specs.Moments.{at_script, HasText}
-use Rattle.page_runner.proofs.MomentLemmas.{on_err, on_err_by, if_ok_by, in_part_quietly, script_has_lines, passes_still, passes_external, has_text}
+use Rattle.page_runner.specs.Moments.{at_script, HasText, PassesInPart}
+use Rattle.page_runner.proofs.MomentLemmas.{on_err, script_passes, script_in_part, in_part_quietly, script_has_lines, passes_still, passes_external, has_text}
 use Rattle.page_runner.proofs.driver.Driver.run_script.Goals as goal
 
 pub returns-in_err-text-in-Inline-clause-part : goal.returns-in_err-text-in-Inline-clause-part
 returns-in_err-text-in-Inline-clause-part g c =
-    on_err _ c.from_residual.result
+    on_err (PassesInPart c.args.table.now (at_script c.args.self.now c.args.id) (g.K.Sink.taken c.args.out.now) (g.K.Sink.taken c.args.out.now)) c.from_residual.result
     (in_part_quietly c.args.table.now (at_script c.args.self.now c.args.id) (g.K.Sink.taken c.args.out.now) (script_has_lines c.args.self.now c.args.id))
 
 pub returns-in-Still-clause-passes : goal.returns-in-Still-clause-passes
@@ -26,11 +26,13 @@ returns-in_ok-text-in-Inline-clause-passes g c =
     let doc : c.self.inside.doc ≡ c.args.self.now.doc = ap (λ (v : View). v.doc) c.self.view_is in
     let has : HasText c.args.self.now c.args.id (chars c.as_str.result.now) =
     has_text c.args.self.now c.self.inside.doc c.args.id c.in_ok-text-in-Inline.text (chars c.as_str.result.now) doc c.in-Inline.ensures c.in_ok-text-in-Inline.ensures c.as_str.ensures in
-    if_ok_by _ _ c.run_text.result (λ went passes. passes c.args.id has) c.run_text.ensures.passes
+    script_passes c.args.table.now c.args.self.now c.run_text.new.self c.args.id (chars c.as_str.result.now) (g.K.Sink.taken c.args.out.now) (g.K.Sink.taken c.run_text.new.out)
+    c.run_text.result has c.run_text.ensures.passes
 
 pub returns-in_ok-text-in-Inline-clause-part : goal.returns-in_ok-text-in-Inline-clause-part
 returns-in_ok-text-in-Inline-clause-part g c =
     let doc : c.self.inside.doc ≡ c.args.self.now.doc = ap (λ (v : View). v.doc) c.self.view_is in
     let has : HasText c.args.self.now c.args.id (chars c.as_str.result.now) =
     has_text c.args.self.now c.self.inside.doc c.args.id c.in_ok-text-in-Inline.text (chars c.as_str.result.now) doc c.in-Inline.ensures c.in_ok-text-in-Inline.ensures c.as_str.ensures in
-    on_err_by _ _ c.run_text.result (λ part. part c.args.id has) c.run_text.ensures.part
+    script_in_part c.args.table.now c.args.self.now c.args.id (chars c.as_str.result.now) (g.K.Sink.taken c.args.out.now) (g.K.Sink.taken c.run_text.new.out) c.run_text.result has
+    c.run_text.ensures.part
