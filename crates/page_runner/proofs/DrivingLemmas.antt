@@ -1,17 +1,15 @@
 -- What the machine and the document do together.
-use Rattle.std.proofs.Common.{◌≡◌, ◌≢◌, ◌<◌, ℕ, zero, suc, List, [], ◌∷◌, ◌++◌, refl, sym, ap, ◌∙◌, subst, take, drop, length, take-append-drop, arith, ⊎_elim}
+use Rattle.std.proofs.Common.{◌≡◌, ◌<◌, ℕ, zero, suc, List, [], ◌∷◌, ◌++◌, refl, sym, ap, ◌∙◌, subst, take, drop, take-append-drop, arith}
 use Rattle.std.specs.Str.{chars, IsCharBoundary, IsUtf8}
 use Rattle.std.proofs.lemmas.Str.{IsUtf8-take, chars-append, chars-nil}
 use Rattle.std.proofs.lemmas.List.{append_cancel_left}
 use Rattle.html_types.specs.declared.operation.Op.{Op}
-use Rattle.html_types.specs.declared.instruction.Stop.{Stop}
 use Rattle.html_types.specs.declared.instruction.Stop.TheVariants as stop
 use Rattle.html_types.specs.declared.instruction.Finish.{Finish}
 use Rattle.standard.specs.Entities.{Entities}
-use Rattle.standard.specs.Act.{Doc, is_bound, acts, AreOpsBound}
+use Rattle.standard.specs.Act.{is_bound, acts, AreOpsBound}
 use Rattle.standard.specs.Parser.{Parser, Took, took, take_character, Parsed, and_rest, parse, Finished, finish, after_all}
-use Rattle.standard.specs.Naming.{Serves, AreFresh, IsStopBound}
-use Rattle.standard.specs.Laws.{HasParsed, HasFinished}
+use Rattle.standard.specs.Naming.{AreFresh}
 use Rattle.standard.proofs.FreshnessTexts.{fresh-follows}
 use Rattle.standard.proofs.FreshnessDocs.{texts-served, ends-served}
 use Rattle.parse_machine.specs.declared.machine.Ran.{Ran}

@@ -1,5 +1,5 @@
 -- The moments that the driver passes through, and what the sink took until then.
-use Rattle.std.proofs.Common.{◌≡◌, ℕ, suc, Result, Ok, Err, IfOk, OnErr, ◌+◌, ◌^◌, ◌<◌, ◌≤◌, ◌⊎◌, List, [], ◌∷◌, ◌++◌, drop, flat_map, Option, Some, None, refl, sym, ap, ◌∙◌, subst, append_assoc, inl, inr, arith}
+use Rattle.std.proofs.Common.{◌≡◌, ℕ, suc, Result, Ok, Err, IfOk, OnErr, ◌≤◌, List, [], ◌∷◌, ◌++◌, drop, flat_map, Option, Some, None, refl, sym, ap, ◌∙◌, subst, append_assoc, inl, inr, arith}
 use Rattle.std.proofs.lemmas.Grind.{flat_map-append}
 use Rattle.std.proofs.lemmas.List.{append-nil}
 use Rattle.std.specs.Str.{chars}
@@ -21,13 +21,13 @@ use Rattle.standard.specs.Statements.{statements}
 use Rattle.standard.specs.Serial.{Serial, Moment, reading, over, refusal, Leads}
 use Rattle.standard.specs.Laws.{HasParsed, moment_at, lines_of}
 use Rattle.standard.specs.Output.{line_text}
-use Rattle.standard.proofs.Passing.{leads-batch, leads-same, parse-left}
+use Rattle.standard.proofs.Passing.{leads-batch, parse-left}
 use Rattle.parse_machine.specs.declared.machine.Ran.{Ran}
 use Rattle.page_runner.specs.Taken.{Took, TookFront}
 use Rattle.page_runner.specs.Driving.{View, Parses}
 use Rattle.page_runner.specs.declared.driver.Went.{Went}
 use Rattle.page_runner.specs.declared.driver.Went.TheVariants.{On, Refused}
-use Rattle.page_runner.specs.Moments.{world_of, serial_of, DoesAll, Start, before_text, at_script, at_stop, HasText, TextPasses, TextPassesInPart, Goes, Ends, Comes, Meets, Passes, PassesInPart, GoesOn, IsOver, Reaches, Takes, TakesFront}
+use Rattle.page_runner.specs.Moments.{world_of, serial_of, DoesAll, Start, at_script, at_stop, HasText, TextPasses, TextPassesInPart, Goes, Comes, Meets, Passes, PassesInPart, Takes, TakesFront}
 use Rattle.op_exec.specs.Scripts.{script_kind}
 use Rattle.op_exec.specs.declared.script.ScriptKind.TheVariants.{Still, Inline, External}
 use Rattle.page_runner.proofs.ScriptLemmas.{is_still, is_external, is_inline, goes_still, ends_external, goes_by_line, goes_through, ends_through}

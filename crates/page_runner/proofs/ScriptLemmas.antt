@@ -1,5 +1,5 @@
 -- A script of the driver against the definition of scripts: its statements, and how it begins.
-use Rattle.std.proofs.Common.{◌≡◌, ℕ, suc, Bool, true, false, ◌||◌, if◌then◌else◌, codes, Option, ◌+◌, ◌<◌, ◌≤◌, List, [], ◌∷◌, ◌++◌, length, drop, get_or, drop-cons, add-one, Some, None, refl, sym, ap, ◌∙◌, subst, arith}
+use Rattle.std.proofs.Common.{◌≡◌, ℕ, suc, Bool, true, false, ◌||◌, if◌then◌else◌, codes, Option, ◌+◌, ◌<◌, ◌≤◌, List, [], ◌∷◌, ◌++◌, length, drop, get_or, drop-cons, add-one, Some, None, refl, sym, ap, ◌∙◌, subst}
 use Rattle.std.proofs.lemmas.List.{append-nil}
 use Rattle.std.specs.Str.{chars}
 use Rattle.html_types.specs.declared.operation.NodeId.{NodeId}
@@ -20,13 +20,12 @@ use Rattle.standard.specs.Prepare.{Prepared, still, inline, external, has, may_r
 use Rattle.op_exec.specs.Scripts.{script_kind}
 use Rattle.op_exec.specs.declared.script.ScriptKind.TheVariants.{Still, Inline, External}
 use Rattle.standard.specs.Statements.{statements}
-use Rattle.standard.specs.Serial.{Serial, Flow, goes, refuses, Moment, over, refusal, Leads, write_limit}
+use Rattle.standard.specs.Serial.{Serial, goes, refuses, Moment, over, refusal, Leads, write_limit}
 use Rattle.standard.specs.Laws.{HasParsed, IsUnready, why_at}
 use Rattle.standard.proofs.Scripts as scripts
 use Rattle.parse_machine.specs.declared.machine.Ran.{Ran}
 use Rattle.page_runner.specs.Driving.{View, Parses}
-use Rattle.page_runner.specs.declared.driver.Went.TheVariants.{On, Refused}
-use Rattle.page_runner.specs.Moments.{world_of, serial_of, inside_script, Come, ComeToRefusal, Steps, Halts, Does, Leaves, ListHalts, went_of, Start, at_script, Goes, Ends, HasText}
+use Rattle.page_runner.specs.Moments.{world_of, serial_of, inside_script, Come, ComeToRefusal, Steps, Halts, Does, Leaves, ListHalts, went_of, at_script, Goes, Ends, HasText}
 
 -- ---- a statement
 

@@ -1,6 +1,6 @@
 -- The driver against the serial parse: which moments lie ahead where the driver takes a text, and which lines were written
 -- until then.
-use Rattle.std.specs.Prelude.{◌≡◌, ℕ, suc, List, [], ◌∷◌, ◌++◌, length, flat_map, Option}
+use Rattle.std.specs.Prelude.{◌≡◌, ℕ, List, [], ◌∷◌, ◌++◌, length, flat_map, Option}
 use Rattle.html_types.specs.declared.operation.NodeId.{NodeId}
 use Rattle.html_types.specs.declared.script.Ending.{Ending}
 use Rattle.html_types.specs.declared.script.Why.{Why}
@@ -12,7 +12,7 @@ use Rattle.html_types.specs.declared.instruction.Stop.TheVariants as stop
 use Rattle.standard.specs.Entities.{Entities}
 use Rattle.standard.specs.Act.{node_of}
 use Rattle.standard.specs.Prepare.{inline, prepare}
-use Rattle.standard.specs.Serial.{World, Serial, Flow, goes, refuses, Moment, reading, tag_ended, over, refusal, Leads}
+use Rattle.standard.specs.Serial.{World, Serial, Flow, refuses, Moment, reading, tag_ended, over, refusal, Leads}
 use Rattle.standard.specs.Laws.{lines_of, StatementsComeTo}
 use Rattle.standard.specs.Output.{line_text}
 use Rattle.page_runner.specs.declared.driver.Went.{Went}

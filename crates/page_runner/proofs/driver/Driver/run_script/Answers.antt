@@ -1,6 +1,5 @@
 use Rattle.std.proofs.Common.{◌≡◌, ap}
 use Rattle.std.specs.Str.{chars}
-use Rattle.standard.specs.Act.{Doc}
 use Rattle.page_runner.specs.Driving.{View}
 use Rattle.page_runner.specs.Moments.{at_script, HasText, PassesInPart}
 use Rattle.page_runner.proofs.MomentLemmas.{on_err, script_passes, script_in_part, in_part_quietly, script_has_lines, passes_still, passes_external, has_text}

@@ -1,4 +1,4 @@
-use Rattle.std.proofs.Common.{◌≡◌, suc, ap, ◌∙◌, subst}
+use Rattle.std.proofs.Common.{◌≡◌, suc, ap, ◌∙◌}
 use Rattle.std.specs.Str.{chars}
 use Rattle.page_runner.specs.Driving.{View}
 use Rattle.page_runner.specs.Moments.{at_script, TextPassesInPart}

@@ -1,4 +1,4 @@
-use Rattle.std.proofs.Common.{rules, ◌≡◌, ◌≤◌, drop, sym, subst, arith}
+use Rattle.std.proofs.Common.{rules, ◌≡◌, drop, sym, subst, arith}
 use Rattle.std.specs.Str.{chars}
 use Rattle.html_types.specs.declared.instruction.Stop.TheVariants as stop
 use Rattle.page_runner.specs.declared.driver.Went.{Went}
