@@ -14,7 +14,7 @@ use Rattle.standard.proofs.FreshnessTexts.{fresh-follows}
 use Rattle.standard.proofs.FreshnessDocs.{texts-served, ends-served}
 use Rattle.parse_machine.specs.declared.machine.Ran.{Ran}
 use Rattle.parse_machine.specs.Machine.{RanAs}
-use Rattle.page_runner.specs.Driving.{View, IsServed, Parses, Finishes}
+use Rattle.page_runner.specs.Driving.{View, IsServed, Parses}
 
 -- the rest of a text, in characters
 pub rest-chars : (bs : List ℕ) (used k : ℕ) → IsUtf8 bs → IsCharBoundary bs used → chars (take used bs) ≡ take k (chars bs) → chars (drop used bs) ≡ drop k (chars bs)
@@ -81,15 +81,3 @@ pub last-bound : (old : View) (es : Entities) (now : Parser) (before ops : List 
 last-bound old es now before ops f served none run =
     let all : ops ≡ (finish es old.parser).ops = sym (ap (λ (k : Finished). k.ops) run) ∙ ap (λ l. l ++ (finish es old.parser).ops) none in
     subst (AreOpsBound (is_bound old.doc.bound)) (sym all) (ends-served AreFresh fresh-follows old.doc es old.parser served).0
-
-pub finishes-page : (es : Entities) (old new : View) (before ops : List Op) (f : Finish) → before ≡ [] →
-    after_all before (finish es old.parser) ≡ record { ops = ops; parser = new.parser; finish = f } → new.doc ≡ acts old.doc ops → Finishes es old new f
-finishes-page es old new before ops f none run done =
-    let all : ops ≡ (finish es old.parser).ops = sym (ap (λ (k : Finished). k.ops) run) ∙ ap (λ l. l ++ (finish es old.parser).ops) none in
-    record {
-      finished = record {
-        parser = sym (ap (λ (k : Finished). k.parser) run);
-        doc = done ∙ ap (acts old.doc) all;
-        finish = sym (ap (λ (k : Finished). k.finish) run);
-      };
-    }

@@ -1,9 +1,8 @@
 -- The moments that the driver passes through, and what the sink took until then.
-use Rattle.std.proofs.Common.{◌≡◌, ℕ, suc, Result, Ok, Err, IfOk, OnErr, ◌≤◌, List, [], ◌∷◌, ◌++◌, drop, flat_map, Option, Some, None, refl, sym, ap, ◌∙◌, subst, append_assoc, inl, inr, arith}
+use Rattle.std.proofs.Common.{◌≡◌, ℕ, suc, Result, Ok, Err, IfOk, OnErr, List, [], ◌∷◌, ◌++◌, drop, flat_map, Option, Some, None, refl, sym, ap, ◌∙◌, subst, append_assoc}
 use Rattle.std.proofs.lemmas.Grind.{flat_map-append}
 use Rattle.std.proofs.lemmas.List.{append-nil}
 use Rattle.std.specs.Str.{chars}
-use Rattle.outside.specs.Outside.{Rose}
 use Rattle.html_types.specs.declared.operation.NodeId.{NodeId}
 use Rattle.html_types.specs.declared.script.Ending.{Ending}
 use Rattle.html_types.specs.declared.script.Why.{Why}
@@ -67,11 +66,6 @@ lines_front : (a b c : Option (List ℕ)) (x y : List Line) → Took a b (flat_m
     TookFront a c (flat_map line_text (x ++ y))
 lines_front a b c x y p q = subst (λ t. TookFront a c t) (sym (flat_map-append line_text x y)) (front_then a b c (flat_map line_text x) (flat_map line_text y) p q)
 
--- a count that rose behind one that didn't fall
-pub rose_behind : (a b c : ℕ) → a ≤ b → Rose b c → Rose a c
-rose_behind a b c le (inl lt) = inl (omega arith)
-rose_behind a b c le (inr last) = inr last
-
 -- ---- parts without lines
 
 pub passes_quietly : (es : Entities) (start : Start) (new : View) (taken : Option (List ℕ)) (went : Went) → Comes es start new [] went → Passes es start new taken taken went
@@ -88,12 +82,6 @@ meets_start es start has = record {
 
 pub in_part_quietly : (es : Entities) (start : Start) (taken : Option (List ℕ)) → HasLines start → PassesInPart es start taken taken
 in_part_quietly es start taken has = record { more = []; took = front_nothing taken; meets = meets_start es start has }
-
-pub stop_has_lines : (v : View) (k : Stop) → HasLines (at_stop v k)
-stop_has_lines v stop.InputEnd lines rest = refl
-stop_has_lines v (stop.Script id) lines rest = refl
-stop_has_lines v stop.Deep lines rest = refl
-stop_has_lines v stop.Missing lines rest = refl
 
 -- a part that goes on is met behind it
 pub meets_behind : (es : Entities) (start : Start) (new : View) (more : List Line) → Goes es start new more → Meets es start more
@@ -204,13 +192,6 @@ pub record StandsAt (es : Entities) (old now : View) (text rest : List ℕ) (k :
   pub took : Took taken taken' (flat_map line_text more)
   pub leads : (e : Ending) (m : Moment) (lines : List Line) (behind : List ℕ) →
       Leads e (world_of es) m (reading (serial_of old lines (text ++ behind))) → Leads e (world_of es) m (at_stop now k (lines ++ more) (rest ++ behind))
-
-pub at_beginning : (es : Entities) (v : View) (text : List ℕ) (taken : Option (List ℕ)) → IsAt es v v text text taken taken
-at_beginning es v text taken = record {
-  more = [];
-  took = took_nothing taken;
-  leads = λ e m lines behind at. rw append-nil at;
-}
 
 -- a stop, as the laws have it
 moment_of : (v : View) (p : View) (lines : List Line) (input behind : List ℕ) (k : Stop) →

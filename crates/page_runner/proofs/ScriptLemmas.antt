@@ -79,16 +79,13 @@ other_halts es v a unready = record {
 
 -- ---- statements in order
 
-pub leaves_all : (es : Entities) (v : View) (list : List Statement) → Leaves es v v list list
-leaves_all es v list = record { comes = λ lines input f come. come }
-
-pub leaves_more : (es : Entities) (old v new : View) (list rest behind : List Statement) (a : Statement) → Leaves es old v list rest → rest ≡ a ∷ behind →
+leaves_more : (es : Entities) (old v new : View) (list rest behind : List Statement) (a : Statement) → Leaves es old v list rest → rest ≡ a ∷ behind →
     Steps es v new a → Leaves es old new list behind
 leaves_more es old v new list rest behind a leaves is steps = record {
   comes = λ lines input f come. leaves.comes lines input f (subst (λ l. Come es l v lines input f) (sym is) (steps.comes behind lines input f come));
 }
 
-pub leaves_halts : (es : Entities) (old v : View) (list rest behind : List Statement) (a : Statement) (reason : Why) → Leaves es old v list rest → rest ≡ a ∷ behind →
+leaves_halts : (es : Entities) (old v : View) (list rest behind : List Statement) (a : Statement) (reason : Why) → Leaves es old v list rest → rest ≡ a ∷ behind →
     Halts es v a reason → ListHalts es old list reason
 leaves_halts es old v list rest behind a reason leaves is halts = record {
   halts = λ lines input. refused lines input (halts.halts behind lines input);

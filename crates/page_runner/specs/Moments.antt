@@ -90,10 +90,6 @@ went_of stop.Missing = Refused why.Unready
 abbrev pub Start : Type 0
 Start = List Line → List ℕ → Moment
 
--- before this text
-abbrev pub before_text : View → List ℕ → Start
-before_text v text = λ lines rest. reading (serial_of v lines (text ++ rest))
-
 -- at the end tag of that script
 abbrev pub at_script : View → NodeId → Start
 at_script v id = λ lines rest. tag_ended id (serial_of v lines rest)
