@@ -1,22 +1,20 @@
 -- What the machine and the document do together.
-use Rattle.std.proofs.Common.{◌≡◌, ◌≢◌, ◌<◌, ℕ, zero, suc, List, [], ◌∷◌, ◌++◌, refl, sym, ap, ◌∙◌, subst, take, drop, length, take-append-drop, arith, ⊎_elim}
+use Rattle.std.proofs.Common.{◌≡◌, ◌<◌, ℕ, zero, suc, List, [], ◌∷◌, ◌++◌, refl, sym, ap, ◌∙◌, subst, take, drop, take-append-drop, arith}
 use Rattle.std.specs.Str.{chars, IsCharBoundary, IsUtf8}
 use Rattle.std.proofs.lemmas.Str.{IsUtf8-take, chars-append, chars-nil}
 use Rattle.std.proofs.lemmas.List.{append_cancel_left}
 use Rattle.html_types.specs.declared.operation.Op.{Op}
-use Rattle.html_types.specs.declared.instruction.Stop.{Stop}
 use Rattle.html_types.specs.declared.instruction.Stop.TheVariants as stop
 use Rattle.html_types.specs.declared.instruction.Finish.{Finish}
 use Rattle.standard.specs.Entities.{Entities}
-use Rattle.standard.specs.Act.{Doc, is_bound, acts, AreOpsBound}
+use Rattle.standard.specs.Act.{is_bound, acts, AreOpsBound}
 use Rattle.standard.specs.Parser.{Parser, Took, took, take_character, Parsed, and_rest, parse, Finished, finish, after_all}
-use Rattle.standard.specs.Naming.{Serves, AreFresh, IsStopBound}
-use Rattle.standard.specs.Laws.{HasParsed, HasFinished}
+use Rattle.standard.specs.Naming.{AreFresh}
 use Rattle.standard.proofs.FreshnessTexts.{fresh-follows}
 use Rattle.standard.proofs.FreshnessDocs.{texts-served, ends-served}
 use Rattle.parse_machine.specs.declared.machine.Ran.{Ran}
 use Rattle.parse_machine.specs.Machine.{RanAs}
-use Rattle.page_runner.specs.Driving.{View, IsServed, Parses, Finishes}
+use Rattle.page_runner.specs.Driving.{View, IsServed, Parses}
 
 -- the rest of a text, in characters
 pub rest-chars : (bs : List ℕ) (used k : ℕ) → IsUtf8 bs → IsCharBoundary bs used → chars (take used bs) ≡ take k (chars bs) → chars (drop used bs) ≡ drop k (chars bs)
@@ -51,30 +49,29 @@ ops-bound old es now before ops ran text served none run =
 ops-are : (before ops more : List Op) → before ≡ [] → ops ≡ before ++ more → ops ≡ more
 ops-are before ops more none is = is ∙ ap (λ l. l ++ more) none
 
-pub parses-text : (old new : View) (before ops : List Op) (ran : Ran) (text : List ℕ) → IsUtf8 text → IsServed old → before ≡ [] →
-    ((es : Entities) → RanAs (parse es old.parser (chars text)) before new.parser ops ran text) → new.doc ≡ acts old.doc ops →
-    IsCharBoundary text ran.used → new.written ≡ old.written → new.executed ≡ old.executed → Parses old new text ran
-parses-text old new before ops ran text utf8 served none run done boundary written executed =
-    let es : Entities = [] in
+pub parses-text : (es : Entities) (old new : View) (before ops : List Op) (ran : Ran) (text : List ℕ) → IsUtf8 text → IsServed old → before ≡ [] →
+    RanAs (parse es old.parser (chars text)) before new.parser ops ran text → new.doc ≡ acts old.doc ops →
+    IsCharBoundary text ran.used → new.written ≡ old.written → new.executed ≡ old.executed → Parses es old new text ran
+parses-text es old new before ops ran text utf8 served none run done boundary written executed =
     let r : Parsed = parse es old.parser (chars text) in
     let stays = texts-served AreFresh fresh-follows old.doc es old.parser (chars text) served in
-    let doc : new.doc ≡ acts old.doc r.ops = done ∙ ap (acts old.doc) (ops-are before ops r.ops none (run es).ops) in
+    let doc : new.doc ≡ acts old.doc r.ops = done ∙ ap (acts old.doc) (ops-are before ops r.ops none run.ops) in
     record {
       boundary = boundary;
-      onward = λ stops. by_used ran.used (run es).used (λ h. stops ((run es).stop ∙ none-used es old.parser (chars text) h));
-      parsed = λ e. record {
-        parser = (run e).state;
-        doc = done ∙ ap (acts old.doc) (ops-are before ops (parse e old.parser (chars text)).ops none (run e).ops);
-        left = rest-chars text ran.used (parse e old.parser (chars text)).used utf8 boundary (run e).used;
-        stop = (run e).stop;
+      onward = λ stops. by_used ran.used run.used (λ h. stops (run.stop ∙ none-used es old.parser (chars text) h));
+      parsed = record {
+        parser = run.state;
+        doc = doc;
+        left = rest-chars text ran.used r.used utf8 boundary run.used;
+        stop = run.stop;
       };
       written = written;
       executed = executed;
-      served = rw (doc, (run es).state) stays.0.1;
-      bound = rw (doc, (run es).stop) stays.1;
+      served = rw (doc, run.state) stays.0.1;
+      bound = rw (doc, run.stop) stays.1;
     }
   where
-    by_used : (n : ℕ) → chars (take n text) ≡ take (parse [] old.parser (chars text)).used (chars text) → ([] ≡ take (parse [] old.parser (chars text)).used (chars text) → ⊥) → 0 < n
+    by_used : (n : ℕ) → chars (take n text) ≡ take (parse es old.parser (chars text)).used (chars text) → ([] ≡ take (parse es old.parser (chars text)).used (chars text) → ⊥) → 0 < n
     by_used zero q h = absurd (h (sym chars-nil ∙ q))
     by_used (suc n) q h = omega arith
 
@@ -84,15 +81,3 @@ pub last-bound : (old : View) (es : Entities) (now : Parser) (before ops : List 
 last-bound old es now before ops f served none run =
     let all : ops ≡ (finish es old.parser).ops = sym (ap (λ (k : Finished). k.ops) run) ∙ ap (λ l. l ++ (finish es old.parser).ops) none in
     subst (AreOpsBound (is_bound old.doc.bound)) (sym all) (ends-served AreFresh fresh-follows old.doc es old.parser served).0
-
-pub finishes-page : (old new : View) (before ops : List Op) (f : Finish) → before ≡ [] →
-    ((es : Entities) → after_all before (finish es old.parser) ≡ record { ops = ops; parser = new.parser; finish = f }) → new.doc ≡ acts old.doc ops → Finishes old new f
-finishes-page old new before ops f none run done = record {
-  finished = λ es.
-      let all : ops ≡ (finish es old.parser).ops = sym (ap (λ (k : Finished). k.ops) (run es)) ∙ ap (λ l. l ++ (finish es old.parser).ops) none in
-      record {
-        parser = sym (ap (λ (k : Finished). k.parser) (run es));
-        doc = done ∙ ap (acts old.doc) all;
-        finish = sym (ap (λ (k : Finished). k.finish) (run es));
-      };
-}

@@ -3,3 +3,5 @@ pub mod Taken
 pub mod Given
 pub mod Words
 pub mod Driving
+pub mod Moments
+pub mod Shown

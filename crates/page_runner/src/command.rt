@@ -42,6 +42,7 @@ fn end_at_fault<K: Sink>(out: &mut K) -> Status {
 // Begins the page, parses it and writes what comes of it.
 fn run_page<F: Outside, K: Sink>(
     alloc: Global,
+    table: &Table,
     files: &mut F,
     out: &mut K,
     words: &PageWords,
@@ -51,7 +52,7 @@ fn run_page<F: Outside, K: Sink>(
         Ok(false) => return Status::Absent,
         Ok(true) => {}
     }
-    let parsed = match parse_page(alloc, files, out, words.piece) {
+    let parsed = match parse_page(alloc, table, files, out, words.piece) {
         Err(failure) => return status_for(failure),
         Ok(parsed) => parsed,
     };
@@ -85,7 +86,7 @@ fn run_files<F: Outside, K: Sink>(
     match table_of(alloc, &bytes) {
         Err(TableFault::NotTable) => Status::Entities,
         Err(TableFault::NoMemory) => Status::NoMemory,
-        Ok(_table) => run_page(alloc, files, out, words),
+        Ok(table) => run_page(alloc, &table, files, out, words),
     }
 }
 

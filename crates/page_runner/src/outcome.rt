@@ -1,4 +1,7 @@
 // What the parse of a page comes to.
+ghost use Rattle.std.specs.Prelude.{◌≡◌};
+ghost use Rattle.page_runner.specs.Shown.{outcome_of, status_of};
+
 use crate::status::{Limit, Status};
 use html_types::{Finish, Why};
 
@@ -9,7 +12,9 @@ pub(crate) enum Outcome {
 }
 
 /// The outcome at the end of a page that ends well.
-pub(crate) fn outcome_at(finish: Finish) -> Outcome {
+pub(crate) fn outcome_at(finish: Finish) -> Outcome
+    ensures { result ≡ outcome_of finish }
+{
     match finish {
         Finish::Finished => Outcome::Finished,
         Finish::Deep => Outcome::Refused(Why::Depth),
@@ -18,7 +23,9 @@ pub(crate) fn outcome_at(finish: Finish) -> Outcome {
 }
 
 /// The status with which a run of that outcome ends.
-pub(crate) fn status_at(outcome: Outcome) -> Status {
+pub(crate) fn status_at(outcome: Outcome) -> Status
+    ensures { result ≡ status_of outcome }
+{
     match outcome {
         Outcome::Finished => Status::Done,
         Outcome::Refused(Why::BadUtf8) => Status::BadUtf8,

@@ -1,6 +1,10 @@
 // The lines that a run writes.
-ghost use Rattle.std.specs.Prelude.{◌≡◌, IfOk};
-ghost use Rattle.standard.specs.Output.{tree_text, refusal_text};
+ghost use Rattle.std.specs.Prelude.{◌≡◌, ◌≤◌, IfOk, OnOk, OnErr, IsErrOf, string_bytes};
+ghost use Rattle.html_types.specs.declared.script.Line.TheVariants as line;
+ghost use Rattle.standard.specs.Output.{line_text, tree_text, refusal_text, result_text};
+ghost use Rattle.outside.specs.Outside.{Rose};
+ghost use Rattle.page_runner.specs.Taken.{Took, TookFront};
+ghost use Rattle.page_runner.specs.Shown.{result_of};
 
 use crate::outcome::Outcome;
 use crate::page::Failure;
@@ -12,25 +16,30 @@ use serde_json::Value;
 use std::alloc::Global;
 
 /// Writes that the script of this number isn't in the language.
-pub(crate) fn write_syntax<K: Sink>(
-    alloc: Global,
-    out: &mut K,
-    number: u64,
-) -> Result<(), Failure> {
+pub(crate) fn write_syntax<K: Sink>(alloc: Global, out: &mut K, number: u64) -> Result<(), Failure>
+    ensures took { OnOk result (Took (K.taken out.old) (K.taken out.new) (line_text (line.Syntax number))) }
+    ensures front { OnErr result (TookFront (K.taken out.old) (K.taken out.new) (line_text (line.Syntax number))) }
+    ensures write { IsErrOf result Failure.Write → Rose (K.faults out.old) (K.faults out.new) }
+    ensures faults { K.faults out.old ≤ K.faults out.new }
+{
     let line = format!(in alloc; "syntax {number}\n")?;
     write_all(out, line.as_bytes())?;
     Ok(())
 }
 
 // The document's text as a JSON string.
-fn show_tree(alloc: Global, doc: &Doc) -> Result<String, NoMemory> {
+fn show_tree(alloc: Global, doc: &Doc) -> Result<String, NoMemory>
+    ensures { IfOk result (λ s. string_bytes s ≡ tree_text doc.now.tree) }
+{
     let text = serialiser::document(alloc, doc.tree())?;
     let value = Value::String(String::from_str(alloc, text.as_str())?);
     let json = value.to_string(alloc)?;
     Ok(format!(in alloc; "tree {json}\n")?)
 }
 
-fn refusal(why: Why) -> &'static str {
+fn refusal(why: Why) -> &'static str
+    ensures { result.now ≡ refusal_text why }
+{
     match why {
         Why::BadUtf8 => "refused bad-utf8\n",
         Why::Depth => "refused depth\n",
@@ -42,7 +51,9 @@ fn refusal(why: Why) -> &'static str {
 }
 
 /// What is written of a page's outcome behind the lines of its scripts.
-pub(crate) fn show_outcome(alloc: Global, doc: &Doc, outcome: Outcome) -> Result<String, NoMemory> {
+pub(crate) fn show_outcome(alloc: Global, doc: &Doc, outcome: Outcome) -> Result<String, NoMemory>
+    ensures { IfOk result (λ s. string_bytes s ≡ result_text (result_of outcome) doc.now.tree) }
+{
     match outcome {
         Outcome::Finished => show_tree(alloc, doc),
         Outcome::Refused(why) => {

@@ -6,6 +6,7 @@ ghost use Rattle.page_runner.specs.Driving.{IsServed};
 
 use crate::driver::{Driver, Went};
 use crate::outcome::{Outcome, outcome_at};
+use entity_table::Table;
 use html_types::{Ending, NoMemory, Why};
 use outside::{Failed, Outside, Port, Sink};
 use std::alloc::{AllocError, Global};
@@ -53,12 +54,17 @@ pub(crate) struct Parsed {
 pub const PAGE_LIMIT: usize = 1_073_741_824;
 
 // The outcome where the text is used, by how the page ends.
-fn end(alloc: Global, driver: &mut Driver, ending: Ending) -> Result<Outcome, NoMemory>
+fn end(
+    alloc: Global,
+    table: &Table,
+    driver: &mut Driver,
+    ending: Ending,
+) -> Result<Outcome, NoMemory>
     requires { IsServed driver.old }
 {
     match ending {
         Ending::End => {
-            let finish = driver.finish(alloc)?;
+            let finish = driver.finish(alloc, table)?;
             Ok(outcome_at(finish))
         }
         Ending::Bad => Ok(Outcome::Refused(Why::BadUtf8)),
@@ -85,6 +91,7 @@ fn read_piece<F: Outside>(
 // Parses the text of the next piece. An outcome says that the parse is over.
 fn take_piece<K: Sink>(
     alloc: Global,
+    table: &Table,
     out: &mut K,
     driver: &mut Driver,
     decoder: &mut Decoder,
@@ -94,12 +101,12 @@ fn take_piece<K: Sink>(
     ensures served { IfOk result (λ o. IsNone o → IsServed driver.new) }
 {
     let fed = decoder.feed(alloc, piece)?;
-    match driver.take(alloc, out, fed.text.as_str())? {
+    match driver.take(alloc, table, out, fed.text.as_str())? {
         Went::Refused(why) => Ok(Some(Outcome::Refused(why))),
         Went::On => match fed.ending {
             None => Ok(None),
             Some(ending) => {
-                let outcome = end(alloc, driver, ending)?;
+                let outcome = end(alloc, table, driver, ending)?;
                 Ok(Some(outcome))
             }
         },
@@ -109,6 +116,7 @@ fn take_piece<K: Sink>(
 // Parses the page that was begun, by reads of at most as many bytes as there is room, and writes its lines.
 fn parse_reads<F: Outside, K: Sink>(
     alloc: Global,
+    table: &Table,
     files: &mut F,
     out: &mut K,
     driver: &mut Driver,
@@ -122,12 +130,19 @@ fn parse_reads<F: Outside, K: Sink>(
         let most = room.len().min(left);
         match read_piece(files, &decoder, &mut room[..most]) {
             Err(ending) => {
-                let outcome = end(alloc, driver, ending)?;
+                let outcome = end(alloc, table, driver, ending)?;
                 return Ok(outcome);
             }
             Ok(n) => {
                 left -= n;
-                if let Some(outcome) = take_piece(alloc, out, driver, &mut decoder, &room[..n])? {
+                if let Some(outcome) = take_piece(
+                    alloc,
+                    table,
+                    out,
+                    driver,
+                    &mut decoder,
+                    &room[..n],
+                )? {
                     return Ok(outcome);
                 }
             }
@@ -138,12 +153,13 @@ fn parse_reads<F: Outside, K: Sink>(
 /// Parses the page that was begun, by reads of at most that many bytes, and writes its lines.
 pub(crate) fn parse_page<F: Outside, K: Sink>(
     alloc: Global,
+    table: &Table,
     files: &mut F,
     out: &mut K,
     piece: usize,
 ) -> Result<Parsed, Failure> {
     let mut driver = Driver::new(alloc)?;
     let mut room = vec![in alloc; 0u8; piece]?;
-    let outcome = parse_reads(alloc, files, out, &mut driver, &mut room)?;
+    let outcome = parse_reads(alloc, table, files, out, &mut driver, &mut room)?;
     Ok(Parsed { driver, outcome })
 }

@@ -1,4 +1,3 @@
-use Rattle.std.proofs.Common.{◌≤◌, ◌+◌}
 use Rattle.page_runner.specs.Driving.{IsServed}
 use Rattle.page_runner.proofs.page.parse_reads.Given as goal
 

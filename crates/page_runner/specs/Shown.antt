@@ -1,0 +1,31 @@
+-- What a parse comes to, and the status of a run with it.
+use Rattle.html_types.specs.declared.script.Why.TheVariants as why
+use Rattle.html_types.specs.declared.instruction.Finish.{Finish}
+use Rattle.html_types.specs.declared.instruction.Finish.TheVariants as finale
+use Rattle.standard.specs.Serial.{Result, finished, refused}
+use Rattle.page_runner.specs.declared.outcome.Outcome.{Outcome}
+use Rattle.page_runner.specs.declared.outcome.Outcome.TheVariants.{Finished, Refused}
+use Rattle.page_runner.specs.declared.status.Limit.TheVariants as limits
+use Rattle.page_runner.specs.declared.status.Status.{Status}
+use Rattle.page_runner.specs.declared.status.Status.TheVariants as status
+
+-- the serial parse's result
+abbrev pub result_of : Outcome → Result
+result_of Finished = finished
+result_of (Refused reason) = refused reason
+
+-- what the parse comes to at the end of a page that ends well
+abbrev pub outcome_of : Finish → Outcome
+outcome_of finale.Finished = Finished
+outcome_of finale.Deep = Refused why.Depth
+outcome_of finale.Missing = Refused why.Unready
+
+-- the status with which a run of that outcome ends
+abbrev pub status_of : Outcome → Status
+status_of Finished = status.Done
+status_of (Refused why.BadUtf8) = status.BadUtf8
+status_of (Refused why.Depth) = status.Limit limits.Depth
+status_of (Refused why.Writes) = status.Limit limits.Writes
+status_of (Refused why.Page) = status.Limit limits.Page
+status_of (Refused why.Fault) = status.ReadFault
+status_of (Refused why.Unready) = status.Unready
