@@ -5,3 +5,13 @@ pub mod DrivingLemmas
 pub mod ScriptLemmas
 pub mod MomentLemmas
 pub mod ShowLemmas
+pub mod KeepsLemmas
+pub mod PageTakenLemmas
+pub mod PageLemmas
+pub mod PagePieces
+pub mod PageEnds
+pub mod PageFaults
+pub mod RunReads
+pub mod RunLemmas
+pub mod Complete
+pub mod Causes

@@ -1,5 +1,5 @@
 -- What the outside gave of a file.
-use Rattle.std.specs.Prelude.{◌≡◌, ◌+◌, ◌≤◌, ℕ, List, ◌++◌, length, take, Option, Some, None, IfSome, IsSomeAnd}
+use Rattle.std.specs.Prelude.{◌≡◌, ◌+◌, ◌≤◌, ◌⊎◌, ℕ, List, [], ◌++◌, length, take, Option, Some, None, IfSome, IsSomeAnd}
 use Rattle.std.specs.Option.{option_map}
 use Rattle.outside.specs.Outside.{Rose, Seen}
 use Rattle.outside.specs.declared.traits.Port.{Port}
@@ -39,7 +39,9 @@ MayGive limit port path before after (got bytes) = IfSome (file_at before path) 
 pub record AreRead (file : Option (Option (List ℕ))) (left : Option (List ℕ)) (read : List ℕ) : Type 0 where
   pub so_far : IfSome file (λ f. IsSomeAnd f (λ whole. (rest : List ℕ) × (whole ≡ read ++ rest) × (left ≡ Some rest)))
 
--- So no file is read further than one byte past the limit.
-abbrev pub ReadsNoFurther : ℕ → Option (Option (List ℕ)) → Option (List ℕ) → Fetch → Type 0
-ReadsNoFurther limit file left (fetches.Got bytes) = (length bytes.items ≤ limit + 1) × AreRead file left bytes.items
-ReadsNoFurther limit file left other = Unit {0}
+-- How far a file was read in a call: nothing was begun at the port, or the file couldn't be begun and the port has nothing left,
+-- or it was read to one byte past the limit at most.
+pub data ReadTo (limit : ℕ) (port : Port) (path : List ℕ) (before after : Seen) : Type 0 where
+  untouched : after.left port ≡ before.left port → ReadTo limit port path before after
+  unbegun : IfSome (after.left port) (λ rest. rest ≡ []) → AbsencesRose port before after ⊎ FaultsRose port before after → ReadTo limit port path before after
+  begun : (read : List ℕ) → AreRead (file_at before path) (after.left port) read → length read ≤ limit + 1 → ReadTo limit port path before after

@@ -5,3 +5,5 @@ pub mod Words
 pub mod Driving
 pub mod Moments
 pub mod Shown
+pub mod Pages
+pub mod Answers

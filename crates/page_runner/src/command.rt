@@ -1,8 +1,18 @@
 // A run, from the words to the status.
+ghost use Rattle.std.specs.Prelude.{◌≡◌, ◌≤◌, ◌<◌, ◌⊎◌, [], map, Some, None, Ok, Err, IfOk, OnOk, OnErr, IsErrOf, IsTrue};
+ghost use Rattle.std.specs.String.{string_bytes};
+ghost use Rattle.standard.specs.Output.{result_text};
+ghost use Rattle.outside.specs.Outside.{Rose, seen, KeepsOthers};
+ghost use Rattle.page_runner.specs.Words.{asked, shown};
+ghost use Rattle.page_runner.specs.Given.{ReadTo};
+ghost use Rattle.page_runner.specs.Taken.{Took, TookFront};
+ghost use Rattle.page_runner.specs.Shown.{result_of};
+ghost use Rattle.page_runner.specs.Answers.{status_for, table_of, is_finished, PageAnswers, Answers, RunsTo, StopsAtLimits, CompletesRun, Exactly, AbsenceRose, FaultRose};
+
 use crate::fetch::{Fetch, read_whole};
 use crate::outcome::status_at;
 use crate::output::show_outcome;
-use crate::page::{Failure, Parsed, parse_page};
+use crate::page::{Failure, PAGE_LIMIT, Parsed, parse_page};
 use crate::status::Status;
 use crate::words::{PageWords, Refused, read_words};
 use crate::write::write_all;
@@ -16,7 +26,9 @@ use std::thread::Threads;
 /// The most bytes of the entities file.
 pub const ENTITIES_LIMIT: usize = 4_194_304;
 
-fn status_for(failure: Failure) -> Status {
+fn status_for(failure: Failure) -> Status
+    ensures { result ≡ status_for failure }
+{
     match failure {
         Failure::Memory => Status::NoMemory,
         Failure::Write => Status::WriteFault,
@@ -24,7 +36,13 @@ fn status_for(failure: Failure) -> Status {
 }
 
 // Writes what came of the page, and finishes the sink.
-fn end_page<K: Sink>(alloc: Global, out: &mut K, parsed: &Parsed) -> Result<(), Failure> {
+fn end_page<K: Sink>(alloc: Global, out: &mut K, parsed: &Parsed) -> Result<(), Failure>
+    ensures ok { OnOk result (Took (K.taken out.old) (K.taken out.new) (result_text (result_of parsed.now.outcome) parsed.now.driver.doc.tree)) }
+    ensures err { OnErr result (TookFront (K.taken out.old) (K.taken out.new) (result_text (result_of parsed.now.outcome) parsed.now.driver.doc.tree)) }
+    ensures clean { OnOk result (IsTrue (K.clean out.new)) }
+    ensures write { IsErrOf result Failure.Write → Rose (K.faults out.old) (K.faults out.new) }
+    ensures faults { K.faults out.old ≤ K.faults out.new }
+{
     let line = show_outcome(alloc, parsed.driver.doc(), parsed.outcome)?;
     write_all(out, line.as_bytes())?;
     out.finish()?;
@@ -32,7 +50,13 @@ fn end_page<K: Sink>(alloc: Global, out: &mut K, parsed: &Parsed) -> Result<(), 
 }
 
 // A fault before the page was begun. The sink is finished then too.
-fn end_at_fault<K: Sink>(out: &mut K) -> Status {
+fn end_at_fault<K: Sink>(out: &mut K) -> Status
+    ensures status { (result ≡ Status.ReadFault) ⊎ (result ≡ Status.WriteFault) }
+    ensures taken { K.taken out.new ≡ K.taken out.old }
+    ensures clean { result ≡ Status.ReadFault → IsTrue (K.clean out.new) }
+    ensures write_fault { result ≡ Status.WriteFault → Rose (K.faults out.old) (K.faults out.new) }
+    ensures faults { K.faults out.old ≤ K.faults out.new }
+{
     match out.finish() {
         Ok(()) => Status::ReadFault,
         Err(Failed) => Status::WriteFault,
@@ -46,7 +70,17 @@ fn run_page<F: Outside, K: Sink>(
     files: &mut F,
     out: &mut K,
     words: &PageWords,
-) -> Status {
+) -> Status
+    requires { 0 < words.now.piece }
+    ensures answer { PageAnswers table.now (string_bytes words.now.page)
+        (seen F.files F.left F.faults F.absences files.old) (seen F.files F.left F.faults F.absences files.new)
+        (K.taken out.old) (K.taken out.new) result }
+    ensures no_further { ReadTo PAGE_LIMIT Port.Page (string_bytes words.now.page)
+        (seen F.files F.left F.faults F.absences files.old) (seen F.files F.left F.faults F.absences files.new) }
+    ensures others { KeepsOthers Port.Page (seen F.files F.left F.faults F.absences files.old) (seen F.files F.left F.faults F.absences files.new) }
+    ensures write_fault { result ≡ Status.WriteFault → Rose (K.faults out.old) (K.faults out.new) }
+    ensures clean { IsTrue (is_finished result) → IsTrue (K.clean out.new) }
+{
     match files.begin(Port::Page, words.page.as_str()) {
         Err(Failed) => return end_at_fault(out),
         Ok(false) => return Status::Absent,
@@ -63,7 +97,10 @@ fn run_page<F: Outside, K: Sink>(
 }
 
 // The table that the file lists. One that is too long is none.
-fn table_of(alloc: Global, bytes: &[u8]) -> Result<Table, TableFault> {
+fn table_of(alloc: Global, bytes: &[u8]) -> Result<Table, TableFault>
+    ensures table { IfOk result (λ table. table_of bytes.now ≡ Some table) }
+    ensures no_table { result ≡ Err TableFault.NotTable → table_of bytes.now ≡ None }
+{
     if bytes.len() > ENTITIES_LIMIT {
         return Err(TableFault::NotTable);
     }
@@ -75,7 +112,16 @@ fn run_files<F: Outside, K: Sink>(
     files: &mut F,
     out: &mut K,
     words: &PageWords,
-) -> Status {
+) -> Status
+    requires { 0 < words.now.piece }
+    ensures answer { Answers (shown words.now)
+        (seen F.files F.left F.faults F.absences files.old) (seen F.files F.left F.faults F.absences files.new)
+        (K.taken out.old) (K.taken out.new) result }
+    ensures no_further { StopsAtLimits (Some (shown words.now))
+        (seen F.files F.left F.faults F.absences files.old) (seen F.files F.left F.faults F.absences files.new) }
+    ensures write_fault { result ≡ Status.WriteFault → Rose (K.faults out.old) (K.faults out.new) }
+    ensures clean { IsTrue (is_finished result) → IsTrue (K.clean out.new) }
+{
     let entities = words.entities.as_str();
     let bytes = match read_whole(alloc, files, Port::Entities, entities, ENTITIES_LIMIT) {
         Err(NoMemory) => return Status::NoMemory,
@@ -87,6 +133,27 @@ fn run_files<F: Outside, K: Sink>(
         Err(TableFault::NotTable) => Status::Entities,
         Err(TableFault::NoMemory) => Status::NoMemory,
         Ok(table) => run_page(alloc, &table, files, out, words),
+    }
+}
+
+fn run_words<F: Outside, K: Sink>(
+    alloc: Global,
+    words: &[String],
+    files: &mut F,
+    out: &mut K,
+) -> Status
+    ensures answer { RunsTo (asked (map string_bytes words.now))
+        (seen F.files F.left F.faults F.absences files.old) (seen F.files F.left F.faults F.absences files.new)
+        (K.taken out.old) (K.taken out.new) result }
+    ensures no_further { StopsAtLimits (asked (map string_bytes words.now))
+        (seen F.files F.left F.faults F.absences files.old) (seen F.files F.left F.faults F.absences files.new) }
+    ensures write_fault { result ≡ Status.WriteFault → Rose (K.faults out.old) (K.faults out.new) }
+    ensures clean { IsTrue (is_finished result) → IsTrue (K.clean out.new) }
+{
+    match read_words(alloc, words) {
+        Err(Refused::Usage) => Status::Usage,
+        Err(Refused::NoMemory) => Status::NoMemory,
+        Ok(words) => run_files(alloc, files, out, &words),
     }
 }
 
@@ -104,10 +171,27 @@ pub fn run<
     files: &mut F,
     out: &mut K,
     _gate: &Arc<G, Global>,
-) -> Status {
-    match read_words(alloc, words) {
-        Err(Refused::Usage) => Status::Usage,
-        Err(Refused::NoMemory) => Status::NoMemory,
-        Ok(words) => run_files(alloc, files, out, &words),
-    }
+) -> Status
+    // The status and the bytes that the sink took are the answer to what the run met, and the text is that of the serial parse.
+    ensures answer { RunsTo (asked (map string_bytes words.now))
+        (seen F.files F.left F.faults F.absences files.old) (seen F.files F.left F.faults F.absences files.new)
+        (K.taken out.old) (K.taken out.new) result }
+    ensures clean { IsTrue (is_finished result) → IsTrue (K.clean out.new) }
+    ensures no_further { StopsAtLimits (asked (map string_bytes words.now))
+        (seen F.files F.left F.faults F.absences files.old) (seen F.files F.left F.faults F.absences files.new) }
+
+    // Where nothing stands in its way, all is written, or memory runs out.
+    ensures complete { CompletesRun (asked (map string_bytes words.now))
+        (seen F.files F.left F.faults F.absences files.old) (seen F.files F.left F.faults F.absences files.new)
+        (K.faults out.old) (K.faults out.new) (K.taken out.old) (K.taken out.new) result }
+
+    // What follows for single statuses.
+    ensures usage { Exactly Status.Usage result (asked (map string_bytes words.now) ≡ None) }
+    ensures absent { result ≡ Status.Absent → AbsenceRose
+        (seen F.files F.left F.faults F.absences files.old) (seen F.files F.left F.faults F.absences files.new) }
+    ensures read_fault { result ≡ Status.ReadFault → FaultRose
+        (seen F.files F.left F.faults F.absences files.old) (seen F.files F.left F.faults F.absences files.new) }
+    ensures write_fault { result ≡ Status.WriteFault → Rose (K.faults out.old) (K.faults out.new) }
+{
+    run_words(alloc, words, files, out)
 }

@@ -1,7 +1,7 @@
 // A whole file, up to a limit.
 ghost use Rattle.std.specs.Prelude.{◌≡◌, ◌<◌, ◌^◌, IfOk};
 ghost use Rattle.outside.specs.Outside.{OthersStay, NeverFall, seen, KeepsOthers};
-ghost use Rattle.page_runner.specs.Given.{file_at, MayGive, given_of, ReadsNoFurther};
+ghost use Rattle.page_runner.specs.Given.{MayGive, given_of, ReadTo};
 
 use html_types::NoMemory;
 use outside::{Failed, Outside, Port};
@@ -30,8 +30,8 @@ pub fn read_whole<F: Outside>(
     requires { limit < 2 ^ 32 }
     ensures given { IfOk result (λ fetch. MayGive limit port path.now
         (seen F.files F.left F.faults F.absences files.old) (seen F.files F.left F.faults F.absences files.new) (given_of fetch)) }
-    ensures no_further { IfOk result (λ fetch. ReadsNoFurther limit
-        (file_at (seen F.files F.left F.faults F.absences files.old) path.now) (F.left files.new port) fetch) }
+    ensures no_further { ReadTo limit port path.now
+        (seen F.files F.left F.faults F.absences files.old) (seen F.files F.left F.faults F.absences files.new) }
     ensures others { KeepsOthers port (seen F.files F.left F.faults F.absences files.old) (seen F.files F.left F.faults F.absences files.new) }
 {
     match files.begin(port, path) {

@@ -1,8 +1,10 @@
 // The page is parsed piece by piece, and its lines are written as they come.
-ghost use Rattle.std.specs.Prelude.{◌≡◌, ◌<◌, ◌≤◌, [], length, take, drop, Some, IfSome, IfOk, OnErr, IsNone};
+ghost use Rattle.std.specs.Prelude.{◌≡◌, ◌<◌, ◌≤◌, ◌+◌, ℕ, List, [], length, take, IfOk, IfErr, OnErr, IsErrOf, IsNone};
 ghost use Rattle.outside.specs.Outside.{Rose, seen, KeepsOthers};
 ghost use Rattle.page_runner.specs.declared.page.Failure.TheVariants as failures;
 ghost use Rattle.page_runner.specs.Driving.{IsServed};
+ghost use Rattle.utf8_pieces.specs.Decoder.{HasRead};
+ghost use Rattle.page_runner.specs.Pages.{first_view, AreTaken, ReadsOn, ClosesAt, EndsAs, TakesPiece, TakesPieceInPart, ParsesPage, ParsesFront};
 
 use crate::driver::{Driver, Went};
 use crate::outcome::{Outcome, outcome_at};
@@ -61,6 +63,7 @@ fn end(
     ending: Ending,
 ) -> Result<Outcome, NoMemory>
     requires { IsServed driver.old }
+    ensures { IfOk result (λ outcome. EndsAs table.now driver.old driver.new ending outcome) }
 {
     match ending {
         Ending::End => {
@@ -80,6 +83,10 @@ fn read_piece<F: Outside>(
     room: &mut [u8],
 ) -> Result<usize, Ending>
     ensures count { IfOk result (λ n. (0 < n) × (n ≤ length room.old)) }
+    ensures taken { IfOk result (λ n. AreTaken (F.left files.old Port.Page) (F.left files.new Port.Page) (take n room.new)) }
+    ensures ending { IfErr result (λ ending. 0 < length room.old → (read : List ℕ) → HasRead PAGE_LIMIT decoder.now read
+        → ClosesAt (F.left files.old Port.Page) (F.left files.new Port.Page) (Rose (F.faults files.old Port.Page) (F.faults files.new Port.Page)) read ending) }
+    ensures others { KeepsOthers Port.Page (seen F.files F.left F.faults F.absences files.old) (seen F.files F.left F.faults F.absences files.new) }
 {
     match files.read(Port::Page, room) {
         Err(Failed) => Err(decoder.close(true)),
@@ -99,6 +106,10 @@ fn take_piece<K: Sink>(
 ) -> Result<Option<Outcome>, Failure>
     requires { IsServed driver.old }
     ensures served { IfOk result (λ o. IsNone o → IsServed driver.new) }
+    ensures ok { IfOk result (λ o. TakesPiece table.now decoder.old decoder.new driver.old driver.new piece.now (K.taken out.old) (K.taken out.new) o) }
+    ensures err { OnErr result (TakesPieceInPart table.now decoder.old driver.old piece.now (K.taken out.old) (K.taken out.new)) }
+    ensures write { IsErrOf result Failure.Write → Rose (K.faults out.old) (K.faults out.new) }
+    ensures faults { K.faults out.old ≤ K.faults out.new }
 {
     let fed = decoder.feed(alloc, piece)?;
     match driver.take(alloc, table, out, fed.text.as_str())? {
@@ -122,7 +133,17 @@ fn parse_reads<F: Outside, K: Sink>(
     driver: &mut Driver,
     room: &mut [u8],
 ) -> Result<Outcome, Failure>
-    requires { IsServed driver.old }
+    requires served { IsServed driver.old }
+    requires first { driver.old ≡ first_view }
+    requires room { 0 < length room.old }
+    ensures ok { IfOk result (λ outcome. ParsesPage table.now (F.left files.old Port.Page) (F.left files.new Port.Page)
+        (Rose (F.faults files.old Port.Page) (F.faults files.new Port.Page)) driver.new (K.taken out.old) (K.taken out.new) outcome) }
+    ensures err { OnErr result (ParsesFront table.now (F.left files.old Port.Page) (F.left files.new Port.Page)
+        (Rose (F.faults files.old Port.Page) (F.faults files.new Port.Page)) (K.taken out.old) (K.taken out.new)) }
+    ensures write { IsErrOf result Failure.Write → Rose (K.faults out.old) (K.faults out.new) }
+    ensures faults { K.faults out.old ≤ K.faults out.new }
+    ensures no_further { ReadsOn (PAGE_LIMIT + 1) (F.left files.old Port.Page) (F.left files.new Port.Page) }
+    ensures others { KeepsOthers Port.Page (seen F.files F.left F.faults F.absences files.old) (seen F.files F.left F.faults F.absences files.new) }
 {
     let mut decoder = Decoder::new(alloc, PAGE_LIMIT);
     let mut left = PAGE_LIMIT + 1;
@@ -135,14 +156,8 @@ fn parse_reads<F: Outside, K: Sink>(
             }
             Ok(n) => {
                 left -= n;
-                if let Some(outcome) = take_piece(
-                    alloc,
-                    table,
-                    out,
-                    driver,
-                    &mut decoder,
-                    &room[..n],
-                )? {
+                let piece = &room[..n];
+                if let Some(outcome) = take_piece(alloc, table, out, driver, &mut decoder, piece)? {
                     return Ok(outcome);
                 }
             }
@@ -150,14 +165,25 @@ fn parse_reads<F: Outside, K: Sink>(
     }
 }
 
-/// Parses the page that was begun, by reads of at most that many bytes, and writes its lines.
+/// Parses the page that was begun, by reads of at most that many bytes, and writes its lines. Where memory runs out or the sink
+/// fails it has taken a front of what is written of the page.
 pub(crate) fn parse_page<F: Outside, K: Sink>(
     alloc: Global,
     table: &Table,
     files: &mut F,
     out: &mut K,
     piece: usize,
-) -> Result<Parsed, Failure> {
+) -> Result<Parsed, Failure>
+    requires { 0 < piece }
+    ensures ok { IfOk result (λ parsed. ParsesPage table.now (F.left files.old Port.Page) (F.left files.new Port.Page)
+        (Rose (F.faults files.old Port.Page) (F.faults files.new Port.Page)) parsed.driver (K.taken out.old) (K.taken out.new) parsed.outcome) }
+    ensures err { OnErr result (ParsesFront table.now (F.left files.old Port.Page) (F.left files.new Port.Page)
+        (Rose (F.faults files.old Port.Page) (F.faults files.new Port.Page)) (K.taken out.old) (K.taken out.new)) }
+    ensures write { IsErrOf result Failure.Write → Rose (K.faults out.old) (K.faults out.new) }
+    ensures faults { K.faults out.old ≤ K.faults out.new }
+    ensures no_further { ReadsOn (PAGE_LIMIT + 1) (F.left files.old Port.Page) (F.left files.new Port.Page) }
+    ensures others { KeepsOthers Port.Page (seen F.files F.left F.faults F.absences files.old) (seen F.files F.left F.faults F.absences files.new) }
+{
     let mut driver = Driver::new(alloc)?;
     let mut room = vec![in alloc; 0u8; piece]?;
     let outcome = parse_reads(alloc, table, files, out, &mut driver, &mut room)?;

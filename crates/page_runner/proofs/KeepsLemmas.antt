@@ -1,0 +1,35 @@
+-- What stays at the other ports, over two calls.
+use Rattle.std.proofs.Common.{◌≡◌, ◌≢◌, ℕ, ◌≤◌, refl, ◌∙◌, arith, inl, inr, sym, subst}
+use Rattle.std.specs.Prelude.{◌⊎◌}
+use Rattle.outside.specs.Outside.{Rose, Seen, KeepsOthers}
+use Rattle.outside.specs.declared.traits.Port.{Port}
+
+pub keeps-same : (port : Port) (s : Seen) → KeepsOthers port s s
+keeps-same port s = record {
+  files = refl;
+  left = λ other ne. refl;
+  other_faults = λ other ne. refl;
+  other_absences = λ other ne. refl;
+  faults = λ p. omega arith;
+  absences = λ p. omega arith;
+}
+
+pub keeps-then : (port : Port) (before now after : Seen) → KeepsOthers port before now → KeepsOthers port now after → KeepsOthers port before after
+keeps-then port before now after a b = record {
+  files = b.files ∙ a.files;
+  left = λ other ne. b.left other ne ∙ a.left other ne;
+  other_faults = λ other ne. b.other_faults other ne ∙ a.other_faults other ne;
+  other_absences = λ other ne. b.other_absences other ne ∙ a.other_absences other ne;
+  faults = λ p. let first = a.faults p in let second = b.faults p in omega arith;
+  absences = λ p. let first = a.absences p in let second = b.absences p in omega arith;
+}
+
+-- a count that rose later rose
+pub rose-on : (a b c : ℕ) → a ≤ b → Rose b c → Rose a c
+rose-on a b c le (inl less) = inl (omega arith)
+rose-on a b c le (inr last) = inr last
+
+-- and stays so
+pub rose-stays : (a b c : ℕ) → Rose a b → b ≤ c → Rose a c
+rose-stays a b c (inl less) le = inl (omega arith)
+rose-stays a b c (inr last) le = inr (omega arith)

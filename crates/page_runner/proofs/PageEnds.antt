@@ -1,0 +1,147 @@
+-- How the parse of a page that is read at a port ends.
+use Rattle.std.proofs.Common.{◌≡◌, ℕ, ◌≤◌, ◌<◌, ◌+◌, ◌-◌, List, [], ◌++◌, length, take, Bool, true, false, Option, Some, None, IfSome, refl, sym, ap, subst, ◌∙◌, length-append, length-take, min, arith}
+use Rattle.std.specs.Prelude.{nat_lt, if◌then◌else◌}
+use Rattle.std.proofs.lemmas.Bool.{ltb-false}
+use Rattle.std.proofs.lemmas.List.{take_all, take-append-le}
+use Rattle.std.proofs.lemmas.Str.{IsUtf8-nil}
+use Rattle.html_types.specs.declared.script.Ending.{Ending}
+use Rattle.html_types.specs.declared.script.Ending.TheVariants as ending
+use Rattle.standard.specs.Entities.{Entities}
+use Rattle.standard.specs.Page.{ending_of, shown, is_text_so_far}
+use Rattle.standard.specs.Serial.{Outcome}
+use Rattle.utf8_pieces.specs.declared.decoder.Decoder.{Decoder}
+use Rattle.utf8_pieces.specs.Decoder.{HasRead}
+use Rattle.utf8_pieces.proofs.DecoderLemmas.{text_is_so_far, not_lt}
+use Rattle.page_runner.specs.declared.page.TheConstants.{PAGE_LIMIT}
+use Rattle.page_runner.specs.declared.outcome.Outcome.{Outcome as Told}
+use Rattle.page_runner.specs.Taken.{Took, TookFront}
+use Rattle.page_runner.specs.Driving.{View}
+use Rattle.page_runner.specs.Pages.{PageRead, ComesTo, AreTaken, ReadsOn, IsReadFrom, Ended, ParsesPage, ParsesFront, StandsAt, IsPast, TookOf, ClosesAt, EndsAs, TakesPiece, TakesPieceInPart, first_view}
+use Rattle.page_runner.proofs.PageTakenLemmas.{taken_then, taken_none, taken_nothing_more, all_bytes, read_whole, read_to_fault, all_read}
+use Rattle.page_runner.proofs.PageLemmas.{ended_there, stands_first, took_of_lines}
+
+module _ (es : Entities) (whole left : Option (List ℕ)) (rose : Type 0) (read : List ℕ) (taken : AreTaken whole left read) (t t' : Option (List ℕ)) where
+  -- the parse is over, whatever follows what was read
+  pub past_page : (v : View) (o : Told) → IsPast es read v t t' o → ParsesPage es whole left rose v t t' o
+  past_page v o past =
+      let rest = all_bytes whole left read taken in
+      record {
+        page = record { bytes = read ++ rest.0; fault = false };
+        read_from = read_whole whole left rose (read ++ rest.0) rest.1;
+        ended = past.ended rest.0;
+      }
+
+  pub page_in_part : TookOf es read t t' → ParsesFront es whole left rose t t'
+  page_in_part part =
+      let rest = all_bytes whole left read taken in
+      record {
+        page = record { bytes = read ++ rest.0; fault = false };
+        read_from = read_whole whole left rose (read ++ rest.0) rest.1;
+        front = λ o comes. part.front rest.0 false o comes;
+      }
+
+  -- no more bytes came
+  pub page_closed : (left' : Option (List ℕ)) (rose' : Type 0) (v v' : View) (e : Ending) (o : Told) → StandsAt es read v t t' → ClosesAt left left' rose' read e → (rose' → rose) → EndsAs es v v' e o
+      → ParsesPage es whole left' rose v' t t' o
+  page_closed left' rose' v v' e o at closes cause ends = by_fault closes.fault closes.ending closes.end closes.cause
+    where
+      by_fault : (fault : Bool) → e ≡ ending_of PAGE_LIMIT read fault → (fault ≡ false → IfSome left (λ rest. rest ≡ [])) → (fault ≡ true → rose') → ParsesPage es whole left' rose v' t t' o
+      by_fault true is none there = record {
+        page = record { bytes = read; fault = true };
+        read_from = read_to_fault whole left' rose read (taken_nothing_more whole left left' read taken closes.nothing) (cause (there refl));
+        ended = ended_there es read v v' t t' true e o at is ends;
+      }
+      by_fault false is none there = record {
+        page = record { bytes = read; fault = false };
+        read_from = read_whole whole left' rose read (all_read whole left read taken (none refl));
+        ended = ended_there es read v v' t t' false e o at is ends;
+      }
+
+-- ---- the loop
+
+-- These bytes were read, and the parse stands behind them.
+pub record IsAt (es : Entities) (whole left : Option (List ℕ)) (d : Decoder) (v : View) (taken taken' : Option (List ℕ)) (room : ℕ) : Type 0 where
+  pub read : List ℕ
+  pub so_far : AreTaken whole left read
+  pub decoded : HasRead PAGE_LIMIT d read
+  pub stands : StandsAt es read v taken taken'
+  pub open_yet : shown PAGE_LIMIT read ≡ None
+  pub room_is : room + length read ≡ PAGE_LIMIT + 1
+
+shown-nil : (limit : ℕ) → shown limit [] ≡ None
+shown-nil limit = rw (take_all {A = ℕ} (limit + 1) [] (omega arith), text_is_so_far [] IsUtf8-nil, not_lt limit 0 (omega arith)) refl
+
+pub at_start : (es : Entities) (whole : Option (List ℕ)) (d : Decoder) (v : View) (t : Option (List ℕ)) → HasRead PAGE_LIMIT d [] → v ≡ first_view → IsAt es whole whole d v t t (PAGE_LIMIT + 1)
+at_start es whole d v t decoded first = record {
+  read = [];
+  so_far = taken_none whole;
+  decoded = decoded;
+  stands = rw first (stands_first es t);
+  open_yet = shown-nil PAGE_LIMIT;
+  room_is = refl;
+}
+
+-- some bytes may still be read
+still_room : (limit room : ℕ) (read : List ℕ) → shown limit read ≡ None → room + length read ≡ limit + 1 → 0 < room
+still_room limit room read open_yet is = by_test (is_text_so_far (take (limit + 1) read)) (nat_lt limit (length read)) refl open_yet
+  where
+    by_test : (so_far long : Bool) → nat_lt limit (length read) ≡ long → (if so_far then (if long then Some ending.Long else None) else Some ending.Bad) ≡ None → 0 < room
+    by_test false long told h = absurd (cc h)
+    by_test true true told h = absurd (cc h)
+    by_test true false told h = let short = ltb-false limit (length read) told in omega arith
+
+pub has_room : (es : Entities) (whole left : Option (List ℕ)) (d : Decoder) (v : View) (t t' : Option (List ℕ)) (room most : ℕ) (piece : List ℕ) → IsAt es whole left d v t t' room → 0 < length piece → most ≡ min (length piece) room
+    → 0 < length (take most piece)
+has_room es whole left d v t t' room most piece at some is = let still = still_room PAGE_LIMIT room at.read at.open_yet at.room_is in omega (arith, length-take most piece)
+
+-- the front of the room is the piece
+pub piece_is : (left left' : Option (List ℕ)) (into tail : List ℕ) (n : ℕ) → n ≤ length into → AreTaken left left' (take n into) → AreTaken left left' (take n (into ++ tail))
+piece_is left left' into tail n fits taken = rw (take-append-le n into tail fits) taken
+
+pub piece_length : (into tail : List ℕ) (n : ℕ) → n ≤ length into → length (take n (into ++ tail)) ≡ n
+piece_length into tail n fits = omega (arith, length-take n (into ++ tail), length-append into tail)
+
+module _ (es : Entities) (whole left : Option (List ℕ)) (d : Decoder) (v : View) (t now : Option (List ℕ)) (room : ℕ) (at : IsAt es whole left d v t now room) (left' : Option (List ℕ)) where
+  -- no more bytes came
+  module _ (rose' : Type 0) (e : Ending) (closes : (read : List ℕ) → HasRead PAGE_LIMIT d read → ClosesAt left left' rose' read e) where
+    read_all : AreTaken whole left' at.read
+    read_all = taken_nothing_more whole left left' at.read at.so_far (closes at.read at.decoded).nothing
+
+    pub closed_ok : (rose : Type 0) (v' : View) (o : Told) → (rose' → rose) → EndsAs es v v' e o → ParsesPage es whole left' rose v' t now o
+    closed_ok rose v' o cause ends = page_closed es whole left rose at.read at.so_far t now left' rose' v v' e o at.stands (closes at.read at.decoded) cause ends
+
+    pub closed_in_part : (rose : Type 0) → ParsesFront es whole left' rose t now
+    closed_in_part rose = page_in_part es whole left' rose at.read read_all t now (took_of_lines es at.read v t now at.stands)
+
+    pub closed_no_further : ReadsOn (PAGE_LIMIT + 1) whole left'
+    closed_no_further = record { read = at.read; taken = read_all; at_most = let is = at.room_is in omega arith }
+
+  -- a piece came
+  module _ (piece : List ℕ) (read : AreTaken left left' piece) where
+    read_more : AreTaken whole left' (at.read ++ piece)
+    read_more = taken_then whole left left' at.read piece at.so_far read
+
+    pub piece_past : (rose : Type 0) (d' : Decoder) (v' : View) (t' : Option (List ℕ)) (o : Told) → TakesPiece es d d' v v' piece now t' (Some o) → ParsesPage es whole left' rose v' t t' o
+    piece_past rose d' v' t' o takes = past_page es whole left' rose (at.read ++ piece) read_more t t' v' o (takes.comes at.read t at.decoded at.stands)
+
+    pub piece_gave_up : (rose : Type 0) (t' : Option (List ℕ)) → TakesPieceInPart es d v piece now t' → ParsesFront es whole left' rose t t'
+    piece_gave_up rose t' part = page_in_part es whole left' rose (at.read ++ piece) read_more t t' (part.front at.read t at.decoded at.stands)
+
+    pub piece_no_further : (n : ℕ) → length piece ≡ n → n ≤ room → ReadsOn (PAGE_LIMIT + 1) whole left'
+    piece_no_further n size fits = record { read = at.read ++ piece; taken = read_more; at_most = let is = at.room_is in omega (arith, length-append at.read piece) }
+
+    pub piece_on : (d' : Decoder) (v' : View) (t' : Option (List ℕ)) (n : ℕ) → length piece ≡ n → n ≤ room → TakesPiece es d d' v v' piece now t' None → IsAt es whole left' d' v' t t' (room - n)
+    piece_on d' v' t' n size fits takes =
+        let comes = takes.comes at.read t at.decoded at.stands in
+        record {
+          read = at.read ++ piece;
+          so_far = read_more;
+          decoded = comes.0;
+          stands = comes.2;
+          open_yet = comes.1;
+          room_is = let is = at.room_is in omega (arith, length-append at.read piece);
+        }
+
+-- nothing was read
+pub unread : (es : Entities) (whole : Option (List ℕ)) (rose : Type 0) (t : Option (List ℕ)) → ParsesFront es whole whole rose t t
+unread es whole rose t = page_in_part es whole whole rose [] (taken_none whole) t t (took_of_lines es [] first_view t t (stands_first es t))

@@ -1,0 +1,40 @@
+use Rattle.std.proofs.Common.{◌≡◌, ◌≤◌, ◌+◌, ◌++◌, length, take, drop, arith, refl, sym, subst, length-take, length-append}
+use Rattle.outside.specs.Outside.{seen}
+use Rattle.page_runner.specs.Given.{AreRead, file_at, ReadTo, begun}
+use Rattle.page_runner.proofs.KeepsLemmas.{keeps-then}
+use Rattle.page_runner.proofs.RunReads.{read_more, read_none, read_failed, piece_front}
+use Rattle.page_runner.proofs.fetch.read_whole.Goals as goal
+use Rattle.page_runner.proofs.fetch.read_whole.Goals.{else-reads-test, then-reads-test+in-Ok-eq0}
+
+pub returns-in-Err-read-clause-no_further : goal.returns-in-Err-read-clause-no_further
+returns-in-Err-read-clause-no_further g c = begun c.reads.bytes.items (read_failed _ _ _ _ c.reads.invariant.read c.in-Err-read.ensures.failed) (omega (arith, c.reads.bytes.ok.0, c.reads.invariant.bound))
+
+pub reads-preserved : goal.reads-preserved
+reads-preserved g c =
+    let fits : c.in-Ok.n ≤ length c.read.new.into = omega (arith, c.read.auto.into, c.in-Ok.ensures.count) in
+    let len = c.in_ok-extend_from_slice.ensures.len in
+    let most = length-take c.in-Ok.n (c.read.new.into ++ drop c.min-room.result c.reads.piece) in
+    let room = length-take c.min-room.result c.reads.piece in
+    record {
+      bound = omega (arith, len, most, room, c.read.auto.into, c.in-Ok.ensures.count, c.min-room.ensures, c.len-in-reads.ensures);
+      others = keeps-then _ _ _ _ c.reads.invariant.others c.read.ensures.others;
+      read = rw c.in_ok-extend_from_slice.ensures.items
+          (read_more _ _ _ c.reads.bytes.items c.read.new.into _ c.in-Ok.n c.reads.invariant.read c.in-Ok.ensures.moved (piece_front c.read.new.into _ c.in-Ok.n fits));
+    }
+
+pub returns-in_err-extend_from_slice-clause-no_further : goal.returns-in_err-extend_from_slice-clause-no_further
+returns-in_err-extend_from_slice-clause-no_further g c =
+    let most = length-take c.in-Ok.n c.read.new.into in
+    let room = length-take c.min-room.result c.reads.piece in
+    begun (c.reads.bytes.items ++ take c.in-Ok.n c.read.new.into) (read_more _ _ _ c.reads.bytes.items c.read.new.into _ c.in-Ok.n c.reads.invariant.read c.in-Ok.ensures.moved refl)
+    (omega (arith, most, room, length-append c.reads.bytes.items (take c.in-Ok.n c.read.new.into), c.reads.bytes.ok.0, c.read.auto.into, c.in-Ok.ensures.count, c.min-room.ensures, c.len-in-reads.ensures))
+
+pub returns-clause-no_further : goal.returns-clause-no_further
+returns-clause-no_further g c =
+    let at = seen g.F.Outside.files g.F.Outside.left g.F.Outside.faults g.F.Outside.absences in
+    let small : length c.reads.bytes.items ≤ c.args.limit + 1 = omega (arith, c.reads.bytes.ok.0, c.reads.invariant.bound) in
+    let here : AreRead (file_at (at c.args.files.now) c.args.path.now) (g.F.Outside.left c.reads-test.files c.args.port) c.reads.bytes.items = elim c.reads-test.branch [
+      | else-reads-test w ↦ rw w.files-is c.reads.invariant.read
+      | then-reads-test+in-Ok-eq0 w ↦ rw w.files-is (read_none _ _ _ _ _ _ c.reads.invariant.read w.in-Ok-eq0.ensures.moved w.in-Ok-eq0.field-0-test)
+    ] in
+    begun c.reads.bytes.items here small

@@ -1,0 +1,162 @@
+-- What a run answers: its status and the bytes that the sink took, as a function of what it met outside.
+use Rattle.std.specs.Prelude.{◌≡◌, ◌≤◌, ◌⊎◌, ℕ, Bool, true, false, List, [], ◌++◌, length, nat_le, if◌then◌else◌, Option, Some, None, IfSome}
+use Rattle.html_types.specs.declared.script.Why.TheVariants as why
+use Rattle.outside.specs.Outside.{Rose, Seen}
+use Rattle.outside.specs.declared.traits.Port.{Port}
+use Rattle.outside.specs.declared.traits.Port.TheVariants.{Entities, Page}
+use Rattle.standard.specs.Entities.{Entities as Table, entities_of}
+use Rattle.standard.specs.Serial.{Result, finished, refused, Outcome}
+use Rattle.standard.specs.Output.{output}
+use Rattle.page_runner.specs.declared.command.TheConstants.{ENTITIES_LIMIT}
+use Rattle.page_runner.specs.declared.page.TheConstants.{PAGE_LIMIT}
+use Rattle.page_runner.specs.declared.page.Failure.{Failure}
+use Rattle.page_runner.specs.declared.page.Failure.TheVariants as failures
+use Rattle.page_runner.specs.declared.status.Limit.TheVariants as limits
+use Rattle.page_runner.specs.declared.status.Status.{Status}
+use Rattle.page_runner.specs.declared.status.Status.TheVariants as status
+use Rattle.page_runner.specs.Words.{Asked}
+use Rattle.page_runner.specs.Given.{Given, unmet, missing, faulted, got, FaultsRose, AbsencesRose, file_at, MayGive, ReadTo}
+use Rattle.page_runner.specs.Taken.{Took, TookFront}
+use Rattle.page_runner.specs.Pages.{PageRead, ComesTo}
+
+-- ---- what the outside may give of the page
+
+-- The page is the file, or where a read failed the file without what the port has left.
+pub record IsPageOf (file : Option (Option (List ℕ))) (left : Option (List ℕ)) (rose : Type 0) (page : PageRead) : Type 0 where
+  pub whole : page.fault ≡ false → IfSome file (λ f. f ≡ Some page.bytes)
+  pub cut : page.fault ≡ true → IfSome file (λ f. (rest : List ℕ) × (f ≡ Some (page.bytes ++ rest)) × (left ≡ Some rest))
+  pub cause : page.fault ≡ true → rose
+
+-- a page that was begun and read, and what its serial parse comes to
+pub record PageMet : Type 0 where
+  pub read : PageRead
+  pub outcome : Outcome
+
+-- Where the page can't be begun the port has nothing left.
+abbrev pub MayGivePage : List ℕ → Seen → Seen → Given PageMet → Type 0
+MayGivePage path before after unmet = Unit {0}
+MayGivePage path before after missing = AbsencesRose Page before after × IfSome (file_at before path) (λ file. file ≡ None)
+MayGivePage path before after faulted = FaultsRose Page before after × IfSome (after.left Page) (λ rest. rest ≡ [])
+MayGivePage path before after (got page) = IsPageOf (file_at before path) (after.left Page) (FaultsRose Page before after) page.read
+
+-- the outcome is that of the serial parse
+abbrev pub IsParsed : Table → Given PageMet → Type 0
+IsParsed es (got page) = ComesTo es page.read page.outcome
+IsParsed es other = Unit {0}
+
+-- ---- the answer: the status, and all that is written
+
+abbrev pub Answer : Type 0
+Answer = Status × List ℕ
+
+-- the status that a result of the parse gives
+abbrev pub status_with : Result → Status
+status_with finished = status.Done
+status_with (refused why.BadUtf8) = status.BadUtf8
+status_with (refused why.Depth) = status.Limit limits.Depth
+status_with (refused why.Writes) = status.Limit limits.Writes
+status_with (refused why.Page) = status.Limit limits.Page
+status_with (refused why.Fault) = status.ReadFault
+status_with (refused why.Unready) = status.Unready
+
+abbrev pub answer_to_page : Given PageMet → Answer
+answer_to_page unmet = (status.NoMemory, [])
+answer_to_page missing = (status.Absent, [])
+answer_to_page faulted = (status.ReadFault, [])
+answer_to_page (got page) = (status_with page.outcome.result, output page.outcome)
+
+-- the table of the entities file; one that is too long is none
+abbrev pub table_of : List ℕ → Option Table
+table_of bytes = if nat_le (length bytes) ENTITIES_LIMIT then entities_of bytes else None
+
+abbrev pub answer_over : Option Table → Given PageMet → Answer
+answer_over None page = (status.Entities, [])
+answer_over (Some es) page = answer_to_page page
+
+abbrev pub answer_to : Given (List ℕ) → Given PageMet → Answer
+answer_to unmet page = (status.NoMemory, [])
+answer_to missing page = (status.Absent, [])
+answer_to faulted page = (status.ReadFault, [])
+answer_to (got bytes) page = answer_over (table_of bytes) page
+
+abbrev pub status_for : Failure → Status
+status_for failures.Memory = status.NoMemory
+status_for failures.Write = status.WriteFault
+
+-- The status is the answer's and its text was written. In its place WriteFault and NoMemory may come, with a front of the text.
+abbrev pub Gives : Option (List ℕ) → Option (List ℕ) → Answer → Status → Type 0
+Gives before after answer status.WriteFault = TookFront before after answer.1
+Gives before after answer status.NoMemory = TookFront before after answer.1
+Gives before after answer given = (given ≡ answer.0) × Took before after answer.1
+
+-- ---- a run
+
+-- from where the page is begun
+pub record PageAnswers (es : Table) (path : List ℕ) (before after : Seen) (taken taken' : Option (List ℕ)) (result : Status) : Type 0 where
+  pub page : Given PageMet
+  pub may : MayGivePage path before after page
+  pub parsed : IsParsed es page
+  pub gives : Gives taken taken' (answer_to_page page) result
+
+-- What was met at the two ports, each with its cause, and the answer to it. The entities come first, and what stands behind
+-- that one which refuses counts for nothing.
+pub record Answers (asked : Asked) (before after : Seen) (taken taken' : Option (List ℕ)) (result : Status) : Type 0 where
+  pub entities : Given (List ℕ)
+  pub page : Given PageMet
+  pub may_entities : MayGive ENTITIES_LIMIT Entities asked.entities before after entities
+  pub may_page : MayGivePage asked.page before after page
+  pub parsed : (bytes : List ℕ) (es : Table) → entities ≡ got bytes → table_of bytes ≡ Some es → IsParsed es page
+  pub gives : Gives taken taken' (answer_to entities page) result
+
+-- The words come before all.
+abbrev pub RunsTo : Option Asked → Seen → Seen → Option (List ℕ) → Option (List ℕ) → Status → Type 0
+RunsTo None before after taken taken' result = Gives taken taken' (status.Usage, []) result
+RunsTo (Some asked) before after taken taken' result = Answers asked before after taken taken' result
+
+-- the statuses before which the sink is finished
+abbrev pub is_finished : Status → Bool
+is_finished status.Done = true
+is_finished status.BadUtf8 = true
+is_finished (status.Limit which) = true
+is_finished status.ReadFault = true
+is_finished status.Unready = true
+is_finished _ = false
+
+-- Neither file is read further than one byte past its limit.
+abbrev pub StopsAtLimits : Option Asked → Seen → Seen → Type 0
+StopsAtLimits None before after = after.left ≡ before.left
+StopsAtLimits (Some asked) before after =
+    ReadTo ENTITIES_LIMIT Entities asked.entities before after × ReadTo PAGE_LIMIT Page asked.page before after
+
+-- ---- what follows of it
+
+-- no fault is counted in this run
+pub record NoFaultRose (before after : Seen) (sink sink' : ℕ) : Type 0 where
+  pub entities : ¬ (FaultsRose Entities before after)
+  pub page : ¬ (FaultsRose Page before after)
+  pub at_sink : ¬ (Rose sink sink')
+
+-- Where the files are there and in order, the parse finishes, and nothing failed, all is written, or memory ran out.
+abbrev pub Completes : Asked → Seen → Seen → ℕ → ℕ → Option (List ℕ) → Option (List ℕ) → Status → Type 0
+Completes asked before after sink sink' taken taken' result = IfSome before.files (λ map. (entities page : List ℕ) (es : Table) (o : Outcome)
+    → map asked.entities ≡ Some entities → table_of entities ≡ Some es → map asked.page ≡ Some page
+    → ComesTo es (record { bytes = page; fault = false }) o → o.result ≡ finished
+    → NoFaultRose before after sink sink'
+    → (result ≡ status.NoMemory) ⊎ ((result ≡ status.Done) × Took taken taken' (output o)))
+
+-- the same of the words
+abbrev pub CompletesRun : Option Asked → Seen → Seen → ℕ → ℕ → Option (List ℕ) → Option (List ℕ) → Status → Type 0
+CompletesRun None before after sink sink' taken taken' result = Unit {0}
+CompletesRun (Some asked) before after sink sink' taken taken' result = Completes asked before after sink sink' taken taken' result
+
+-- It comes nowhere else, and there it comes, or WriteFault or NoMemory comes in its place.
+pub record Exactly (wanted result : Status) (fact : Type 0) : Type 0 where
+  pub nowhere_else : result ≡ wanted → fact
+  pub there : fact → (result ≡ wanted) ⊎ (result ≡ status.WriteFault) ⊎ (result ≡ status.NoMemory)
+
+-- a count rose at one of the two ports
+abbrev pub AbsenceRose : Seen → Seen → Type 0
+AbsenceRose before after = AbsencesRose Entities before after ⊎ AbsencesRose Page before after
+
+abbrev pub FaultRose : Seen → Seen → Type 0
+FaultRose before after = FaultsRose Entities before after ⊎ FaultsRose Page before after
