@@ -32,6 +32,6 @@ Adds-from_more {before} {middle} {next = next} es n s k c h f a x =
           ∙ append_assoc before (row es s k c).tokens rest.tokens ∙ ap (λ (m : Reached). before ++ m.tokens) (sym q);
     }
 
-pub IfOk-from_more : {before middle : List Token} {next : Next} (after : List Token) (r : Result TokState NoMemory) (n : ℕ) (s : TokState) (k : Class) (c : ℕ) → 0 < n → ((es : Entities) → Follows (row es s k c) before middle next) → next.again ≡ true → IfOk r (λ now. (es : Entities) → Adds (settle es (n - 1) next.state k c) middle after now) → IfOk r (λ now. (es : Entities) → Adds (settle es n s k c) before after now)
-IfOk-from_more after (Ok now) n s k c h f a x = λ es. Adds-from_more es n s k c h (f es) a (x es)
-IfOk-from_more after (Err e) n s k c h f a x = tt
+pub IfOk-from_more : {before middle : List Token} {next : Next} (after : List Token) (r : Result TokState NoMemory) (es : Entities) (n : ℕ) (s : TokState) (k : Class) (c : ℕ) → 0 < n → Follows (row es s k c) before middle next → next.again ≡ true → IfOk r (Adds (settle es (n - 1) next.state k c) middle after) → IfOk r (Adds (settle es n s k c) before after)
+IfOk-from_more after (Ok now) es n s k c h f a x = Adds-from_more es n s k c h f a x
+IfOk-from_more after (Err e) es n s k c h f a x = tt

@@ -1,6 +1,7 @@
 //! The tokenizer (13.2.5) over a text that comes in pieces.
 #![tactic(auto)]
 
+mod discard;
 pub mod laws;
 pub mod reading;
 pub mod run;

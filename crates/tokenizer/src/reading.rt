@@ -4,11 +4,12 @@ ghost use Rattle.std.specs.Prelude.{◌≡◌, ℕ, [], ◌∷◌, IfOk, IsTrue,
 ghost use Rattle.char_class.specs.Steps.{Follows};
 ghost use Rattle.standard.specs.Entities.{Entities};
 ghost use Rattle.standard.specs.Step as steps;
-ghost use Rattle.standard.specs.Tokenizer as table;
+ghost use Rattle.standard.specs.Tokenizer as rows;
 ghost use Rattle.html_types.specs.declared.token.Token.TheVariants.{Character};
 ghost use Rattle.tokenizer.specs.Adds.{Adds};
 
 use char_class::Next;
+use entity_table::Table;
 use html_types::{Class, NoMemory, TokState, Tokens};
 use std::alloc::Global;
 
@@ -18,36 +19,42 @@ pub const READINGS: u8 = 5;
 /// One row of the table.
 fn row(
     alloc: Global,
+    table: &Table,
     state: TokState,
     class: Class,
     c: char,
     out: &mut Tokens,
 ) -> Result<Next, NoMemory>
-    ensures { IfOk result (λ next. (es : Entities) → Follows (table.row es state class c) out.old out.new next) }
+    ensures { IfOk result (Follows (rows.row table.now state class c) out.old out.new) }
 {
     match state {
         TokState::Text(text_state) => tok_text::step(alloc, text_state, class, c, out),
         TokState::Tag(tag_state) => tok_tags::step(alloc, tag_state, class, c, out),
+        TokState::Mark(mark_state) => tok_marks::step(alloc, mark_state, class, c, out),
+        TokState::Reference(reference_state) => {
+            tok_refs::step(alloc, table, reference_state, class, c, out)
+        }
     }
 }
 
 /// Reads a character, or the end, at most so many times, and gives the state that it leads to.
 pub fn settle(
     alloc: Global,
+    table: &Table,
     readings: u8,
     state: TokState,
     class: Class,
     c: char,
     out: &mut Tokens,
 ) -> Result<TokState, NoMemory>
-    ensures { IfOk result (λ now. (es : Entities) → Adds (table.settle es readings state class c) out.old out.new now) }
+    ensures { IfOk result (Adds (rows.settle table.now readings state class c) out.old out.new) }
 {
     if readings == 0 {
         return Ok(state);
     }
-    let next = row(alloc, state, class, c, out)?;
+    let next = row(alloc, table, state, class, c, out)?;
     if next.again {
-        settle(alloc, readings - 1, next.state, class, c, out)
+        settle(alloc, table, readings - 1, next.state, class, c, out)
     } else {
         Ok(next.state)
     }
@@ -57,7 +64,7 @@ pub fn settle(
 pub fn is_plain(state: &TokState, class: Class) -> bool
     ensures { IsTrue result
         → (es : Entities) (c : ℕ)
-        → table.row es state.now class c ≡ steps.emit (Character c ∷ []) state.now }
+        → rows.row es state.now class c ≡ steps.emit (Character c ∷ []) state.now }
 {
     match state {
         TokState::Text(text_state) => tok_text::is_plain(text_state, class),
@@ -70,11 +77,12 @@ pub fn is_plain(state: &TokState, class: Class) -> bool
 pub fn add_in_place(state: &mut TokState, class: Class, c: char) -> Result<bool, NoMemory>
     ensures { IfOk result
         (λ done. MatchBool done
-        ((es : Entities) → table.row es state.old class c ≡ steps.to state.new)
+        ((es : Entities) → rows.row es state.old class c ≡ steps.to state.new)
         (state.new ≡ state.old)) }
 {
     match state {
         TokState::Tag(tag_state) => tok_tags::add_in_place(tag_state, class, c),
+        TokState::Mark(mark_state) => tok_marks::add_in_place(mark_state, class, c),
         _ => Ok(false),
     }
 }

@@ -2,13 +2,14 @@
 
 ghost use Rattle.std.specs.Prelude.{◌≡◌, ◌↔◌, [], ◌∷◌, take, length, IfOk, OnOk, IfSome, IfNone, IsTrue};
 ghost use Rattle.std.specs.Str.{chars, IsCharBoundary};
-ghost use Rattle.standard.specs.Entities.{Entities};
 ghost use Rattle.standard.specs.Step.{data_state};
 ghost use Rattle.standard.specs.Tokenizer.{read, reading, read_end, onward, after_tokens};
 ghost use Rattle.tokenizer.specs.Runs.{IsNext, IsQuietBefore, UsesAll};
 
+use crate::discard::discard;
 use crate::reading::{READINGS, add_in_place, is_plain, settle};
 use char_class::class_of;
+use entity_table::Table;
 use html_types::{Class, NoMemory, TextState, TokState, Token, Tokens, char_at, eq_state};
 use std::alloc::Global;
 use std::marker::Model;
@@ -32,10 +33,16 @@ pub struct Ran {
 
 /// A tokenizer: a contract sees the tokens that it has made and not yet given, and its state. After a call that answers
 /// NoMemory it is some tokenizer, of use for nothing but to be dropped.
-#[derive(Drop)]
 pub struct Tokenizer {
     waiting: Tokens,
     state: TokState,
+}
+
+impl Drop for Tokenizer {
+    fn drop(self) {
+        let Tokenizer { waiting: _, state } = self;
+        discard(state);
+    }
 }
 
 impl Model for Tokenizer {
@@ -70,7 +77,7 @@ impl Tokenizer {
         ensures tokens { self.new.tokens ≡ self.old.tokens }
         ensures state { self.new.state ≡ state }
     {
-        self.state = state;
+        discard(mem::replace(&mut self.state, state));
     }
 
     /// Drops the tokens that wait.
@@ -97,29 +104,11 @@ impl Tokenizer {
         self.waiting.same(&other.waiting) && eq_state(&self.state, &other.state)
     }
 
-    /// Reads one character. The tokens that it makes wait behind those that wait already.
-    pub fn read(&mut self, alloc: Global, c: char) -> Result<(), NoMemory>
-        ensures { OnOk result
-            ((es : Entities) → self.new ≡ after_tokens self.old.tokens (read es self.old.state c)) }
-    {
-        self.read_class(alloc, class_of(c), c)
-    }
-
     /// Reads the end of the input. The tokens that it makes wait behind those that wait already.
-    pub fn finish(&mut self, alloc: Global) -> Result<(), NoMemory>
-        ensures { OnOk result
-            ((es : Entities) → self.new ≡ after_tokens self.old.tokens (read_end es self.old.state)) }
+    pub fn finish(&mut self, alloc: Global, table: &Table) -> Result<(), NoMemory>
+        ensures { OnOk result (self.new ≡ after_tokens self.old.tokens (read_end table.now self.old.state)) }
     {
-        let state = mem::replace(&mut self.state, TokState::Text(TextState::Data));
-        self.state = settle(
-            alloc,
-            READINGS,
-            state,
-            Class::InputEnd,
-            '\0',
-            &mut self.waiting,
-        )?;
-        Ok(())
+        self.settle_in(alloc, table, Class::InputEnd, '\0')
     }
 
     /// Takes the first of the tokens that wait.
@@ -134,12 +123,12 @@ impl Tokenizer {
 
     /// Gives the next token: the first that waits, else the first that the text makes, of which no more is used than that
     /// needs. `InputEnd` comes where no token waits and all of the text makes none.
-    pub fn run(&mut self, alloc: Global, text: &str) -> Result<Ran, NoMemory>
+    pub fn run(&mut self, alloc: Global, table: &Table, text: &str) -> Result<Ran, NoMemory>
         ensures boundary { IfOk result (λ r. IsCharBoundary text.now r.used) }
         ensures next { IfOk result
-            (λ r. (es : Entities) → IsNext (onward es self.old (chars (take r.used text.now))) r.pause self.new) }
+            (λ r. IsNext (onward table.now self.old (chars (take r.used text.now))) r.pause self.new) }
         ensures first { IfOk result
-            (λ r. (es : Entities) → IsQuietBefore es self.old (chars (take r.used text.now))) }
+            (λ r. IsQuietBefore table.now self.old (chars (take r.used text.now))) }
         ensures all { IfOk result (λ r. UsesAll r text.now) }
     {
         if let Some(token) = self.waiting.pop() {
@@ -158,7 +147,7 @@ impl Tokenizer {
                     used,
                 });
             }
-            self.read_class(alloc, class, c)?;
+            self.read_class(alloc, table, class, c)?;
             if let Some(token) = self.waiting.pop() {
                 return Ok(Ran {
                     pause: Pause::Token(token),
@@ -173,23 +162,41 @@ impl Tokenizer {
     }
 
     /// Reads a character. The tokens that it makes wait behind those that wait already.
-    pub fn read_character(&mut self, alloc: Global, c: char) -> Result<(), NoMemory>
-        ensures { OnOk result
-            ((es : Entities) → self.new ≡ after_tokens self.old.tokens (read es self.old.state c)) }
+    pub fn read_character(&mut self, alloc: Global, table: &Table, c: char) -> Result<(), NoMemory>
+        ensures { OnOk result (self.new ≡ after_tokens self.old.tokens (read table.now self.old.state c)) }
     {
-        self.read_class(alloc, class_of(c), c)
+        self.read_class(alloc, table, class_of(c), c)
     }
 
-    // Reads a character of this class, or the end.
-    fn read_class(&mut self, alloc: Global, class: Class, c: char) -> Result<(), NoMemory>
-        ensures { OnOk result
-            ((es : Entities) → self.new ≡ after_tokens self.old.tokens (reading es self.old.state class c)) }
+    // Reads a character of this class.
+    fn read_class(
+        &mut self,
+        alloc: Global,
+        table: &Table,
+        class: Class,
+        c: char,
+    ) -> Result<(), NoMemory>
+        ensures { OnOk result (self.new ≡ after_tokens self.old.tokens (reading table.now self.old.state class c)) }
     {
         if add_in_place(&mut self.state, class, c)? {
             return Ok(());
         }
+        self.settle_in(alloc, table, class, c)
+    }
+
+    // Reads a character of this class, or the end, by the rows.
+    fn settle_in(
+        &mut self,
+        alloc: Global,
+        table: &Table,
+        class: Class,
+        c: char,
+    ) -> Result<(), NoMemory>
+        ensures { OnOk result (self.new ≡ after_tokens self.old.tokens (reading table.now self.old.state class c)) }
+    {
         let state = mem::replace(&mut self.state, TokState::Text(TextState::Data));
-        self.state = settle(alloc, READINGS, state, class, c, &mut self.waiting)?;
+        let now = settle(alloc, table, READINGS, state, class, c, &mut self.waiting)?;
+        discard(mem::replace(&mut self.state, now));
         Ok(())
     }
 }
@@ -200,15 +207,17 @@ mod tests {
     use std::test::Fail;
 
     // The bytes that a new tokenizer uses of a text until its first token.
-    fn used(alloc: Global, text: &str) -> Result<usize, NoMemory> {
+    fn used(alloc: Global, table: &Table, text: &str) -> Result<usize, NoMemory> {
         let mut tokenizer = Tokenizer::new(alloc);
-        let ran = tokenizer.run(alloc, text)?;
+        let ran = tokenizer.run(alloc, table, text)?;
         Ok(ran.used)
     }
 
     #[test]
     fn gives_a_tag(rt: HostRuntime) -> Result<(), Fail> {
-        let used = used(rt.alloc(), "<p a=1 A='2' b>x")?;
+        let alloc = rt.alloc();
+        let table = Table::read(alloc, b"{}")?;
+        let used = used(alloc, &table, "<p a=1 A='2' b>x")?;
         assert_eq!(rt; used, 15);
         Ok(())
     }

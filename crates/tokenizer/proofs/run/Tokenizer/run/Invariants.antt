@@ -1,6 +1,5 @@
 use Rattle.std.proofs.Common.{◌≡◌, ◌-◌, [], length, take}
 use Rattle.std.specs.Str.{chars, IsCharBoundary}
-use Rattle.standard.specs.Entities.{Entities}
 use Rattle.standard.specs.Tokenizer.{onward}
 use Rattle.tokenizer.proofs.run.Tokenizer.run.Given as goal
 
@@ -9,7 +8,7 @@ abbrev pub invariant-loop-c : goal.invariant-loop-c
 invariant-loop-c l = record {
   boundary : IsCharBoundary l.text l.used;
   none : l.self.tokens ≡ [];
-  fed : (es : Entities) → l.self ≡ onward es l.fn.self (chars (take l.used l.text));
+  fed : l.self ≡ onward l.table l.fn.self (chars (take l.used l.text));
 }
 
 abbrev pub decreases-loop-c : goal.decreases-loop-c
