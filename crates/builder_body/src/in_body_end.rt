@@ -76,10 +76,11 @@ pub fn end(word: Word) -> &'static [Instr]
             Until(Own),
             ClearToMarker,
         ],
-        A | B | Big | Code | Em | Font | I | Nobr | S | Small | Strike | Strong | Tt | U => {
-            &[Missing]
-        }
-        Form | Br => &[Missing],
+        A | B | Big | Code | Em | Font | I | Nobr | S | Small | Strike | Strong | Tt | U => &[
+            Adopt,
+        ],
+        Form => &[EndForm],
+        Br => &[Reconstruct, VoidA(Br), NotOk],
         _ => &[AnyOtherEnd],
     }
 }

@@ -111,10 +111,29 @@ pub fn start(word: Word) -> &'static [Instr]
             Insert,
         ],
         Caption | Col | Colgroup | Frame | Head | Tbody | Td | Tfoot | Th | Thead | Tr => &[],
-        A | B | Big | Code | Em | Font | I | Nobr | S | Small | Strike | Strong | Tt | U => {
-            &[Missing]
-        }
-        Form | Frameset | Image | Input | Select | Table => &[Missing],
+        A => &[When(Listed(The(A))), AdoptAnchor, Reconstruct, Insert, List],
+        Nobr => &[
+            Reconstruct,
+            When(InScope(Scope::Default, The(Nobr))),
+            AdoptNobr,
+            Insert,
+            List,
+        ],
+        B | Big | Code | Em | Font | I | S | Small | Strike | Strong | Tt | U => &[
+            Reconstruct,
+            Insert,
+            List,
+        ],
+        Form => &[
+            Forbid(InForm),
+            CLOSE_P,
+            Insert,
+            Unless(OnStack(The(Template))),
+            PointForm,
+        ],
+        Image => &[Reconstruct, VoidAs(Img), NotOk],
+        Input => &[Reconstruct, Void, Unless(HiddenInput), NotOk],
+        Frameset | Select | Table => &[Missing],
         _ => &[Reconstruct, Insert],
     }
 }

@@ -1,0 +1,9 @@
+use Rattle.std.proofs.Common.{◌≡◌, length, reverse}
+use Rattle.standard.specs.Formatting.{tag_of_entry}
+use Rattle.builder_adoption.proofs.entries.tag_of.Given as goal
+
+abbrev pub invariant-loop-last : goal.invariant-loop-last
+invariant-loop-last l = tag_of_entry l.id (reverse l.items) ≡ tag_of_entry l.id l.formats
+
+abbrev pub decreases-loop-last : goal.decreases-loop-last
+decreases-loop-last l = length l.items

@@ -1,0 +1,109 @@
+//! The list of active formatting elements, by the elements of its entries.
+
+ghost use Rattle.std.specs.Prelude.{◌≡◌, ◌++◌, IfOk};
+ghost use Rattle.standard.specs.Formatting.{has_entry, tag_of_entry, later_than, entry_on, with_id, with_behind};
+
+use html_types::{Format, Formats, NoMemory, NodeId, Tag};
+use std::alloc::Global;
+
+/// Whether an element has an entry.
+pub fn has_entry(formats: &Formats, id: NodeId) -> bool
+    ensures { result ≡ has_entry id formats.now }
+{
+    let mut items = formats.as_slice();
+    while let Some((last, rest)) = items.split_last() {
+        match last {
+            Format::Marker => {}
+            Format::Element { id: other, tag: _ } => {
+                if other.same(id) {
+                    return true;
+                }
+            }
+        }
+        items = rest;
+    }
+    false
+}
+
+/// A copy of the tag for which an element with an entry was made.
+pub fn tag_of(alloc: Global, formats: &Formats, id: NodeId) -> Result<Option<Tag>, NoMemory>
+    ensures { IfOk result (λ tag. tag ≡ tag_of_entry id formats.now) }
+{
+    let mut items = formats.as_slice();
+    while let Some((last, rest)) = items.split_last() {
+        match last {
+            Format::Marker => {}
+            Format::Element { id: other, tag } => {
+                if other.same(id) {
+                    let tag = tag.copy(alloc)?;
+                    return Ok(Some(tag));
+                }
+            }
+        }
+        items = rest;
+    }
+    Ok(None)
+}
+
+/// Takes the entries behind that of an element off, the latest first.
+fn take_later(alloc: Global, formats: &mut Formats, id: NodeId) -> Result<Vec<Format>, NoMemory>
+    ensures taken { IfOk result (λ taken. taken.items ≡ later_than id formats.old) }
+    ensures left { IfOk result (λ _. formats.new ≡ entry_on id formats.old) }
+{
+    let mut taken = Vec::new(alloc);
+    while let Some(last) = formats.pop() {
+        match last {
+            Format::Marker => taken.push(Format::Marker)?,
+            Format::Element { id: other, tag } => {
+                if other.same(id) {
+                    formats.push(Format::Element { id: other, tag })?;
+                    return Ok(taken);
+                }
+                taken.push(Format::Element { id: other, tag })?;
+            }
+        }
+    }
+    Ok(taken)
+}
+
+/// Puts entries on that were taken off.
+fn put_back(formats: &mut Formats, mut taken: Vec<Format>) -> Result<(), NoMemory>
+    ensures { IfOk result (λ _. formats.new ≡ taken.items ++ formats.old) }
+{
+    while let Some(entry) = taken.pop() {
+        formats.push(entry)?;
+    }
+    Ok(())
+}
+
+/// The entry of an element becomes that of another.
+pub fn renew_entry(
+    alloc: Global,
+    formats: &mut Formats,
+    id: NodeId,
+    new: NodeId,
+) -> Result<(), NoMemory>
+    ensures { IfOk result (λ _. formats.new ≡ with_id id new formats.old) }
+{
+    let later = take_later(alloc, formats, id)?;
+    match formats.pop() {
+        None => {}
+        Some(Format::Marker) => formats.push(Format::Marker)?,
+        Some(Format::Element { id: _, tag }) => formats.push(Format::Element { id: new, tag })?,
+    }
+    put_back(formats, later)
+}
+
+/// Puts an entry just behind that of an element.
+pub fn insert_behind(
+    alloc: Global,
+    formats: &mut Formats,
+    id: NodeId,
+    entry: Format,
+) -> Result<(), NoMemory>
+    ensures { IfOk result (λ _. formats.new ≡ with_behind id entry formats.old) }
+{
+    let later = take_later(alloc, formats, id)?;
+    formats.push(entry)?;
+    put_back(formats, later)
+}

@@ -1,0 +1,133 @@
+//! A turn with a furthest block.
+
+ghost use Rattle.std.specs.Prelude.{◌≡◌, ◌++◌, ◌∷◌, [], Some, None, IfOk};
+ghost use Rattle.html_types.specs.declared.operation.Op.TheVariants as op;
+ghost use Rattle.html_types.specs.declared.operation.Place.TheVariants.{Inside};
+ghost use Rattle.standard.specs.Stack.{above, below};
+ghost use Rattle.standard.specs.Adoption as definition;
+ghost use Rattle.standard.specs.Adoption.{climb_at, climb, joined, children_to, turned, turn_with, put_mark};
+
+use crate::climb::{Climb, climb_all};
+use crate::entries::{insert_behind, renew_entry};
+use crate::stack::{insert_above, place_below, put_back, take_above, take_through};
+use builder_state::{take_entry_off, take_id, take_off};
+use html_types::{Format, Formats, NoMemory, NodeId, Op, Open, OpenElement, Ops, Place, Tag, Turn};
+use std::alloc::Global;
+
+/// Climbs over the elements between the furthest block and the formatting element, and leaves on the stack what is left of
+/// them.
+fn climb_between(
+    alloc: Global,
+    state: &mut Open,
+    element: NodeId,
+    block: NodeId,
+    ops: &mut Ops,
+) -> Result<Climb, NoMemory>
+    ensures { IfOk result (λ c. let all : definition.Climb = climb 3 (above element (below block state.old.stack)) (climb_at state.old.formats state.old.next ops.old [] block None) in
+        (state.new ≡ record state.old { stack = joined element block state.old.stack all.kept; formats = all.formats; next = all.next })
+        × (ops.new ≡ all.ops) × (c.last ≡ all.last) × (c.mark ≡ all.mark)) }
+{
+    let upper = take_through(alloc, &mut state.stack, block)?;
+    let between = take_above(alloc, &mut state.stack, element)?;
+    let mut climb = Climb {
+        kept: Vec::new(alloc),
+        last: block,
+        mark: None,
+    };
+    climb_all(
+        alloc,
+        between.as_slice(),
+        &mut state.formats,
+        &mut state.next,
+        &mut climb,
+        ops,
+    )?;
+    let Climb { kept, last, mark } = climb;
+    put_back(&mut state.stack, kept)?;
+    put_back(&mut state.stack, upper)?;
+    Ok(Climb {
+        kept: Vec::new(alloc),
+        last,
+        mark,
+    })
+}
+
+/// Asks for a clone, which takes the children of the furthest block and stands in it.
+fn make_clone(
+    alloc: Global,
+    clone: NodeId,
+    tag: &Tag,
+    block: NodeId,
+    ops: &mut Ops,
+) -> Result<(), NoMemory>
+    ensures { IfOk result (λ _. ops.new ≡ ops.old ++ op.Make clone tag.now.name tag.now.attributes ∷ [] ++ children_to block clone ++ op.Put clone (Inside block) ∷ []) }
+{
+    let name = tag.name.copy(alloc)?;
+    let attributes = tag.attributes.copy(alloc)?;
+    ops.push(Op::Make {
+        id: clone,
+        name,
+        attributes,
+    })?;
+    ops.push(Op::MoveChildren {
+        from: block,
+        to: clone,
+    })?;
+    ops.push(Op::Put {
+        node: clone,
+        place: Place::Inside(block),
+    })
+}
+
+/// The formatting element's entry is dropped, and the clone's is put at the bookmark.
+fn mark_entry(
+    alloc: Global,
+    formats: &mut Formats,
+    element: NodeId,
+    clone: NodeId,
+    tag: Tag,
+    mark: Option<NodeId>,
+) -> Result<(), NoMemory>
+    ensures { IfOk result (λ _. formats.new ≡ put_mark element clone tag mark formats.old) }
+{
+    match mark {
+        None => renew_entry(alloc, formats, element, clone),
+        Some(mark) => {
+            insert_behind(alloc, formats, mark, Format::Element { id: clone, tag })?;
+            take_entry_off(formats, element);
+            Ok(())
+        }
+    }
+}
+
+/// The elements between the furthest block and the formatting element are rebuilt below the latter, and its clone takes its
+/// place just above the block.
+pub fn rebuild(
+    alloc: Global,
+    state: &mut Open,
+    element: NodeId,
+    tag: Tag,
+    block: NodeId,
+    ops: &mut Ops,
+) -> Result<Turn, NoMemory>
+    ensures { IfOk result (λ t. turned state.new ops.new t ≡ turn_with element (Some tag) (Some block) state.old ops.old) }
+{
+    let climb = climb_between(alloc, state, element, block, ops)?;
+    let place = place_below(&state.stack, state.foster, element);
+    ops.push(Op::Put {
+        node: climb.last,
+        place,
+    })?;
+    let clone = take_id(&mut state.next)?;
+    make_clone(alloc, clone, &tag, block, ops)?;
+    let name = tag.name.copy(alloc)?;
+    take_off(&mut state.stack, element);
+    insert_above(
+        alloc,
+        &mut state.stack,
+        block,
+        OpenElement { id: clone, name },
+    )?;
+    mark_entry(alloc, &mut state.formats, element, clone, tag, climb.mark)?;
+    Ok(Turn::More)
+}

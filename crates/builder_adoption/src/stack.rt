@@ -1,0 +1,116 @@
+//! The stack of open elements, taken apart and put together again.
+
+ghost use Rattle.std.specs.Prelude.{◌≡◌, ◌++◌, None, IfOk};
+ghost use Rattle.standard.specs.Stack.{above, from_on, through, below, with_above, block_above, place_for};
+
+use builder_state::place_for_last;
+use html_types::{Group, NoMemory, NodeId, OpenElement, Place, Stack};
+use std::alloc::Global;
+use tag_sets::is_any;
+
+/// Takes the elements above one off, the current node first.
+pub fn take_above(
+    alloc: Global,
+    stack: &mut Stack,
+    id: NodeId,
+) -> Result<Vec<OpenElement>, NoMemory>
+    ensures taken { IfOk result (λ taken. taken.items ≡ above id stack.old) }
+    ensures left { IfOk result (λ _. stack.new ≡ from_on id stack.old) }
+{
+    let mut taken = Vec::new(alloc);
+    while let Some(last) = stack.pop() {
+        if last.id.same(id) {
+            stack.push(last)?;
+            return Ok(taken);
+        }
+        taken.push(last)?;
+    }
+    Ok(taken)
+}
+
+/// Takes the elements down to one off, and that one too.
+pub fn take_through(
+    alloc: Global,
+    stack: &mut Stack,
+    id: NodeId,
+) -> Result<Vec<OpenElement>, NoMemory>
+    ensures taken { IfOk result (λ taken. taken.items ≡ through id stack.old) }
+    ensures left { IfOk result (λ _. stack.new ≡ below id stack.old) }
+{
+    let mut taken = Vec::new(alloc);
+    while let Some(last) = stack.pop() {
+        let found = last.id.same(id);
+        taken.push(last)?;
+        if found {
+            return Ok(taken);
+        }
+    }
+    Ok(taken)
+}
+
+/// Puts elements on that were taken off.
+pub fn put_back(stack: &mut Stack, mut taken: Vec<OpenElement>) -> Result<(), NoMemory>
+    ensures { IfOk result (λ _. stack.new ≡ taken.items ++ stack.old) }
+{
+    while let Some(element) = taken.pop() {
+        stack.push(element)?;
+    }
+    Ok(())
+}
+
+/// Pops until that element is popped.
+pub fn drop_through(stack: &mut Stack, id: NodeId)
+    ensures { stack.new ≡ below id stack.old }
+{
+    while let Some(last) = stack.pop() {
+        if last.id.same(id) {
+            return;
+        }
+    }
+}
+
+/// Puts an element just above another.
+pub fn insert_above(
+    alloc: Global,
+    stack: &mut Stack,
+    id: NodeId,
+    element: OpenElement,
+) -> Result<(), NoMemory>
+    ensures { IfOk result (λ _. stack.new ≡ with_above id element stack.old) }
+{
+    let taken = take_above(alloc, stack, id)?;
+    stack.push(element)?;
+    put_back(stack, taken)
+}
+
+/// Of the special elements above one, the one that is closest to it.
+pub fn block_above(stack: &Stack, id: NodeId) -> Option<NodeId>
+    ensures { result ≡ block_above id None stack.now }
+{
+    let mut found = None;
+    let mut items = stack.as_slice();
+    while let Some((last, rest)) = items.split_last() {
+        if last.id.same(id) {
+            return found;
+        }
+        if is_any(Group::Special, &last.name) {
+            found = Some(last.id);
+        }
+        items = rest;
+    }
+    found
+}
+
+/// The appropriate place where the target is the element right below one.
+pub fn place_below(stack: &Stack, foster: bool, id: NodeId) -> Place
+    ensures { result ≡ place_for foster (below id stack.now) stack.now }
+{
+    let mut items = stack.as_slice();
+    while let Some((last, rest)) = items.split_last() {
+        if last.id.same(id) {
+            return place_for_last(foster, rest, stack);
+        }
+        items = rest;
+    }
+    Place::Page
+}
