@@ -92,7 +92,7 @@ fn lines(alloc: Global, tree: &Tree) -> Result<String, NoMemory>
     requires { 0 < length tree.now }
     ensures { IfOk result (λ text. string_bytes text ≡ flat_map (λ n. dump_lines tree.now n 0) (children_of tree.now 0)) }
 {
-    // Its clause says that this is a tree.
+    // Its clause says that this is a tree, in which no node is deeper than there are nodes.
     let _nodes = tree.len();
     let mut out = String::new(alloc);
     let mut stack = Vec::new(alloc);
@@ -109,10 +109,11 @@ fn lines(alloc: Global, tree: &Tree) -> Result<String, NoMemory>
 pub fn dump(alloc: Global, tree: &Tree) -> Result<String, NoMemory>
     ensures { IfOk result (λ text. string_bytes text ≡ dump_text tree.now) }
 {
-    let mut out = String::new(alloc);
-    if tree.len() > 0 {
-        out = lines(alloc, tree)?;
-    }
+    let mut out = if tree.len() == 0 {
+        String::new(alloc)
+    } else {
+        lines(alloc, tree)?
+    };
     out.push_str("end\n")?;
     Ok(out)
 }
