@@ -1,5 +1,5 @@
 -- A walk over the children of a node from the last one back.
-use Rattle.std.proofs.Common.{◌≡◌, ℕ, ◌+◌, ◌-◌, ◌<◌, ◌≤◌, List, [], ◌∷◌, ◌++◌, length, get_or, drop, Option, Some, None, refl, sym, ap, ◌∙◌, subst, inl, inr, arith, append_assoc, append-nil}
+use Rattle.std.proofs.Common.{◌≡◌, ℕ, ◌+◌, ◌-◌, ◌<◌, ◌≤◌, List, [], ◌∷◌, ◌++◌, length, get_or, drop, Option, Some, None, refl, sym, ap, ◌∙◌, inl, inr, arith, append_assoc, append-nil}
 use Rattle.std.proofs.lemmas.List.{drop_more, drop_all}
 use Rattle.std.proofs.lemmas.Bool.{cases_lt, lt-ltb, le-ltb}
 use Rattle.std.proofs.lemmas.Bool.Decides.{nat_tests}
@@ -9,7 +9,8 @@ use Rattle.doc_tree.proofs.Counts.{place_of-child}
 use Rattle.doc_tree.proofs.Trees.{child_below}
 use Rattle.doc_tree.proofs.Folds.{parent_of-child}
 use Rattle.serialiser.specs.declared.dump_walk.Left.{Left}
-use Rattle.serialiser.proofs.Lines.{at_depth, stacked, stacked-first}
+use Rattle.serialiser.specs.Stack.{stacked}
+use Rattle.serialiser.proofs.Lines.{at_depth, stacked-first}
 
 -- how many siblings there are up to the next one, with it
 abbrev pub reached : List ℕ → Option ℕ → ℕ

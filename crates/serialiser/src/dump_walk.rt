@@ -1,8 +1,9 @@
 //! The walk over a tree that writes its dump.
 
-ghost use Rattle.std.specs.Prelude.{◌≡◌, ◌∷◌, ◌++◌, ◌<◌, OnOk, IfOk, flat_map, length, map, reverse, string_bytes};
+ghost use Rattle.std.specs.Prelude.{◌≡◌, ◌++◌, ◌<◌, OnOk, IfOk, flat_map, length, string_bytes};
 ghost use Rattle.standard.specs.Tree.{children_of};
 ghost use Rattle.standard.specs.Dump.{under_of, dump_lines, dump_text};
+ghost use Rattle.serialiser.specs.Stack.{stacked};
 
 use crate::dump_line::push_line;
 use doc_tree::Tree;
@@ -18,7 +19,7 @@ struct Left {
 
 // Puts nodes of one depth on the stack, the last first.
 fn push_reversed(stack: &mut Vec<Left>, nodes: &[usize], depth: usize) -> Result<(), NoMemory>
-    ensures { OnOk result (stack.new.items ≡ stack.old.items ++ map (λ n. record { node = n; depth = depth }) (reverse nodes.now)) }
+    ensures { OnOk result (stack.new.items ≡ stack.old.items ++ stacked depth nodes.now) }
 {
     let mut place = nodes.len();
     'down: while place > 0 {
@@ -39,7 +40,7 @@ fn push_siblings(
     depth: usize,
 ) -> Result<(), NoMemory>
     requires { node < length tree.now }
-    ensures { OnOk result (stack.new.items ≡ stack.old.items ++ map (λ n. record { node = n; depth = depth }) (reverse (children_of tree.now node))) }
+    ensures { OnOk result (stack.new.items ≡ stack.old.items ++ stacked depth (children_of tree.now node)) }
 {
     let _nodes = tree.len();
     let mut next = tree.last_child(node);
@@ -58,7 +59,7 @@ fn push_children(
     depth: usize,
 ) -> Result<(), NoMemory>
     requires { node < length tree.now }
-    ensures { OnOk result (stack.new.items ≡ stack.old.items ++ map (λ n. record { node = n; depth = depth }) (reverse (children_of tree.now node))) }
+    ensures { OnOk result (stack.new.items ≡ stack.old.items ++ stacked depth (children_of tree.now node)) }
 {
     match tree.contents(node) {
         // For a template `shown` gives other nodes.
@@ -68,14 +69,9 @@ fn push_children(
 }
 
 // Puts the nodes right under a node on the stack, the last first.
-fn push_under(
-    stack: &mut Vec<Left>,
-    tree: &Tree,
-    node: usize,
-    depth: usize,
-) -> Result<(), NoMemory>
+fn push_under(stack: &mut Vec<Left>, tree: &Tree, node: usize, depth: usize) -> Result<(), NoMemory>
     requires { node < length tree.now }
-    ensures { OnOk result (stack.new.items ≡ stack.old.items ++ map (λ n. record { node = n; depth = depth }) (reverse (under_of tree.now node))) }
+    ensures { OnOk result (stack.new.items ≡ stack.old.items ++ stacked depth (under_of tree.now node)) }
 {
     push_children(stack, tree, node, depth)?;
     if let Some(contents) = tree.contents(node) {
@@ -88,7 +84,7 @@ fn push_under(
 }
 
 // The lines of all nodes under the Document.
-fn lines(alloc: Global, tree: &Tree) -> Result<String, NoMemory>
+fn node_lines(alloc: Global, tree: &Tree) -> Result<String, NoMemory>
     requires { 0 < length tree.now }
     ensures { IfOk result (λ text. string_bytes text ≡ flat_map (λ n. dump_lines tree.now n 0) (children_of tree.now 0)) }
 {
@@ -112,7 +108,7 @@ pub fn dump(alloc: Global, tree: &Tree) -> Result<String, NoMemory>
     let mut out = if tree.len() == 0 {
         String::new(alloc)
     } else {
-        lines(alloc, tree)?
+        node_lines(alloc, tree)?
     };
     out.push_str("end\n")?;
     Ok(out)

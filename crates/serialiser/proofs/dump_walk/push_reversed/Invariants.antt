@@ -1,5 +1,5 @@
 use Rattle.std.proofs.Common.{◌≡◌, ◌≤◌, ◌++◌, length, drop}
-use Rattle.serialiser.proofs.Lines.{stacked}
+use Rattle.serialiser.specs.Stack.{stacked}
 use Rattle.serialiser.proofs.dump_walk.push_reversed.Given as goal
 
 -- those from `place` on are on the stack

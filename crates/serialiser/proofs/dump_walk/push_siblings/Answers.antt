@@ -1,8 +1,5 @@
-use Rattle.std.proofs.Common.{◌≡◌, ◌<◌, ◌++◌, ◌∷◌, [], Some, ap, arith}
-use Rattle.std.proofs.lemmas.Grind.{common_steps}
-use Rattle.standard.specs.Tree.{children_of}
-use Rattle.serialiser.proofs.Lines.{at_depth}
-use Rattle.serialiser.proofs.Siblings.{reached, IsBackAt, sibling_below, previous_at, back_first, back_turn}
+use Rattle.std.proofs.Common.{arith}
+use Rattle.serialiser.proofs.Siblings.{sibling_below, previous_at, back_first, back_turn}
 use Rattle.serialiser.proofs.dump_walk.push_siblings.Goals as goal
 
 pub back-init : goal.back-init
