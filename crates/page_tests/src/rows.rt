@@ -20,12 +20,16 @@ pub struct Row {
     pub text: &'static str,
 }
 
+// Names with and without `;`, one that another begins, and one that stands for two characters.
+const ENTITIES: &str =
+    "{\"&amp;\":{\"codepoints\":[38]},\"&amp\":{\"codepoints\":[38]},\"&lt;\":{\"codepoints\":[60]},\"&lt\":{\"codepoints\":[60]},\"&not;\":{\"codepoints\":[172]},\"&not\":{\"codepoints\":[172]},\"&notin;\":{\"codepoints\":[8713]},\"&nbsp;\":{\"codepoints\":[160]},\"&acE;\":{\"codepoints\":[8766,819]}}";
+
 /// A run in which nothing fails.
 pub fn page(page: &'static [u8], status: Status, text: &'static str) -> Row {
     Row {
         piece: "4096",
         page: Some(page),
-        entities: "{\"&amp;\":{\"codepoints\":[38]}}",
+        entities: ENTITIES,
         fail: &[],
         sink: 100_000,
         status,
@@ -50,6 +54,22 @@ fn words(alloc: Global, piece: &str) -> Result<Vec<String>, NoMemory> {
     Ok(words)
 }
 
+// What a run answers, and what its sink took.
+fn outcome<R: Threads + Wait + Copy + Send + Sync + 'static>(
+    rt: &R,
+    alloc: Global,
+    row: &Row,
+    piece: &str,
+    size: usize,
+) -> Result<(Status, MemSink), NoMemory> {
+    let words = words(alloc, piece)?;
+    let mut files = files(alloc, row)?;
+    let mut sink = MemSink::new(alloc, size)?;
+    let gate = Arc::new(alloc, OpenGate)?;
+    let status = run(rt, alloc, &words, &mut files, &mut sink, &gate);
+    Ok((status, sink))
+}
+
 /// Whether the run answers and writes what is wanted, with reads of so many bytes.
 pub fn gives<R: Threads + Wait + Copy + Send + Sync + 'static>(
     rt: &R,
@@ -57,10 +77,23 @@ pub fn gives<R: Threads + Wait + Copy + Send + Sync + 'static>(
     row: &Row,
     piece: &str,
 ) -> Result<bool, NoMemory> {
-    let words = words(alloc, piece)?;
-    let mut files = files(alloc, row)?;
-    let mut sink = MemSink::new(alloc, row.sink)?;
-    let gate = Arc::new(alloc, OpenGate)?;
-    let status = run(rt, alloc, &words, &mut files, &mut sink, &gate);
+    let (status, sink) = outcome(rt, alloc, row, piece, row.sink)?;
     Ok(status == row.status && sink.bytes() == row.text.as_bytes())
+}
+
+/// Whether a sink of every size up to the text's takes a front of the text, and one of its size all of it.
+pub fn gives_at_every_size<R: Threads + Wait + Copy + Send + Sync + 'static>(
+    rt: &R,
+    alloc: Global,
+    row: &Row,
+) -> Result<bool, NoMemory> {
+    let text = row.text.as_bytes();
+    for size in 0..text.len() {
+        let (status, sink) = outcome(rt, alloc, row, row.piece, size)?;
+        if status != Status::WriteFault || sink.bytes() != &text[..size] {
+            return Ok(false);
+        }
+    }
+    let (status, sink) = outcome(rt, alloc, row, row.piece, text.len())?;
+    Ok(status == row.status && sink.bytes() == text)
 }

@@ -1,6 +1,6 @@
 //! The rows.
 
-use crate::rows::{Row, gives, page};
+use crate::rows::{Row, gives, gives_at_every_size, page};
 use outside::Port;
 use page_runner::{Limit, Status};
 use std::test::Fail;
@@ -69,8 +69,215 @@ fn pages() -> [Row; 14] {
     ]
 }
 
+// Pages that the tokenizer decides: references, comments, doctypes, declarations, script data.
+fn tokens() -> [Row; 23] {
+    [
+        page(
+            b"<!DOCTYPE html><p>Hi",
+            Status::Done,
+            "tree \"<!DOCTYPE html><html><head></head><body><p>Hi</p></body></html>\"\n",
+        ),
+        page(
+            b"<!DOCTYPE>x",
+            Status::Done,
+            "tree \"<!DOCTYPE ><html><head></head><body>x</body></html>\"\n",
+        ),
+        page(
+            b"<!doctype HTML PUBLIC \"a\" 'b' c>x",
+            Status::Done,
+            "tree \"<!DOCTYPE html><html><head></head><body>x</body></html>\"\n",
+        ),
+        page(
+            b"<body><script>document.write(\"&am\");</script>p;",
+            Status::Done,
+            "tree \"<html><head></head><body><script>document.write(\\\"&am\\\");</script>&amp;</body></html>\"\n",
+        ),
+        page(
+            b"<p title=\"&notit;&amp;x\">&notit;&#128;</p>",
+            Status::Done,
+            "tree \"<html><head></head><body><p title=\\\"&amp;notit;&amp;x\\\">¬it;€</p></body></html>\"\n",
+        ),
+        page(
+            b"<a b=&lt c=&lt;d>&acE;&am",
+            Status::Done,
+            "tree \"<html><head></head><body><a b=\\\"&lt;\\\" c=\\\"&lt;d\\\">∾̳&amp;am</a></body></html>\"\n",
+        ),
+        page(
+            b"<\x00",
+            Status::Done,
+            "tree \"<html><head></head><body>&lt;</body></html>\"\n",
+        ),
+        page(
+            b"\x00x",
+            Status::Done,
+            "tree \"<html><head></head><body>x</body></html>\"\n",
+        ),
+        page(
+            b"a&#13;b",
+            Status::Done,
+            "tree \"<html><head></head><body>a\\rb</body></html>\"\n",
+        ),
+        page(
+            b"&#x80;&#xD800;&#1114112;&#x;",
+            Status::Done,
+            "tree \"<html><head></head><body>€��&amp;#x;</body></html>\"\n",
+        ),
+        page(
+            b"<!-->x",
+            Status::Done,
+            "tree \"<!----><html><head></head><body>x</body></html>\"\n",
+        ),
+        page(
+            b"<!--->x",
+            Status::Done,
+            "tree \"<!----><html><head></head><body>x</body></html>\"\n",
+        ),
+        page(
+            b"<!--a--!>x",
+            Status::Done,
+            "tree \"<!--a--><html><head></head><body>x</body></html>\"\n",
+        ),
+        page(
+            b"<?x>y",
+            Status::Done,
+            "tree \"<!--?x--><html><head></head><body>y</body></html>\"\n",
+        ),
+        page(
+            b"</>x",
+            Status::Done,
+            "tree \"<html><head></head><body>x</body></html>\"\n",
+        ),
+        page(
+            b"</ x>y",
+            Status::Done,
+            "tree \"<!-- x--><html><head></head><body>y</body></html>\"\n",
+        ),
+        page(
+            b"<a/ b>x",
+            Status::Done,
+            "tree \"<html><head></head><body><a b=\\\"\\\">x</a></body></html>\"\n",
+        ),
+        page(
+            b"<a =b>x",
+            Status::Done,
+            "tree \"<html><head></head><body><a =b=\\\"\\\">x</a></body></html>\"\n",
+        ),
+        page(
+            b"<![CDATA[x]]>y",
+            Status::Done,
+            "tree \"<!--[CDATA[x]]--><html><head></head><body>y</body></html>\"\n",
+        ),
+        page(
+            b"<script><!--<script></script>--></script>x",
+            Status::Done,
+            "tree \"<html><head><script><!--<script></script>--></script></head><body>x</body></html>\"\n",
+        ),
+        page(
+            b"<title>&lt;x</title><li>1<li>2",
+            Status::Done,
+            "tree \"<html><head><title>&lt;x</title></head><body><li>1</li><li>2</li></body></html>\"\n",
+        ),
+        page(
+            b"<p><!--->x",
+            Status::Done,
+            "tree \"<html><head></head><body><p><!---->x</p></body></html>\"\n",
+        ),
+        page(
+            b"<body><script>document.write(\"<textarea>\");</script><b>",
+            Status::Done,
+            "tree \"<html><head></head><body><script>document.write(\\\"<textarea>\\\");</script><textarea>&lt;b&gt;</textarea></body></html>\"\n",
+        ),
+    ]
+}
+
+// Pages that formatting elements, forms and the scopes decide.
+fn formatting() -> [Row; 16] {
+    [
+        page(
+            b"<b>1<p>2</b>3</p>",
+            Status::Done,
+            "tree \"<html><head></head><body><b>1</b><p><b>2</b>3</p></body></html>\"\n",
+        ),
+        page(
+            b"<b><i>1</b>2</i>3",
+            Status::Done,
+            "tree \"<html><head></head><body><b><i>1</i></b><i>2</i>3</body></html>\"\n",
+        ),
+        page(
+            b"<a>1<a>2",
+            Status::Done,
+            "tree \"<html><head></head><body><a>1</a><a>2</a></body></html>\"\n",
+        ),
+        page(
+            b"<a>1<p>2<a>3",
+            Status::Done,
+            "tree \"<html><head></head><body><a>1</a><p><a>2</a><a>3</a></p></body></html>\"\n",
+        ),
+        page(
+            b"<p><b>a<script>document.write(\"</b><b>\");</script>c",
+            Status::Done,
+            "tree \"<html><head></head><body><p><b>a<script>document.write(\\\"</b><b>\\\");</script></b><b>c</b></p></body></html>\"\n",
+        ),
+        page(
+            b"<nobr>1<nobr>2",
+            Status::Done,
+            "tree \"<html><head></head><body><nobr>1</nobr><nobr>2</nobr></body></html>\"\n",
+        ),
+        page(
+            b"<button>1<button>2",
+            Status::Done,
+            "tree \"<html><head></head><body><button>1</button><button>2</button></body></html>\"\n",
+        ),
+        page(
+            b"<h1>1<h2>2",
+            Status::Done,
+            "tree \"<html><head></head><body><h1>1</h1><h2>2</h2></body></html>\"\n",
+        ),
+        page(
+            b"<dl><dd>1<dt>2</dl>3",
+            Status::Done,
+            "tree \"<html><head></head><body><dl><dd>1</dd><dt>2</dt></dl>3</body></html>\"\n",
+        ),
+        page(
+            b"<b><marquee>1</b>2</marquee>3",
+            Status::Done,
+            "tree \"<html><head></head><body><b><marquee>12</marquee>3</b></body></html>\"\n",
+        ),
+        page(
+            b"a</br>b",
+            Status::Done,
+            "tree \"<html><head></head><body>a<br>b</body></html>\"\n",
+        ),
+        page(
+            b"<p>1</body>2",
+            Status::Done,
+            "tree \"<html><head></head><body><p>12</p></body></html>\"\n",
+        ),
+        page(
+            b"<span><search>1</span>2",
+            Status::Done,
+            "tree \"<html><head></head><body><span><search>12</search></span></body></html>\"\n",
+        ),
+        page(
+            b"<span><dialog>1</span>2",
+            Status::Done,
+            "tree \"<html><head></head><body><span><dialog>1</dialog></span>2</body></html>\"\n",
+        ),
+        page(
+            b"<form>1<form>2</form>3",
+            Status::Done,
+            "tree \"<html><head></head><body><form>12</form>3</body></html>\"\n",
+        ),
+        page(
+            b"<image src=a><input type=hidden>",
+            Status::Done,
+            "tree \"<html><head></head><body><img src=\\\"a\\\"><input type=\\\"hidden\\\"></body></html>\"\n",
+        ),
+    ]
+}
+
 // Runs in which something fails, or is not there.
-fn faults() -> [Row; 9] {
+fn faults() -> [Row; 11] {
     [
         Row {
             page: None,
@@ -102,6 +309,16 @@ fn faults() -> [Row; 9] {
             ..page(b"<table>", Status::Unready, "")
         },
         Row {
+            piece: "1",
+            fail: &[(Port::Page, 8)],
+            ..page(b"<table>x", Status::Unready, "")
+        },
+        Row {
+            piece: "24",
+            fail: &[(Port::Page, 2)],
+            ..page(b"<script>foo();</script>x", Status::ReadFault, "syntax 1\n")
+        },
+        Row {
             sink: 10,
             ..page(b"", Status::WriteFault, "tree \"<htm")
         },
@@ -119,6 +336,35 @@ fn pages_give_their_trees(rt: HostRuntime) -> Result<(), Fail> {
             assert!(rt; gives(&rt, rt.alloc(), row, piece)?, "{}", row.text);
         }
     }
+    Ok(())
+}
+
+#[test]
+fn tokens_give_their_trees(rt: HostRuntime) -> Result<(), Fail> {
+    for row in &tokens() {
+        for piece in ["1", "7", "4096"] {
+            assert!(rt; gives(&rt, rt.alloc(), row, piece)?, "{}", row.text);
+        }
+    }
+    Ok(())
+}
+
+#[test]
+fn formatting_gives_its_trees(rt: HostRuntime) -> Result<(), Fail> {
+    for row in &formatting() {
+        for piece in ["1", "7", "4096"] {
+            assert!(rt; gives(&rt, rt.alloc(), row, piece)?, "{}", row.text);
+        }
+    }
+    Ok(())
+}
+
+// Two pages, one of which gives a line of a script before its tree.
+#[test]
+fn a_sink_of_every_size_takes_a_front(rt: HostRuntime) -> Result<(), Fail> {
+    let pages = pages();
+    assert!(rt; gives_at_every_size(&rt, rt.alloc(), &pages[1])?);
+    assert!(rt; gives_at_every_size(&rt, rt.alloc(), &pages[7])?);
     Ok(())
 }
 
