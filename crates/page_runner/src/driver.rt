@@ -95,7 +95,7 @@ impl Driver {
         ensures { IfOk result (λ ran. Parses table.now self.old self.new text.now ran) }
     {
         let mut ops = Ops::new(alloc);
-        let ran = self.machine.run(alloc, text, &mut ops)?;
+        let ran = self.machine.run(alloc, table, text, &mut ops)?;
         self.doc.apply_all(&ops)?;
         Ok(ran)
     }
@@ -106,7 +106,7 @@ impl Driver {
         ensures { IfOk result (λ finish. Finishes table.now self.old self.new finish) }
     {
         let mut ops = Ops::new(alloc);
-        let finish = self.machine.finish(alloc, &mut ops)?;
+        let finish = self.machine.finish(alloc, table, &mut ops)?;
         self.doc.apply_all(&ops)?;
         Ok(finish)
     }
