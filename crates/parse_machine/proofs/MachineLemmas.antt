@@ -19,7 +19,7 @@ use Rattle.html_types.specs.declared.instruction.Stop.TheVariants as stop
 use Rattle.html_types.specs.declared.open.Open.{Open}
 use Rattle.standard.specs.Entities.{Entities}
 use Rattle.standard.specs.Rules.{Answer, answer, construct}
-use Rattle.standard.specs.Tokenizer.{Reached, read, read_end}
+use Rattle.standard.specs.Tokenizer.{Reached, after_tokens, read, read_end}
 use Rattle.standard.specs.Parser.{Parser, parser, read_as, Took, took, after_ops, build_on, build, built, take_character, finish, Finished, after_all, build_end_on, build_end, Parsed, and_rest, parse}
 use Rattle.standard.specs.Laws.{joined, unless_stopped}
 use Rattle.standard.proofs.Framing.{construct-framed}
@@ -209,6 +209,10 @@ ended_missing t cr m m' b b' o o' n e is same = by n is (ended_at t cr m m' b b'
     by _ is f = f refl same
 
 -- ---- a character, and the end
+
+-- no token waited before those of a character
+pub none-waited : (m r : Reached) (ts : List Token) → m ≡ after_tokens ts r → ts ≡ [] → m ≡ r
+none-waited m r ts e none = e ∙ ap (λ (l : List Token). after_tokens l r) none
 
 -- the line feed behind a CR
 pub taken-skipped : (es : Entities) (s : TokState) (cr : Bool) (b : Open) (c : ℕ) (o : List Op) → (cr && (c == 10)) ≡ true

@@ -4,13 +4,13 @@ ghost use Rattle.std.specs.Prelude.{◌≡◌, ◌↔◌, ◌==◌, ◌≢◌, �
 ghost use Rattle.std.specs.Str.{chars};
 ghost use Rattle.standard.specs.Tokenizer.{Reached, read, read_end};
 ghost use Rattle.std.specs.Str.{IsCharBoundary};
-ghost use Rattle.standard.specs.Entities.{Entities};
 ghost use Rattle.standard.specs.Parser as definition;
 ghost use Rattle.standard.specs.Parser.{new_parser, took, after_ops, build, build_end, take_character, finish as finished, parse, AreSame, after_all};
 ghost use Rattle.parse_machine.specs.Machine.{WentTo, EndedTo, Builds, BuildsLast, RanAs, stops as stops_at};
 
 use crate::token::construct;
 use builder_state::Builder;
+use entity_table::Table;
 use html_types::{
     Finish, Name, Next, NoMemory, NodeId, Ops, RawText, Reading, Stop, TextState, TokState, Token,
     Word, char_at,
@@ -242,31 +242,33 @@ fn line_feed_for_cr(c: char) -> char
 // Reads a character, and processes the tokens that it makes.
 fn read_and_build(
     alloc: Global,
+    table: &Table,
     tokenizer: &mut Tokenizer,
     builder: &mut Builder,
     c: char,
     ops: &mut Ops,
 ) -> Result<Stop, NoMemory>
     requires { tokenizer.old.tokens ≡ [] }
-    ensures built { IfOk result (λ stop. (es : Entities) (cr : Bool) → Builds cr (read es tokenizer.old.state c) builder.old ops.old tokenizer.new builder.new ops.new stop) }
+    ensures built { IfOk result (λ stop. (cr : Bool) → Builds cr (read table.now tokenizer.old.state c) builder.old ops.old tokenizer.new builder.new ops.new stop) }
     ensures none_waits { IfOk result (λ _. tokenizer.new.tokens ≡ []) }
 {
-    tokenizer.read_character(alloc, c)?;
+    tokenizer.read_character(alloc, table, c)?;
     build_waiting(alloc, tokenizer, builder, ops)
 }
 
 // Reads the end of the input, and processes the tokens that it makes.
 fn end_and_build(
     alloc: Global,
+    table: &Table,
     tokenizer: &mut Tokenizer,
     builder: &mut Builder,
     ops: &mut Ops,
 ) -> Result<Finish, NoMemory>
     requires { tokenizer.old.tokens ≡ [] }
-    ensures built { IfOk result (λ finish. (es : Entities) (cr : Bool) → BuildsLast cr (read_end es tokenizer.old.state) builder.old ops.old tokenizer.new builder.new ops.new finish) }
+    ensures built { IfOk result (λ finish. (cr : Bool) → BuildsLast cr (read_end table.now tokenizer.old.state) builder.old ops.old tokenizer.new builder.new ops.new finish) }
     ensures none_waits { IfOk result (λ _. tokenizer.new.tokens ≡ []) }
 {
-    tokenizer.finish(alloc)?;
+    tokenizer.finish(alloc, table)?;
     build_last(alloc, tokenizer, builder, ops)
 }
 
@@ -283,8 +285,14 @@ impl Machine {
     }
 
     // Takes one character.
-    fn take(&mut self, alloc: Global, c: char, ops: &mut Ops) -> Result<Stop, NoMemory>
-        ensures { IfOk result (λ stop. (es : Entities) → after_ops ops.old (take_character es self.old c) ≡ took ops.new self.new stop) }
+    fn take(
+        &mut self,
+        alloc: Global,
+        table: &Table,
+        c: char,
+        ops: &mut Ops,
+    ) -> Result<Stop, NoMemory>
+        ensures { IfOk result (λ stop. after_ops ops.old (take_character table.now self.old c) ≡ took ops.new self.new stop) }
     {
         if skips(self.after_cr, c) {
             self.after_cr = false;
@@ -292,7 +300,14 @@ impl Machine {
         }
         self.after_cr = c == '\r';
         let read = line_feed_for_cr(c);
-        match read_and_build(alloc, &mut self.tokenizer, &mut self.builder, read, ops) {
+        match read_and_build(
+            alloc,
+            table,
+            &mut self.tokenizer,
+            &mut self.builder,
+            read,
+            ops,
+        ) {
             Ok(stop) => Ok(stop),
             Err(error) => {
                 self.tokenizer.clear(alloc);
@@ -301,17 +316,23 @@ impl Machine {
         }
     }
 
-    /// Takes the characters of a text, up to the first stop. Operations are added at the end of `ops`.
+    /// Takes the characters of a text, up to the first stop, with the named character references of `table`. Operations are added at the end of `ops`.
     /// Where it answers want of memory, the machine and the operations only keep their types.
-    pub fn run(&mut self, alloc: Global, text: &str, ops: &mut Ops) -> Result<Ran, NoMemory>
+    pub fn run(
+        &mut self,
+        alloc: Global,
+        table: &Table,
+        text: &str,
+        ops: &mut Ops,
+    ) -> Result<Ran, NoMemory>
         ensures boundary { IfOk result (λ ran. IsCharBoundary text.now ran.used) }
         // The operations, the next state, the characters used and the stop are those of the parse of the text.
-        ensures parsed { IfOk result (λ ran. (es : Entities) → RanAs (parse es self.old (chars text.now)) ops.old self.new ops.new ran text.now) }
+        ensures parsed { IfOk result (λ ran. RanAs (parse table.now self.old (chars text.now)) ops.old self.new ops.new ran text.now) }
     {
         let mut used = 0;
         while let Some((c, behind)) = char_at(text, used) {
             used = behind;
-            let stop = self.take(alloc, c, ops)?;
+            let stop = self.take(alloc, table, c, ops)?;
             if stops(stop) {
                 return Ok(Ran { stop, used });
             }
@@ -322,11 +343,22 @@ impl Machine {
         })
     }
 
-    /// Takes the end of the input.
-    pub fn finish(&mut self, alloc: Global, ops: &mut Ops) -> Result<Finish, NoMemory>
-        ensures { IfOk result (λ finish. (es : Entities) → after_all ops.old (finished es self.old) ≡ record { ops = ops.new; parser = self.new; finish = finish }) }
+    /// Takes the end of the input, with the named character references of `table`.
+    pub fn finish(
+        &mut self,
+        alloc: Global,
+        table: &Table,
+        ops: &mut Ops,
+    ) -> Result<Finish, NoMemory>
+        ensures { IfOk result (λ finish. after_all ops.old (finished table.now self.old) ≡ record { ops = ops.new; parser = self.new; finish = finish }) }
     {
-        match end_and_build(alloc, &mut self.tokenizer, &mut self.builder, ops) {
+        match end_and_build(
+            alloc,
+            table,
+            &mut self.tokenizer,
+            &mut self.builder,
+            ops,
+        ) {
             Ok(finish) => Ok(finish),
             Err(error) => {
                 self.tokenizer.clear(alloc);

@@ -8,20 +8,20 @@ use Rattle.parse_machine.proofs.machine.Machine.run.Goals as goal
 pub loop-c-init : goal.loop-c-init
 loop-c-init c = record {
   boundary = IsCharBoundary-start c.args.text.now c.utf8.text;
-  over = λ es. subst (λ (x : List ℕ). IsOver (parse es c.args.self.now x) c.args.ops.now (length x) c.args.self.now c.args.ops.now InputEnd) (sym chars-nil) (over-nothing es c.args.self.now c.args.ops.now);
+  over = subst (λ (x : List ℕ). IsOver (parse c.args.table.now c.args.self.now x) c.args.ops.now (length x) c.args.self.now c.args.ops.now InputEnd) (sym chars-nil) (over-nothing c.args.table.now c.args.self.now c.args.ops.now);
 }
 
 pub loop-c-preserved : goal.loop-c-preserved
 loop-c-preserved c = record {
   boundary = c.in-Some.ensures.boundary;
-  over = λ es. over-goes_on es _ _ _ _ _ _ c.in-Some.c _ _ c.in_ok-stop.stop c.in-Some.ensures.read (sym c.stops.ensures ∙ c.if-stops.false) (c.loop-c.invariant.over es) (c.in_ok-stop.ensures es);
+  over = over-goes_on c.args.table.now _ _ _ _ _ _ c.in-Some.c _ _ c.in_ok-stop.stop c.in-Some.ensures.read (sym c.stops.ensures ∙ c.if-stops.false) c.loop-c.invariant.over c.in_ok-stop.ensures;
 }
 
 pub returns-then-stops-clause-parsed : goal.returns-then-stops-clause-parsed
-returns-then-stops-clause-parsed c = λ es.
-    ran-stopped es _ _ _ c.in-Some.behind _ _ c.in_ok-stop.stop c.utf8.text c.in-Some.ensures.boundary (sym c.stops.ensures ∙ c.if-stops.true)
-    (over-stopped es _ _ _ _ _ _ c.in-Some.c _ _ c.in_ok-stop.stop c.in-Some.ensures.read (c.loop-c.invariant.over es) (c.in_ok-stop.ensures es))
+returns-then-stops-clause-parsed c =
+    ran-stopped c.args.table.now _ _ _ c.in-Some.behind _ _ c.in_ok-stop.stop c.utf8.text c.in-Some.ensures.boundary (sym c.stops.ensures ∙ c.if-stops.true)
+    (over-stopped c.args.table.now _ _ _ _ _ _ c.in-Some.c _ _ c.in_ok-stop.stop c.in-Some.ensures.read c.loop-c.invariant.over c.in_ok-stop.ensures)
 
 pub returns-clause-parsed : goal.returns-clause-parsed
-returns-clause-parsed c = λ es.
-    ran-through es _ _ _ c.loop-c.used _ _ InputEnd c.utf8.text c.loop-c.invariant.boundary c.in_default.ensures.read (c.loop-c.invariant.over es)
+returns-clause-parsed c =
+    ran-through c.args.table.now _ _ _ c.loop-c.used _ _ InputEnd c.utf8.text c.loop-c.invariant.boundary c.in_default.ensures.read c.loop-c.invariant.over

@@ -1,7 +1,6 @@
 use Rattle.std.proofs.Common.{◌-◌, length, take}
 use Rattle.std.specs.Str.{chars, IsCharBoundary}
 use Rattle.html_types.specs.declared.instruction.Stop.TheVariants.{InputEnd}
-use Rattle.standard.specs.Entities.{Entities}
 use Rattle.standard.specs.Parser.{parse}
 use Rattle.parse_machine.proofs.MachineLemmas.{IsOver}
 use Rattle.parse_machine.proofs.machine.Machine.run.Given as goal
@@ -9,7 +8,7 @@ use Rattle.parse_machine.proofs.machine.Machine.run.Given as goal
 abbrev pub invariant-loop-c : goal.invariant-loop-c
 invariant-loop-c l = record {
   boundary : IsCharBoundary l.text l.used;
-  over : (es : Entities) → IsOver (parse es l.fn.self (chars (take l.used l.text))) l.fn.ops (length (chars (take l.used l.text))) l.self l.ops InputEnd;
+  over : IsOver (parse l.table l.fn.self (chars (take l.used l.text))) l.fn.ops (length (chars (take l.used l.text))) l.self l.ops InputEnd;
 }
 
 abbrev pub decreases-loop-c : goal.decreases-loop-c
