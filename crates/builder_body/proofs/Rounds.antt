@@ -1,55 +1,99 @@
 -- No token uses up the rounds that it is allowed.
-use Rattle.std.proofs.Common.{ℕ, zero, suc, ◌+◌, Bool, true, ◌≡◌, ◌==◌, List, [], ◌∷◌, Option, None, refl, sym, ◌∙◌, subst, arith, inl, inr}
+use Rattle.std.proofs.Common.{ℕ, zero, suc, ◌+◌, Bool, true, false, ◌≡◌, ◌==◌, List, [], ◌∷◌, Option, None, refl, sym, ◌∙◌, subst, arith, inl, inr}
 use Rattle.html_types.specs.declared.instruction.Instr.{Instr}
 use Rattle.html_types.specs.declared.instruction.Instr.TheVariants as ins
 use Rattle.html_types.specs.declared.instruction.Mode.{Mode}
 use Rattle.html_types.specs.declared.instruction.Mode.TheVariants.{InBody, InText}
 use Rattle.html_types.specs.declared.instruction.Flow.{Flow}
 use Rattle.html_types.specs.declared.instruction.Flow.TheVariants.{On, Skip, Leave}
+use Rattle.html_types.specs.declared.instruction.Next.{Next}
 use Rattle.html_types.specs.declared.instruction.Next.TheVariants as next
+use Rattle.html_types.specs.declared.instruction.Then.{Then}
+use Rattle.html_types.specs.declared.instruction.Then.TheVariants.{Nothing, Link, Nobr}
+use Rattle.html_types.specs.declared.word.Word.{Word}
 use Rattle.html_types.specs.declared.token.Token.{Token}
 use Rattle.html_types.specs.declared.token.Token.TheVariants.{StartTag, EndTag, Character, Comment, Doctype, EndOfFile, Missing}
 use Rattle.html_types.specs.declared.operation.Op.{Op}
 use Rattle.html_types.specs.declared.open.Open.{Open}
 use Rattle.standard.specs.Stack.{pop}
 use Rattle.standard.specs.Instructions.{Config, on, run, original_or}
-use Rattle.standard.specs.Rules.{Answer, row, by_mode, process, go_round, round_after, next_of, is_space, start_row, end_row, comment_row, doctype_row, end_of_file_row}
+use Rattle.standard.specs.Adoption.{Adopted, adopt}
+use Rattle.standard.specs.RulesBody.{after_adopt}
+use Rattle.standard.specs.Rules.{Answer, answer, adopting, with_adoption, row, by_mode, process, go_round, round_after, next_of, is_space, start_row, end_row, comment_row, doctype_row, end_of_file_row}
 use Rattle.builder_body.specs.Rounds.{RoundsSuffice}
-use Rattle.builder_body.proofs.Endings.{Ending, quiet, again, using, unknown, ending, calm, Ends}
-use Rattle.builder_body.proofs.Steps.{run-ends}
+use Rattle.builder_body.proofs.Endings.{Ending, quiet, again, using, unknown, all_quiet, ending, calm_next, calm, Ends}
+use Rattle.builder_body.proofs.Steps.{run-quiet, run-ends}
 use Rattle.builder_body.proofs.Chains.{settled, settles, character_rows, character-rows, characters-settle, starts-settle, ends-settle, comments-settle, doctypes-settle, missing-settles, end-settles, in_body_end-settles}
+
+-- ---- behind the adoption agency algorithm
+
+after-quiet : (h : Then) (other : Bool) → all_quiet (after_adopt h other) ≡ true
+after-quiet Nothing true = refl
+after-quiet Nothing false = refl
+after-quiet (Link id) true = refl
+after-quiet (Link id) false = refl
+after-quiet Nobr true = refl
+after-quiet Nobr false = refl
+
+calm-asked : (fl : Flow) → calm fl ≡ true → calm_next (next_of fl) ≡ true
+calm-asked On s = refl
+calm-asked Skip s = refl
+calm-asked (Leave n) s = s
+
+-- no other round is asked for
+adopting-calm : (w : Word) (h : Then) (t : Token) (b : Open) (o : List Op) → calm_next (adopting w h t b o).next ≡ true
+unfolding adopting
+adopting-calm w h t b o =
+    let a : Adopted = adopt w b o in
+    let row_after : List Instr = after_adopt h a.other in
+    calm-asked (run t (on a.open_state a.ops) row_after).flow (run-quiet row_after t a.open_state a.ops On refl (after-quiet h a.other))
 
 -- ---- one round
 
+-- where each round is done by f
+abbrev Rounds : Type 0
+Rounds = Open → List Op → Mode → Answer
+
+abbrev goes : Rounds → Answer → Answer
+goes f a = go_round (f a.open_state a.ops) a.open_state a.ops (round_after a.open_state a.next)
+
 -- what a row comes to, where the next round is done so
-abbrev round_of : (Mode → Answer) → Open → List Op → Flow → Answer
-round_of f b o fl = go_round f b o (round_after b (next_of fl))
+abbrev round_of : Rounds → Token → Open → List Op → Flow → Answer
+round_of f t b o fl = goes f (with_adoption t b o (next_of fl))
 
-calm-same : (f g : Mode → Answer) (b : Open) (o : List Op) (fl : Flow) → calm fl ≡ true → round_of f b o fl ≡ round_of g b o fl
-calm-same f g b o On s = refl
-calm-same f g b o Skip s = refl
-calm-same f g b o (Leave next.Again) s = absurd (cc)
-calm-same f g b o (Leave (next.Using m)) s = absurd (cc)
-calm-same f g b o (Leave n) s = refl
+over-same : (f g : Rounds) (b : Open) (o : List Op) (n : Next) → calm_next n ≡ true → goes f (answer b o n) ≡ goes g (answer b o n)
+over-same f g b o next.Again s = absurd (cc)
+over-same f g b o (next.Using m) s = absurd (cc)
+over-same f g b o n s = refl
 
-again-same : (f g : Mode → Answer) (b : Open) (o : List Op) (fl : Flow) (m : Mode) → fl ≡ Leave next.Again → b.mode ≡ m → f m ≡ g m → round_of f b o fl ≡ round_of g b o fl
-again-same f g b o fl m e at same =
-    let here : f b.mode ≡ g b.mode = let P : Mode → Type 0 = λ m'. f m' ≡ g m' in subst P (sym at) same in
-    let P : Flow → Type 0 = λ fl'. round_of f b o fl' ≡ round_of g b o fl' in
+calm-same : (f g : Rounds) (t : Token) (b : Open) (o : List Op) (fl : Flow) → calm fl ≡ true → round_of f t b o fl ≡ round_of g t b o fl
+calm-same f g t b o On s = refl
+calm-same f g t b o Skip s = refl
+calm-same f g t b o (Leave (next.Adopt w h)) s =
+    let a : Answer = adopting w h t b o in over-same f g a.open_state a.ops a.next (adopting-calm w h t b o)
+calm-same f g t b o (Leave next.Again) s = absurd (cc)
+calm-same f g t b o (Leave (next.Using m)) s = absurd (cc)
+calm-same f g t b o (Leave n) s = refl
+
+again-same : (f g : Rounds) (t : Token) (b : Open) (o : List Op) (fl : Flow) (m : Mode) → fl ≡ Leave next.Again → b.mode ≡ m → f b o m ≡ g b o m → round_of f t b o fl ≡ round_of g t b o fl
+again-same f g t b o fl m e at same =
+    let here : f b o b.mode ≡ g b o b.mode = let P : Mode → Type 0 = λ m'. f b o m' ≡ g b o m' in subst P (sym at) same in
+    let P : Flow → Type 0 = λ fl'. round_of f t b o fl' ≡ round_of g t b o fl' in
     subst P (sym e) here
 
-using-same : (f g : Mode → Answer) (b : Open) (o : List Op) (fl : Flow) (m : Mode) → fl ≡ Leave (next.Using m) → f m ≡ g m → round_of f b o fl ≡ round_of g b o fl
-using-same f g b o fl m e same =
-    let P : Flow → Type 0 = λ fl'. round_of f b o fl' ≡ round_of g b o fl' in
+using-same : (f g : Rounds) (t : Token) (b : Open) (o : List Op) (fl : Flow) (m : Mode) → fl ≡ Leave (next.Using m) → f b o m ≡ g b o m → round_of f t b o fl ≡ round_of g t b o fl
+using-same f g t b o fl m e same =
+    let P : Flow → Type 0 = λ fl'. round_of f t b o fl' ≡ round_of g t b o fl' in
     subst P (sym e) same
 
-ended-same : (e : Ending) (c : Config) (f g : Mode → Answer) (h : Mode → Bool) → ((m : Mode) → h m ≡ true → f m ≡ g m) → settled h e ≡ true → Ends e c → round_of f c.open_state c.ops c.flow ≡ round_of g c.open_state c.ops c.flow
-ended-same quiet c f g h same s w = calm-same f g c.open_state c.ops c.flow w
-ended-same (again m) c f g h same s (inl w) = calm-same f g c.open_state c.ops c.flow w
-ended-same (again m) c f g h same s (inr w) = again-same f g c.open_state c.ops c.flow m w.0 w.1 (same m s)
-ended-same (using m) c f g h same s (inl w) = calm-same f g c.open_state c.ops c.flow w
-ended-same (using m) c f g h same s (inr w) = using-same f g c.open_state c.ops c.flow m w (same m s)
-ended-same unknown c f g h same s w = absurd (cc)
+ended-same : (e : Ending) (t : Token) (c : Config) (f g : Rounds) (h : Mode → Bool) → ((m : Mode) → h m ≡ true → f c.open_state c.ops m ≡ g c.open_state c.ops m) → settled h e ≡ true → Ends e c
+    → round_of f t c.open_state c.ops c.flow ≡ round_of g t c.open_state c.ops c.flow
+ended-same quiet t c f g h same s w = calm-same f g t c.open_state c.ops c.flow w
+ended-same (again m) t c f g h same s (inl w) = calm-same f g t c.open_state c.ops c.flow w
+ended-same (again m) t c f g h same s (inr w) = again-same f g t c.open_state c.ops c.flow m w.0 w.1 (same m s)
+ended-same (using m) t c f g h same s (inl w) = calm-same f g t c.open_state c.ops c.flow w
+ended-same (using m) t c f g h same s (inr w) = using-same f g t c.open_state c.ops c.flow m w (same m s)
+ended-same unknown t c f g h same s w = absurd (cc)
 
 -- ---- all rounds
 
@@ -69,7 +113,7 @@ settled-same rows t same zero n m b o s = absurd (cc)
 settled-same rows t same (suc k) n m b o s =
     let c : Config = run t (on b o) (row m t) in
     let P : List Instr → Type 0 = λ r. settled (λ m'. settles rows k m') (ending r) ≡ true in
-    ended-same (ending (row m t)) c (λ m'. process (more k n) m' t c.open_state c.ops) (λ m'. process k m' t c.open_state c.ops) (λ m'. settles rows k m') (λ m' s'. settled-same rows t same k n m' c.open_state c.ops s') (subst P (sym (same m)) s) (run-ends (row m t) t b o)
+    ended-same (ending (row m t)) t c (λ b' o' m'. process (more k n) m' t b' o') (λ b' o' m'. process k m' t b' o') (λ m'. settles rows k m') (λ m' s'. settled-same rows t same k n m' c.open_state c.ops s') (subst P (sym (same m)) s) (run-ends (row m t) t b o)
 
 -- ---- the end of the file in the mode "text"
 

@@ -4,10 +4,13 @@ use Rattle.std.specs.Prelude.{if◌then◌else◌}
 use Rattle.html_types.specs.declared.instruction.Instr.{Instr}
 use Rattle.html_types.specs.declared.instruction.Instr.TheVariants as ins
 use Rattle.html_types.specs.declared.instruction.Mode.{Mode}
+use Rattle.html_types.specs.declared.instruction.Who.TheVariants as who
 use Rattle.html_types.specs.declared.instruction.Flow.{Flow}
 use Rattle.html_types.specs.declared.instruction.Flow.TheVariants.{On, Skip, Leave}
 use Rattle.html_types.specs.declared.instruction.Next.{Next}
 use Rattle.html_types.specs.declared.instruction.Next.TheVariants as next
+use Rattle.html_types.specs.declared.name.Name.{Name}
+use Rattle.html_types.specs.declared.name.Name.TheVariants.{Known, Other}
 use Rattle.html_types.specs.declared.token.Tag.{Tag}
 use Rattle.html_types.specs.declared.token.Token.{Token}
 use Rattle.html_types.specs.declared.token.Token.TheVariants.{StartTag, EndTag, Character, Comment, Doctype, EndOfFile, Missing}
@@ -18,9 +21,10 @@ use Rattle.html_types.specs.declared.operation.Op.{Op}
 use Rattle.html_types.specs.declared.word.Word.TheVariants as word
 use Rattle.html_types.specs.declared.open.Open.{Open}
 use Rattle.html_types.specs.declared.open.OpenElement.{OpenElement}
-use Rattle.standard.specs.Stack.{first_open, second_open}
-use Rattle.standard.specs.Formatting.{lost, kept}
-use Rattle.standard.specs.Instructions.{Config, config, on, room, holds, here, insert, insert_at, insert_root, void, tag_of, for_tag, reopen, reopen_all, insert_text, insert_comment, append_doctype, end_of, add_attributes, push_head, stop_at_script, step, run}
+use Rattle.standard.specs.Elements.{is_word, is_meant}
+use Rattle.standard.specs.Stack.{on_stack, first_open, second_open}
+use Rattle.standard.specs.Formatting.{lost, kept, entry_named}
+use Rattle.standard.specs.Instructions.{Config, config, on, room, holds, here, insert, insert_at, insert_root, void, void_as, named, tag_of, for_tag, enlist, end_form, form_closed, form_closed_in_template, adopt_name, adopt_own, adopt_anchor, reopen, reopen_all, insert_text, insert_comment, append_doctype, end_of, add_attributes, push_head, stop_at_script, step, run}
 use Rattle.builder_body.proofs.Endings.{Ending, quiet, again, using, unknown, is_quiet, is_straight, all_quiet, again_in, ending_on, ending, calm, straight, Ends}
 
 -- ---- one instruction
@@ -75,6 +79,21 @@ stop_at_script-straight : (es : List OpenElement) (b : Open) (o : List Op) → s
 stop_at_script-straight [] b o = refl
 stop_at_script-straight (e ∷ es) b o = refl
 
+end_form-straight : (nobody : Name → Bool) (b : Open) (o : List Op) → straight (end_form nobody b o).flow ≡ true
+end_form-straight nobody b o = by (on_stack (is_word word.Template) b.stack)
+  where
+    by : (v : Bool) → straight (let c : Config = if v then on (record b { stack = form_closed_in_template nobody b.stack }) o else on (record b { stack = form_closed nobody b.form b.stack; form = None }) o in c.flow) ≡ true
+    by true = refl
+    by false = refl
+
+adopt_name-straight : (n : Name) (b : Open) (o : List Op) → straight (adopt_name n b o).flow ≡ true
+adopt_name-straight (Known w) b o = refl
+adopt_name-straight (Other text) b o = refl
+
+adopt_anchor-straight : (i : Option NodeId) (b : Open) (o : List Op) → straight (adopt_anchor i b o).flow ≡ true
+adopt_anchor-straight None b o = refl
+adopt_anchor-straight (Some i) b o = refl
+
 reopen_all-straight : (tags : List Tag) (b : Open) (o : List Op) (f : Flow) → straight f ≡ true → straight (reopen_all tags (config b o f)).flow ≡ true
 reopen_all-straight [] b o f s = s
 reopen_all-straight (tag ∷ tags) b o On s =
@@ -95,6 +114,8 @@ step-straight (ins.InsertA w) t b o s = insert-straight (tag_of w) b o
 step-straight ins.InsertRoot t b o s = for_tag-straight insert_root (insert_at-straight Page) t b o
 step-straight ins.InsertRootA t b o s = insert_at-straight Page (tag_of word.Html) b o
 step-straight ins.Void t b o s = for_tag-straight void void-straight t b o
+step-straight (ins.VoidA w) t b o s = void-straight (tag_of w) b o
+step-straight (ins.VoidAs w) t b o s = for_tag-straight (void_as w) (λ tag. void-straight (named w tag)) t b o
 step-straight ins.InsertText t b o s = insert_text-straight t b o
 step-straight ins.InsertComment t b o s = insert_comment-straight (here b) t b o
 step-straight ins.CommentToPage t b o s = insert_comment-straight Page t b o
@@ -103,6 +124,10 @@ step-straight ins.AppendDoctype t b o s = append_doctype-straight t b o
 step-straight ins.AddToFirst t b o s = for_tag-straight (add_attributes (first_open b.stack)) (add_attributes-straight (first_open b.stack)) t b o
 step-straight ins.AddToSecond t b o s = for_tag-straight (add_attributes (second_open b.stack)) (add_attributes-straight (second_open b.stack)) t b o
 step-straight ins.Reconstruct t b o s = reopen_all-straight (reverse (lost b.stack b.formats)) (record b { formats = kept b.stack b.formats }) o On refl
+step-straight ins.List t b o s = for_tag-straight enlist (λ tag b' o'. refl) t b o
+step-straight ins.EndForm t b o s = end_form-straight (is_meant who.Nobody t) b o
+step-straight ins.Adopt t b o s = for_tag-straight adopt_own (λ tag. adopt_name-straight tag.name) t b o
+step-straight ins.AdoptAnchor t b o s = adopt_anchor-straight (entry_named (is_word word.A) b.formats) b o
 step-straight ins.PushHead t b o s = push_head-straight b.head b o
 step-straight ins.StopAtScript t b o s = stop_at_script-straight b.stack b o
 step-straight _ t b o s = refl
@@ -135,7 +160,7 @@ split true y h = (refl, h)
 split false y h = absurd (cc)
 
 -- a row of quiet instructions
-run-quiet : (is : List Instr) (t : Token) (b : Open) (o : List Op) (f : Flow) → calm f ≡ true → all_quiet is ≡ true → calm (run t (config b o f) is).flow ≡ true
+pub run-quiet : (is : List Instr) (t : Token) (b : Open) (o : List Op) (f : Flow) → calm f ≡ true → all_quiet is ≡ true → calm (run t (config b o f) is).flow ≡ true
 unfolding run
 run-quiet [] t b o f s q = s
 run-quiet (i ∷ is) t b o On s q =
