@@ -1,18 +1,16 @@
 -- The causes of single statuses.
-use Rattle.std.proofs.Common.{◌≡◌, ℕ, List, [], Bool, true, false, Option, Some, None, refl, sym, ap, subst, ◌∙◌, inl, inr}
+use Rattle.std.proofs.Common.{◌≡◌, ℕ, List, [], Option, Some, None, refl, subst, inl, inr}
 use Rattle.std.specs.Prelude.{◌⊎◌}
-use Rattle.html_types.specs.declared.script.Ending.{Ending}
 use Rattle.html_types.specs.declared.script.Why.TheVariants as why
 use Rattle.outside.specs.Outside.{Seen}
 use Rattle.outside.specs.declared.traits.Port.TheVariants.{Entities}
 use Rattle.standard.specs.Entities.{Entities as Table}
-use Rattle.standard.specs.Serial.{Result, finished, refused, Outcome}
+use Rattle.standard.specs.Serial.{Result, finished, refused}
 use Rattle.page_runner.specs.declared.command.TheConstants.{ENTITIES_LIMIT}
 use Rattle.page_runner.specs.declared.status.Status.{Status}
 use Rattle.page_runner.specs.declared.status.Status.TheVariants as status
 use Rattle.page_runner.specs.Words.{Asked}
 use Rattle.page_runner.specs.Given.{Given, unmet, missing, faulted, got, MayGive}
-use Rattle.page_runner.specs.Taken.{Took, TookFront}
 use Rattle.page_runner.specs.Answers.{PageMet, MayGivePage, IsParsed, status_with, answer_to_page, answer_over, answer_to, table_of, Gives, RunsTo, Exactly, AbsenceRose, FaultRose}
 use Rattle.page_runner.proofs.PageFaults.{fault_met}
 

@@ -1,5 +1,5 @@
 -- A run completes where nothing stands in its way.
-use Rattle.std.proofs.Common.{◌≡◌, ℕ, ◌+◌, List, [], Bool, true, false, Option, Some, None, IfSome, refl, sym, ap, subst, ◌∙◌, inl, inr, arith, length, take}
+use Rattle.std.proofs.Common.{◌≡◌, ℕ, ◌+◌, List, [], Bool, true, false, Option, Some, None, IfSome, refl, ap, subst, ◌∙◌, inl, inr, arith, length, take}
 use Rattle.std.specs.Prelude.{◌⊎◌, IsSomeAnd, nat_le, if◌then◌else◌}
 use Rattle.std.proofs.lemmas.List.{take_all}
 use Rattle.std.proofs.lemmas.Bool.{leb-true}
@@ -15,9 +15,9 @@ use Rattle.page_runner.specs.declared.status.Status.{Status}
 use Rattle.page_runner.specs.declared.status.Status.TheVariants as status
 use Rattle.page_runner.specs.Words.{Asked}
 use Rattle.page_runner.specs.Given.{Given, unmet, missing, faulted, got, FaultsRose, file_at, MayGive}
-use Rattle.page_runner.specs.Taken.{Took, TookFront}
+use Rattle.page_runner.specs.Taken.{Took}
 use Rattle.page_runner.specs.Moments.{world_of}
-use Rattle.page_runner.specs.Pages.{PageRead, page_at, ComesTo}
+use Rattle.page_runner.specs.Pages.{page_at, ComesTo}
 use Rattle.page_runner.specs.Answers.{IsPageOf, PageMet, MayGivePage, IsParsed, Answer, status_with, answer_to_page, answer_over, answer_to, table_of, Gives, RunsTo, CompletesRun}
 
 abbrev Only : Option (List ℕ) → Option (List ℕ) → Answer → Status → Type 0

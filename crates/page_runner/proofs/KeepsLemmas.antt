@@ -1,6 +1,5 @@
 -- What stays at the other ports, over two calls.
-use Rattle.std.proofs.Common.{◌≡◌, ◌≢◌, ℕ, ◌≤◌, refl, ◌∙◌, arith, inl, inr, sym, subst}
-use Rattle.std.specs.Prelude.{◌⊎◌}
+use Rattle.std.proofs.Common.{ℕ, ◌≤◌, refl, ◌∙◌, arith, inl, inr}
 use Rattle.outside.specs.Outside.{Rose, Seen, KeepsOthers}
 use Rattle.outside.specs.declared.traits.Port.{Port}
 

@@ -1,5 +1,5 @@
 -- How the parse of a page that is read at a port ends.
-use Rattle.std.proofs.Common.{◌≡◌, ℕ, ◌≤◌, ◌<◌, ◌+◌, ◌-◌, List, [], ◌++◌, length, take, Bool, true, false, Option, Some, None, IfSome, refl, sym, ap, subst, ◌∙◌, length-append, length-take, min, arith}
+use Rattle.std.proofs.Common.{◌≡◌, ℕ, ◌≤◌, ◌<◌, ◌+◌, ◌-◌, List, [], ◌++◌, length, take, Bool, true, false, Option, Some, None, IfSome, refl, length-append, length-take, min, arith}
 use Rattle.std.specs.Prelude.{nat_lt, if◌then◌else◌}
 use Rattle.std.proofs.lemmas.Bool.{ltb-false}
 use Rattle.std.proofs.lemmas.List.{take_all, take-append-le}
@@ -8,15 +8,13 @@ use Rattle.html_types.specs.declared.script.Ending.{Ending}
 use Rattle.html_types.specs.declared.script.Ending.TheVariants as ending
 use Rattle.standard.specs.Entities.{Entities}
 use Rattle.standard.specs.Page.{ending_of, shown, is_text_so_far}
-use Rattle.standard.specs.Serial.{Outcome}
 use Rattle.utf8_pieces.specs.declared.decoder.Decoder.{Decoder}
 use Rattle.utf8_pieces.specs.Decoder.{HasRead}
 use Rattle.utf8_pieces.proofs.DecoderLemmas.{text_is_so_far, not_lt}
 use Rattle.page_runner.specs.declared.page.TheConstants.{PAGE_LIMIT}
 use Rattle.page_runner.specs.declared.outcome.Outcome.{Outcome as Told}
-use Rattle.page_runner.specs.Taken.{Took, TookFront}
 use Rattle.page_runner.specs.Driving.{View}
-use Rattle.page_runner.specs.Pages.{PageRead, ComesTo, AreTaken, ReadsOn, IsReadFrom, Ended, ParsesPage, ParsesFront, StandsAt, IsPast, TookOf, ClosesAt, EndsAs, TakesPiece, TakesPieceInPart, first_view}
+use Rattle.page_runner.specs.Pages.{AreTaken, ReadsOn, ParsesPage, ParsesFront, StandsAt, IsPast, TookOf, ClosesAt, EndsAs, TakesPiece, TakesPieceInPart, first_view}
 use Rattle.page_runner.proofs.PageTakenLemmas.{taken_then, taken_none, taken_nothing_more, all_bytes, read_whole, read_to_fault, all_read}
 use Rattle.page_runner.proofs.PageLemmas.{ended_there, stands_first, took_of_lines}
 

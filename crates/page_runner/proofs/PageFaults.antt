@@ -1,10 +1,8 @@
 -- The serial parse of a page meets a fault only where a read of the page failed.
-use Rattle.std.proofs.Common.{◌≡◌, ℕ, zero, suc, ◌+◌, Bool, true, false, List, [], ◌∷◌, Option, Some, None, option_and_then, refl, sym, ap, subst, length}
-use Rattle.std.specs.Prelude.{nat_le, nat_lt, ◌==◌, unwrap_or, if◌then◌else◌}
-use Rattle.std.specs.Str.Lossy.{utf8_valid_len}
+use Rattle.std.proofs.Common.{◌≡◌, ℕ, zero, suc, ◌+◌, Bool, true, false, List, [], ◌∷◌, Option, Some, None, option_and_then, refl, subst, length}
+use Rattle.std.specs.Prelude.{nat_le, unwrap_or, if◌then◌else◌}
 use Rattle.html_types.specs.declared.script.Ending.{Ending}
 use Rattle.html_types.specs.declared.script.Ending.TheVariants as ending
-use Rattle.html_types.specs.declared.script.Why.{Why}
 use Rattle.html_types.specs.declared.script.Why.TheVariants as why
 use Rattle.html_types.specs.declared.script.Statement.{Statement}
 use Rattle.html_types.specs.declared.script.Statement.TheVariants as statement
@@ -13,11 +11,11 @@ use Rattle.html_types.specs.declared.instruction.Finish.{Finish}
 use Rattle.html_types.specs.declared.instruction.Finish.TheVariants as finale
 use Rattle.standard.specs.Entities.{Entities}
 use Rattle.standard.specs.Act.{Doc, acts}
-use Rattle.standard.specs.Page.{Page, is_text_so_far, ending_of}
-use Rattle.standard.specs.Parser.{Parser, Took, took, take_character, Finished, finish}
+use Rattle.standard.specs.Page.{ending_of}
+use Rattle.standard.specs.Parser.{Parser, Took, took, take_character, finish}
 use Rattle.standard.specs.Prepare.{Prepared, still, inline, external}
 use Rattle.standard.specs.Statements.{statements}
-use Rattle.standard.specs.Serial.{World, Serial, Outcome, finished, refused, refusal, Flow, goes, refuses, starved, ◌then◌, Advanced, advanced, advance, before_point, insert, one_more_executed, inside, write_limit, execute, run_statements, write, go_on, stopped, run_prepared, prepared, taken, at_end, Moment, reading, tag_ended, over, after_character, after_script, read_next, moment_after, moments_on, first}
+use Rattle.standard.specs.Serial.{World, Serial, Outcome, finished, refused, refusal, Flow, goes, refuses, starved, ◌then◌, Advanced, advanced, advance, before_point, insert, one_more_executed, inside, write_limit, execute, run_statements, write, go_on, stopped, run_prepared, prepared, taken, Moment, reading, tag_ended, over, after_character, after_script, read_next, moment_after, moments_on, first}
 use Rattle.standard.proofs.Fuel.{serial-over}
 use Rattle.page_runner.specs.declared.page.TheConstants.{PAGE_LIMIT}
 use Rattle.page_runner.specs.Moments.{world_of}

@@ -1,7 +1,5 @@
 -- Where the parse of a page stands, and what it comes to.
-use Rattle.std.proofs.Common.{◌≡◌, ℕ, List, [], ◌++◌, Bool, true, false, Option, Some, None, IfSome, flat_map, refl, sym, ap, subst, ◌∙◌, append_assoc, append-nil}
-use Rattle.std.specs.Prelude.{unwrap_or}
-use Rattle.std.specs.Str.{chars}
+use Rattle.std.proofs.Common.{◌≡◌, ℕ, List, [], ◌++◌, Bool, false, Option, Some, flat_map, refl, sym, ap, subst, ◌∙◌, append_assoc, append-nil}
 use Rattle.std.proofs.lemmas.Grind.{flat_map-append}
 use Rattle.html_types.specs.declared.script.Ending.{Ending}
 use Rattle.html_types.specs.declared.script.Ending.TheVariants as ending
@@ -10,25 +8,21 @@ use Rattle.html_types.specs.declared.script.Why.{Why}
 use Rattle.html_types.specs.declared.instruction.Finish.{Finish}
 use Rattle.html_types.specs.declared.instruction.Finish.TheVariants as finale
 use Rattle.standard.specs.Entities.{Entities}
-use Rattle.standard.specs.Page.{Page, page_of, text_of, ending_of, shown}
-use Rattle.standard.specs.Serial.{Serial, Outcome, refusal, refused, IsSerial, Moment, reading, over, Leads, Passes, why_of, taken}
+use Rattle.standard.specs.Page.{text_of, ending_of, shown}
+use Rattle.standard.specs.Serial.{Serial, Outcome, refusal, Moment, reading, over, Leads, Passes, why_of}
 use Rattle.standard.specs.Laws.{lines_of, outcome_at}
-use Rattle.standard.specs.Output.{line_text, result_text, refusal_text, output}
+use Rattle.standard.specs.Output.{line_text, result_text}
 use Rattle.standard.proofs.Passing.{leads-same, leads-end, leads-finish, passes-over}
 use Rattle.standard.proofs.Lines.{passed-output}
 use Rattle.utf8_pieces.proofs.PageLaws.{text_of-nil, text_of-extends, shown-stays}
-use Rattle.utf8_pieces.specs.declared.decoder.Decoder.{Decoder}
-use Rattle.utf8_pieces.specs.Decoder.{HasRead}
 use Rattle.page_runner.specs.declared.page.TheConstants.{PAGE_LIMIT}
-use Rattle.page_runner.specs.declared.driver.Went.{Went}
-use Rattle.page_runner.specs.declared.driver.Went.TheVariants as went
 use Rattle.page_runner.specs.declared.outcome.Outcome.{Outcome as Told}
 use Rattle.page_runner.specs.declared.outcome.Outcome.TheVariants as told
 use Rattle.page_runner.specs.Taken.{Took, TookFront}
 use Rattle.page_runner.specs.Driving.{View, Finishes}
-use Rattle.page_runner.specs.Moments.{world_of, serial_of, GoesOn, IsOver, Takes, TakesFront}
+use Rattle.page_runner.specs.Moments.{world_of, serial_of, GoesOn, IsOver, TakesFront}
 use Rattle.page_runner.specs.Shown.{result_of, outcome_of}
-use Rattle.page_runner.specs.Pages.{PageRead, page_at, ComesTo, Ended, first_view, before_page, StandsAt, IsPast, TookOf, EndsAs, Comes, TakesPiece}
+use Rattle.page_runner.specs.Pages.{PageRead, page_at, ComesTo, Ended, first_view, before_page, StandsAt, IsPast, TookOf, EndsAs}
 use Rattle.page_runner.proofs.PageTakenLemmas.{took_nothing, took_then, front_then, front_longer, front_of_all}
 
 -- the page that begins with these bytes

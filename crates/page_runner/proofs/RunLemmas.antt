@@ -1,15 +1,15 @@
 -- From the parts of a run to its answer.
-use Rattle.std.proofs.Common.{◌≡◌, ℕ, ◌<◌, ◌≤◌, ◌+◌, List, [], ◌++◌, Bool, true, false, Option, Some, None, IfSome, flat_map, refl, sym, ap, subst, ◌∙◌, append-nil, inl, inr, arith, length}
-use Rattle.std.specs.Prelude.{◌⊎◌, IsSome, IsSomeAnd, IsTrue, nat_le, if◌then◌else◌}
+use Rattle.std.proofs.Common.{◌≡◌, ℕ, ◌<◌, ◌≤◌, ◌+◌, List, [], ◌++◌, Bool, true, Option, Some, None, IfSome, flat_map, refl, sym, ap, subst, ◌∙◌, inl, inr, length}
+use Rattle.std.specs.Prelude.{◌⊎◌, IsSome, IsSomeAnd, IsTrue}
 use Rattle.std.specs.Bool.{OnTrue}
 use Rattle.std.specs.Option.{option_map}
 use Rattle.std.proofs.lemmas.Bool.{lt-leb}
 use Rattle.html_types.specs.declared.script.Why.TheVariants as why
-use Rattle.outside.specs.Outside.{Files, Rose, Seen, KeepsOthers}
+use Rattle.outside.specs.Outside.{Files, Seen, KeepsOthers}
 use Rattle.outside.specs.declared.traits.Port.{Port}
 use Rattle.outside.specs.declared.traits.Port.TheVariants.{Entities, Page}
-use Rattle.standard.specs.Entities.{Entities as Table, entities_of}
-use Rattle.standard.specs.Serial.{Result, finished, refused, Outcome}
+use Rattle.standard.specs.Entities.{Entities as Table}
+use Rattle.standard.specs.Serial.{Result, finished, refused}
 use Rattle.standard.specs.Output.{line_text, result_text, output}
 use Rattle.standard.proofs.Total.{has_outcome}
 use Rattle.page_runner.specs.declared.command.TheConstants.{ENTITIES_LIMIT}
@@ -22,12 +22,12 @@ use Rattle.page_runner.specs.declared.status.Status.{Status}
 use Rattle.page_runner.specs.declared.status.Status.TheVariants as status
 use Rattle.page_runner.specs.declared.fetch.Fetch.{Fetch}
 use Rattle.page_runner.specs.Words.{Asked}
-use Rattle.page_runner.specs.Given.{Given, unmet, missing, faulted, got, given_of, FaultsRose, AbsencesRose, file_at, MayGive, AreRead, ReadTo, untouched, unbegun, begun}
+use Rattle.page_runner.specs.Given.{Given, unmet, missing, faulted, got, given_of, FaultsRose, file_at, MayGive, AreRead, ReadTo, untouched, unbegun, begun}
 use Rattle.page_runner.specs.Taken.{Took, TookFront}
 use Rattle.page_runner.specs.Driving.{View}
 use Rattle.page_runner.specs.Moments.{world_of}
 use Rattle.page_runner.specs.Shown.{result_of, status_of}
-use Rattle.page_runner.specs.Pages.{PageRead, page_at, ComesTo, AreTaken, ReadsOn, IsReadFrom, Ended, ParsesPage, ParsesFront}
+use Rattle.page_runner.specs.Pages.{PageRead, page_at, AreTaken, ReadsOn, IsReadFrom, Ended, ParsesPage, ParsesFront}
 use Rattle.page_runner.specs.Answers.{IsPageOf, PageMet, MayGivePage, IsParsed, Answer, status_with, answer_to_page, answer_over, answer_to, table_of, status_for, Gives, PageAnswers, Answers, RunsTo, StopsAtLimits, is_finished}
 use Rattle.page_runner.proofs.KeepsLemmas.{rose-on, rose-stays}
 use Rattle.page_runner.proofs.PageTakenLemmas.{took_nothing, front_nothing, took_then, front_then}

@@ -1,10 +1,7 @@
 -- What was read of a file, piece by piece.
-use Rattle.std.proofs.Common.{◌≡◌, ℕ, ◌≤◌, ◌+◌, List, [], ◌++◌, length, take, drop, Option, Some, None, IfSome, refl, sym, ap, subst, ◌∙◌, append_assoc, append-nil, take-append-drop, length-take, length-append, arith}
-use Rattle.std.specs.Prelude.{IsSomeAnd}
+use Rattle.std.proofs.Common.{◌≡◌, ℕ, ◌≤◌, List, [], ◌++◌, length, take, drop, Option, Some, None, IfSome, refl, sym, ap, subst, ◌∙◌, append_assoc, append-nil, take-append-drop}
 use Rattle.std.proofs.lemmas.List.{take-append-le}
-use Rattle.outside.specs.Outside.{Seen}
-use Rattle.outside.specs.declared.traits.Port.{Port}
-use Rattle.page_runner.specs.Given.{AreRead, file_at, ReadTo, begun}
+use Rattle.page_runner.specs.Given.{AreRead}
 
 -- what a read of n bytes does to what the port has left
 abbrev pub Moved : Option (List ℕ) → Option (List ℕ) → List ℕ → ℕ → Type 0

@@ -1,8 +1,7 @@
 -- What a run answers: its status and the bytes that the sink took, as a function of what it met outside.
-use Rattle.std.specs.Prelude.{◌≡◌, ◌≤◌, ◌⊎◌, ℕ, Bool, true, false, List, [], ◌++◌, length, nat_le, if◌then◌else◌, Option, Some, None, IfSome}
+use Rattle.std.specs.Prelude.{◌≡◌, ◌⊎◌, ℕ, Bool, true, false, List, [], ◌++◌, length, nat_le, if◌then◌else◌, Option, Some, None, IfSome}
 use Rattle.html_types.specs.declared.script.Why.TheVariants as why
 use Rattle.outside.specs.Outside.{Rose, Seen}
-use Rattle.outside.specs.declared.traits.Port.{Port}
 use Rattle.outside.specs.declared.traits.Port.TheVariants.{Entities, Page}
 use Rattle.standard.specs.Entities.{Entities as Table, entities_of}
 use Rattle.standard.specs.Serial.{Result, finished, refused, Outcome}

@@ -7,7 +7,7 @@ use Rattle.standard.specs.Entities.{Entities}
 use Rattle.standard.specs.Act.{new_doc}
 use Rattle.standard.specs.Parser.{new_parser}
 use Rattle.standard.specs.Page.{Page, page_of, text_of, ending_of, shown}
-use Rattle.standard.specs.Serial.{Serial, Outcome, first, IsSerial, Moment, reading, over, Leads}
+use Rattle.standard.specs.Serial.{Outcome, first, IsSerial, Moment, reading, over, Leads}
 use Rattle.standard.specs.Output.{line_text, result_text, output}
 use Rattle.utf8_pieces.specs.declared.decoder.Decoder.{Decoder}
 use Rattle.utf8_pieces.specs.Decoder.{HasRead}

@@ -1,11 +1,11 @@
-use Rattle.std.proofs.Common.{refl, ◌∙◌, sym, ap, Err, Some}
+use Rattle.std.proofs.Common.{refl, ◌∙◌, sym, ap, Err}
 use Rattle.std.specs.String.{string_bytes}
 use Rattle.outside.specs.Outside.{seen}
 use Rattle.outside.specs.declared.traits.Port.TheVariants.{Entities}
 use Rattle.page_runner.specs.declared.command.TheConstants.{ENTITIES_LIMIT}
 use Rattle.page_runner.specs.declared.fetch.Fetch.TheVariants as fetches
 use Rattle.page_runner.specs.Words.{shown}
-use Rattle.page_runner.specs.Given.{unmet, missing, faulted, got}
+use Rattle.page_runner.specs.Given.{unmet, missing, faulted}
 use Rattle.page_runner.specs.Answers.{table_of}
 use Rattle.page_runner.proofs.PageTakenLemmas.{front_nothing, took_nothing}
 use Rattle.page_runner.proofs.RunLemmas.{gives_fault, answers_early, answers_no_table, answers_on, given_is, read_to_is, page_untouched, read_still, read_since}

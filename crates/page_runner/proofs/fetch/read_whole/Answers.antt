@@ -1,6 +1,6 @@
-use Rattle.std.proofs.Common.{◌≡◌, ◌≤◌, ◌+◌, ◌++◌, length, take, drop, arith, refl, sym, subst, length-take, length-append}
+use Rattle.std.proofs.Common.{◌≤◌, ◌+◌, ◌++◌, length, take, drop, arith, refl, length-take, length-append}
 use Rattle.outside.specs.Outside.{seen}
-use Rattle.page_runner.specs.Given.{AreRead, file_at, ReadTo, begun}
+use Rattle.page_runner.specs.Given.{AreRead, file_at, begun}
 use Rattle.page_runner.proofs.KeepsLemmas.{keeps-then}
 use Rattle.page_runner.proofs.RunReads.{read_more, read_none, read_failed, piece_front}
 use Rattle.page_runner.proofs.fetch.read_whole.Goals as goal

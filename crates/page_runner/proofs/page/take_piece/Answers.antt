@@ -1,4 +1,4 @@
-use Rattle.std.proofs.Common.{◌∙◌, sym, subst}
+use Rattle.std.proofs.Common.{subst}
 use Rattle.page_runner.specs.Moments.{Takes}
 use Rattle.page_runner.proofs.PagePieces.{on_err, piece_unread, piece_in_part, piece_stops, piece_goes_on, piece_ends, piece_end_in_part}
 use Rattle.page_runner.proofs.page.take_piece.Goals as goal
