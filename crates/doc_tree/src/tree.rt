@@ -760,6 +760,14 @@ impl Tree {
         self.nodes[node].contents
     }
 
+    /// The node's children.
+    pub fn children(&self, node: usize) -> &[usize]
+        requires { node < length self.now }
+        ensures { result.now ≡ children_of self.now node }
+    {
+        self.nodes[node].children.as_slice()
+    }
+
     /// The nodes that a text shows under the node: its children, or for a template those of its contents.
     pub fn shown(&self, node: usize) -> &[usize]
         requires { node < length self.now }

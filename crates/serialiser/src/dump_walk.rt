@@ -32,48 +32,12 @@ fn push_reversed(stack: &mut Vec<Left>, nodes: &[usize], depth: usize) -> Result
     Ok(())
 }
 
-// Puts a node's children on the stack, the last first, by a search for each among its siblings.
-fn push_siblings(
-    stack: &mut Vec<Left>,
-    tree: &Tree,
-    node: usize,
-    depth: usize,
-) -> Result<(), NoMemory>
-    requires { node < length tree.now }
-    ensures { OnOk result (stack.new.items ≡ stack.old.items ++ stacked depth (children_of tree.now node)) }
-{
-    let _nodes = tree.len();
-    let mut next = tree.last_child(node);
-    'back: while let Some(child) = next {
-        stack.push(Left { node: child, depth })?;
-        next = tree.previous(child);
-    }
-    Ok(())
-}
-
-// Puts a node's children on the stack, the last first.
-fn push_children(
-    stack: &mut Vec<Left>,
-    tree: &Tree,
-    node: usize,
-    depth: usize,
-) -> Result<(), NoMemory>
-    requires { node < length tree.now }
-    ensures { OnOk result (stack.new.items ≡ stack.old.items ++ stacked depth (children_of tree.now node)) }
-{
-    match tree.contents(node) {
-        // For a template `shown` gives other nodes.
-        Some(_) => push_siblings(stack, tree, node, depth),
-        None => push_reversed(stack, tree.shown(node), depth),
-    }
-}
-
 // Puts the nodes right under a node on the stack, the last first.
 fn push_under(stack: &mut Vec<Left>, tree: &Tree, node: usize, depth: usize) -> Result<(), NoMemory>
     requires { node < length tree.now }
     ensures { OnOk result (stack.new.items ≡ stack.old.items ++ stacked depth (under_of tree.now node)) }
 {
-    push_children(stack, tree, node, depth)?;
+    push_reversed(stack, tree.children(node), depth)?;
     if let Some(contents) = tree.contents(node) {
         stack.push(Left {
             node: contents,
@@ -92,7 +56,7 @@ fn node_lines(alloc: Global, tree: &Tree) -> Result<String, NoMemory>
     let _nodes = tree.len();
     let mut out = String::new(alloc);
     let mut stack = Vec::new(alloc);
-    push_children(&mut stack, tree, 0, 0)?;
+    push_reversed(&mut stack, tree.children(0), 0)?;
     'walk: while let Some(left) = stack.pop() {
         push_line(alloc, &mut out, left.depth, tree.kind(left.node))?;
         push_under(&mut stack, tree, left.node, left.depth + 1)?;
@@ -100,8 +64,7 @@ fn node_lines(alloc: Global, tree: &Tree) -> Result<String, NoMemory>
     Ok(out)
 }
 
-/// The dump of a tree: a line for each node under the Document, and a last line. Time and memory are linear in the lines, but for a template's
-/// own children, each of which is searched for among its siblings.
+/// The dump of a tree: a line for each node under the Document, and a last line. Time and memory are linear in the lines.
 pub fn dump(alloc: Global, tree: &Tree) -> Result<String, NoMemory>
     ensures { IfOk result (λ text. string_bytes text ≡ dump_text tree.now) }
 {
