@@ -6,7 +6,7 @@ use Rattle.html_types.specs.declared.open.Open.{Open}
 use Rattle.html_types.specs.declared.instruction.Mode.{Mode}
 use Rattle.html_types.specs.declared.instruction.Next.{Next}
 use Rattle.html_types.specs.declared.instruction.Next.TheVariants.{Again, Using, Missing}
-use Rattle.standard.specs.Rules.{Answer, answer, by_mode, go_round, round_after, process}
+use Rattle.standard.specs.Rules.{Answer, answer, by_rules, go_round, round_after, process}
 use Rattle.parse_machine.specs.declared.token.Round.{Round}
 use Rattle.parse_machine.specs.declared.token.Round.TheVariants.{Once}
 use Rattle.parse_machine.specs.Rounds.{rounded, asked, round_of, rounds_left}
@@ -18,7 +18,7 @@ by_next n t b o _ = refl
 
 turn : (n : ℕ) (m : Mode) (t : Token) (b : Open) (o : List Op) → process (suc n) m t b o ≡ rounds_left n t (round_of m t b o)
 unfolding process
-turn n m t b o = let a : Answer = by_mode m t b o in by_next n t a.open_state a.ops a.next
+turn n m t b o = let a : Answer = by_rules m t b o in by_next n t a.open_state a.ops a.next
 
 pub rounds_turn : (n : ℕ) (m : Mode) (t : Token) (b b' : Open) (o o' : List Op) (r : Round) → 0 < n
     → rounded b' o' r ≡ round_of m t b o → rounds_left (n - 1) t (rounded b' o' r) ≡ rounds_left n t (rounded b o (Once m))

@@ -6,7 +6,7 @@ use Rattle.html_types.specs.declared.open.Open.{Open}
 use Rattle.html_types.specs.declared.instruction.Mode.{Mode}
 use Rattle.html_types.specs.declared.instruction.Next.{Next}
 use Rattle.html_types.specs.declared.instruction.Next.TheVariants.{Again, Using}
-use Rattle.standard.specs.Rules.{Answer, answer, by_mode, process}
+use Rattle.standard.specs.Rules.{Answer, answer, by_rules, process}
 use Rattle.parse_machine.specs.declared.token.Round.{Round}
 use Rattle.parse_machine.specs.declared.token.Round.TheVariants.{Once, Over}
 
@@ -25,7 +25,7 @@ asked b n = Over n
 
 -- what one round comes to
 abbrev pub round_of : Mode → Token → Open → List Op → Rounded
-round_of m t b o = let a : Answer = by_mode m t b o in rounded a.open_state a.ops (asked a.open_state a.next)
+round_of m t b o = let a : Answer = by_rules m t b o in rounded a.open_state a.ops (asked a.open_state a.next)
 
 -- what the rest of the rounds come to
 abbrev pub rounds_left : ℕ → Token → Rounded → Answer

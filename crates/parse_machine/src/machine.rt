@@ -110,6 +110,7 @@ fn process(
         }
         Next::Script(id) => Ok(Went::At(Stop::Script(id))),
         Next::Deep => Ok(Went::At(Stop::Deep)),
+        Next::Adopt { name: _, then: _ } => Ok(Went::At(Stop::Missing)),
         Next::Again => Ok(Went::At(Stop::Missing)),
         Next::Using(_) => Ok(Went::At(Stop::Missing)),
         Next::Finished => Ok(Went::At(Stop::Missing)),
@@ -179,6 +180,7 @@ fn process_last(
         Next::Done => Ok(Ended::On),
         Next::Finished => Ok(Ended::At(Finish::Finished)),
         Next::Deep => Ok(Ended::At(Finish::Deep)),
+        Next::Adopt { name: _, then: _ } => Ok(Ended::At(Finish::Missing)),
         Next::Again => Ok(Ended::At(Finish::Missing)),
         Next::Using(_) => Ok(Ended::At(Finish::Missing)),
         Next::Switch(_) => Ok(Ended::At(Finish::Missing)),

@@ -1,13 +1,14 @@
 //! A token, by the rules of the mode and of those that it is then to go by (13.2.6).
 
 ghost use Rattle.std.specs.Prelude.{◌≡◌, ◌&&◌, IfOk};
-ghost use Rattle.standard.specs.Rules.{answer, by_mode, process, rounds, is_line_feed as is_line_feed_in, construct as constructed};
+ghost use Rattle.standard.specs.Rules.{answer, by_mode, adopting, by_rules, process, rounds, is_line_feed as is_line_feed_in, construct as constructed};
 ghost use Rattle.parse_machine.specs.Rounds.{rounded, round_of};
 
-use builder_body::body;
+use builder_adoption::adopt;
+use builder_body::{after_adopt, body};
 use builder_head::head;
 use builder_state::Builder;
-use html_types::{Mode, Next, NoMemory, Ops, Token};
+use html_types::{Mode, Next, NoMemory, Ops, Then, Token, Word};
 use std::alloc::Global;
 
 /// No token goes by more rules than this.
@@ -20,7 +21,7 @@ fn is_line_feed(token: &Token) -> bool
 }
 
 // By the rules of one mode.
-fn by_rules(
+fn by_mode(
     alloc: Global,
     builder: &mut Builder,
     mode: Mode,
@@ -35,6 +36,38 @@ fn by_rules(
         Mode::InBody | Mode::InText | Mode::AfterBody | Mode::AfterAfterBody => {
             body(alloc, builder, mode, token, ops)
         }
+    }
+}
+
+// The adoption agency algorithm (13.2.6.4.7), and the rest of the row that asked for it.
+#[tactic(auto, unfolding(standard::specs::Rules::adopting))]
+fn by_adoption(
+    alloc: Global,
+    builder: &mut Builder,
+    name: Word,
+    then: Then,
+    token: &Token,
+    ops: &mut Ops,
+) -> Result<Next, NoMemory>
+    ensures { IfOk result (λ n. answer builder.new ops.new n ≡ adopting name then token.now builder.old ops.old) }
+{
+    let adopted = adopt(alloc, builder, name, ops)?;
+    after_adopt(alloc, builder, then, adopted, token, ops)
+}
+
+// By the rules of one mode, the adoption too.
+fn by_rules(
+    alloc: Global,
+    builder: &mut Builder,
+    mode: Mode,
+    token: &Token,
+    ops: &mut Ops,
+) -> Result<Next, NoMemory>
+    ensures { IfOk result (λ n. answer builder.new ops.new n ≡ by_rules mode token.now builder.old ops.old) }
+{
+    match by_mode(alloc, builder, mode, token, ops)? {
+        Next::Adopt { name, then } => by_adoption(alloc, builder, name, then, token, ops),
+        next => Ok(next),
     }
 }
 
@@ -58,12 +91,7 @@ fn one_round(
     match by_rules(alloc, builder, mode, token, ops)? {
         Next::Again => Ok(Round::Once(builder.mode())),
         Next::Using(other) => Ok(Round::Once(other)),
-        Next::Done => Ok(Round::Over(Next::Done)),
-        Next::Switch(reading) => Ok(Round::Over(Next::Switch(reading))),
-        Next::Script(id) => Ok(Round::Over(Next::Script(id))),
-        Next::Deep => Ok(Round::Over(Next::Deep)),
-        Next::Finished => Ok(Round::Over(Next::Finished)),
-        Next::Missing => Ok(Round::Over(Next::Missing)),
+        next => Ok(Round::Over(next)),
     }
 }
 

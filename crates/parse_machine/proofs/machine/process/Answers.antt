@@ -14,6 +14,9 @@ returns-in-Script-clause-built c = λ cr. went_script c.args.token.now cr c.args
 pub returns-in-Deep-clause-built : goal.returns-in-Deep-clause-built
 returns-in-Deep-clause-built c = λ cr. went_deep c.args.token.now cr c.args.tokenizer.now c.args.tokenizer.now c.args.builder.now c.construct.new.builder c.args.ops.now c.construct.new.ops c.in_ok-construct.field-0 c.in_ok-construct.ensures c.in-Deep.is refl
 
+pub returns-in-Adopt-clause-built : goal.returns-in-Adopt-clause-built
+returns-in-Adopt-clause-built c = λ cr. went_missing c.args.token.now cr c.args.tokenizer.now c.args.tokenizer.now c.args.builder.now c.construct.new.builder c.args.ops.now c.construct.new.ops c.in_ok-construct.field-0 c.in_ok-construct.ensures (ap is_odd c.in-Adopt.is) refl
+
 pub returns-in-Again-clause-built : goal.returns-in-Again-clause-built
 returns-in-Again-clause-built c = λ cr. went_missing c.args.token.now cr c.args.tokenizer.now c.args.tokenizer.now c.args.builder.now c.construct.new.builder c.args.ops.now c.construct.new.ops c.in_ok-construct.field-0 c.in_ok-construct.ensures (ap is_odd c.in-Again.is) refl
 

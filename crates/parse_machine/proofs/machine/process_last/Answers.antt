@@ -11,6 +11,9 @@ returns-in-Finished c = λ cr m. ended_finished c.args.token.now cr m m c.args.b
 pub returns-in-Deep : goal.returns-in-Deep
 returns-in-Deep c = λ cr m. ended_deep c.args.token.now cr m m c.args.builder.now c.construct.new.builder c.args.ops.now c.construct.new.ops c.in_ok-construct.field-0 c.in_ok-construct.ensures c.in-Deep.is refl
 
+pub returns-in-Adopt : goal.returns-in-Adopt
+returns-in-Adopt c = λ cr m. ended_missing c.args.token.now cr m m c.args.builder.now c.construct.new.builder c.args.ops.now c.construct.new.ops c.in_ok-construct.field-0 c.in_ok-construct.ensures (ap is_odd_end c.in-Adopt.is) refl
+
 pub returns-in-Again : goal.returns-in-Again
 returns-in-Again c = λ cr m. ended_missing c.args.token.now cr m m c.args.builder.now c.construct.new.builder c.args.ops.now c.construct.new.ops c.in_ok-construct.field-0 c.in_ok-construct.ensures (ap is_odd_end c.in-Again.is) refl
 
