@@ -107,6 +107,7 @@ fn table_of(alloc: Global, bytes: &[u8]) -> Result<Table, TableFault>
     Table::read(alloc, bytes)
 }
 
+// Reads the entities, and runs the page over them.
 fn run_files<F: Outside, K: Sink>(
     alloc: Global,
     files: &mut F,
@@ -136,6 +137,7 @@ fn run_files<F: Outside, K: Sink>(
     }
 }
 
+// Reads the words, and runs what they ask for.
 fn run_words<F: Outside, K: Sink>(
     alloc: Global,
     words: &[String],

@@ -19,7 +19,8 @@ reads-preserved g c =
       bound = omega (arith, len, most, room, c.read.auto.into, c.in-Ok.ensures.count, c.min-room.ensures, c.len-in-reads.ensures);
       others = keeps-then _ _ _ _ c.reads.invariant.others c.read.ensures.others;
       read = rw c.in_ok-extend_from_slice.ensures.items
-          (read_more _ _ _ c.reads.bytes.items c.read.new.into _ c.in-Ok.n c.reads.invariant.read c.in-Ok.ensures.moved (piece_front c.read.new.into _ c.in-Ok.n fits));
+          (read_more _ _ _ c.reads.bytes.items c.read.new.into (take c.in-Ok.n (c.read.new.into ++ drop c.min-room.result c.reads.piece)) c.in-Ok.n c.reads.invariant.read c.in-Ok.ensures.moved
+          (piece_front c.read.new.into (drop c.min-room.result c.reads.piece) c.in-Ok.n fits));
     }
 
 pub returns-in_err-extend_from_slice-clause-no_further : goal.returns-in_err-extend_from_slice-clause-no_further

@@ -1,4 +1,4 @@
-use Rattle.std.proofs.Common.{◌<◌, ◌≡◌, ◌≤◌, length, take, length-take, arith, refl, subst}
+use Rattle.std.proofs.Common.{◌<◌, ◌≡◌, ◌≤◌, length, take, drop, length-take, arith, refl, subst}
 use Rattle.page_runner.specs.Pages.{TakesPiece}
 use Rattle.page_runner.proofs.KeepsLemmas.{keeps-same, keeps-then, rose-on}
 use Rattle.page_runner.proofs.PagePieces.{on_err}
@@ -43,7 +43,7 @@ returns-in-Err-clause-others g c = keeps-then _ _ _ _ c.reads.invariant.others c
 pub returns-in_err-outcome-in-Ok-clause-err : goal.returns-in_err-outcome-in-Ok-clause-err
 returns-in_err-outcome-in-Ok-clause-err g c =
     let fits : c.in-Ok.n ≤ length c.read_piece.new.room = omega (arith, c.read_piece.auto.room, c.in-Ok.ensures.count.1) in
-    on_err _ _ (piece_gave_up _ _ _ _ _ _ _ _ c.reads.invariant.at _ _ (piece_is _ _ c.read_piece.new.room _ c.in-Ok.n fits c.in-Ok.ensures.taken) _ _ c.in_err-outcome-in-Ok.ensures.err)
+    on_err _ _ (piece_gave_up _ _ _ _ _ _ _ _ c.reads.invariant.at _ _ (piece_is _ _ c.read_piece.new.room (drop c.min-most.result c.reads.room) c.in-Ok.n fits c.in-Ok.ensures.taken) _ _ c.in_err-outcome-in-Ok.ensures.err)
 
 pub returns-in_err-outcome-in-Ok-clause-no_further : goal.returns-in_err-outcome-in-Ok-clause-no_further
 returns-in_err-outcome-in-Ok-clause-no_further g c =
@@ -57,7 +57,7 @@ returns-in_err-outcome-in-Ok-clause-others g c = keeps-then _ _ _ _ c.reads.inva
 pub returns-in-Some-clause-ok : goal.returns-in-Some-clause-ok
 returns-in-Some-clause-ok g c =
     let fits : c.in-Ok.n ≤ length c.read_piece.new.room = omega (arith, c.read_piece.auto.room, c.in-Ok.ensures.count.1) in
-    piece_past _ _ _ _ _ _ _ _ c.reads.invariant.at _ _ (piece_is _ _ c.read_piece.new.room _ c.in-Ok.n fits c.in-Ok.ensures.taken) _ c.take_piece.new.decoder _ _ c.in-Some.outcome
+    piece_past _ _ _ _ _ _ _ _ c.reads.invariant.at _ _ (piece_is _ _ c.read_piece.new.room (drop c.min-most.result c.reads.room) c.in-Ok.n fits c.in-Ok.ensures.taken) _ c.take_piece.new.decoder _ _ c.in-Some.outcome
     (subst (TakesPiece _ _ _ _ _ _ _ _) c.in-Some.is c.in_ok-outcome-in-Ok.ensures.ok)
 
 pub returns-in-Some-clause-no_further : goal.returns-in-Some-clause-no_further
@@ -74,8 +74,8 @@ reads-preserved g c =
     let fits : c.in-Ok.n ≤ length c.read_piece.new.room = omega (arith, c.read_piece.auto.room, c.in-Ok.ensures.count.1) in
     let within : c.in-Ok.n ≤ c.reads.left = omega (arith, c.min-most.ensures, c.in-Ok.ensures.count.1, length-take c.min-most.result c.reads.room) in
     record {
-      at = piece_on _ _ _ _ _ _ _ _ c.reads.invariant.at _ _ (piece_is _ _ c.read_piece.new.room _ c.in-Ok.n fits c.in-Ok.ensures.taken) c.take_piece.new.decoder _ _ c.in-Ok.n
-          (piece_length c.read_piece.new.room _ c.in-Ok.n fits) within (subst (TakesPiece _ _ _ _ _ _ _ _) c.in_default.is c.in_ok-outcome-in-Ok.ensures.ok);
+      at = piece_on _ _ _ _ _ _ _ _ c.reads.invariant.at _ _ (piece_is _ _ c.read_piece.new.room (drop c.min-most.result c.reads.room) c.in-Ok.n fits c.in-Ok.ensures.taken) c.take_piece.new.decoder _ _ c.in-Ok.n
+          (piece_length c.read_piece.new.room (drop c.min-most.result c.reads.room) c.in-Ok.n fits) within (subst (TakesPiece _ _ _ _ _ _ _ _) c.in_default.is c.in_ok-outcome-in-Ok.ensures.ok);
       served = c.in_ok-outcome-in-Ok.ensures.served (rw c.in_default.is refl);
       others = keeps-then _ _ _ _ c.reads.invariant.others c.read_piece.ensures.others;
       faults = let before = c.reads.invariant.faults in let now = c.take_piece.ensures.faults in omega arith;
