@@ -5,7 +5,7 @@ ghost use Rattle.html_types.specs.declared.operation.Op.TheVariants as op;
 ghost use Rattle.html_types.specs.declared.operation.Place.TheVariants.{Inside};
 ghost use Rattle.standard.specs.Stack.{above, below};
 ghost use Rattle.standard.specs.Adoption as definition;
-ghost use Rattle.standard.specs.Adoption.{climb_at, climb, joined, children_to, turned, turn_with, put_mark};
+ghost use Rattle.standard.specs.Adoption.{climb_at, climb, joined, turned, turn_with, put_mark};
 
 use crate::climb::{Climb, climb_all};
 use crate::entries::{insert_behind, renew_entry};
@@ -60,7 +60,7 @@ fn make_clone(
     block: NodeId,
     ops: &mut Ops,
 ) -> Result<(), NoMemory>
-    ensures { IfOk result (λ _. ops.new ≡ ops.old ++ op.Make clone tag.now.name tag.now.attributes ∷ [] ++ children_to block clone ++ op.Put clone (Inside block) ∷ []) }
+    ensures { IfOk result (λ _. ops.new ≡ ops.old ++ op.Make clone tag.now.name tag.now.attributes ∷ [] ++ op.MoveChildren block clone ∷ [] ++ op.Put clone (Inside block) ∷ []) }
 {
     let name = tag.name.copy(alloc)?;
     let attributes = tag.attributes.copy(alloc)?;
