@@ -1,5 +1,4 @@
-use Rattle.std.proofs.Common.{◌≡◌, sym, ap, ◌∙◌, arith, drop}
-use Rattle.std.specs.Str.{chars}
+use Rattle.std.proofs.Common.{arith}
 use Rattle.tok_refs.proofs.Skipping.{IsBehind-none, IsBehind-more, IsBehind-all, none-behind}
 use Rattle.tok_refs.proofs.named.skip.Goals as goal
 
