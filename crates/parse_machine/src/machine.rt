@@ -354,13 +354,7 @@ impl Machine {
     ) -> Result<Finish, NoMemory>
         ensures { IfOk result (λ finish. after_all ops.old (finished table.now self.old) ≡ record { ops = ops.new; parser = self.new; finish = finish }) }
     {
-        match end_and_build(
-            alloc,
-            table,
-            &mut self.tokenizer,
-            &mut self.builder,
-            ops,
-        ) {
+        match end_and_build(alloc, table, &mut self.tokenizer, &mut self.builder, ops) {
             Ok(finish) => Ok(finish),
             Err(error) => {
                 self.tokenizer.clear(alloc);

@@ -1,5 +1,5 @@
 -- The row of a name, where it stops.
-use Rattle.std.proofs.Common.{◌≡◌, ℕ, Bool, true, false, List, [], ◌∷◌, ◌++◌, Result, IfOk, IsTrue, ◌↔◌, refl, sym, ap, ◌∙◌, subst}
+use Rattle.std.proofs.Common.{◌≡◌, ℕ, Bool, true, false, List, [], ◌∷◌, ◌++◌, Result, IfOk, IsTrue, ◌↔◌, refl, subst}
 use Rattle.html_types.specs.declared.memory.NoMemory.{NoMemory}
 use Rattle.html_types.specs.declared.token.Token.{Token}
 use Rattle.html_types.specs.declared.class.Class.{Class}
@@ -12,7 +12,7 @@ use Rattle.standard.specs.ReferenceStates.{named_row, named_step}
 use Rattle.entity_table.specs.declared.cursor.Step.{Step}
 use Rattle.entity_table.specs.declared.cursor.Step.TheVariants.{More, Stop}
 use Rattle.entity_table.specs.declared.row.Match.{Match}
-use Rattle.std.proofs.Common.{Option, Some, None}
+use Rattle.std.proofs.Common.{Option}
 
 -- at the end of the input
 pub step-at_end : (es : Entities) (back : ReturnState) (held : List ℕ) (k : Class) (c : ℕ) → k ≡ InputEnd → named_step back held (longest held es) k ≡ named_row es back held k c

@@ -1,4 +1,4 @@
-//! The longest name, and what stands in its place.
+//! Named references: the longest name, and what stands in its place.
 
 ghost use Rattle.std.specs.Prelude.{◌≡◌, ◌++◌, drop, Option, IfOk};
 ghost use Rattle.std.specs.Str.{chars};
@@ -27,6 +27,7 @@ pub fn named_row(
 ) -> Result<Next, NoMemory>
     ensures { IfOk result (Follows (rows.named_row table.now back held class c) out.old out.new) }
 {
+    // The state holds the text alone, so that equal states are equal data.
     let mut cursor = Cursor::over(table, held.as_str());
     match class {
         Class::InputEnd => end_of_name(alloc, back, &held, cursor.best(), class, out),
@@ -84,7 +85,7 @@ fn skip(text: &str, count: usize) -> &str
     ensures { chars result.now ≡ drop count (chars text.now) }
 {
     let mut rest = text.chars();
-    for i in 0..count {
+    for _skipped in 0..count {
         let Some(_) = rest.next() else {
             return "";
         };
@@ -114,7 +115,8 @@ fn class_behind(rest: &str, class: Class) -> Class
     }
 }
 
-// Whether a character of this class may belong to a longer name, or to what a script reads behind it.
+// Whether this is a `=`, a letter or a digit: for historical reasons a name without `;` before it is no reference in an
+// attribute.
 fn goes_on(class: Class) -> bool
     ensures { result ≡ rows.goes_on class }
 {

@@ -58,12 +58,7 @@ pub fn hexadecimal_start_row(
 }
 
 // No digit stands behind `&#x`.
-fn no_digits(
-    alloc: Global,
-    back: ReturnState,
-    x: char,
-    out: &mut Tokens,
-) -> Result<Next, NoMemory>
+fn no_digits(alloc: Global, back: ReturnState, x: char, out: &mut Tokens) -> Result<Next, NoMemory>
     ensures { IfOk result (Follows (rows.literally back (38 ∷ 35 ∷ x ∷ []) true) out.old out.new) }
 {
     let mut text = Text::new(alloc);
@@ -140,9 +135,7 @@ fn with_digit(code: u32, radix: u32, c: char) -> Option<u32>
 fn longer_code(code: u32, radix: u32, digit: u32) -> u32
     ensures { result ≡ min (code * radix + digit) 0x11_0000 }
 {
-    code.saturating_mul(radix)
-        .saturating_add(digit)
-        .min(BEYOND)
+    code.saturating_mul(radix).saturating_add(digit).min(BEYOND)
 }
 
 // Behind the digits. The character at hand is a `;`, which belongs to the reference, or it is reconsumed.

@@ -30,7 +30,9 @@ pub fn step(
         ReferenceState::HexadecimalStart(back, x) => {
             hexadecimal_start_row(alloc, back, x, class, c, out)
         }
-        ReferenceState::Hexadecimal(back, code) => hexadecimal_row(alloc, back, code, class, c, out),
+        ReferenceState::Hexadecimal(back, code) => hexadecimal_row(
+            alloc, back, code, class, c, out,
+        ),
         ReferenceState::Decimal(back, code) => decimal_row(alloc, back, code, class, c, out),
     }
 }

@@ -104,7 +104,7 @@ impl Tokenizer {
         self.waiting.same(&other.waiting) && eq_state(&self.state, &other.state)
     }
 
-    /// Reads the end of the input. The tokens that it makes wait behind those that wait already.
+    /// Reads the end of the input, with the named character references of `table`. The tokens that it makes wait behind those that wait already.
     pub fn finish(&mut self, alloc: Global, table: &Table) -> Result<(), NoMemory>
         ensures { OnOk result (self.new ≡ after_tokens self.old.tokens (read_end table.now self.old.state)) }
     {
@@ -122,7 +122,8 @@ impl Tokenizer {
     }
 
     /// Gives the next token: the first that waits, else the first that the text makes, of which no more is used than that
-    /// needs. `InputEnd` comes where no token waits and all of the text makes none.
+    /// needs. `InputEnd` comes where no token waits and all of the text makes none. Named character references are those of
+    /// `table`.
     pub fn run(&mut self, alloc: Global, table: &Table, text: &str) -> Result<Ran, NoMemory>
         ensures boundary { IfOk result (λ r. IsCharBoundary text.now r.used) }
         ensures next { IfOk result
@@ -161,7 +162,8 @@ impl Tokenizer {
         })
     }
 
-    /// Reads a character. The tokens that it makes wait behind those that wait already.
+    /// Reads a character, with the named character references of `table`. The tokens that it makes wait behind those that wait
+    /// already.
     pub fn read_character(&mut self, alloc: Global, table: &Table, c: char) -> Result<(), NoMemory>
         ensures { OnOk result (self.new ≡ after_tokens self.old.tokens (read table.now self.old.state c)) }
     {

@@ -1,5 +1,5 @@
 use Rattle.std.proofs.Common.{subst}
-use Rattle.standard.specs.Entities.{longest, begins_some}
+use Rattle.standard.specs.Entities.{longest}
 use Rattle.entity_table.specs.Held.{Holds}
 use Rattle.tok_refs.proofs.NameRow.{step-at_end, step-at_other, none_goes_on, IfOk-row}
 use Rattle.tok_refs.proofs.named.named_row.Goals as goal
