@@ -104,7 +104,8 @@ impl Tokenizer {
         self.waiting.same(&other.waiting) && eq_state(&self.state, &other.state)
     }
 
-    /// Reads the end of the input, with the named character references of `table`. The tokens that it makes wait behind those that wait already.
+    /// Reads the end of the input, with the named character references of `table`. The tokens that it makes wait behind those
+    /// that wait already.
     pub fn finish(&mut self, alloc: Global, table: &Table) -> Result<(), NoMemory>
         ensures { OnOk result (self.new ≡ after_tokens self.old.tokens (read_end table.now self.old.state)) }
     {
