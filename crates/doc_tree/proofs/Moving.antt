@@ -1,9 +1,9 @@
 -- Nodes that move at once, as all children of a node do.
-use Rattle.std.proofs.Common.{◌≡◌, ◌≢◌, ℕ, ◌+◌, ◌<◌, ◌≤◌, zero, suc, Bool, true, false, ◌||◌, cond, eqb, List, [], ◌∷◌, ◌++◌, length, get_or, set, Option, Some, None, refl, sym, ap, ◌∙◌, subst, inl, inr, append_assoc, append-nil, arith, length-set}
+use Rattle.std.proofs.Common.{◌≡◌, ◌≢◌, ℕ, ◌<◌, ◌≤◌, zero, suc, Bool, true, false, ◌||◌, cond, eqb, List, [], ◌∷◌, ◌++◌, length, get_or, Option, Some, None, refl, sym, ap, ◌∙◌, subst, inl, inr, append_assoc, append-nil, arith, length-set}
 use Rattle.std.specs.Prelude.{◌&&◌, not}
 use Rattle.std.specs.List.{list_any}
 use Rattle.std.proofs.Math.Bool.{or-false}
-use Rattle.std.proofs.lemmas.Bool.{cases_Bool, cases_eq, cases_lt, eq-eqb, or_cases, or_parts, ne_eqb, eqb-true}
+use Rattle.std.proofs.lemmas.Bool.{cases_Bool, cases_eq, cases_lt, eq-eqb, or_cases, or_parts, ne_eqb}
 use Rattle.std.proofs.lemmas.Bool.Decides.{nat_tests}
 use Rattle.std.proofs.lemmas.List.{get_or_past}
 use Rattle.std.proofs.lemmas.List.Elements.{filter-append}
@@ -13,7 +13,7 @@ use Rattle.html_types.specs.Numbers.{count_of, without, put_in}
 use Rattle.standard.specs.Tree.{Nodes, no_node, node_at, kind_of, parent_of, children_of, host_of, contents_of, above_of, climb, stands_in, leads_to, IsTree, with_parent, with_children, detached, moved, lies_in, is_document, is_element, is_element_at, is_other_element, is_second_element, is_impossible, all_put, children_moved, Keeps}
 use Rattle.doc_tree.specs.Moving.{going, staying, is_stuck, is_single, adopted, handed_over}
 use Rattle.doc_tree.proofs.Links.{cases_option, climb_step, climb_away}
-use Rattle.doc_tree.proofs.Counts.{count_of-here, without_absent}
+use Rattle.doc_tree.proofs.Counts.{without_absent}
 use Rattle.doc_tree.proofs.Trees.{node_at-set, document_top, IsTree-moved, IsTree-same, length-relinked, kind_of-relinked, parent_of-relinked, children_of-relinked, host_of-relinked, contents_of-relinked, length-detached, parent_of-detached, children_of-detached, kind_of-detached, host_of-detached, contents_of-detached}
 use Rattle.doc_tree.proofs.Puts.{same_node, same_nodes, kind_of-children, parent_of-children, children_of-children, host_of-children, contents_of-children}
 

@@ -549,7 +549,7 @@ fn hand_over(
 
 // All children of a node move at once.
 impl Tree {
-    ghost use Rattle.standard.specs.Tree.{Keeps, children_of, children_moved, is_impossible, is_document, is_element_at, kind_of};
+    ghost use Rattle.standard.specs.Tree.{Keeps, children_of, children_moved};
 
     // Whether the node can't be put at the end of the parent's children.
     fn is_stuck(&self, node: usize, parent: usize) -> bool
