@@ -15,17 +15,17 @@ use html_types::{Format, Formats, NoMemory, NodeId, Op, Open, OpenElement, Ops, 
 use std::alloc::Global;
 
 /// Climbs over the elements between the furthest block and the formatting element, and leaves on the stack what is left of
-/// them.
+/// them. Answers the node that was put last, and the bookmark.
 fn climb_between(
     alloc: Global,
     state: &mut Open,
     element: NodeId,
     block: NodeId,
     ops: &mut Ops,
-) -> Result<Climb, NoMemory>
-    ensures { IfOk result (λ c. let all : definition.Climb = climb 3 (above element (below block state.old.stack)) (climb_at state.old.formats state.old.next ops.old [] block None) in
+) -> Result<(NodeId, Option<NodeId>), NoMemory>
+    ensures { IfOk result (λ r. let all : definition.Climb = climb 3 (above element (below block state.old.stack)) (climb_at state.old.formats state.old.next ops.old [] block None) in
         (state.new ≡ record state.old { stack = joined element block state.old.stack all.kept; formats = all.formats; next = all.next })
-        × (ops.new ≡ all.ops) × (c.last ≡ all.last) × (c.mark ≡ all.mark)) }
+        × (ops.new ≡ all.ops) × (r.0 ≡ all.last) × (r.1 ≡ all.mark)) }
 {
     let upper = take_through(alloc, &mut state.stack, block)?;
     let between = take_above(alloc, &mut state.stack, element)?;
@@ -45,11 +45,7 @@ fn climb_between(
     let Climb { kept, last, mark } = climb;
     put_back(&mut state.stack, kept)?;
     put_back(&mut state.stack, upper)?;
-    Ok(Climb {
-        kept: Vec::new(alloc),
-        last,
-        mark,
-    })
+    Ok((last, mark))
 }
 
 /// Asks for a clone, which takes the children of the furthest block and stands in it.
@@ -112,12 +108,9 @@ pub fn rebuild(
 ) -> Result<Turn, NoMemory>
     ensures { IfOk result (λ t. turned state.new ops.new t ≡ turn_with element (Some tag) (Some block) state.old ops.old) }
 {
-    let climb = climb_between(alloc, state, element, block, ops)?;
+    let (last, mark) = climb_between(alloc, state, element, block, ops)?;
     let place = place_below(&state.stack, state.foster, element);
-    ops.push(Op::Put {
-        node: climb.last,
-        place,
-    })?;
+    ops.push(Op::Put { node: last, place })?;
     let clone = take_id(&mut state.next)?;
     make_clone(alloc, clone, &tag, block, ops)?;
     let name = tag.name.copy(alloc)?;
@@ -128,6 +121,6 @@ pub fn rebuild(
         block,
         OpenElement { id: clone, name },
     )?;
-    mark_entry(alloc, &mut state.formats, element, clone, tag, climb.mark)?;
+    mark_entry(alloc, &mut state.formats, element, clone, tag, mark)?;
     Ok(Turn::More)
 }
