@@ -170,7 +170,7 @@ fn tokens() -> [Row; 23] {
         page(
             b"<script><!--<script></script>--></script>x",
             Status::Done,
-            "tree \"<html><head><script><!--<script></script>--></script></head><body>x</body></html>\"\n",
+            "syntax 1\ntree \"<html><head><script><!--<script></script>--></script></head><body>x</body></html>\"\n",
         ),
         page(
             b"<title>&lt;x</title><li>1<li>2",
@@ -310,12 +310,12 @@ fn faults() -> [Row; 11] {
         },
         Row {
             piece: "1",
-            fail: &[(Port::Page, 8)],
+            fail: &[(Port::Page, 9)],
             ..page(b"<table>x", Status::Unready, "")
         },
         Row {
             piece: "24",
-            fail: &[(Port::Page, 2)],
+            fail: &[(Port::Page, 3)],
             ..page(b"<script>foo();</script>x", Status::ReadFault, "syntax 1\n")
         },
         Row {
