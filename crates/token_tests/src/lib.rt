@@ -1,0 +1,9 @@
+//! Texts whose tokens are the standard's, however the texts are cut.
+#![tactic(auto)]
+
+#[cfg(test)]
+mod cuts;
+#[cfg(test)]
+mod spelling;
+#[cfg(test)]
+mod tests;
