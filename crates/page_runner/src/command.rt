@@ -36,12 +36,7 @@ fn status_for(failure: Failure) -> Status
 }
 
 // Writes what came of the page, and finishes the sink.
-fn end_page<K: Sink>(
-    alloc: Global,
-    out: &mut K,
-    parsed: &Parsed,
-    dump: bool,
-) -> Result<(), Failure>
+fn end_page<K: Sink>(alloc: Global, out: &mut K, parsed: &Parsed, dump: bool) -> Result<(), Failure>
     ensures ok { OnOk result (Took (K.taken out.old) (K.taken out.new) (result_with dump (result_of parsed.now.outcome) parsed.now.driver.doc.tree)) }
     ensures err { OnErr result (TookFront (K.taken out.old) (K.taken out.new) (result_with dump (result_of parsed.now.outcome) parsed.now.driver.doc.tree)) }
     ensures clean { OnOk result (IsTrue (K.clean out.new)) }
