@@ -1,5 +1,5 @@
 -- The causes of single statuses.
-use Rattle.std.proofs.Common.{◌≡◌, ℕ, List, [], Option, Some, None, refl, subst, inl, inr}
+use Rattle.std.proofs.Common.{◌≡◌, ℕ, Bool, List, [], Option, Some, None, refl, subst, inl, inr}
 use Rattle.std.specs.Prelude.{◌⊎◌}
 use Rattle.html_types.specs.declared.script.Why.TheVariants as why
 use Rattle.outside.specs.Outside.{Seen}
@@ -43,54 +43,54 @@ fault_result (refused why.Page) e = absurd (cc e)
 fault_result (refused why.Fault) e = refl
 fault_result (refused why.Unready) e = absurd (cc e)
 
-never_usage_page : (page : Given PageMet) → status.Usage ≡ (answer_to_page page).0 → ⊥
-never_usage_page unmet e = cc
-never_usage_page missing e = cc
-never_usage_page faulted e = cc
-never_usage_page (got page) e = usage_result _ e
+never_usage_page : (dump : Bool) (page : Given PageMet) → status.Usage ≡ (answer_to_page dump page).0 → ⊥
+never_usage_page dump unmet e = cc
+never_usage_page dump missing e = cc
+never_usage_page dump faulted e = cc
+never_usage_page dump (got page) e = usage_result _ e
 
-never_usage_over : (table : Option Table) (page : Given PageMet) → status.Usage ≡ (answer_over table page).0 → ⊥
-never_usage_over None page e = cc
-never_usage_over (Some es) page e = never_usage_page page e
+never_usage_over : (dump : Bool) (table : Option Table) (page : Given PageMet) → status.Usage ≡ (answer_over dump table page).0 → ⊥
+never_usage_over dump None page e = cc
+never_usage_over dump (Some es) page e = never_usage_page dump page e
 
-never_usage : (entities : Given (List ℕ)) (page : Given PageMet) → status.Usage ≡ (answer_to entities page).0 → ⊥
-never_usage unmet page e = cc
-never_usage missing page e = cc
-never_usage faulted page e = cc
-never_usage (got bytes) page e = never_usage_over (table_of bytes) page e
+never_usage : (dump : Bool) (entities : Given (List ℕ)) (page : Given PageMet) → status.Usage ≡ (answer_to dump entities page).0 → ⊥
+never_usage dump unmet page e = cc
+never_usage dump missing page e = cc
+never_usage dump faulted page e = cc
+never_usage dump (got bytes) page e = never_usage_over dump (table_of bytes) page e
 
 module _ (asked : Asked) (before after' : Seen) where
-  absent_page : (page : Given PageMet) → MayGivePage asked.page before after' page → status.Absent ≡ (answer_to_page page).0 → AbsenceRose before after'
+  absent_page : (page : Given PageMet) → MayGivePage asked.page before after' page → status.Absent ≡ (answer_to_page asked.dump page).0 → AbsenceRose before after'
   absent_page unmet may e = absurd (cc e)
   absent_page missing may e = inr may.0
   absent_page faulted may e = absurd (cc e)
   absent_page (got page) may e = absurd (absent_result _ e)
 
-  absent_over : (table : Option Table) (page : Given PageMet) → MayGivePage asked.page before after' page → status.Absent ≡ (answer_over table page).0 → AbsenceRose before after'
+  absent_over : (table : Option Table) (page : Given PageMet) → MayGivePage asked.page before after' page → status.Absent ≡ (answer_over asked.dump table page).0 → AbsenceRose before after'
   absent_over None page may e = absurd (cc e)
   absent_over (Some es) page may e = absent_page page may e
 
   absent_of : (entities : Given (List ℕ)) (page : Given PageMet) → MayGive ENTITIES_LIMIT Entities asked.entities before after' entities → MayGivePage asked.page before after' page
-      → status.Absent ≡ (answer_to entities page).0 → AbsenceRose before after'
+      → status.Absent ≡ (answer_to asked.dump entities page).0 → AbsenceRose before after'
   absent_of unmet page may may' e = absurd (cc e)
   absent_of missing page may may' e = inl may.0
   absent_of faulted page may may' e = absurd (cc e)
   absent_of (got bytes) page may may' e = absent_over (table_of bytes) page may' e
 
-  fault_page : (es : Table) (page : Given PageMet) → MayGivePage asked.page before after' page → IsParsed es page → status.ReadFault ≡ (answer_to_page page).0 → FaultRose before after'
+  fault_page : (es : Table) (page : Given PageMet) → MayGivePage asked.page before after' page → IsParsed es page → status.ReadFault ≡ (answer_to_page asked.dump page).0 → FaultRose before after'
   fault_page es unmet may parsed e = absurd (cc e)
   fault_page es missing may parsed e = absurd (cc e)
   fault_page es faulted may parsed e = inr may.0
   fault_page es (got page) may parsed e = inr (may.cause (fault_met es page.read page.outcome parsed (fault_result _ e)))
 
   fault_over : (table : Option Table) (page : Given PageMet) → MayGivePage asked.page before after' page → ((es : Table) → table ≡ Some es → IsParsed es page)
-      → status.ReadFault ≡ (answer_over table page).0 → FaultRose before after'
+      → status.ReadFault ≡ (answer_over asked.dump table page).0 → FaultRose before after'
   fault_over None page may parsed e = absurd (cc e)
   fault_over (Some es) page may parsed e = fault_page es page may (parsed es refl) e
 
   fault_of : (entities : Given (List ℕ)) (page : Given PageMet) → MayGive ENTITIES_LIMIT Entities asked.entities before after' entities → MayGivePage asked.page before after' page
       → ((bytes : List ℕ) (es : Table) → entities ≡ got bytes → table_of bytes ≡ Some es → IsParsed es page)
-      → status.ReadFault ≡ (answer_to entities page).0 → FaultRose before after'
+      → status.ReadFault ≡ (answer_to asked.dump entities page).0 → FaultRose before after'
   fault_of unmet page may may' parsed e = absurd (cc e)
   fault_of missing page may may' parsed e = absurd (cc e)
   fault_of faulted page may may' parsed e = inl may
@@ -101,12 +101,12 @@ module _ (asked : Asked) (before after' : Seen) where
 pub absent : (asked : Option Asked) (before after' : Seen) (t t' : Option (List ℕ)) (r : Status) → RunsTo asked before after' t t' r → r ≡ status.Absent → AbsenceRose before after'
 absent None before after' t t' r runs is = let gives = subst (Gives t t' (status.Usage, [])) is runs in absurd (cc gives.0)
 absent (Some asked) before after' t t' r runs is =
-    let gives = subst (Gives t t' (answer_to runs.entities runs.page)) is runs.gives in absent_of asked before after' runs.entities runs.page runs.may_entities runs.may_page gives.0
+    let gives = subst (Gives t t' (answer_to asked.dump runs.entities runs.page)) is runs.gives in absent_of asked before after' runs.entities runs.page runs.may_entities runs.may_page gives.0
 
 pub read_fault : (asked : Option Asked) (before after' : Seen) (t t' : Option (List ℕ)) (r : Status) → RunsTo asked before after' t t' r → r ≡ status.ReadFault → FaultRose before after'
 read_fault None before after' t t' r runs is = let gives = subst (Gives t t' (status.Usage, [])) is runs in absurd (cc gives.0)
 read_fault (Some asked) before after' t t' r runs is =
-    let gives = subst (Gives t t' (answer_to runs.entities runs.page)) is runs.gives in fault_of asked before after' runs.entities runs.page runs.may_entities runs.may_page runs.parsed gives.0
+    let gives = subst (Gives t t' (answer_to asked.dump runs.entities runs.page)) is runs.gives in fault_of asked before after' runs.entities runs.page runs.may_entities runs.may_page runs.parsed gives.0
 
 in_place : (t t' : Option (List ℕ)) (r : Status) → Gives t t' (status.Usage, []) r → (r ≡ status.Usage) ⊎ (r ≡ status.WriteFault) ⊎ (r ≡ status.NoMemory)
 in_place t t' status.WriteFault gives = inr (inl refl)
@@ -123,6 +123,6 @@ in_place t t' status.Unready gives = inl gives.0
 pub usage : (asked : Option Asked) (before after' : Seen) (t t' : Option (List ℕ)) (r : Status) → RunsTo asked before after' t t' r → Exactly status.Usage r (asked ≡ None)
 usage None before after' t t' r runs = record { nowhere_else = λ _. refl; there = λ _. in_place t t' r runs }
 usage (Some asked) before after' t t' r runs = record {
-  nowhere_else = λ is. let gives = subst (Gives t t' (answer_to runs.entities runs.page)) is runs.gives in absurd (never_usage runs.entities runs.page gives.0);
+  nowhere_else = λ is. let gives = subst (Gives t t' (answer_to asked.dump runs.entities runs.page)) is runs.gives in absurd (never_usage asked.dump runs.entities runs.page gives.0);
   there = λ none. absurd (cc none);
 }

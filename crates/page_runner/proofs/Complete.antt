@@ -8,7 +8,7 @@ use Rattle.outside.specs.Outside.{Rose, Seen}
 use Rattle.outside.specs.declared.traits.Port.TheVariants.{Entities, Page}
 use Rattle.standard.specs.Entities.{Entities as Table, entities_of}
 use Rattle.standard.specs.Serial.{Outcome, finished}
-use Rattle.standard.specs.Output.{output}
+use Rattle.standard.specs.Output.{output_with}
 use Rattle.standard.proofs.Fuel.{one_outcome}
 use Rattle.page_runner.specs.declared.command.TheConstants.{ENTITIES_LIMIT}
 use Rattle.page_runner.specs.declared.status.Status.{Status}
@@ -57,24 +57,24 @@ if_some (Some x) P h = h x refl
 some_at : {A : Type 0} (o : Option A) (P : A → Type 0) (x : A) → o ≡ Some x → IfSome o P → P x
 some_at o P x is h = let there = subst (λ q. IfSome q P) is h in there
 
-abbrev Finishes : Option (List ℕ) → Option (List ℕ) → Status → Outcome → Type 0
-Finishes t t' r o = (r ≡ status.NoMemory) ⊎ ((r ≡ status.Done) × Took t t' (output o))
+abbrev Finishes : Bool → Option (List ℕ) → Option (List ℕ) → Status → Outcome → Type 0
+Finishes dump t t' r o = (r ≡ status.NoMemory) ⊎ ((r ≡ status.Done) × Took t t' (output_with dump o))
 
-module _ (t t' : Option (List ℕ)) (r : Status) (unless : r ≡ status.WriteFault → ⊥) (es : Table) (page : List ℕ) (o : Outcome) (comes : ComesTo es (record { bytes = page; fault = false }) o) (done : o.result ≡ finished) where
+module _ (dump : Bool) (t t' : Option (List ℕ)) (r : Status) (unless : r ≡ status.WriteFault → ⊥) (es : Table) (page : List ℕ) (o : Outcome) (comes : ComesTo es (record { bytes = page; fault = false }) o) (done : o.result ≡ finished) where
   read_page : (file : Option (Option (List ℕ))) (left : Option (List ℕ)) (rose : Type 0) (bytes : List ℕ) (fault : Bool) (end : Outcome) → file ≡ Some (Some page) → ¬ rose
       → IsPageOf file left rose (record { bytes = bytes; fault = fault }) → ComesTo es (record { bytes = bytes; fault = fault }) end
-      → Gives t t' (status_with end.result, output end) r → Finishes t t' r o
+      → Gives t t' (status_with end.result, output_with dump end) r → Finishes dump t t' r o
   read_page file left rose bytes true end there none may parsed gives = absurd (none (may.cause refl))
   read_page file left rose bytes false end there none may parsed gives =
       let same : Some page ≡ Some bytes = some_at file (λ f. f ≡ Some bytes) (Some page) there (may.whole refl) in
       let is : bytes ≡ page = cc in
       let here = subst (λ b. ComesTo es (record { bytes = b; fault = false }) end) is parsed in
       let one : end ≡ o = one_outcome (page_at (record { bytes = page; fault = false })) (world_of es) end o here comes in
-      let there' = subst (λ e. Gives t t' (status_with e.result, output e) r) one gives in
-      gives_only t t' (status.Done, output o) r (subst (λ k. Gives t t' (status_with k, output o) r) done there') unless
+      let there' = subst (λ e. Gives t t' (status_with e.result, output_with dump e) r) one gives in
+      gives_only t t' (status.Done, output_with dump o) r (subst (λ k. Gives t t' (status_with k, output_with dump o) r) done there') unless
 
   met_page : (before after : Seen) (path : List ℕ) (given : Given PageMet) → file_at before path ≡ Some (Some page) → ¬ (FaultsRose Page before after)
-      → MayGivePage path before after given → IsParsed es given → Gives t t' (answer_to_page given) r → Finishes t t' r o
+      → MayGivePage path before after given → IsParsed es given → Gives t t' (answer_to_page dump given) r → Finishes dump t t' r o
   met_page before after path unmet there none may parsed gives = memory_only t t' r gives unless
   met_page before after path missing there none may parsed gives = absurd (cc (some_at (file_at before path) (λ f. f ≡ None) (Some page) there may.1))
   met_page before after path faulted there none may parsed gives = absurd (none may.0)
@@ -84,7 +84,7 @@ module _ (t t' : Option (List ℕ)) (r : Status) (unless : r ≡ status.WriteFau
       → file_at before asked.page ≡ Some (Some page) → ¬ (FaultsRose Entities before after) → ¬ (FaultsRose Page before after)
       → MayGive ENTITIES_LIMIT Entities asked.entities before after given → MayGivePage asked.page before after given'
       → ((bytes : List ℕ) (es : Table) → given ≡ got bytes → table_of bytes ≡ Some es → IsParsed es given')
-      → Gives t t' (answer_to given given') r → Finishes t t' r o
+      → Gives t t' (answer_to dump given given') r → Finishes dump t t' r o
   met_entities before after asked entities unmet given' there table there' none none' may may' parsed gives = memory_only t t' r gives unless
   met_entities before after asked entities missing given' there table there' none none' may may' parsed gives = absurd (cc (some_at (file_at before asked.entities) (λ f. f ≡ None) (Some entities) there may.1))
   met_entities before after asked entities faulted given' there table there' none none' may may' parsed gives = absurd (none may)
@@ -92,12 +92,12 @@ module _ (t t' : Option (List ℕ)) (r : Status) (unless : r ≡ status.WriteFau
       let read = some_at (file_at before asked.entities) (λ f. IsSomeAnd f (λ whole. bytes ≡ take (ENTITIES_LIMIT + 1) whole)) (Some entities) there may in
       let all : bytes ≡ entities = read ∙ all_taken ENTITIES_LIMIT entities (table_fits entities es table) in
       let here : table_of bytes ≡ Some es = ap table_of all ∙ table in
-      met_page before after asked.page given' there' none' may' (parsed bytes es refl here) (subst (λ k. Gives t t' (answer_over k given') r) here gives)
+      met_page before after asked.page given' there' none' may' (parsed bytes es refl here) (subst (λ k. Gives t t' (answer_over dump k given') r) here gives)
 
 -- the whole
 pub completes : (asked : Option Asked) (before after : Seen) (sink sink' : ℕ) (t t' : Option (List ℕ)) (r : Status) → RunsTo asked before after t t' r → (r ≡ status.WriteFault → Rose sink sink')
     → CompletesRun asked before after sink sink' t t' r
 completes None before after sink sink' t t' r runs cause = tt
 completes (Some asked) before after sink sink' t t' r runs cause = if_some before.files _ (λ map told entities page es o there table there' comes done none.
-    met_entities t t' r (λ e. none.at_sink (cause e)) es page o comes done before after asked entities runs.entities runs.page
+    met_entities asked.dump t t' r (λ e. none.at_sink (cause e)) es page o comes done before after asked entities runs.entities runs.page
     (ap (option_map (λ m. m asked.entities)) told ∙ ap Some there) table (ap (option_map (λ m. m asked.page)) told ∙ ap Some there') none.entities none.page runs.may_entities runs.may_page runs.parsed runs.gives)

@@ -35,7 +35,7 @@ module _ (es : Entities) (whole left : Option (List ℕ)) (rose : Type 0) (read 
       record {
         page = record { bytes = read ++ rest.0; fault = false };
         read_from = read_whole whole left rose (read ++ rest.0) rest.1;
-        front = λ o comes. part.front rest.0 false o comes;
+        front = λ dump o comes. part.front dump rest.0 false o comes;
       }
 
   -- no more bytes came

@@ -11,9 +11,9 @@ use Rattle.standard.specs.Entities.{Entities}
 use Rattle.standard.specs.Page.{text_of, ending_of, shown}
 use Rattle.standard.specs.Serial.{Serial, Outcome, refusal, Moment, reading, over, Leads, Passes, why_of}
 use Rattle.standard.specs.Laws.{lines_of, outcome_at}
-use Rattle.standard.specs.Output.{line_text, result_text}
+use Rattle.standard.specs.Output.{line_text, result_with}
 use Rattle.standard.proofs.Passing.{leads-same, leads-end, leads-finish, passes-over}
-use Rattle.standard.proofs.Lines.{passed-output}
+use Rattle.standard.proofs.Lines.{passed-output_with}
 use Rattle.utf8_pieces.proofs.PageLaws.{text_of-nil, text_of-extends, shown-stays}
 use Rattle.page_runner.specs.declared.page.TheConstants.{PAGE_LIMIT}
 use Rattle.page_runner.specs.declared.outcome.Outcome.{Outcome as Told}
@@ -87,17 +87,17 @@ module _ (es : Entities) (read piece text : List ℕ) (v : View) (t now t' : Opt
           outcome = refusal why end.0;
           comes = passes-over (page_at (going_on (read ++ piece) others false)) (world_of es) (refusal why end.0) end.2;
           result = refl;
-          text = refl;
+          text = λ dump. refl;
           took = subst (λ l. Took t t' (flat_map line_text l)) (sym end.1) (took_lines more took);
         };
   }
 
   pub took_of_part : TakesFront es v text now t' → TookOf es (read ++ piece) t t'
   took_of_part part = record {
-    front = λ others fault o comes.
+    front = λ dump others fault o comes.
         let there = text_in others fault in
         let met = part.reaches.leads (page_at (going_on (read ++ piece) others fault)).ending (before_page (text_of PAGE_LIMIT ((read ++ piece) ++ others))) at.lines there.0 there.1 in
-        let begins = passed-output (page_at (going_on (read ++ piece) others fault)) (world_of es) met.0 o met.2 comes in
+        let begins = passed-output_with dump (page_at (going_on (read ++ piece) others fault)) (world_of es) met.0 o met.2 comes in
         let lines : flat_map line_text (lines_of met.0) ≡ flat_map line_text at.lines ++ flat_map line_text part.more =
         ap (flat_map line_text) met.1 ∙ flat_map-append line_text at.lines part.more in
         subst (λ l. TookFront t t' l) (sym (begins.1 ∙ ap (λ l. l ++ begins.0) lines))
@@ -109,16 +109,16 @@ module _ (es : Entities) (read piece text : List ℕ) (v : View) (t now t' : Opt
 -- behind the bytes
 pub took_of_lines : (es : Entities) (read : List ℕ) (v : View) (t t' : Option (List ℕ)) → StandsAt es read v t t' → TookOf es read t t'
 took_of_lines es read v t t' at = record {
-  front = λ others fault o comes.
+  front = λ dump others fault o comes.
       let there = stands_in es read v t t' at others fault in
-      let begins = passed-output (page_at (going_on read others fault)) (world_of es) (reading (serial_of v at.lines there.0)) o there.1 comes in
+      let begins = passed-output_with dump (page_at (going_on read others fault)) (world_of es) (reading (serial_of v at.lines there.0)) o there.1 comes in
       subst (λ l. TookFront t t' l) (sym begins.1) (front_longer t t' _ begins.0 (front_of_all t t' _ at.took));
 }
 
 pub took_of_less : (es : Entities) (read piece : List ℕ) (t t' : Option (List ℕ)) → TookOf es read t t' → TookOf es (read ++ piece) t t'
 took_of_less es read piece t t' part = record {
-  front = λ others fault o comes.
-      part.front (piece ++ others) fault o (subst (λ bytes. ComesTo es (record { bytes = bytes; fault = fault }) o) (append_assoc read piece others) comes);
+  front = λ dump others fault o comes.
+      part.front dump (piece ++ others) fault o (subst (λ bytes. ComesTo es (record { bytes = bytes; fault = fault }) o) (append_assoc read piece others) comes);
 }
 
 -- ---- the ends
@@ -163,9 +163,9 @@ ended_there es read v v' t t' fault e o at is ends =
 -- an ending that refuses
 pub ends_refused : (es : Entities) (old : View) (e : Ending) → (e ≡ ending.End → ⊥) → EndsAs es old old e (told.Refused (why_of e))
 ends_refused es old ending.End other = absurd (other refl)
-ends_refused es old ending.Bad other = record { ends = λ m lines way. (refusal (why_of ending.Bad) (serial_of old lines []), refl, refl, refl, leads-end ending.Bad (world_of es) m (serial_of old lines []) way refl) }
-ends_refused es old ending.Long other = record { ends = λ m lines way. (refusal (why_of ending.Long) (serial_of old lines []), refl, refl, refl, leads-end ending.Long (world_of es) m (serial_of old lines []) way refl) }
-ends_refused es old ending.Fault other = record { ends = λ m lines way. (refusal (why_of ending.Fault) (serial_of old lines []), refl, refl, refl, leads-end ending.Fault (world_of es) m (serial_of old lines []) way refl) }
+ends_refused es old ending.Bad other = record { ends = λ m lines way. (refusal (why_of ending.Bad) (serial_of old lines []), refl, refl, λ dump. refl, leads-end ending.Bad (world_of es) m (serial_of old lines []) way refl) }
+ends_refused es old ending.Long other = record { ends = λ m lines way. (refusal (why_of ending.Long) (serial_of old lines []), refl, refl, λ dump. refl, leads-end ending.Long (world_of es) m (serial_of old lines []) way refl) }
+ends_refused es old ending.Fault other = record { ends = λ m lines way. (refusal (why_of ending.Fault) (serial_of old lines []), refl, refl, λ dump. refl, leads-end ending.Fault (world_of es) m (serial_of old lines []) way refl) }
 
 -- the end of the file
 pub ends_finished : (es : Entities) (old new : View) (f : Finish) → Finishes es old new f → EndsAs es old new ending.End (outcome_of f)
@@ -178,7 +178,7 @@ ends_finished es old new f done = record {
   where
     by_finish : (f : Finish) (m : Moment) (s : Serial) → Leads ending.End (world_of es) m (over (outcome_at s new.parser new.doc f))
         → (o : Outcome) × (o.last.side.lines ≡ s.side.lines) × (o.result ≡ result_of (outcome_of f))
-        × (result_text o.result o.last.side.doc.tree ≡ result_text (result_of (outcome_of f)) new.doc.tree) × Leads ending.End (world_of es) m (over o)
-    by_finish finale.Finished m s way = (outcome_at s new.parser new.doc finale.Finished, refl, refl, refl, way)
-    by_finish finale.Deep m s way = (outcome_at s new.parser new.doc finale.Deep, refl, refl, refl, way)
-    by_finish finale.Missing m s way = (outcome_at s new.parser new.doc finale.Missing, refl, refl, refl, way)
+        × ((dump : Bool) → result_with dump o.result o.last.side.doc.tree ≡ result_with dump (result_of (outcome_of f)) new.doc.tree) × Leads ending.End (world_of es) m (over o)
+    by_finish finale.Finished m s way = (outcome_at s new.parser new.doc finale.Finished, refl, refl, λ dump. refl, way)
+    by_finish finale.Deep m s way = (outcome_at s new.parser new.doc finale.Deep, refl, refl, λ dump. refl, way)
+    by_finish finale.Missing m s way = (outcome_at s new.parser new.doc finale.Missing, refl, refl, λ dump. refl, way)

@@ -10,7 +10,7 @@ use Rattle.outside.specs.declared.traits.Port.{Port}
 use Rattle.outside.specs.declared.traits.Port.TheVariants.{Entities, Page}
 use Rattle.standard.specs.Entities.{Entities as Table}
 use Rattle.standard.specs.Serial.{Result, finished, refused}
-use Rattle.standard.specs.Output.{line_text, result_text, output}
+use Rattle.standard.specs.Output.{line_text, result_with, output_with}
 use Rattle.standard.proofs.Total.{has_outcome}
 use Rattle.page_runner.specs.declared.command.TheConstants.{ENTITIES_LIMIT}
 use Rattle.page_runner.specs.declared.page.TheConstants.{PAGE_LIMIT}
@@ -113,52 +113,52 @@ read_of (Some map) path whole left read found taken = record { so_far = there (m
     there (Some all) whole some same taken = subst (λ w. IfSome w (λ all. (rest : List ℕ) × (all ≡ read ++ rest) × (left ≡ Some rest))) same taken
 
 -- what is written of the page that ended so
-ended_text : (es : Table) (page : PageRead) (v : View) (t t' : Option (List ℕ)) (o : Told) (end : Ended es page v t t' o)
-    → output end.outcome ≡ flat_map line_text end.outcome.last.side.lines ++ result_text (result_of o) v.doc.tree
-unfolding output
-ended_text es page v t t' o end = ap (λ l. flat_map line_text end.outcome.last.side.lines ++ l) end.text
+ended_text : (es : Table) (page : PageRead) (v : View) (t t' : Option (List ℕ)) (o : Told) (end : Ended es page v t t' o) (dump : Bool)
+    → output_with dump end.outcome ≡ flat_map line_text end.outcome.last.side.lines ++ result_with dump (result_of o) v.doc.tree
+unfolding output_with
+ended_text es page v t t' o end dump = ap (λ l. flat_map line_text end.outcome.last.side.lines ++ l) (end.text dump)
 
-module _ (es : Table) (path : List ℕ) (before now after : Seen) (found : IfSome before.files (λ map. IsSome (map path) × (now.left Page ≡ map path))) (began : before.faults Page ≤ now.faults Page) where
+module _ (es : Table) (dump : Bool) (path : List ℕ) (before now after : Seen) (found : IfSome before.files (λ map. IsSome (map path) × (now.left Page ≡ map path))) (began : before.faults Page ≤ now.faults Page) where
   may_page : (page : PageRead) → IsReadFrom (now.left Page) (after.left Page) (FaultsRose Page now after) page → IsPageOf (file_at before path) (after.left Page) (FaultsRose Page before after) page
   may_page page from = page_of before.files path (now.left Page) (after.left Page) (FaultsRose Page now after) (FaultsRose Page before after) page found from (λ r. rose-on _ _ _ began r)
 
   -- the parse gave up
-  pub page_gave_up : (t t' : Option (List ℕ)) (f : Failure) → ParsesFront es (now.left Page) (after.left Page) (FaultsRose Page now after) t t' → PageAnswers es path before after t t' (status_for f)
+  pub page_gave_up : (t t' : Option (List ℕ)) (f : Failure) → ParsesFront es (now.left Page) (after.left Page) (FaultsRose Page now after) t t' → PageAnswers es dump path before after t t' (status_for f)
   page_gave_up t t' f part =
       let end = has_outcome (page_at part.page) (world_of es) in
       record {
         page = got (record { read = part.page; outcome = end.0 });
         may = may_page part.page part.read_from;
         parsed = end.1;
-        gives = gives_failure f t t' (answer_to_page (got (record { read = part.page; outcome = end.0 }))) (part.front end.0 end.1);
+        gives = gives_failure f t t' (answer_to_page dump (got (record { read = part.page; outcome = end.0 }))) (part.front dump end.0 end.1);
       }
 
   -- the end wasn't written
   pub end_gave_up : (t now' t' : Option (List ℕ)) (v : View) (o : Told) (f : Failure) → ParsesPage es (now.left Page) (after.left Page) (FaultsRose Page now after) v t now' o
-      → TookFront now' t' (result_text (result_of o) v.doc.tree) → PageAnswers es path before after t t' (status_for f)
+      → TookFront now' t' (result_with dump (result_of o) v.doc.tree) → PageAnswers es dump path before after t t' (status_for f)
   end_gave_up t now' t' v o f parses front =
       let end = parses.ended in
       record {
         page = got (record { read = parses.page; outcome = end.outcome });
         may = may_page parses.page parses.read_from;
         parsed = end.comes;
-        gives = gives_failure f t t' (answer_to_page (got (record { read = parses.page; outcome = end.outcome })))
-            (subst (λ l. TookFront t t' l) (sym (ended_text es parses.page v t now' o end))
+        gives = gives_failure f t t' (answer_to_page dump (got (record { read = parses.page; outcome = end.outcome })))
+            (subst (λ l. TookFront t t' l) (sym (ended_text es parses.page v t now' o end dump))
             (front_then t now' t' _ _ end.took front));
       }
 
   -- all was written
   pub page_ended : (t now' t' : Option (List ℕ)) (v : View) (o : Told) → ParsesPage es (now.left Page) (after.left Page) (FaultsRose Page now after) v t now' o
-      → Took now' t' (result_text (result_of o) v.doc.tree) → PageAnswers es path before after t t' (status_of o)
+      → Took now' t' (result_with dump (result_of o) v.doc.tree) → PageAnswers es dump path before after t t' (status_of o)
   page_ended t now' t' v o parses took =
       let end = parses.ended in
       record {
         page = got (record { read = parses.page; outcome = end.outcome });
         may = may_page parses.page parses.read_from;
         parsed = end.comes;
-        gives = subst (λ s. Gives t t' (status_with end.outcome.result, output end.outcome) s) (ap status_with end.result ∙ sym (status_is o))
-            (gives_status end.outcome.result t t' (output end.outcome)
-            (subst (λ l. Took t t' l) (sym (ended_text es parses.page v t now' o end)) (took_then t now' t' _ _ end.took took)));
+        gives = subst (λ s. Gives t t' (status_with end.outcome.result, output_with dump end.outcome) s) (ap status_with end.result ∙ sym (status_is o))
+            (gives_status end.outcome.result t t' (output_with dump end.outcome)
+            (subst (λ l. Took t t' l) (sym (ended_text es parses.page v t now' o end dump)) (took_then t now' t' _ _ end.took took)));
       }
 
   pub page_read_to : ReadsOn (PAGE_LIMIT + 1) (now.left Page) (after.left Page) → ReadTo PAGE_LIMIT Page path before after
@@ -186,7 +186,7 @@ may_since path before now after (got page) keeps may = record {
 }
 
 pub answers_on : (asked : Asked) (before now after : Seen) (t t' : Option (List ℕ)) (result : Status) (bytes : List ℕ) (es : Table) → MayGive ENTITIES_LIMIT Entities asked.entities before now (got bytes) → KeepsOthers Entities before now
-    → table_of bytes ≡ Some es → PageAnswers es asked.page now after t t' result → KeepsOthers Page now after → Answers asked before after t t' result
+    → table_of bytes ≡ Some es → PageAnswers es asked.dump asked.page now after t t' result → KeepsOthers Page now after → Answers asked before after t t' result
 answers_on asked before now after t t' result bytes es may keeps table answers keeps' = record {
   entities = got bytes;
   page = answers.page;
@@ -197,12 +197,12 @@ answers_on asked before now after t t' result bytes es may keeps table answers k
       let one : Some es ≡ Some es' = sym table ∙ ap table_of is ∙ table' in
       let are : es ≡ es' = cc in
       subst (λ e. IsParsed e answers.page) are answers.parsed;
-  gives = subst (λ table. Gives t t' (answer_over table answers.page) result) (sym table) answers.gives;
+  gives = subst (λ table. Gives t t' (answer_over asked.dump table answers.page) result) (sym table) answers.gives;
 }
 
 -- refused by the entities file, or by what came of it
 pub answers_early : (asked : Asked) (before after : Seen) (t t' : Option (List ℕ)) (result : Status) (given : Given (List ℕ)) → MayGive ENTITIES_LIMIT Entities asked.entities before after given
-    → Gives t t' (answer_to given unmet) result → Answers asked before after t t' result
+    → Gives t t' (answer_to asked.dump given unmet) result → Answers asked before after t t' result
 answers_early asked before after t t' result given may gives = record {
   entities = given;
   page = unmet;
@@ -216,7 +216,7 @@ answers_early asked before after t t' result given may gives = record {
 pub answers_no_table : (asked : Asked) (before after : Seen) (t : Option (List ℕ)) (bytes : List ℕ) → MayGive ENTITIES_LIMIT Entities asked.entities before after (got bytes) → table_of bytes ≡ None
     → Answers asked before after t t status.Entities
 answers_no_table asked before after t bytes may none =
-    answers_early asked before after t t status.Entities (got bytes) may (subst (λ table. Gives t t (answer_over table unmet) status.Entities) (sym none) (refl, took_nothing t))
+    answers_early asked before after t t status.Entities (got bytes) may (subst (λ table. Gives t t (answer_over asked.dump table unmet) status.Entities) (sym none) (refl, took_nothing t))
 
 -- how far the entities were read, where the page is read behind them
 pub read_still : (limit : ℕ) (path : List ℕ) (before now after : Seen) → ReadTo limit Entities path before now → KeepsOthers Page now after → ReadTo limit Entities path before after

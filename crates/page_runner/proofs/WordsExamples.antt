@@ -1,18 +1,27 @@
 -- What some words ask for.
-use Rattle.std.proofs.Common.{◌≡◌, [], ◌∷◌, Some, None, codes, refl}
+use Rattle.std.proofs.Common.{◌≡◌, true, false, [], ◌∷◌, Some, None, codes, refl}
 use Rattle.clap.specs.Faults.{walk_fault, defaults_fault}
 use Rattle.clap.specs.Walk.{walked}
 use Rattle.page_runner.specs.Words.{asked}
 
 plain : asked (codes "specparse" ∷ codes "page" ∷ codes "p" ∷ codes "d" ∷ codes "e" ∷ [])
-    ≡ Some (record { page = codes "p"; dir = codes "d"; entities = codes "e"; piece = 4096; ahead = 8 })
+    ≡ Some (record { page = codes "p"; dir = codes "d"; entities = codes "e"; piece = 4096; ahead = 8; dump = false })
 unfolding walk_fault walked defaults_fault
 plain = refl
 
 with_options : asked (codes "specparse" ∷ codes "page" ∷ codes "--piece=+5" ∷ codes "p" ∷ codes "d" ∷ codes "--ahead" ∷ codes "007" ∷ codes "e" ∷ [])
-    ≡ Some (record { page = codes "p"; dir = codes "d"; entities = codes "e"; piece = 5; ahead = 7 })
+    ≡ Some (record { page = codes "p"; dir = codes "d"; entities = codes "e"; piece = 5; ahead = 7; dump = false })
 unfolding walk_fault walked defaults_fault
 with_options = refl
+
+with_dump : asked (codes "specparse" ∷ codes "page" ∷ codes "p" ∷ codes "--dump" ∷ codes "d" ∷ codes "e" ∷ [])
+    ≡ Some (record { page = codes "p"; dir = codes "d"; entities = codes "e"; piece = 4096; ahead = 8; dump = true })
+unfolding walk_fault walked defaults_fault
+with_dump = refl
+
+dump_twice : asked (codes "specparse" ∷ codes "page" ∷ codes "--dump" ∷ codes "--dump" ∷ codes "p" ∷ codes "d" ∷ codes "e" ∷ []) ≡ None
+unfolding walk_fault walked defaults_fault
+dump_twice = refl
 
 an_empty_piece : asked (codes "specparse" ∷ codes "page" ∷ codes "--piece" ∷ codes "0" ∷ codes "p" ∷ codes "d" ∷ codes "e" ∷ []) ≡ None
 unfolding walk_fault walked defaults_fault

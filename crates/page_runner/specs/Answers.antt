@@ -5,7 +5,7 @@ use Rattle.outside.specs.Outside.{Rose, Seen}
 use Rattle.outside.specs.declared.traits.Port.TheVariants.{Entities, Page}
 use Rattle.standard.specs.Entities.{Entities as Table, entities_of}
 use Rattle.standard.specs.Serial.{Result, finished, refused, Outcome}
-use Rattle.standard.specs.Output.{output}
+use Rattle.standard.specs.Output.{output_with}
 use Rattle.page_runner.specs.declared.command.TheConstants.{ENTITIES_LIMIT}
 use Rattle.page_runner.specs.declared.page.TheConstants.{PAGE_LIMIT}
 use Rattle.page_runner.specs.declared.page.Failure.{Failure}
@@ -58,25 +58,26 @@ status_with (refused why.Page) = status.Limit limits.Page
 status_with (refused why.Fault) = status.ReadFault
 status_with (refused why.Unready) = status.Unready
 
-abbrev pub answer_to_page : Given PageMet → Answer
-answer_to_page unmet = (status.NoMemory, [])
-answer_to_page missing = (status.Absent, [])
-answer_to_page faulted = (status.ReadFault, [])
-answer_to_page (got page) = (status_with page.outcome.result, output page.outcome)
+-- with the dump of the tree or with its text
+abbrev pub answer_to_page : Bool → Given PageMet → Answer
+answer_to_page dump unmet = (status.NoMemory, [])
+answer_to_page dump missing = (status.Absent, [])
+answer_to_page dump faulted = (status.ReadFault, [])
+answer_to_page dump (got page) = (status_with page.outcome.result, output_with dump page.outcome)
 
 -- the table of the entities file; one that is too long is none
 abbrev pub table_of : List ℕ → Option Table
 table_of bytes = if nat_le (length bytes) ENTITIES_LIMIT then entities_of bytes else None
 
-abbrev pub answer_over : Option Table → Given PageMet → Answer
-answer_over None page = (status.Entities, [])
-answer_over (Some es) page = answer_to_page page
+abbrev pub answer_over : Bool → Option Table → Given PageMet → Answer
+answer_over dump None page = (status.Entities, [])
+answer_over dump (Some es) page = answer_to_page dump page
 
-abbrev pub answer_to : Given (List ℕ) → Given PageMet → Answer
-answer_to unmet page = (status.NoMemory, [])
-answer_to missing page = (status.Absent, [])
-answer_to faulted page = (status.ReadFault, [])
-answer_to (got bytes) page = answer_over (table_of bytes) page
+abbrev pub answer_to : Bool → Given (List ℕ) → Given PageMet → Answer
+answer_to dump unmet page = (status.NoMemory, [])
+answer_to dump missing page = (status.Absent, [])
+answer_to dump faulted page = (status.ReadFault, [])
+answer_to dump (got bytes) page = answer_over dump (table_of bytes) page
 
 abbrev pub status_for : Failure → Status
 status_for failures.Memory = status.NoMemory
@@ -91,11 +92,11 @@ Gives before after answer given = (given ≡ answer.0) × Took before after answ
 -- ---- a run
 
 -- from where the page is begun
-pub record PageAnswers (es : Table) (path : List ℕ) (before after : Seen) (taken taken' : Option (List ℕ)) (result : Status) : Type 0 where
+pub record PageAnswers (es : Table) (dump : Bool) (path : List ℕ) (before after : Seen) (taken taken' : Option (List ℕ)) (result : Status) : Type 0 where
   pub page : Given PageMet
   pub may : MayGivePage path before after page
   pub parsed : IsParsed es page
-  pub gives : Gives taken taken' (answer_to_page page) result
+  pub gives : Gives taken taken' (answer_to_page dump page) result
 
 -- What was met at the two ports, each with its cause, and the answer to it. The entities come first, and what stands behind
 -- that one which refuses counts for nothing.
@@ -105,7 +106,7 @@ pub record Answers (asked : Asked) (before after : Seen) (taken taken' : Option 
   pub may_entities : MayGive ENTITIES_LIMIT Entities asked.entities before after entities
   pub may_page : MayGivePage asked.page before after page
   pub parsed : (bytes : List ℕ) (es : Table) → entities ≡ got bytes → table_of bytes ≡ Some es → IsParsed es page
-  pub gives : Gives taken taken' (answer_to entities page) result
+  pub gives : Gives taken taken' (answer_to asked.dump entities page) result
 
 -- The words come before all.
 abbrev pub RunsTo : Option Asked → Seen → Seen → Option (List ℕ) → Option (List ℕ) → Status → Type 0
@@ -141,7 +142,7 @@ Completes asked before after sink sink' taken taken' result = IfSome before.file
     → map asked.entities ≡ Some entities → table_of entities ≡ Some es → map asked.page ≡ Some page
     → ComesTo es (record { bytes = page; fault = false }) o → o.result ≡ finished
     → NoFaultRose before after sink sink'
-    → (result ≡ status.NoMemory) ⊎ ((result ≡ status.Done) × Took taken taken' (output o)))
+    → (result ≡ status.NoMemory) ⊎ ((result ≡ status.Done) × Took taken taken' (output_with asked.dump o)))
 
 -- the same of the words
 abbrev pub CompletesRun : Option Asked → Seen → Seen → ℕ → ℕ → Option (List ℕ) → Option (List ℕ) → Status → Type 0

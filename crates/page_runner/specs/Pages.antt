@@ -8,7 +8,7 @@ use Rattle.standard.specs.Act.{new_doc}
 use Rattle.standard.specs.Parser.{new_parser}
 use Rattle.standard.specs.Page.{Page, page_of, text_of, ending_of, shown}
 use Rattle.standard.specs.Serial.{Outcome, first, IsSerial, Moment, reading, over, Leads}
-use Rattle.standard.specs.Output.{line_text, result_text, output}
+use Rattle.standard.specs.Output.{line_text, result_with, output_with}
 use Rattle.utf8_pieces.specs.declared.decoder.Decoder.{Decoder}
 use Rattle.utf8_pieces.specs.Decoder.{HasRead}
 use Rattle.page_runner.specs.declared.page.TheConstants.{PAGE_LIMIT}
@@ -56,7 +56,7 @@ pub record Ended (es : Entities) (page : PageRead) (v : View) (taken taken' : Op
   pub outcome : Outcome
   pub comes : ComesTo es page outcome
   pub result : outcome.result ≡ result_of told
-  pub text : result_text outcome.result outcome.last.side.doc.tree ≡ result_text (result_of told) v.doc.tree
+  pub text : (dump : Bool) → result_with dump outcome.result outcome.last.side.doc.tree ≡ result_with dump (result_of told) v.doc.tree
   pub took : Took taken taken' (flat_map line_text outcome.last.side.lines)
 
 -- So ended the page that was read at the port.
@@ -65,11 +65,11 @@ pub record ParsesPage (es : Entities) (whole left : Option (List ℕ)) (rose : T
   pub read_from : IsReadFrom whole left rose page
   pub ended : Ended es page v taken taken' told
 
--- The sink took a front of what is written of the page that was read at the port.
+-- The sink took a front of what is written of the page that was read at the port, with the dump of the tree and with its text.
 pub record ParsesFront (es : Entities) (whole left : Option (List ℕ)) (rose : Type 0) (taken taken' : Option (List ℕ)) : Type 0 where
   pub page : PageRead
   pub read_from : IsReadFrom whole left rose page
-  pub front : (o : Outcome) → ComesTo es page o → TookFront taken taken' (output o)
+  pub front : (dump : Bool) (o : Outcome) → ComesTo es page o → TookFront taken taken' (output_with dump o)
 
 -- ---- where a parse stands
 
@@ -92,7 +92,7 @@ pub record IsPast (es : Entities) (read : List ℕ) (v : View) (taken taken' : O
 
 -- The sink took a front of what is written of every page that begins with these bytes.
 pub record TookOf (es : Entities) (read : List ℕ) (taken taken' : Option (List ℕ)) : Type 0 where
-  pub front : (more : List ℕ) (fault : Bool) (o : Outcome) → ComesTo es (record { bytes = read ++ more; fault = fault }) o → TookFront taken taken' (output o)
+  pub front : (dump : Bool) (more : List ℕ) (fault : Bool) (o : Outcome) → ComesTo es (record { bytes = read ++ more; fault = fault }) o → TookFront taken taken' (output_with dump o)
 
 -- Behind these bytes the page ends so: by a fault, or since the port has no more.
 pub record ClosesAt (left left' : Option (List ℕ)) (rose : Type 0) (read : List ℕ) (e : Ending) : Type 0 where
@@ -106,7 +106,7 @@ pub record ClosesAt (left left' : Option (List ℕ)) (rose : Type 0) (read : Lis
 pub record EndsAs (es : Entities) (old new : View) (e : Ending) (told : Told) : Type 0 where
   pub ends : (m : Moment) (lines : List Line) → Leads e (world_of es) m (reading (serial_of old lines []))
       → (o : Outcome) × (o.last.side.lines ≡ lines) × (o.result ≡ result_of told)
-      × (result_text o.result o.last.side.doc.tree ≡ result_text (result_of told) new.doc.tree) × Leads e (world_of es) m (over o)
+      × ((dump : Bool) → result_with dump o.result o.last.side.doc.tree ≡ result_with dump (result_of told) new.doc.tree) × Leads e (world_of es) m (over o)
 
 -- behind a piece the parse stands, and no ending is shown, or it is over
 abbrev pub Comes : Entities → Decoder → List ℕ → View → Option (List ℕ) → Option (List ℕ) → Option Told → Type 0

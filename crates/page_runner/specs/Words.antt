@@ -1,6 +1,7 @@
 -- The command's grammar, as `clap` reads it, and the values of its words.
-use Rattle.std.specs.Prelude.{◌≡◌, ℕ, List, [], ◌∷◌, Option, Some, None, true, codes, unwrap_or, if◌then◌else◌}
+use Rattle.std.specs.Prelude.{◌≡◌, ℕ, Bool, List, [], ◌∷◌, Option, Some, None, true, codes, unwrap_or, if◌then◌else◌}
 use Rattle.std.specs.Option.{option_and_then, option_map_or}
+use Rattle.std.specs.Str.{bytes_eq}
 use Rattle.std.specs.Str.Parse.{digits_value, without_leading_plus}
 use Rattle.std.specs.String.{string_bytes}
 use Rattle.clap.specs.Walk.{Row, first_of}
@@ -9,6 +10,7 @@ use Rattle.clap.specs.Faults.{fault_of}
 use Rattle.clap.specs.Kinds.{Kinds}
 use Rattle.clap.specs.Simple.{on_top}
 use Rattle.clap.specs.ValueTests.{is_unsigned_in}
+use Rattle.clap.specs.declared.builder.action.ArgAction.TheVariants as actions
 use Rattle.clap.specs.declared.builder.value_parser.ValueParser.TheVariants as parsers
 use Rattle.page_runner.specs.declared.words.PageWords.{PageWords}
 
@@ -16,14 +18,19 @@ use Rattle.page_runner.specs.declared.words.PageWords.{PageWords}
 abbrev pub number_option : List ℕ → ℕ → Rule
 number_option name most = record (new_rule name) { long = Some name; parser = Some (parsers.Unsigned 1 most) }
 
+-- an option that takes none
+abbrev pub flag : List ℕ → Rule
+flag name = record (new_rule name) { long = Some name; action = Some actions.SetTrue }
+
 abbrev pub required : List ℕ → Rule
 required name = record (new_rule name) { required = true }
 
--- page [--piece N] [--ahead K] PAGE DIR ENTITIES
+-- page [--piece N] [--ahead K] [--dump] PAGE DIR ENTITIES
 abbrev pub page_command : App
-page_command = with_rule (with_rule (with_rule (with_rule (with_rule (new_app (codes "page"))
+page_command = with_rule (with_rule (with_rule (with_rule (with_rule (with_rule (new_app (codes "page"))
     (number_option (codes "piece") 65536))
     (number_option (codes "ahead") 64))
+    (flag (codes "dump")))
     (required (codes "PAGE")))
     (required (codes "DIR")))
     (required (codes "ENTITIES"))
@@ -48,6 +55,10 @@ abbrev pub number_from : ℕ → ℕ → Option Text → ℕ
 number_from most otherwise = λ value. option_map_or (λ text.
     if is_unsigned_in 1 most text then digits_value 10 (without_leading_plus text) else otherwise) value otherwise
 
+-- whether a flag is given: its text is "true" then, and else "false"
+abbrev pub flag_from : Option Text → Bool
+flag_from value = bytes_eq (text_from value) (codes "true")
+
 -- what the words ask for
 pub record Asked : Type 0 where
   pub page : List ℕ
@@ -55,6 +66,7 @@ pub record Asked : Type 0 where
   pub entities : List ℕ
   pub piece : ℕ
   pub ahead : ℕ
+  pub dump : Bool
 
 abbrev pub asked_by : Option (Text × List Row) → Asked
 asked_by sub = record {
@@ -63,6 +75,7 @@ asked_by sub = record {
   entities = text_from (value_of (codes "ENTITIES") sub);
   piece = number_from 65536 4096 (value_of (codes "piece") sub);
   ahead = number_from 64 8 (value_of (codes "ahead") sub);
+  dump = flag_from (value_of (codes "dump") sub);
 }
 
 abbrev pub where_none : {A : Type 0} → Kinds → A → Option A
@@ -80,4 +93,5 @@ shown read = record {
   entities = string_bytes read.entities;
   piece = read.piece;
   ahead = read.ahead;
+  dump = read.dump;
 }

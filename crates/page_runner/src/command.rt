@@ -1,7 +1,7 @@
 // A run, from the words to the status.
 ghost use Rattle.std.specs.Prelude.{◌≡◌, ◌≤◌, ◌<◌, ◌⊎◌, [], map, Some, None, Ok, Err, IfOk, OnOk, OnErr, IsErrOf, IsTrue};
 ghost use Rattle.std.specs.String.{string_bytes};
-ghost use Rattle.standard.specs.Output.{result_text};
+ghost use Rattle.standard.specs.Output.{result_with};
 ghost use Rattle.outside.specs.Outside.{Rose, seen, KeepsOthers};
 ghost use Rattle.page_runner.specs.Words.{asked, shown};
 ghost use Rattle.page_runner.specs.Given.{ReadTo};
@@ -36,14 +36,14 @@ fn status_for(failure: Failure) -> Status
 }
 
 // Writes what came of the page, and finishes the sink.
-fn end_page<K: Sink>(alloc: Global, out: &mut K, parsed: &Parsed) -> Result<(), Failure>
-    ensures ok { OnOk result (Took (K.taken out.old) (K.taken out.new) (result_text (result_of parsed.now.outcome) parsed.now.driver.doc.tree)) }
-    ensures err { OnErr result (TookFront (K.taken out.old) (K.taken out.new) (result_text (result_of parsed.now.outcome) parsed.now.driver.doc.tree)) }
+fn end_page<K: Sink>(alloc: Global, out: &mut K, parsed: &Parsed, dump: bool) -> Result<(), Failure>
+    ensures ok { OnOk result (Took (K.taken out.old) (K.taken out.new) (result_with dump (result_of parsed.now.outcome) parsed.now.driver.doc.tree)) }
+    ensures err { OnErr result (TookFront (K.taken out.old) (K.taken out.new) (result_with dump (result_of parsed.now.outcome) parsed.now.driver.doc.tree)) }
     ensures clean { OnOk result (IsTrue (K.clean out.new)) }
     ensures write { IsErrOf result Failure.Write → Rose (K.faults out.old) (K.faults out.new) }
     ensures faults { K.faults out.old ≤ K.faults out.new }
 {
-    let line = show_outcome(alloc, parsed.driver.doc(), parsed.outcome)?;
+    let line = show_outcome(alloc, parsed.driver.doc(), parsed.outcome, dump)?;
     write_all(out, line.as_bytes())?;
     out.finish()?;
     Ok(())
@@ -72,7 +72,7 @@ fn run_page<F: Outside, K: Sink>(
     words: &PageWords,
 ) -> Status
     requires { 0 < words.now.piece }
-    ensures answer { PageAnswers table.now (string_bytes words.now.page)
+    ensures answer { PageAnswers table.now words.now.dump (string_bytes words.now.page)
         (seen F.files F.left F.faults F.absences files.old) (seen F.files F.left F.faults F.absences files.new)
         (K.taken out.old) (K.taken out.new) result }
     ensures no_further { ReadTo PAGE_LIMIT Port.Page (string_bytes words.now.page)
@@ -90,7 +90,7 @@ fn run_page<F: Outside, K: Sink>(
         Err(failure) => return status_for(failure),
         Ok(parsed) => parsed,
     };
-    match end_page(alloc, out, &parsed) {
+    match end_page(alloc, out, &parsed, words.dump) {
         Err(failure) => status_for(failure),
         Ok(()) => status_at(parsed.outcome),
     }

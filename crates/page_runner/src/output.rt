@@ -1,7 +1,7 @@
 // The lines that a run writes.
 ghost use Rattle.std.specs.Prelude.{◌≡◌, ◌≤◌, IfOk, OnOk, OnErr, IsErrOf, string_bytes};
 ghost use Rattle.html_types.specs.declared.script.Line.TheVariants as line;
-ghost use Rattle.standard.specs.Output.{line_text, tree_text, refusal_text, result_text};
+ghost use Rattle.standard.specs.Output.{line_text, tree_text, tree_lines, refusal_text, result_with};
 ghost use Rattle.outside.specs.Outside.{Rose};
 ghost use Rattle.page_runner.specs.Taken.{Took, TookFront};
 ghost use Rattle.page_runner.specs.Shown.{result_of};
@@ -37,6 +37,17 @@ fn show_tree(alloc: Global, doc: &Doc) -> Result<String, NoMemory>
     Ok(format!(in alloc; "tree {json}\n")?)
 }
 
+// The document's text, or its dump.
+fn show_lines(alloc: Global, doc: &Doc, dump: bool) -> Result<String, NoMemory>
+    ensures { IfOk result (λ s. string_bytes s ≡ tree_lines dump doc.now.tree) }
+{
+    if dump {
+        serialiser::dump(alloc, doc.tree())
+    } else {
+        show_tree(alloc, doc)
+    }
+}
+
 fn refusal(why: Why) -> &'static str
     ensures { result.now ≡ refusal_text why }
 {
@@ -50,12 +61,17 @@ fn refusal(why: Why) -> &'static str
     }
 }
 
-/// What is written of a page's outcome behind the lines of its scripts.
-pub(crate) fn show_outcome(alloc: Global, doc: &Doc, outcome: Outcome) -> Result<String, NoMemory>
-    ensures { IfOk result (λ s. string_bytes s ≡ result_text (result_of outcome) doc.now.tree) }
+/// What is written of a page's outcome behind the lines of its scripts, with the tree's text or its dump.
+pub(crate) fn show_outcome(
+    alloc: Global,
+    doc: &Doc,
+    outcome: Outcome,
+    dump: bool,
+) -> Result<String, NoMemory>
+    ensures { IfOk result (λ s. string_bytes s ≡ result_with dump (result_of outcome) doc.now.tree) }
 {
     match outcome {
-        Outcome::Finished => show_tree(alloc, doc),
+        Outcome::Finished => show_lines(alloc, doc, dump),
         Outcome::Refused(why) => {
             let line = String::from_str(alloc, refusal(why))?;
             Ok(line)

@@ -5,11 +5,11 @@ ghost use Rattle.std.specs.Prelude.{◌≡◌, ◌≤◌, ◌<◌, ◌^◌, [], 
 ghost use Rattle.std.specs.String.{string_bytes};
 ghost use Rattle.clap.specs.Words.{app_of, rule_of};
 ghost use Rattle.clap.specs.declared.builder.command.Command.TheViews.{out-Command as fields_of};
-ghost use Rattle.page_runner.specs.Words.{number_option, required, page_command, specparse, AreInGrammar, value_of, text_from, number_from, asked, shown};
+ghost use Rattle.page_runner.specs.Words.{number_option, flag, required, page_command, specparse, AreInGrammar, value_of, text_from, number_from, flag_from, asked, shown};
 
 use clap::builder::ValueParser;
 use clap::error::ErrorKind;
-use clap::{Arg, ArgMatches, Command};
+use clap::{Arg, ArgAction, ArgMatches, Command};
 use std::alloc::{AllocError, Global};
 
 /// What the words ask for.
@@ -25,6 +25,8 @@ pub struct PageWords {
     pub piece: usize,
     /// How many requests may be sent ahead of their replies: 1 to 64.
     pub ahead: usize,
+    /// Whether the tree's dump is written in place of its text.
+    pub dump: bool,
 }
 
 /// Why the words weren't read.
@@ -54,6 +56,13 @@ fn number_option<'a>(alloc: Global, name: &'a str, most: u64) -> Arg<'a>
         .value_parser(ValueParser::Unsigned(1, most))
 }
 
+fn flag<'a>(alloc: Global, name: &'a str) -> Arg<'a>
+    ensures rule { rule_of result ≡ flag name.entry.now }
+    ensures local { result.global ≡ false }
+{
+    Arg::new(alloc, name).long(name).action(ArgAction::SetTrue)
+}
+
 fn required<'a>(alloc: Global, name: &'a str) -> Arg<'a>
     ensures rule { rule_of result ≡ required name.entry.now }
     ensures local { result.global ≡ false }
@@ -67,6 +76,7 @@ fn page_command<'a>(alloc: Global) -> Result<Command<'a>, AllocError>
     Command::new(alloc, "page")
         .arg(number_option(alloc, "piece", 65536))?
         .arg(number_option(alloc, "ahead", 64))?
+        .arg(flag(alloc, "dump"))?
         .arg(required(alloc, "PAGE"))?
         .arg(required(alloc, "DIR"))?
         .arg(required(alloc, "ENTITIES"))
@@ -142,6 +152,13 @@ fn number_of(matches: &ArgMatches<'_>, name: &str, most: usize, otherwise: usize
     }
 }
 
+// Whether the flag is given: its text is "true" then, and else "false".
+fn is_given(matches: &ArgMatches<'_>, name: &str) -> bool
+    ensures { result ≡ flag_from (value_of name.now (subcommand_rows_of matches.now)) }
+{
+    text_of(matches, name) == "true"
+}
+
 /// Reads the words of the command, of which the program's name is the first. `Usage` comes exactly where the command's
 /// grammar doesn't take them, but where memory runs out.
 pub fn read_words(alloc: Global, words: &[String]) -> Result<PageWords, Refused>
@@ -160,5 +177,6 @@ pub fn read_words(alloc: Global, words: &[String]) -> Result<PageWords, Refused>
         entities: String::from_str(alloc, text_of(&matches, "ENTITIES"))?,
         piece: number_of(&matches, "piece", 65536, 4096),
         ahead: number_of(&matches, "ahead", 64, 8),
+        dump: is_given(&matches, "dump"),
     })
 }

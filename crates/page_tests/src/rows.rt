@@ -7,11 +7,12 @@ use std::alloc::Global;
 use std::sync::{Arc, Wait};
 use std::thread::Threads;
 
-/// The words of a run, the page (none: there is no such file), the entities file, which calls fail, how many bytes the sink takes,
+/// The words of a run (the bytes of a read, and whether the dump is asked for), the page (none: there is no such file), the entities file, which calls fail, how many bytes the sink takes,
 /// and the status and text that are wanted.
 #[derive(Clone, Copy)]
 pub struct Row {
     pub piece: &'static str,
+    pub dump: bool,
     pub page: Option<&'static [u8]>,
     pub entities: &'static str,
     pub fail: &'static [(Port, u64)],
@@ -28,6 +29,7 @@ const ENTITIES: &str =
 pub fn page(page: &'static [u8], status: Status, text: &'static str) -> Row {
     Row {
         piece: "4096",
+        dump: false,
         page: Some(page),
         entities: ENTITIES,
         fail: &[],
@@ -46,10 +48,13 @@ fn files(alloc: Global, row: &Row) -> Result<MemFiles, NoMemory> {
     Ok(files)
 }
 
-fn words(alloc: Global, piece: &str) -> Result<Vec<String>, NoMemory> {
+fn words(alloc: Global, piece: &str, dump: bool) -> Result<Vec<String>, NoMemory> {
     let mut words = Vec::new(alloc);
     for word in ["specparse", "page", "--piece", piece, "p", "d", "e"] {
         words.push(String::from_str(alloc, word)?)?;
+    }
+    if dump {
+        words.push(String::from_str(alloc, "--dump")?)?;
     }
     Ok(words)
 }
@@ -62,7 +67,7 @@ fn outcome<R: Threads + Wait + Copy + Send + Sync + 'static>(
     piece: &str,
     size: usize,
 ) -> Result<(Status, MemSink), NoMemory> {
-    let words = words(alloc, piece)?;
+    let words = words(alloc, piece, row.dump)?;
     let mut files = files(alloc, row)?;
     let mut sink = MemSink::new(alloc, size)?;
     let gate = Arc::new(alloc, OpenGate)?;

@@ -6,7 +6,7 @@ use page_runner::{Limit, Status};
 use std::test::Fail;
 
 // Pages, each read by 1, by 7 and by 4,096 bytes.
-fn pages() -> [Row; 14] {
+fn pages() -> [Row; 15] {
     [
         page(
             b"",
@@ -66,6 +66,14 @@ fn pages() -> [Row; 14] {
             Status::Unready,
             "",
         ),
+        Row {
+            dump: true,
+            ..page(
+                b"<p a=\"1\">x<!--y-->",
+                Status::Done,
+                "node 0 element \"html\"\nnode 1 element \"head\"\nnode 1 element \"body\"\nnode 2 element \"p\" \"a\" \"1\"\nnode 3 text \"x\"\nnode 3 comment \"y\"\nend\n",
+            )
+        },
     ]
 }
 

@@ -12,27 +12,27 @@ returns-in-Err-parse_page-clause-answer g c =
     let at = seen g.F.Outside.files g.F.Outside.left g.F.Outside.faults g.F.Outside.absences in
     let found = found_there _ _ _ _ (string_bytes c.args.words.now.page) c.in-Ok-true.field-0-test c.as_str.ensures.value c.in-Ok-true.ensures.found in
     rw c.status_for.ensures
-    (page_gave_up c.args.table.now (string_bytes c.args.words.now.page) (at c.args.files.now) (at c.begin.new.self) (at c.parse_page.new.files) found (c.begin.ensures.others.faults Page) _ _ _ c.in-Err-parse_page.ensures.err)
+    (page_gave_up c.args.table.now c.args.words.now.dump (string_bytes c.args.words.now.page) (at c.args.files.now) (at c.begin.new.self) (at c.parse_page.new.files) found (c.begin.ensures.others.faults Page) _ _ _ c.in-Err-parse_page.ensures.err)
 
 pub returns-in-Err-parse_page-clause-no_further : goal.returns-in-Err-parse_page-clause-no_further
 returns-in-Err-parse_page-clause-no_further g c =
     let at = seen g.F.Outside.files g.F.Outside.left g.F.Outside.faults g.F.Outside.absences in
     let found = found_there _ _ _ _ (string_bytes c.args.words.now.page) c.in-Ok-true.field-0-test c.as_str.ensures.value c.in-Ok-true.ensures.found in
-    page_read_to c.args.table.now (string_bytes c.args.words.now.page) (at c.args.files.now) (at c.begin.new.self) (at c.parse_page.new.files) found (c.begin.ensures.others.faults Page) c.parse_page.ensures.no_further
+    page_read_to c.args.table.now c.args.words.now.dump (string_bytes c.args.words.now.page) (at c.args.files.now) (at c.begin.new.self) (at c.parse_page.new.files) found (c.begin.ensures.others.faults Page) c.parse_page.ensures.no_further
 
 pub returns-in-Err-end_page-clause-answer : goal.returns-in-Err-end_page-clause-answer
 returns-in-Err-end_page-clause-answer g c =
     let at = seen g.F.Outside.files g.F.Outside.left g.F.Outside.faults g.F.Outside.absences in
     let found = found_there _ _ _ _ (string_bytes c.args.words.now.page) c.in-Ok-true.field-0-test c.as_str.ensures.value c.in-Ok-true.ensures.found in
     rw c.status_for-in-Err-end_page.ensures
-    (end_gave_up c.args.table.now (string_bytes c.args.words.now.page) (at c.args.files.now) (at c.begin.new.self) (at c.parse_page.new.files) found (c.begin.ensures.others.faults Page) _ _ _ _ _ _
+    (end_gave_up c.args.table.now c.args.words.now.dump (string_bytes c.args.words.now.page) (at c.args.files.now) (at c.begin.new.self) (at c.parse_page.new.files) found (c.begin.ensures.others.faults Page) _ _ _ _ _ _
     c.in-Ok.ensures.ok c.in-Err-end_page.ensures.err)
 
 pub returns-in-Err-end_page-clause-no_further : goal.returns-in-Err-end_page-clause-no_further
 returns-in-Err-end_page-clause-no_further g c =
     let at = seen g.F.Outside.files g.F.Outside.left g.F.Outside.faults g.F.Outside.absences in
     let found = found_there _ _ _ _ (string_bytes c.args.words.now.page) c.in-Ok-true.field-0-test c.as_str.ensures.value c.in-Ok-true.ensures.found in
-    page_read_to c.args.table.now (string_bytes c.args.words.now.page) (at c.args.files.now) (at c.begin.new.self) (at c.parse_page.new.files) found (c.begin.ensures.others.faults Page) c.parse_page.ensures.no_further
+    page_read_to c.args.table.now c.args.words.now.dump (string_bytes c.args.words.now.page) (at c.args.files.now) (at c.begin.new.self) (at c.parse_page.new.files) found (c.begin.ensures.others.faults Page) c.parse_page.ensures.no_further
 
 pub returns-in-Err-end_page-clause-others : goal.returns-in-Err-end_page-clause-others
 returns-in-Err-end_page-clause-others g c = keeps-then _ _ _ _ c.begin.ensures.others c.parse_page.ensures.others
@@ -50,14 +50,14 @@ returns-clause-answer g c =
     let at = seen g.F.Outside.files g.F.Outside.left g.F.Outside.faults g.F.Outside.absences in
     let found = found_there _ _ _ _ (string_bytes c.args.words.now.page) c.in-Ok-true.field-0-test c.as_str.ensures.value c.in-Ok-true.ensures.found in
     rw c.status_at.ensures
-    (page_ended c.args.table.now (string_bytes c.args.words.now.page) (at c.args.files.now) (at c.begin.new.self) (at c.parse_page.new.files) found (c.begin.ensures.others.faults Page) _ _ _ _ _
+    (page_ended c.args.table.now c.args.words.now.dump (string_bytes c.args.words.now.page) (at c.args.files.now) (at c.begin.new.self) (at c.parse_page.new.files) found (c.begin.ensures.others.faults Page) _ _ _ _ _
     c.in-Ok.ensures.ok c.in-Ok-end_page.ensures.ok)
 
 pub returns-clause-no_further : goal.returns-clause-no_further
 returns-clause-no_further g c =
     let at = seen g.F.Outside.files g.F.Outside.left g.F.Outside.faults g.F.Outside.absences in
     let found = found_there _ _ _ _ (string_bytes c.args.words.now.page) c.in-Ok-true.field-0-test c.as_str.ensures.value c.in-Ok-true.ensures.found in
-    page_read_to c.args.table.now (string_bytes c.args.words.now.page) (at c.args.files.now) (at c.begin.new.self) (at c.parse_page.new.files) found (c.begin.ensures.others.faults Page) c.parse_page.ensures.no_further
+    page_read_to c.args.table.now c.args.words.now.dump (string_bytes c.args.words.now.page) (at c.args.files.now) (at c.begin.new.self) (at c.parse_page.new.files) found (c.begin.ensures.others.faults Page) c.parse_page.ensures.no_further
 
 pub returns-clause-others : goal.returns-clause-others
 returns-clause-others g c = keeps-then _ _ _ _ c.begin.ensures.others c.parse_page.ensures.others
