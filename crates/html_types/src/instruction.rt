@@ -14,8 +14,21 @@ pub enum Mode {
     InBody,
     /// The mode "text".
     InText,
+    InTable,
+    InTableText,
+    InCaption,
+    InColumnGroup,
+    InTableBody,
+    InRow,
+    InCell,
+    InSelect,
+    InSelectInTable,
+    InTemplate,
     AfterBody,
+    InFrameset,
+    AfterFrameset,
     AfterAfterBody,
+    AfterAfterFrameset,
 }
 
 /// How the tokenizer reads on behind a start tag.
@@ -48,8 +61,20 @@ pub enum Group {
     Special,
     /// The elements whose end tag is generated (13.2.6.3).
     ClosedImplicitly,
+    /// The elements whose end tag is generated where all implied end tags are, thoroughly (13.2.6.3).
+    ClosedThoroughly,
     /// Where "clear the stack back to a table context" stops (13.2.6.4.9).
     TableContext,
+    /// Where "clear the stack back to a table body context" stops (13.2.6.4.13).
+    TableBodyContext,
+    /// Where "clear the stack back to a table row context" stops (13.2.6.4.14).
+    RowContext,
+    /// tbody, tfoot and thead
+    TableSections,
+    /// td and th
+    Cells,
+    /// The current nodes at which "in table" keeps characters as pending ones (13.2.6.4.9).
+    TextTargets,
     /// The targets from which a node is foster parented (13.2.6.1).
     FosterTargets,
     /// The special elements at which the search for a list item goes on.
@@ -84,6 +109,12 @@ pub enum Test {
     InForm,
     /// The token's attribute `type` is `hidden`, in any ASCII case.
     HiddenInput,
+    /// The stack of template insertion modes isn't empty.
+    InTemplates,
+    /// The mode is "in table", "in caption", "in table body", "in row" or "in cell".
+    InTables,
+    /// The current node is an option right above an optgroup.
+    OptionInOptgroup,
 }
 
 /// An instruction of a row. One that leaves the row stands last.
@@ -128,8 +159,12 @@ pub enum Instr {
     Until(Who),
     /// Popped while the current node is none of these.
     PopTo(Group),
+    /// Popped but for the first element.
+    PopToRoot,
     /// Implied end tags.
     Implied,
+    /// All implied end tags, thoroughly (13.2.6.3).
+    ImpliedThoroughly,
     ImpliedBut(Who),
     /// Where one of these is in scope: implied end tags but it, then until it.
     Close(Scope, Who),
@@ -168,11 +203,24 @@ pub enum Instr {
     AddToFirst,
     /// The same for the second element.
     AddToSecond,
+    /// The second element of the stack is taken out of its parent.
+    DetachSecond,
     Enter(Mode),
     /// The original mode is the mode as it is now.
     KeepMode,
     /// The mode is the original mode again.
     Restore,
+    /// The mode becomes the current template insertion mode.
+    PushTemplateMode(Mode),
+    PopTemplateMode,
+    /// Reset the insertion mode appropriately (13.2.4.1).
+    Reset,
+
+    /// The character is added to the pending table character tokens.
+    AppendPending,
+    /// The pending table character tokens are inserted (13.2.6.4.10): as they are where all are white space, else each by
+    /// the rules of "in body" with foster parenting on. There are none then.
+    InsertPending,
 
     /// The adoption agency algorithm (13.2.6.4.7) for the token's name.
     Adopt,
@@ -184,14 +232,14 @@ pub enum Instr {
     Switch(Reading),
     /// The token is processed by the rules of another mode.
     Using(Mode),
+    /// The token is processed by the rules of "in body", with foster parenting on.
+    Foster,
     /// The token is processed once more, by the mode as it is now.
     Again,
     /// The current node, a script, is popped, and the parser stops at it.
     StopAtScript,
     /// Parsing stops (13.2.7).
     Finish,
-    /// The row isn't there yet.
-    Missing,
 }
 
 /// What comes behind the adoption agency algorithm.
@@ -224,6 +272,8 @@ pub enum Next {
     Again,
     /// By the rules of that mode.
     Using(Mode),
+    /// By the rules of "in body", with foster parenting on.
+    Foster,
     /// The tokenizer reads on in that way.
     Switch(Reading),
     /// The end tag of that script element was met.
@@ -231,8 +281,6 @@ pub enum Next {
     /// An element more than 512 would be open; it isn't made.
     Deep,
     Finished,
-    /// The row isn't there yet.
-    Missing,
 }
 
 /// How a row goes on behind an instruction.
@@ -253,8 +301,6 @@ pub enum Stop {
     Script(NodeId),
     /// At a push that would open element 513.
     Deep,
-    /// At a row that isn't there yet.
-    Missing,
 }
 
 /// What the end of the input comes to.
@@ -264,6 +310,4 @@ pub enum Finish {
     Finished,
     /// At a push that would open element 513.
     Deep,
-    /// At a row that isn't there yet.
-    Missing,
 }

@@ -29,7 +29,7 @@ pub use instruction::{
 pub use mark_state::{CommentState, DoctypeState, MarkState};
 pub use memory::NoMemory;
 pub use name::Name;
-pub use open::{Format, Formats, Open, OpenElement, Stack};
+pub use open::{Format, Formats, Modes, Open, OpenElement, Stack};
 pub use operation::{NodeId, Op, Ops, Place};
 pub use reference_state::{ReferenceState, ReturnState};
 pub use script::{Ending, Line, Lines, Statement, Why};

@@ -6,6 +6,7 @@ use crate::instruction::Mode;
 use crate::memory::NoMemory;
 use crate::name::Name;
 use crate::operation::NodeId;
+use crate::text::Text;
 use crate::token::Tag;
 use std::alloc::Global;
 use std::marker::Model;
@@ -258,6 +259,89 @@ fn same_entries(a: &[Format], b: &[Format]) -> bool
     true
 }
 
+/// The stack of template insertion modes (13.2.4.1). Contracts see the list that begins with the current one.
+#[derive(Drop)]
+pub struct Modes {
+    items: Vec<Mode>,
+}
+
+impl Model for Modes {
+    ghost use Rattle.std.specs.Prelude.{List, reverse};
+    ghost use Rattle.html_types.specs.declared.instruction.Mode.{Mode};
+
+    ghost Value = { List Mode };
+
+    ghost view = { λ m. reverse m.items.items };
+}
+
+impl Modes {
+    /// No modes, which take no memory.
+    pub fn new(alloc: Global) -> Modes
+        ensures { result ≡ [] }
+    {
+        Modes {
+            items: Vec::new(alloc),
+        }
+    }
+
+    /// Adds a mode, which is then the current one.
+    pub fn push(&mut self, mode: Mode) -> Result<(), NoMemory>
+        ensures ok { OnOk result (self.new ≡ mode ∷ self.old) }
+        ensures err { OnErr result (self.new ≡ self.old) }
+    {
+        self.items.push(mode)?;
+        Ok(())
+    }
+
+    /// Takes the current mode off.
+    pub fn pop(&mut self) -> Option<Mode>
+        ensures some { IfSome result (λ m. self.old ≡ m ∷ self.new) }
+        ensures none { IfNone result (self.old ≡ []) }
+        ensures empty { IfNone result (self.new ≡ []) }
+    {
+        self.items.pop()
+    }
+
+    /// The modes, the current one last.
+    pub fn as_slice(&self) -> &[Mode]
+        ensures { reverse result.now ≡ self.now }
+    {
+        self.items.as_slice()
+    }
+
+    /// A copy.
+    pub fn copy(&self, alloc: Global) -> Result<Modes, NoMemory>
+        ensures { IfOk result (λ m. m ≡ self.now) }
+    {
+        let mut items = Vec::new(alloc);
+        for mode in &self.items {
+            items.push(*mode)?;
+        }
+        Ok(Modes { items })
+    }
+
+    /// Whether two stacks are the same.
+    pub fn same(&self, other: &Modes) -> bool
+        ensures { IsTrue result ↔ (self.now ≡ other.now) }
+    {
+        same_modes(self.as_slice(), other.as_slice())
+    }
+}
+
+fn same_modes(a: &[Mode], b: &[Mode]) -> bool
+    ensures { IsTrue result ↔ (a.now ≡ b.now) }
+{
+    if a.len() != b.len() {
+        return false;
+    }
+    for i in 0..a.len() {
+        if a[i] != b[i] {
+            return false;
+        }
+    }
+    true
+}
+
 /// The open state (13.2.4).
 #[derive(Drop)]
 pub struct Open {
@@ -268,8 +352,11 @@ pub struct Open {
     /// The form element pointer.
     pub form: Option<NodeId>,
     pub mode: Mode,
-    /// The original insertion mode, in the mode "text" alone.
+    /// The original insertion mode, in the modes "text" and "in table text" alone.
     pub original: Option<Mode>,
+    pub template_modes: Modes,
+    /// The pending table character tokens, in the mode "in table text" alone.
+    pub pending_text: Text,
     pub frameset_ok: bool,
     pub quirks: bool,
     /// The next token is left out where it is a line feed.

@@ -98,8 +98,6 @@ pub enum Token {
     Comment(Text),
     Doctype { name: Text, force_quirks: bool },
     EndOfFile,
-    /// A row of the tokenizer that isn't there yet was met.
-    Missing,
 }
 
 impl Token {
@@ -117,7 +115,6 @@ impl Token {
                 force_quirks: *force_quirks,
             }),
             Token::EndOfFile => Ok(Token::EndOfFile),
-            Token::Missing => Ok(Token::Missing),
         }
     }
 
@@ -141,7 +138,6 @@ impl Token {
                 },
             ) => s.same(t) && *p == *q,
             (Token::EndOfFile, Token::EndOfFile) => true,
-            (Token::Missing, Token::Missing) => true,
             _ => false,
         }
     }
