@@ -36,6 +36,8 @@ opening realm = record {
   form = None;
   mode = mode.Initial;
   original = None;
+  template_modes = [];
+  pending_text = [];
   frameset_ok = true;
   quirks = false;
   skip_line_feed = false;
@@ -86,11 +88,10 @@ after_ops ops (took more p s) = took (ops ++ more) p s
 
 -- what comes after a token; `rest` reads the tokens behind it. End-of-file is no token of a text
 abbrev pub build_on : TokState → Bool → Token → Open → (TokState → Took) → Next → Took
-build_on s cr t b rest next.Done = rest s
 build_on s cr t b rest (next.Switch r) = rest (read_as r t)
 build_on s cr t b rest (next.Script i) = took [] (parser s cr b) (stop.Script i)
 build_on s cr t b rest next.Deep = took [] (parser s cr b) stop.Deep
-build_on s cr t b rest _ = took [] (parser s cr b) stop.Missing
+build_on s cr t b rest _ = rest s
 
 -- tokens in order, up to the first stop
 unfoldable pub build : TokState → Bool → List Token → Open → Took
@@ -126,14 +127,13 @@ abbrev pub finished : Parser → Finish → Finished
 finished p f = record { ops = []; parser = p; finish = f }
 
 abbrev pub build_end_on : TokState → Bool → Open → Finished → Next → Finished
-build_end_on s cr b rest next.Done = rest
 build_end_on s cr b rest next.Finished = finished (parser s cr b) finale.Finished
 build_end_on s cr b rest next.Deep = finished (parser s cr b) finale.Deep
-build_end_on s cr b rest _ = finished (parser s cr b) finale.Missing
+build_end_on s cr b rest _ = rest
 
--- the last tokens in order, up to the one at which parsing stops (13.2.7)
+-- the last tokens in order, up to the one at which parsing stops (13.2.7); the end-of-file token, which is the last, is one
 unfoldable pub build_end : TokState → Bool → List Token → Open → Finished
-build_end s cr [] b = finished (parser s cr b) finale.Missing
+build_end s cr [] b = finished (parser s cr b) finale.Finished
 build_end s cr (t ∷ ts) b =
     let a : Answer = construct t b [] in
     after_all a.ops (build_end_on s cr a.open_state (build_end s cr ts a.open_state) a.next)
