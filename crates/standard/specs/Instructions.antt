@@ -222,9 +222,9 @@ texts p cs = map (λ c. op.Text p (c ∷ [])) cs
 abbrev pub body_text : ℕ → Config → Config
 body_text c r =
     elim r.flow as (λ _. Config) [
-    | On ↦ on (record r.open_state { frameset_ok = is_space c && r.open_state.frameset_ok }) (r.ops ++ op.Text (here r.open_state) (c ∷ []) ∷ [])
-    | Skip ↦ r
-    | Leave n ↦ r
+      | On ↦ on (record r.open_state { frameset_ok = is_space c && r.open_state.frameset_ok }) (r.ops ++ op.Text (here r.open_state) (c ∷ []) ∷ [])
+      | Skip ↦ r
+      | Leave n ↦ r
     ]
 
 abbrev pub body_character : ℕ → Open → List Op → Config
