@@ -1,1 +1,5 @@
 pub mod ParsingLemmas
+pub mod FrameLaws
+pub mod BeginLemmas
+pub mod StatementLemmas
+pub mod RestLemmas

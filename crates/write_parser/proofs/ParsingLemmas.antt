@@ -1,8 +1,8 @@
 -- What the machine and the document do together.
-use Rattle.std.proofs.Common.{◌≡◌, ◌<◌, ◌≢◌, ℕ, zero, suc, List, [], ◌∷◌, ◌++◌, length, refl, sym, ap, ◌∙◌, subst, take, drop, take-append-drop, length-drop, arith}
+use Rattle.std.proofs.Common.{◌≡◌, ◌<◌, ◌≢◌, ℕ, zero, suc, List, [], ◌∷◌, ◌++◌, length, refl, sym, ap, ◌∙◌, subst, take, drop, take-append-drop, length-drop, ◌+◌, arith}
 use Rattle.std.specs.Str.{chars, IsCharBoundary, IsUtf8}
 use Rattle.std.proofs.lemmas.Str.{IsUtf8-take, chars-append, chars-nil}
-use Rattle.std.proofs.lemmas.List.{append_cancel_left}
+use Rattle.std.proofs.lemmas.List.{append_cancel_left, drop-drop}
 use Rattle.html_types.specs.declared.operation.Op.{Op}
 use Rattle.html_types.specs.declared.instruction.Stop.{Stop}
 use Rattle.html_types.specs.declared.instruction.Stop.TheVariants as stop
@@ -73,17 +73,30 @@ text-parsed es p p' d d' before ops ran text utf8 served none run done boundary 
     by_used zero q h = absurd (h (sym chars-nil ∙ q))
     by_used (suc n) q h = omega arith
 
+shorter : (n : ℕ) (c : ℕ) (cs : List ℕ) → 0 < n → length (drop n (c ∷ cs)) < length (c ∷ cs)
+shorter n c cs lt = omega (arith, length-drop n (c ∷ cs))
+
+used-less : (es : Entities) (p : Parser) (x : List ℕ) → ((parse es p x).stop ≢ stop.InputEnd) → length (drop (parse es p x).used x) < length x
+unfolding parse
+used-less es p [] h = absurd (h refl)
+used-less es p (c ∷ cs) h = shorter (parse es p (c ∷ cs)).used c cs (some-used (take_character es p c) (λ p'. parse es p' cs))
+
 -- a stop leaves less of a text than there was
 pub stop-shortens : (es : Entities) (p p' : Parser) (d d' : Doc) (text left : List ℕ) (s : Stop) → HasParsed es p d text p' d' left s → s ≢ stop.InputEnd → length left < length text
-stop-shortens es p p' d d' text left s parsed stops = subst (λ l. length l < length text) (sym parsed.left) (by_text text (λ h. stops (parsed.stop ∙ h)))
+stop-shortens es p p' d d' text left s parsed stops = subst (λ l. length l < length text) (sym parsed.left) (used-less es p text (λ h. stops (parsed.stop ∙ h)))
+
+-- of a text whose front is used already
+pub rest-parsed : (es : Entities) (p p' : Parser) (d d' : Doc) (bytes : List ℕ) (used : ℕ) (ran : Ran) → TextParsed es p d (drop used bytes) p' d' ran →
+    RestParsed es p d (chars (drop used bytes)) p' d' (chars (drop (used + ran.used) bytes)) ran.stop
+rest-parsed es p p' d d' bytes used ran parsed = by (subst (λ b. HasParsed es p d (chars (drop used bytes)) p' d' (chars b) ran.stop) (drop-drop ran.used used bytes) parsed.parsed)
   where
-    by_text : (x : List ℕ) → ((parse es p x).stop ≢ stop.InputEnd) → length (drop (parse es p x).used x) < length x
-    unfolding parse
-    by_text [] h = absurd (h refl)
-    by_text (c ∷ cs) h = shorter (parse es p (c ∷ cs)).used (some-used (take_character es p c) (λ p'. parse es p' cs))
-      where
-        shorter : (n : ℕ) → 0 < n → length (drop n (c ∷ cs)) < length (c ∷ cs)
-        shorter n lt = omega (arith, length-drop n (c ∷ cs))
+    by : HasParsed es p d (chars (drop used bytes)) p' d' (chars (drop (used + ran.used) bytes)) ran.stop → RestParsed es p d (chars (drop used bytes)) p' d' (chars (drop (used + ran.used) bytes)) ran.stop
+    by here = record {
+      parsed = here;
+      served = parsed.served;
+      bound = parsed.bound;
+      shorter = λ stops. stop-shortens es p p' d d' (chars (drop used bytes)) (chars (drop (used + ran.used) bytes)) ran.stop here stops;
+    }
 
 -- the last operations are bound
 pub last-bound : (es : Entities) (p : Parser) (d : Doc) (now : Parser) (before ops : List Op) (f : Finish) → IsServed p d → before ≡ [] →

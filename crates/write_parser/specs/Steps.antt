@@ -145,9 +145,9 @@ pub record Prepares (id : NodeId) (old : Live) (begun : Option Begun) (new : Liv
 -- ---- statements
 
 -- the parser goes on in a text
-pub record Continues (pending : Option (List ℕ)) (rest : List ℕ) : Type 0 where
-  pub pending : pending ≡ None
-  pub rest : rest ≢ []
+pub record Continues (awaited : Option (List ℕ)) (text : List ℕ) : Type 0 where
+  pub pending : awaited ≡ None
+  pub rest : text ≢ []
 
 pub record HasWritten (old : Live) (rest text : List ℕ) (new : Live) (rest' : List ℕ) (d : Did) : Type 0 where
   pub fits : old.written + length text ≤ write_limit → (new ≡ record old { written = old.written + length text }) × (rest' ≡ rest ++ text)

@@ -164,7 +164,7 @@ StaysBy None (Some name) old new = new ≡ old
 StaysBy (Some r) pending old new = new ≡ old
 
 -- Written text was parsed, and its scripts ran, as far as it goes.
-pub record Feeds (es : Entities) (old new : View) (left : Left) : Type 0 where
+pub record Feeds (es : Entities) (old new : View) (answer : Left) : Type 0 where
   pub leads : LeadsTo es (Stands old) new
-  pub left : LeftIs new left
+  pub left : LeftIs new answer
   pub stays : StaysBy old.halted old.pending old new
