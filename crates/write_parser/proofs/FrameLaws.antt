@@ -1,5 +1,18 @@
 -- The laws of nested scripts, by the names of this crate.
 use Rattle.standard.specs.Frames.{FramesEnd, ScriptsEnter, FilesEnter, StillTags, ExternalTags, InlineTags, OutsideTexts, TextsBegin, RestsEnd, RestsStop, RestsRefuse, FrameEnds, WritesFit, WritesRefuse, Removes, ReadsById, ReadsRoot, Throws}
+use Rattle.standard.specs.Laws.{LeavesNothing, BatchesLead, ScriptLeads, ScriptRefuses}
+
+pub parse-left : LeavesNothing
+parse-left = ?
+
+pub leads-batch : BatchesLead
+leads-batch = ?
+
+pub script-leads : ScriptLeads
+script-leads = ?
+
+pub script-refuses : ScriptRefuses
+script-refuses = ?
 
 pub frames-end : FramesEnd
 frames-end = ?

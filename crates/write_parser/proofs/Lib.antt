@@ -3,3 +3,4 @@ pub mod FrameLaws
 pub mod BeginLemmas
 pub mod StatementLemmas
 pub mod RestLemmas
+pub mod NestingLemmas
