@@ -4,3 +4,4 @@ pub mod BeginLemmas
 pub mod StatementLemmas
 pub mod RestLemmas
 pub mod NestingLemmas
+pub mod LevelLemmas

@@ -1,5 +1,6 @@
 -- Statements of the innermost script.
-use Rattle.std.proofs.Common.{◌≡◌, ◌<◌, ◌≤◌, ◌+◌, ◌*◌, ◌-◌, ℕ, suc, Result, Ok, Err, IfOk, List, [], ◌∷◌, ◌++◌, length, Option, Some, None, refl, sym, ap, ◌∙◌, subst, append_assoc, length-append, arith, ◌⊎◌, inl, inr}
+use Rattle.std.proofs.Common.{◌≡◌, ◌<◌, ◌≤◌, ◌+◌, ◌*◌, ◌-◌, ℕ, suc, Bool, true, false, get_or, drop, drop-cons, add-one, Result, Ok, Err, IfOk, OnOk, List, [], ◌∷◌, ◌++◌, length, Option, Some, None, refl, sym, ap, ◌∙◌, subst, append_assoc, length-append, arith, ◌⊎◌, inl, inr}
+use Rattle.std.specs.Option.{is_some}
 use Rattle.std.proofs.lemmas.Bool.{cases_lt}
 use Rattle.html_types.specs.declared.script.Line.{Line}
 use Rattle.html_types.specs.declared.script.Line.TheVariants as line
@@ -191,3 +192,20 @@ does-throw k a old rest mid new rest' did.Nothing going waits there does is =
 pub if_ok : {T E : Type 0} (r : Result T E) (P Q : T → Type 0) → ((x : T) → P x → Q x) → IfOk r P → IfOk r Q
 if_ok (Ok x) P Q more has = more x has
 if_ok (Err e) P Q more has = tt
+
+-- ---- the statement at a place
+
+pub next-is : (list : List Statement) (i : ℕ) (a : Statement) → i < length list → a ≡ get_or list i a → drop i list ≡ a ∷ drop (i + 1) list
+next-is list i a lt is = rw add-one (drop-cons list i a lt ∙ ap (λ x. x ∷ drop (suc i) list) (sym is))
+
+pub halted-some : (h : Option Limit) → is_some h ≡ true → (l : Limit) × (h ≡ Some l)
+halted-some None is = absurd (cc is)
+halted-some (Some l) is = (l, refl)
+
+pub halted-none : (h : Option Limit) → is_some h ≡ false → h ≡ None
+halted-none None is = refl
+halted-none (Some l) is = absurd (cc is)
+
+pub on_ok : {T E : Type 0} (r : Result T E) (P Q : Type 0) → (P → Q) → OnOk r P → OnOk r Q
+on_ok (Ok x) P Q more has = more has
+on_ok (Err e) P Q more has = tt

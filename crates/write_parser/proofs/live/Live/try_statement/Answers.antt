@@ -1,7 +1,6 @@
 use Rattle.std.proofs.Common.{refl, sym, subst, IfOk, ◌≡◌, ◌∙◌, ap}
-use Rattle.html_types.specs.declared.script.Statement.{Statement}
+use Rattle.std.specs.Str.{chars}
 use Rattle.standard.specs.Tree.{find_id, first_element}
-use Rattle.write_parser.specs.declared.live.Did.{Did}
 use Rattle.write_parser.specs.Steps.{DoesMost, HasRead}
 use Rattle.write_parser.proofs.StatementLemmas.{if_ok, does-write, does-remove, does-read-by_id, does-read-root}
 use Rattle.write_parser.proofs.live.Live.try_statement.Goals as goal
@@ -20,7 +19,7 @@ returns-in-Remove c =
 
 pub returns-in_ok-node-in-LogById : goal.returns-in_ok-node-in-LogById
 returns-in_ok-node-in-LogById c =
-    let found : c.in_ok-node-in-LogById.node ≡ find_id c.args.self.now.doc.tree c.in-LogById.id = c.in_ok-node-in-LogById.ensures.found ∙ (ap (λ t. find_id t _) c.tree.ensures ∙ ap (find_id c.args.self.now.doc.tree) c.as_str.ensures) in
+    let found : c.in_ok-node-in-LogById.node ≡ find_id c.args.self.now.doc.tree c.in-LogById.id = c.in_ok-node-in-LogById.ensures.found ∙ (ap (λ t. find_id t (chars c.as_str.result.now)) c.tree.ensures ∙ ap (find_id c.args.self.now.doc.tree) c.as_str.ensures) in
     subst (λ a. IfOk c.read.result (λ d. DoesMost c.args.number a c.args.self.now c.args.rest.now c.read.new.self c.args.rest.now d)) (sym c.in-LogById.is)
     (if_ok c.read.result _ _
     (λ d has. does-read-by_id c.args.number c.in-LogById.id c.args.self.now c.args.rest.now c.read.new.self c.args.rest.now d c.requires.going c.requires.waits refl

@@ -1,0 +1,211 @@
+-- Scripts and written text at level 0, against the moments of the serial parse.
+use Rattle.std.proofs.Common.{◌≡◌, ◌≢◌, ◌<◌, ◌≤◌, ◌+◌, ◌*◌, ◌-◌, ℕ, suc, Bool, false, List, [], ◌∷◌, ◌++◌, length, Option, Some, None, refl, sym, ap, ◌∙◌, subst, append_assoc, length-append, arith}
+use Rattle.html_types.specs.declared.operation.NodeId.{NodeId}
+use Rattle.html_types.specs.declared.script.Ending.{Ending}
+use Rattle.html_types.specs.declared.script.Line.{Line}
+use Rattle.html_types.specs.declared.script.Statement.{Statement}
+use Rattle.html_types.specs.declared.script.Why.{Why}
+use Rattle.html_types.specs.declared.script.Why.TheVariants as why
+use Rattle.html_types.specs.declared.instruction.Stop.{Stop}
+use Rattle.html_types.specs.declared.instruction.Stop.TheVariants as stop
+use Rattle.standard.specs.Entities.{Entities}
+use Rattle.standard.specs.Act.{Doc}
+use Rattle.standard.specs.Parser.{Parser}
+use Rattle.standard.specs.Statements.{statements}
+use Rattle.standard.specs.Laws.{HasParsed, moment_at}
+use Rattle.standard.specs.Serial.{World, Serial, Flow, goes, refuses, awaiting, run_text, Moment, reading, tag_ended, over, refusal, taken, unless_pending, behind_script, Leads}
+use Rattle.standard.specs.Frames.{rests, state_of, NestComesTo, TagComesTo, TextComesTo}
+use Rattle.write_parser.specs.declared.left.Limit.{Limit}
+use Rattle.write_parser.specs.declared.left.Limit.TheVariants as limit
+use Rattle.write_parser.specs.declared.nesting.Begun.{Begun}
+use Rattle.write_parser.specs.declared.live.Live.{Live}
+use Rattle.write_parser.specs.Parsing.{IsServed, RestParsed}
+use Rattle.write_parser.specs.Writing.{View, why_of, serial_of, moment_by, moment_of, IsOver, StandsBy, Stands, AtTag, LeadsTo, IsRefusal, Comes, ComesBy, Runs}
+use Rattle.write_parser.specs.Steps.{IsGoing, halted_of, view_of, with_begun, nest_of, ThenBy, Then, weight, Moves, WroteNothing, Begins, Prepares, Keeps, Continues, EndsTag, awaits_none, RunsText, FeedsOn, StaysAt}
+use Rattle.write_parser.proofs.FrameLaws.{parse-left, leads-batch, script-leads, script-refuses, frames-end, scripts-enter}
+
+-- ---- a script that was begun, and all behind it
+
+then-of : (w : World) (Of : Flow → Type 0) (mid new : Live) (begun : Option Begun) (before : List Line) (page : List ℕ) →
+    ((g : Flow) → NestComesTo w (nest_of mid (with_begun begun []) before page) g → Of g) → Then w (NestComesTo w (nest_of mid (with_begun begun []) before page)) new [] before page →
+    Then w Of new [] before page
+then-of w Of mid new begun before page first = by new.halted
+  where
+    by : (h : Option Limit) → ThenBy h w (NestComesTo w (nest_of mid (with_begun begun []) before page)) new [] before page → ThenBy h w Of new [] before page
+    by None second = λ g come. first g (second g come)
+    by (Some l) (g, refusal, come) = (g, refusal, first g come)
+
+nothing-written : (begun : Option Begun) → WroteNothing begun → length (rests (with_begun begun [])) ≡ 0
+nothing-written None wrote = refl
+nothing-written (Some b) wrote = ap (λ r. length (r ++ [])) wrote
+
+begun-weight : (old mid : Live) (begun : Option Begun) → Keeps old mid → WroteNothing begun → weight mid (with_begun begun []) ≤ weight old []
+begun-weight old mid begun keeps wrote =
+    omega (arith, nothing-written begun wrote, ap (λ (l : Live). l.written) keeps, ap (λ (l : Live). length l.rest) keeps)
+
+pub ends-tag : (es : Entities) (id : NodeId) (old mid new : Live) (begun : Option Begun) → Prepares id old begun mid → Moves es mid (with_begun begun []) new [] → EndsTag es id old new
+ends-tag es id old mid new begun prepares moves = record {
+  comes = λ w before page is.
+      then-of w (TagComesTo w id (nest_of old [] before page)) mid new begun before page (λ g come. prepares.comes w [] before page g come) (moves.turns.turns w before page is);
+  served = moves.served;
+  weight = omega (arith, moves.weight, begun-weight old mid begun prepares.keeps prepares.wrote);
+}
+
+pub runs-text : (es : Entities) (text : List ℕ) (old mid new : Live) (begun : Option Begun) → Begins text (awaits_none old) begun mid → Moves es mid (with_begun begun []) new [] →
+    RunsText es text old new
+runs-text es text old mid new begun begins moves = record {
+  comes = λ w before page is.
+      then-of w (TextComesTo w (statements text) (nest_of (awaits_none old) [] before page)) mid new begun before page (λ g come. begins.comes w [] before page g come)
+      (moves.turns.turns w before page is);
+  served = moves.served;
+}
+
+-- ---- the moment behind a script
+
+behind-is : (l : Live) (before : List Line) (page : List ℕ) → behind_script (state_of (nest_of l [] before page)) ≡ moment_of (view_of l false) before page
+behind-is l before page = by l.pending
+  where
+    by : (p : Option (List ℕ)) → unless_pending p (awaiting p (serial_of (view_of l false) before page)) ≡ moment_by p (serial_of (view_of l false) before page)
+    by None = refl
+    by (Some name) = refl
+
+-- the parse leads to a moment for which the state stands
+abbrev pub Reaches : Ending → World → Moment → Live → List Line → List ℕ → Type 0
+Reaches e w m l before page = (to : Moment) × Stands (view_of l false) before page to × Leads e w m to
+
+pub tag-leads : (es : Entities) (id : NodeId) (old new : Live) → old.pending ≡ None → EndsTag es id old new → (e : Ending) (w : World) (m : Moment) (before : List Line) (page : List ℕ) →
+    w.entities ≡ es → Leads e w m (tag_ended id (serial_of (view_of old false) before page)) → Reaches e w m new before page
+tag-leads es id old new none ends e w m before page is at = by new.halted (ends.comes w before page is)
+  where
+    tag : (g : Flow) → TagComesTo w id (nest_of old [] before page) g → Leads e w m (tag_ended id (state_of (nest_of old [] before page)))
+    tag g come = subst (λ p. Leads e w m (tag_ended id (awaiting p (serial_of (view_of old false) before page)))) (sym none) at
+
+    by : (h : Option Limit) → ThenBy h w (TagComesTo w id (nest_of old [] before page)) new [] before page →
+        (to : Moment) × StandsBy (halted_of h) (view_of new false) before page to × Leads e w m to
+    by None each =
+        let come = each (goes (state_of (nest_of new [] before page))) (frames-end w (nest_of new [] before page) refl) in
+        (behind_script (state_of (nest_of new [] before page)), behind-is new before page,
+            script-leads e w m id (state_of (nest_of old [] before page)) (state_of (nest_of new [] before page)) (tag _ come)
+            (scripts-enter w id (nest_of old [] before page) _ refl come))
+    by (Some l) (g, halt, come) = (
+      over (refusal (why_of l) halt.last),
+      record { last = halt.last; is = refl; lines = halt.lines; doc = halt.doc },
+      script-refuses e w m id (state_of (nest_of old [] before page)) halt.last (why_of l) (tag g come)
+          (scripts-enter w id (nest_of old [] before page) (refuses (why_of l) halt.last) refl (subst (TagComesTo w id (nest_of old [] before page)) halt.is come)),
+    )
+
+pub tag-leads-to : (es : Entities) (id : NodeId) (old new : Live) → old.pending ≡ None → EndsTag es id old new → LeadsTo es (AtTag id (view_of old false)) (view_of new false)
+tag-leads-to es id old new none ends = record {
+  leads = λ e w m from before page is at-tag at. tag-leads es id old new none ends e w m before page is (subst (λ k. Leads e w m k) at-tag at);
+}
+
+-- what a text that ran came to
+pub text-runs : (es : Entities) (text : List ℕ) (old : Live) (spent : Bool) (new : Live) → RunsText es text old new → Runs es (view_of old spent) (view_of new false) (statements text)
+text-runs es text old spent new runs = record { comes = λ w before page is. by w before page new.halted (runs.comes w before page is) }
+  where
+    by : (w : World) (before : List Line) (page : List ℕ) (h : Option Limit) → ThenBy h w (TextComesTo w (statements text) (nest_of (awaits_none old) [] before page)) new [] before page →
+        (f : Flow) × ComesBy (halted_of h) (view_of new false) before page f × ((n : ℕ) × (run_text n w (statements text) (serial_of (view_of old false) before page) ≡ f))
+    by w before page None each =
+        (goes (state_of (nest_of new [] before page)), refl, each (goes (state_of (nest_of new [] before page))) (frames-end w (nest_of new [] before page) refl))
+    by w before page (Some l) (g, refusal, come) = (g, refusal, come)
+
+-- ---- written text at level 0
+
+stands-reading : (l : Live) (before : List Line) (page : List ℕ) (from : Moment) → l.halted ≡ None → l.pending ≡ None → Stands (view_of l false) before page from →
+    from ≡ reading (serial_of (view_of l false) before page)
+stands-reading l before page from on none stands =
+    subst (λ p. from ≡ moment_by p (serial_of (view_of l false) before page)) none
+    (subst (λ h. StandsBy (halted_of h) (view_of l false) before page from) on stands)
+
+reading-stands : (l : Live) (before : List Line) (page : List ℕ) → l.halted ≡ None → l.pending ≡ None → Stands (view_of l false) before page (reading (serial_of (view_of l false) before page))
+reading-stands l before page on none =
+    subst (λ h. StandsBy (halted_of h) (view_of l false) before page (reading (serial_of (view_of l false) before page))) (sym on)
+    (subst (λ p. reading (serial_of (view_of l false) before page) ≡ moment_by p (serial_of (view_of l false) before page)) (sym none) refl)
+
+-- a part of the rest was parsed
+abbrev pub fed : Parser → Doc → List ℕ → Live → Live
+fed p d left l = record l { machine = p; doc = d; rest = left }
+
+-- where the parser stopped
+fed-leads : (es : Entities) (old : Live) (p : Parser) (d : Doc) (left : List ℕ) (s : Stop) → IsGoing old → old.pending ≡ None → HasParsed es old.machine old.doc old.rest p d left s →
+    (e : Ending) (w : World) (m from : Moment) (before : List Line) (page : List ℕ) → w.entities ≡ es → Stands (view_of old false) before page from → Leads e w m from →
+    Leads e w m (moment_at (serial_of (view_of old false) before page) p d (left ++ page) s)
+fed-leads es old p d left s going none parsed e w m from before page is stands at =
+    leads-batch e w m (serial_of (view_of old false) before page) old.rest page p d left s
+    (subst (λ k. Leads e w m k) (stands-reading old before page from going.halted none stands) at) refl
+    (subst (λ k. HasParsed k old.machine old.doc old.rest p d left s) (sym is) parsed)
+
+pub feeds-end : (es : Entities) (old new : Live) (p : Parser) (d : Doc) (left : List ℕ) (s : Stop) → IsGoing old → Continues old.pending old.rest →
+    RestParsed es old.machine old.doc old.rest p d left s → s ≡ stop.InputEnd → new ≡ fed p d left old → FeedsOn es old new
+feeds-end es old new p d left s going onward parsed ends is = subst (λ l. FeedsOn es old l) (sym is) (record {
+  leads = record {
+    leads = λ e w m from before page world stands at. (
+      reading (serial_of (view_of (fed p d left old) false) before page),
+      reading-stands (fed p d left old) before page going.halted onward.pending,
+      fed-leads es old p d left stop.InputEnd going onward.pending whole e w m from before page world stands at,
+    );
+  };
+  served = parsed.served;
+  weight = omega (arith, some-rest old.rest onward.rest, ap length none);
+})
+  where
+    whole : HasParsed es old.machine old.doc old.rest p d left stop.InputEnd
+    whole = subst (λ k. HasParsed es old.machine old.doc old.rest p d left k) ends parsed.parsed
+
+    none : left ≡ []
+    none = parse-left es old.machine p old.doc d old.rest left whole
+
+    some-rest : (text : List ℕ) → (text ≡ [] → ⊥) → 0 < length text
+    some-rest [] some = absurd (some refl)
+    some-rest (c ∷ cs) some = omega arith
+
+pub feeds-deep : (es : Entities) (old new : Live) (p : Parser) (d : Doc) (left : List ℕ) (s : Stop) → IsGoing old → Continues old.pending old.rest →
+    RestParsed es old.machine old.doc old.rest p d left s → s ≡ stop.Deep → new ≡ record (fed p d left old) { halted = Some limit.Depth } → FeedsOn es old new
+feeds-deep es old new p d left s going onward parsed deep is = subst (λ l. FeedsOn es old l) (sym is) (record {
+  leads = record {
+    leads = λ e w m from before page world stands at. (
+      over (refusal why.Depth (taken p d (left ++ page) (serial_of (view_of old false) before page))),
+      record { last = taken p d (left ++ page) (serial_of (view_of old false) before page); is = refl; lines = refl; doc = refl },
+      fed-leads es old p d left stop.Deep going onward.pending (subst (λ k. HasParsed es old.machine old.doc old.rest p d left k) deep parsed.parsed) e w m from before page world stands at,
+    );
+  };
+  served = parsed.served;
+  weight = omega (arith, parsed.shorter (λ ends. absurd (cc (sym deep ∙ ends))));
+})
+
+pub feeds-script : (es : Entities) (old mid new : Live) (p : Parser) (d : Doc) (left : List ℕ) (s : Stop) (id : NodeId) → IsGoing old → Continues old.pending old.rest →
+    RestParsed es old.machine old.doc old.rest p d left s → s ≡ stop.Script id → mid ≡ fed p d left old → EndsTag es id mid new → FeedsOn es old new
+feeds-script es old mid new p d left s id going onward parsed stops is ends = by (subst (λ l. EndsTag es id l new) is ends)
+  where
+    by : EndsTag es id (fed p d left old) new → FeedsOn es old new
+    by here = record {
+      leads = record {
+        leads = λ e w m from before page world stands at.
+            tag-leads es id (fed p d left old) new onward.pending here e w m before page world
+            (fed-leads es old p d left (stop.Script id) going onward.pending (subst (λ k. HasParsed es old.machine old.doc old.rest p d left k) stops parsed.parsed) e w m from before page world stands
+            at);
+      };
+      served = here.served;
+      weight = omega (arith, here.weight, parsed.shorter (λ ends'. absurd (cc (sym stops ∙ ends'))));
+    }
+
+-- ---- one part behind another
+
+pub leads-then : (es : Entities) (a b c : View) → LeadsTo es (Stands a) b → LeadsTo es (Stands b) c → LeadsTo es (Stands a) c
+leads-then es a b c first second = record { leads = λ e w m from before page is stands at. by e w m before page is (first.leads e w m from before page is stands at) }
+  where
+    by : (e : Ending) (w : World) (m : Moment) (before : List Line) (page : List ℕ) → w.entities ≡ es → (to : Moment) × Stands b before page to × Leads e w m to →
+        (to : Moment) × Stands c before page to × Leads e w m to
+    by e w m before page is (to, stands, at) = second.leads e w m to before page is stands at
+
+pub leads-nowhere : (es : Entities) (a : View) → LeadsTo es (Stands a) a
+leads-nowhere es a = record { leads = λ e w m from before page is stands at. (from, stands, at) }
+
+-- a turn is only where nothing stays
+pub stays-on : (old mid new : Live) → StaysAt old.halted old.pending old mid → mid.halted ≡ None → mid.pending ≡ None → StaysAt old.halted old.pending old new
+stays-on old mid new stays on none = by old.halted old.pending refl refl stays
+  where
+    by : (h : Option Limit) (p : Option (List ℕ)) → old.halted ≡ h → old.pending ≡ p → StaysAt h p old mid → StaysAt h p old new
+    by None None is is' s = tt
+    by None (Some name) is is' s = absurd (cc (sym is' ∙ (sym (ap (λ (l : Live). l.pending) s) ∙ none)))
+    by (Some l) p is is' s = absurd (cc (sym is ∙ (sym (ap (λ (k : Live). k.halted) s) ∙ on)))
