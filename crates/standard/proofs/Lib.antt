@@ -6,6 +6,7 @@ pub mod Parse
 pub mod Batch
 pub mod Passing
 pub mod Scripts
+pub mod Frames
 pub mod Kept
 pub mod Lines
 pub mod AdoptionFraming
