@@ -1,6 +1,8 @@
 mod OnLiterals
 mod Rows
 mod TableRows
+mod ScriptRows
+mod FileRows
 pub mod Fuel
 pub mod Total
 pub mod Parse
