@@ -5,10 +5,42 @@ use Rattle.std.specs.Prelude.{encode_utf8_all}
 use Rattle.html_types.specs.Text.{same_text}
 use Rattle.html_types.specs.declared.script.Ending.{Ending}
 use Rattle.html_types.specs.declared.script.Ending.TheVariants as ending
-use Rattle.standard.specs.Scripts.{Fetched, got, missing, faulted}
+use Rattle.standard.specs.Scripts.{Fetched, got, missing, faulted, is_lawful}
 use Rattle.standard.specs.Serial.{World}
 use Rattle.standard.proofs.OnLiterals.{serial_on_literals}
-use Rattle.standard.proofs.Rows.{written_in, wants}
+use Rattle.standard.proofs.Rows.{written_in, wants, times}
+
+-- ---- names
+
+a_name : is_lawful (codes "a.B-_9") ≡ true
+unfolding is_lawful
+a_name = refl
+
+no_name : is_lawful [] ≡ false
+unfolding is_lawful
+no_name = refl
+
+a_name_with_a_dot_in_front : is_lawful (codes ".a") ≡ false
+unfolding is_lawful
+a_name_with_a_dot_in_front = refl
+
+a_name_in_a_folder : is_lawful (codes "a/b") ≡ false
+unfolding is_lawful
+a_name_in_a_folder = refl
+
+a_name_beyond_ascii : is_lawful (codes "é") ≡ false
+unfolding is_lawful
+a_name_beyond_ascii = refl
+
+the_longest_name : is_lawful (times 100 (codes "a")) ≡ true
+unfolding is_lawful
+the_longest_name = refl
+
+a_name_that_is_too_long : is_lawful (times 101 (codes "a")) ≡ false
+unfolding is_lawful
+a_name_that_is_too_long = refl
+
+-- ---- pages
 
 abbrev Files : Type 0
 Files = List (String × Fetched)

@@ -266,7 +266,7 @@ rest-refuses w x f fs p d left e none b = at_frames (λ y. NestComesTo w y (refu
 -- where the parser waits the statements come next
 statements-next : (n : ℕ) (w : World) (f : Frame) (fs : List Frame) (x : Nest) (list : List Statement) → Waits x.pending f.rest → f.list ≡ list →
     resume (suc (suc n)) w (framed f fs x) ≡ run_statements (suc (suc n)) w f.number list (state_of (framed f fs x))
-        then λ u. resume_in (suc (suc n)) w fs x.behind (back_in fs x.behind u)
+    then λ u. resume_in (suc (suc n)) w fs x.behind (back_in fs x.behind u)
 statements-next n w f fs x list h l =
     let s : Serial = state_of (framed f fs x) in
     ap (λ (o : Flow). o then after_rest (suc (suc n)) w f fs x.behind) (waits n w x.pending f fs x h)

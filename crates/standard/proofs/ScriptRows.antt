@@ -1,10 +1,13 @@
 -- Worked pages whose scripts write scripts, remove elements and read them, by computation.
-use Rattle.std.proofs.Common.{◌≡◌, refl}
+use Rattle.std.proofs.Common.{◌≡◌, true, [], option_map, refl, codes}
 use Rattle.html_types.specs.declared.script.Ending.TheVariants as ending
 use Rattle.standard.specs.Adoption.{adopt}
 use Rattle.standard.specs.Rules.{adopting}
+use Rattle.standard.specs.Serial.{serial_with}
+use Rattle.standard.specs.Dump.{dump_lines}
+use Rattle.standard.specs.Output.{output_with}
 use Rattle.standard.proofs.OnLiterals.{serial_on_literals}
-use Rattle.standard.proofs.Rows.{written, wants}
+use Rattle.standard.proofs.Rows.{without_files, written, wants}
 
 a_written_b : written "<p>a<script>document.write(\"<b>x</b>\");</script>b" ending.End ≡ wants "tree \"<html><head></head><body><p>a<script>document.write(\\\"<b>x</b>\\\");</script><b>x</b>b</p></body></html>\"\n"
 unfolding serial_on_literals adopting adopt
@@ -81,3 +84,13 @@ an_empty_id = refl
 three_scripts_deep : written "<body><script>document.write(\"<script>document.write(\\\"<script>document.write(\\\\\\\"a\\\\\\\");<\\\\/script>b\\\");<\\/script>c\");</script>d" ending.End ≡ wants "tree \"<html><head></head><body><script>document.write(\\\"<script>document.write(\\\\\\\"<script>document.write(\\\\\\\\\\\\\\\"a\\\\\\\\\\\\\\\");<\\\\\\\\/script>b\\\\\\\");<\\\\/script>c\\\");</script><script>document.write(\\\"<script>document.write(\\\\\\\"a\\\\\\\");<\\\\/script>b\\\");</script><script>document.write(\\\"a\\\");</script>abcd</body></html>\"\n"
 unfolding serial_on_literals
 three_scripts_deep = refl
+
+a_written_i_goes_on_in_the_page : written "<script>document.write(\"<i\");</script> class=\"k\">z" ending.End ≡ wants "tree \"<html><head><script>document.write(\\\"<i\\\");</script></head><body><i class=\\\"k\\\">z</i></body></html>\"\n"
+unfolding serial_on_literals adopting adopt
+a_written_i_goes_on_in_the_page = refl
+
+-- its dump
+a_script_that_removed_itself : option_map (output_with true) (serial_with 10000 (record { text = codes "<body>a<script id=\"s\">document.getElementById(\"s\").remove();</script>b"; ending = ending.End }) (without_files []))
+    ≡ wants "node 0 element \"html\"\nnode 1 element \"head\"\nnode 1 element \"body\"\nnode 2 text \"ab\"\nend\n"
+unfolding serial_on_literals dump_lines output_with
+a_script_that_removed_itself = refl
