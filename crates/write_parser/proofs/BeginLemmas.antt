@@ -16,7 +16,7 @@ use Rattle.op_exec.specs.declared.script.ScriptKind.TheVariants.{Still, Inline, 
 use Rattle.write_parser.specs.declared.nesting.Begun.{Begun}
 use Rattle.write_parser.specs.declared.live.Live.{Live}
 use Rattle.write_parser.specs.Steps.{nest_of, with_begun, Begins, Prepares}
-use Rattle.write_parser.proofs.FrameLaws.{still-tags, external-tags, inline-tags, outside-texts, texts-begin}
+use Rattle.standard.proofs.Frames.{still-tag, external-tag, inline-tag, outside-text, text-begins}
 
 -- ---- by its text
 
@@ -25,7 +25,7 @@ pub begins-outside : (text : List ℕ) (old new : Live) → new ≡ record old {
     statements text ≡ None → Begins text old None new
 begins-outside text old new is none = subst (λ n. Begins text old None n) (sym is) (record {
   comes = λ w fs before page g come.
-      outside-texts w (statements text) (nest_of old fs before page) g none
+      outside-text w (statements text) (nest_of old fs before page) g none
       (subst (λ l. NestComesTo w (record (nest_of old fs before page) { executed = suc old.executed; lines = l }) g)
       (sym (append_assoc before old.lines (line.Syntax (suc old.executed) ∷ []))) come);
   keeps = refl;
@@ -44,7 +44,7 @@ begins-inside text old new b is number done rest some = subst (λ n. Begins text
     by_begun : (w : World) (fs : List Frame) (before : List Line) (page : List ℕ) (g : Flow)
         → NestComesTo w (nest_of (record old { executed = suc old.executed }) (record { number = suc old.executed; list = b.script; rest = [] } ∷ fs) before page) g
         → TextComesTo w (statements text) (nest_of old fs before page) g
-    by_begun w fs before page g come = texts-begin w (statements text) b.script (nest_of old fs before page) g some come
+    by_begun w fs before page g come = text-begins w (statements text) b.script (nest_of old fs before page) g some come
 
 -- ---- how it was prepared
 
@@ -103,7 +103,7 @@ is_inline tree node is =
 
 pub prepares-still : (id : NodeId) (l : Live) → Still ≡ script_kind (prepare l.doc.tree (node_of l.doc.bound id)) → Prepares id l None l
 prepares-still id l kind = record {
-  comes = λ w fs before page g come. still-tags w id (nest_of l fs before page) g (is_still _ (sym kind)) come;
+  comes = λ w fs before page g come. still-tag w id (nest_of l fs before page) g (is_still _ (sym kind)) come;
   keeps = refl;
   wrote = tt;
 }
@@ -114,7 +114,7 @@ prepares-external id old new src kind named is = by_name (is_external old.doc.tr
   where
     by_name : IsExternal (prepare old.doc.tree (node_of old.doc.bound id)) (attribute (codes "src") (attributes_of (kind_of old.doc.tree (node_of old.doc.bound id)))) → Prepares id old None new
     by_name (name, prepared, src-is) = subst (λ n. Prepares id old None n) (sym (is ∙ ap (λ p. record old { pending = p }) (named ∙ src-is))) (record {
-      comes = λ w fs before page g come. external-tags w id (nest_of old fs before page) name g prepared come;
+      comes = λ w fs before page g come. external-tag w id (nest_of old fs before page) name g prepared come;
       keeps = refl;
       wrote = tt;
     })
@@ -122,7 +122,7 @@ prepares-external id old new src kind named is = by_name (is_external old.doc.tr
 pub prepares-inline : (id : NodeId) (old new : Live) (text read : List ℕ) (b : Option Begun) → Inline ≡ script_kind (prepare old.doc.tree (node_of old.doc.bound id)) →
     text ≡ script_text old.doc.tree (node_of old.doc.bound id) → read ≡ text → Begins read old b new → Prepares id old b new
 prepares-inline id old new text read b kind whole same begins = record {
-  comes = λ w fs before page g come. inline-tags w id (nest_of old fs before page) read g (is_inline old.doc.tree (node_of old.doc.bound id) (sym kind) ∙ ap inline (sym (same ∙ whole)))
+  comes = λ w fs before page g come. inline-tag w id (nest_of old fs before page) read g (is_inline old.doc.tree (node_of old.doc.bound id) (sym kind) ∙ ap inline (sym (same ∙ whole)))
       (begins.comes w fs before page g come);
   keeps = begins.keeps;
   wrote = begins.wrote;

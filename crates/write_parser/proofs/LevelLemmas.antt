@@ -22,7 +22,9 @@ use Rattle.write_parser.specs.declared.live.Live.{Live}
 use Rattle.write_parser.specs.Parsing.{IsServed, RestParsed}
 use Rattle.write_parser.specs.Writing.{View, why_of, serial_of, moment_by, moment_of, IsOver, StandsBy, Stands, AtTag, LeadsTo, IsRefusal, Comes, ComesBy, Runs}
 use Rattle.write_parser.specs.Steps.{IsGoing, halted_of, view_of, with_begun, nest_of, ThenBy, Then, weight, Moves, WroteNothing, Begins, Prepares, Keeps, Continues, EndsTag, awaits_none, RunsText, FeedsOn, StaysAt}
-use Rattle.write_parser.proofs.FrameLaws.{parse-left, leads-batch, script-leads, script-refuses, frames-end, scripts-enter}
+use Rattle.standard.proofs.Passing.{parse-left, leads-batch}
+use Rattle.standard.proofs.Scripts.{script-leads, script-refuses}
+use Rattle.standard.proofs.Frames.{frames-end, scripts-enter}
 
 -- ---- a script that was begun, and all behind it
 

@@ -1,5 +1,4 @@
 pub mod ParsingLemmas
-pub mod FrameLaws
 pub mod BeginLemmas
 pub mod StatementLemmas
 pub mod RestLemmas

@@ -25,7 +25,8 @@ use Rattle.write_parser.specs.declared.live.Turn.TheVariants as turn
 use Rattle.write_parser.specs.Parsing.{IsServed, RestParsed}
 use Rattle.write_parser.specs.Writing.{IsRefusal}
 use Rattle.write_parser.specs.Steps.{Steps, IsGoing, framed, frame_of, frames_of, with_begun, nest_of, ThenBy, Then, Turns, weight, steps_of, Moves, frames_at, WroteNothing, Keeps, Prepares, Nests, left_by, IsLight, Does, RunsOn, Continues, ParsesOn}
-use Rattle.write_parser.proofs.FrameLaws.{parse-left, frame-ends, rests-end, rests-stop, rests-refuse}
+use Rattle.standard.proofs.Passing.{parse-left}
+use Rattle.standard.proofs.Frames.{frame-ends, rest-ends, rest-stops, rest-refuses}
 use Rattle.write_parser.proofs.StatementLemmas.{then-on, on-then}
 
 -- ---- one part behind another
@@ -213,7 +214,7 @@ parsed-whole es old k list rest fs p d left going none parsed served = record {
   turns = record {
     turns = λ w before page is.
         then-on w (NestComesTo w (nest_of old (framed k list rest ∷ fs) before page)) (parsed_live p d old) (framed k list [] ∷ fs) before page going.halted
-        (λ g come. rests-end w (nest_of old (framed k list rest ∷ fs) before page) (framed k list rest) fs p d left g refl none
+        (λ g come. rest-ends w (nest_of old (framed k list rest ∷ fs) before page) (framed k list rest) fs p d left g refl none
         (subst (λ e. HasParsed e old.machine old.doc rest p d left stop.InputEnd) (sym is) parsed) come);
   };
   served = served;
@@ -257,7 +258,7 @@ parse-deep es old new n n' p d left s going goes parsed deep is = subst (λ l. P
           lines = refl;
           doc = refl;
         },
-        rests-refuse w (nest_of old (frames_of n) before page) (frame_of n.top) (map frame_of (reverse n.below.items)) p d left refl goes.pending
+        rest-refuses w (nest_of old (frames_of n) before page) (frame_of n.top) (map frame_of (reverse n.below.items)) p d left refl goes.pending
             (subst (λ e. HasParsed e old.machine old.doc n.top.rest p d left stop.Deep) (sym world) (subst (λ k. HasParsed es old.machine old.doc n.top.rest p d left k) deep parsed.parsed)),
       );
     };
@@ -297,7 +298,7 @@ parse-nests es old mid new n m n' p d left s id going goes parsed stops is is' n
             turns = record {
               turns = λ w before page world.
                   then-on w (NestComesTo w (nest_of old (frames_of n) before page)) new (frames_of n') before page on
-                  (λ g come. rests-stop w (nest_of old (frames_of n) before page) (frame_of n.top) (map frame_of (reverse n.below.items)) p d left id g refl goes.pending
+                  (λ g come. rest-stops w (nest_of old (frames_of n) before page) (frame_of n.top) (map frame_of (reverse n.below.items)) p d left id g refl goes.pending
                   (subst (λ e. HasParsed e old.machine old.doc n.top.rest p d left (stop.Script id)) (sym world) part) (here.comes w before page g come));
             };
             served = subst (λ q. IsServed q new.doc) (sym (ap (λ (l : Live). l.machine) here.keeps)) (subst (λ e. IsServed p e) (sym (ap (λ (l : Live). l.doc) here.keeps)) parsed.served);

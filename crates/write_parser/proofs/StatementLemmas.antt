@@ -21,7 +21,7 @@ use Rattle.write_parser.specs.declared.live.Did.TheVariants as did
 use Rattle.write_parser.specs.Parsing.{IsServed}
 use Rattle.write_parser.specs.Writing.{IsRefusal}
 use Rattle.write_parser.specs.Steps.{IsGoing, framed, nest_of, ThenBy, Then, Turns, HasWritten, HasRemoved, HasRead, left_by, DoneBy, IsLight, DoesMost, Does, view_of}
-use Rattle.write_parser.proofs.FrameLaws.{writes-fit, writes-refuse, removes, reads-by_id, reads-root, throws}
+use Rattle.standard.proofs.Frames.{write-fits, write-refuses, removes, reads_by_id, reads_root, throws}
 
 -- ---- where the page isn't refused, and where it is
 
@@ -42,7 +42,7 @@ wrote-fits k t old rest going waits fits = record {
     turns = λ w before page is.
         then-on w (NestComesTo w (nest_of old (framed k (statement.Write t ∷ list) rest ∷ fs) before page)) (record old { written = old.written + length t })
         (framed k list (rest ++ t) ∷ fs) before page going.halted
-        (λ g come. writes-fit w (nest_of old (framed k (statement.Write t ∷ list) rest ∷ fs) before page) (framed k (statement.Write t ∷ list) rest) fs t list g
+        (λ g come. write-fits w (nest_of old (framed k (statement.Write t ∷ list) rest ∷ fs) before page) (framed k (statement.Write t ∷ list) rest) fs t list g
         refl refl waits fits come);
   };
   served = going.served;
@@ -56,7 +56,7 @@ wrote-long k t old rest going waits long = record {
     turns = λ w before page is. (
       refuses why.Writes (state_of (nest_of old (framed k (statement.Write t ∷ list) rest ∷ fs) before page)),
       record { last = state_of (nest_of old (framed k (statement.Write t ∷ list) rest ∷ fs) before page); is = refl; lines = refl; doc = refl },
-      writes-refuse w (nest_of old (framed k (statement.Write t ∷ list) rest ∷ fs) before page) (framed k (statement.Write t ∷ list) rest) fs t list refl refl waits long,
+      write-refuses w (nest_of old (framed k (statement.Write t ∷ list) rest ∷ fs) before page) (framed k (statement.Write t ∷ list) rest) fs t list refl refl waits long,
     );
   };
   served = going.served;
@@ -149,7 +149,7 @@ does-read-by_id k v old rest new rest' d going waits same = by_found (find_id ol
     by_found None none has = lacks k (statement.LogById v) old rest new rest' d going none same has
     by_found (Some e) there has =
         reads-there k (statement.LogById v) old rest new rest' d e going same
-        (λ w j list fs before page g come. reads-by_id w (nest_of old (framed j (statement.LogById v ∷ list) rest ∷ fs) before page) (framed j (statement.LogById v ∷ list) rest) fs v list e g
+        (λ w j list fs before page g come. reads_by_id w (nest_of old (framed j (statement.LogById v ∷ list) rest ∷ fs) before page) (framed j (statement.LogById v ∷ list) rest) fs v list e g
         refl refl waits there come) has
 
 pub does-read-root : (k : ℕ) (old : Live) (rest : List ℕ) (new : Live) (rest' : List ℕ) (d : Did) → IsGoing old → Waits old.pending rest → rest' ≡ rest →
@@ -160,7 +160,7 @@ does-read-root k old rest new rest' d going waits same = by_found (first_element
     by_found None none has = lacks k statement.LogRoot old rest new rest' d going none same has
     by_found (Some e) there has =
         reads-there k statement.LogRoot old rest new rest' d e going same
-        (λ w j list fs before page g come. reads-root w (nest_of old (framed j (statement.LogRoot ∷ list) rest ∷ fs) before page) (framed j (statement.LogRoot ∷ list) rest) fs list e g
+        (λ w j list fs before page g come. reads_root w (nest_of old (framed j (statement.LogRoot ∷ list) rest ∷ fs) before page) (framed j (statement.LogRoot ∷ list) rest) fs list e g
         refl refl waits there come) has
 
 -- ---- all of a statement
