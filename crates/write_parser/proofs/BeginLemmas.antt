@@ -3,19 +3,18 @@ use Rattle.std.proofs.Common.{◌≡◌, ℕ, suc, Bool, true, false, ◌||◌, 
 use Rattle.html_types.specs.declared.operation.NodeId.{NodeId}
 use Rattle.html_types.specs.declared.script.Line.{Line}
 use Rattle.html_types.specs.declared.script.Line.TheVariants as line
-use Rattle.html_types.specs.declared.script.Statement.{Statement}
 use Rattle.html_types.specs.declared.attributes.Attribute.{Attribute}
-use Rattle.standard.specs.Act.{Doc, node_of}
+use Rattle.standard.specs.Act.{node_of}
 use Rattle.standard.specs.Tree.{Nodes, kind_of, attributes_of, attribute, is_connected, script_text}
 use Rattle.standard.specs.Prepare.{Prepared, still, inline, external, has, may_run, prepared_by, prepared_with, prepare}
 use Rattle.standard.specs.Statements.{statements}
 use Rattle.standard.specs.Serial.{World, Flow}
-use Rattle.standard.specs.Frames.{Frame, NestComesTo, TagComesTo, TextComesTo}
+use Rattle.standard.specs.Frames.{Frame, NestComesTo, TextComesTo}
 use Rattle.op_exec.specs.Scripts.{script_kind}
 use Rattle.op_exec.specs.declared.script.ScriptKind.TheVariants.{Still, Inline, External}
 use Rattle.write_parser.specs.declared.nesting.Begun.{Begun}
 use Rattle.write_parser.specs.declared.live.Live.{Live}
-use Rattle.write_parser.specs.Steps.{nest_of, with_begun, Begins, Prepares}
+use Rattle.write_parser.specs.Steps.{nest_of, Begins, Prepares}
 use Rattle.standard.proofs.Frames.{still-tag, external-tag, inline-tag, outside-text, text-begins}
 
 -- ---- by its text

@@ -1,10 +1,8 @@
 -- Scripts and written text at level 0, against the moments of the serial parse.
-use Rattle.std.proofs.Common.{◌≡◌, ◌≢◌, ◌<◌, ◌≤◌, ◌+◌, ◌*◌, ◌-◌, ℕ, suc, Bool, false, List, [], ◌∷◌, ◌++◌, length, Option, Some, None, refl, sym, ap, ◌∙◌, subst, append_assoc, length-append, arith}
+use Rattle.std.proofs.Common.{◌≡◌, ◌<◌, ◌≤◌, ℕ, Bool, false, List, [], ◌∷◌, ◌++◌, length, Option, Some, None, refl, sym, ap, ◌∙◌, subst, arith}
 use Rattle.html_types.specs.declared.operation.NodeId.{NodeId}
 use Rattle.html_types.specs.declared.script.Ending.{Ending}
 use Rattle.html_types.specs.declared.script.Line.{Line}
-use Rattle.html_types.specs.declared.script.Statement.{Statement}
-use Rattle.html_types.specs.declared.script.Why.{Why}
 use Rattle.html_types.specs.declared.script.Why.TheVariants as why
 use Rattle.html_types.specs.declared.instruction.Stop.{Stop}
 use Rattle.html_types.specs.declared.instruction.Stop.TheVariants as stop
@@ -13,14 +11,14 @@ use Rattle.standard.specs.Act.{Doc}
 use Rattle.standard.specs.Parser.{Parser}
 use Rattle.standard.specs.Statements.{statements}
 use Rattle.standard.specs.Laws.{HasParsed, moment_at}
-use Rattle.standard.specs.Serial.{World, Serial, Flow, goes, refuses, awaiting, run_text, Moment, reading, tag_ended, over, refusal, taken, unless_pending, behind_script, Leads}
+use Rattle.standard.specs.Serial.{World, Flow, goes, refuses, awaiting, run_text, Moment, reading, tag_ended, over, refusal, taken, unless_pending, behind_script, Leads}
 use Rattle.standard.specs.Frames.{rests, state_of, NestComesTo, TagComesTo, TextComesTo}
 use Rattle.write_parser.specs.declared.left.Limit.{Limit}
 use Rattle.write_parser.specs.declared.left.Limit.TheVariants as limit
 use Rattle.write_parser.specs.declared.nesting.Begun.{Begun}
 use Rattle.write_parser.specs.declared.live.Live.{Live}
-use Rattle.write_parser.specs.Parsing.{IsServed, RestParsed}
-use Rattle.write_parser.specs.Writing.{View, why_of, serial_of, moment_by, moment_of, IsOver, StandsBy, Stands, AtTag, LeadsTo, IsRefusal, Comes, ComesBy, Runs}
+use Rattle.write_parser.specs.Parsing.{RestParsed}
+use Rattle.write_parser.specs.Writing.{View, why_of, serial_of, moment_by, moment_of, StandsBy, Stands, AtTag, LeadsTo, ComesBy, Runs}
 use Rattle.write_parser.specs.Steps.{IsGoing, halted_of, view_of, with_begun, nest_of, ThenBy, Then, weight, Moves, WroteNothing, Begins, Prepares, Keeps, Continues, EndsTag, awaits_none, RunsText, FeedsOn, StaysAt}
 use Rattle.standard.proofs.Passing.{parse-left, leads-batch}
 use Rattle.standard.proofs.Scripts.{script-leads, script-refuses}
@@ -85,10 +83,12 @@ tag-leads es id old new none ends e w m before page is at = by new.halted (ends.
     by : (h : Option Limit) → ThenBy h w (TagComesTo w id (nest_of old [] before page)) new [] before page →
         (to : Moment) × StandsBy (halted_of h) (view_of new false) before page to × Leads e w m to
     by None each =
-        let come = each (goes (state_of (nest_of new [] before page))) (frames-end w (nest_of new [] before page) refl) in
-        (behind_script (state_of (nest_of new [] before page)), behind-is new before page,
-            script-leads e w m id (state_of (nest_of old [] before page)) (state_of (nest_of new [] before page)) (tag _ come)
-            (scripts-enter w id (nest_of old [] before page) _ refl come))
+        let come = each (goes (state_of (nest_of new [] before page))) (frames-end w (nest_of new [] before page) refl) in (
+          behind_script (state_of (nest_of new [] before page)),
+          behind-is new before page,
+          script-leads e w m id (state_of (nest_of old [] before page)) (state_of (nest_of new [] before page)) (tag _ come)
+              (scripts-enter w id (nest_of old [] before page) _ refl come),
+        )
     by (Some l) (g, halt, come) = (
       over (refusal (why_of l) halt.last),
       record { last = halt.last; is = refl; lines = halt.lines; doc = halt.doc },

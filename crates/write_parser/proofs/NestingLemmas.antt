@@ -1,5 +1,5 @@
 -- Nested scripts: their statements, their ends, and those that begin inside.
-use Rattle.std.proofs.Common.{◌≡◌, ◌<◌, ◌≤◌, ◌+◌, ◌*◌, ◌-◌, ℕ, suc, List, [], ◌∷◌, ◌++◌, length, map, reverse, drop, Option, Some, None, refl, sym, ap, ◌∙◌, subst, append_assoc, length-append, arith}
+use Rattle.std.proofs.Common.{◌≡◌, ◌<◌, ◌≤◌, ◌+◌, ℕ, suc, List, [], ◌∷◌, ◌++◌, length, map, reverse, drop, Option, Some, None, refl, sym, ap, ◌∙◌, subst, append_assoc, length-append, arith}
 use Rattle.std.proofs.lemmas.List.{reverse-append}
 use Rattle.html_types.specs.declared.operation.NodeId.{NodeId}
 use Rattle.html_types.specs.declared.script.Line.{Line}
@@ -11,8 +11,8 @@ use Rattle.standard.specs.Entities.{Entities}
 use Rattle.standard.specs.Act.{Doc}
 use Rattle.standard.specs.Parser.{Parser}
 use Rattle.standard.specs.Laws.{HasParsed}
-use Rattle.standard.specs.Serial.{World, Flow, refuses, write_limit}
-use Rattle.standard.specs.Frames.{Frame, rests, state_of, parsed_to, NestComesTo, TagComesTo, Waits}
+use Rattle.standard.specs.Serial.{World, Flow, refuses}
+use Rattle.standard.specs.Frames.{Frame, rests, state_of, parsed_to, NestComesTo, Waits}
 use Rattle.write_parser.specs.declared.left.Limit.{Limit}
 use Rattle.write_parser.specs.declared.left.Limit.TheVariants as limit
 use Rattle.write_parser.specs.declared.nesting.Begun.{Begun}
@@ -23,8 +23,7 @@ use Rattle.write_parser.specs.declared.live.Did.TheVariants as did
 use Rattle.write_parser.specs.declared.live.Turn.{Turn}
 use Rattle.write_parser.specs.declared.live.Turn.TheVariants as turn
 use Rattle.write_parser.specs.Parsing.{IsServed, RestParsed}
-use Rattle.write_parser.specs.Writing.{IsRefusal}
-use Rattle.write_parser.specs.Steps.{Steps, IsGoing, framed, frame_of, frames_of, with_begun, nest_of, ThenBy, Then, Turns, weight, steps_of, Moves, frames_at, WroteNothing, Keeps, Prepares, Nests, left_by, IsLight, Does, RunsOn, Continues, ParsesOn}
+use Rattle.write_parser.specs.Steps.{Steps, IsGoing, framed, frame_of, frames_of, nest_of, ThenBy, Then, weight, steps_of, Moves, frames_at, Prepares, Nests, left_by, IsLight, Does, RunsOn, Continues, ParsesOn}
 use Rattle.standard.proofs.Passing.{parse-left}
 use Rattle.standard.proofs.Frames.{frame-ends, rest-ends, rest-stops, rest-refuses}
 use Rattle.write_parser.proofs.StatementLemmas.{then-on, on-then}
@@ -159,9 +158,11 @@ step-on old new n n' a rest' d done next does on left is = subst (λ m. Steps ol
         served = does.served;
         weight = light-weight old new n.top.number n.top.number (a ∷ more) (left_by d more) n.top.rest rest' fs does.light;
       }));
-  on = λ _. (on,
+  on = λ _. (
+    on,
     subst (λ list. suc (length (drop done n.top.script)) + steps_of fs < suc (length list) + steps_of fs) (sym next)
-        (subst (λ list. suc (length list) + steps_of fs < suc (length (a ∷ more)) + steps_of fs) (sym left) (fewer d)));
+        (subst (λ list. suc (length list) + steps_of fs < suc (length (a ∷ more)) + steps_of fs) (sym left) (fewer d)),
+  );
 })
   where
     fs : List Frame

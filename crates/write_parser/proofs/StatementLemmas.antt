@@ -1,5 +1,5 @@
 -- Statements of the innermost script.
-use Rattle.std.proofs.Common.{◌≡◌, ◌<◌, ◌≤◌, ◌+◌, ◌*◌, ◌-◌, ℕ, suc, Bool, true, false, get_or, drop, drop-cons, add-one, Result, Ok, Err, IfOk, OnOk, List, [], ◌∷◌, ◌++◌, length, Option, Some, None, refl, sym, ap, ◌∙◌, subst, append_assoc, length-append, arith, ◌⊎◌, inl, inr}
+use Rattle.std.proofs.Common.{◌≡◌, ◌<◌, ◌≤◌, ◌+◌, ℕ, suc, true, false, get_or, drop, drop-cons, add-one, Result, Ok, Err, IfOk, OnOk, List, [], ◌∷◌, ◌++◌, length, Option, Some, None, refl, sym, ap, ◌∙◌, subst, append_assoc, length-append, arith, ◌⊎◌, inl, inr}
 use Rattle.std.specs.Option.{is_some}
 use Rattle.std.proofs.lemmas.Bool.{cases_lt}
 use Rattle.html_types.specs.declared.script.Line.{Line}
@@ -7,8 +7,6 @@ use Rattle.html_types.specs.declared.script.Line.TheVariants as line
 use Rattle.html_types.specs.declared.script.Statement.{Statement}
 use Rattle.html_types.specs.declared.script.Statement.TheVariants as statement
 use Rattle.html_types.specs.declared.script.Why.TheVariants as why
-use Rattle.standard.specs.Entities.{Entities}
-use Rattle.standard.specs.Act.{Doc}
 use Rattle.standard.specs.Outer.{outer_text}
 use Rattle.standard.specs.Tree.{find_id, first_element, detached}
 use Rattle.standard.specs.Serial.{World, Flow, refuses, write_limit}
@@ -18,9 +16,7 @@ use Rattle.write_parser.specs.declared.left.Limit.TheVariants as limit
 use Rattle.write_parser.specs.declared.live.Live.{Live}
 use Rattle.write_parser.specs.declared.live.Did.{Did}
 use Rattle.write_parser.specs.declared.live.Did.TheVariants as did
-use Rattle.write_parser.specs.Parsing.{IsServed}
-use Rattle.write_parser.specs.Writing.{IsRefusal}
-use Rattle.write_parser.specs.Steps.{IsGoing, framed, nest_of, ThenBy, Then, Turns, HasWritten, HasRemoved, HasRead, left_by, DoneBy, IsLight, DoesMost, Does, view_of}
+use Rattle.write_parser.specs.Steps.{IsGoing, framed, nest_of, ThenBy, Then, HasWritten, HasRemoved, HasRead, DoesMost, Does}
 use Rattle.standard.proofs.Frames.{write-fits, write-refuses, removes, reads_by_id, reads_root, throws}
 
 -- ---- where the page isn't refused, and where it is

@@ -7,10 +7,8 @@ use Rattle.html_types.specs.declared.script.Why.{Why}
 use Rattle.html_types.specs.declared.script.Line.{Line}
 use Rattle.html_types.specs.declared.script.Line.TheVariants as line
 use Rattle.standard.specs.Entities.{Entities}
-use Rattle.standard.specs.Tree.{Nodes, detached, find_id}
+use Rattle.standard.specs.Tree.{detached}
 use Rattle.standard.specs.Outer.{outer_text}
-use Rattle.standard.specs.Act.{Doc}
-use Rattle.standard.specs.Parser.{Parser}
 use Rattle.standard.specs.Statements.{statements}
 use Rattle.standard.specs.Serial.{World, Flow, write_limit}
 use Rattle.standard.specs.Frames.{Frame, Nest, rests, NestComesTo, TagComesTo, TextComesTo, Waits, LacksElement}

@@ -8,7 +8,6 @@ mod nesting;
 mod rest;
 mod writer;
 
-
 pub use left::{Left, Limit};
 pub use parse_machine::Ran;
 pub use writer::Writer;

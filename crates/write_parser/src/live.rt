@@ -386,7 +386,10 @@ impl Live {
         requires goes { Continues self.old.pending self.old.rest }
         ensures { OnOk result (FeedsOn table.now self.old self.new) }
     {
-        match self.rest.parse(self.alloc, table, &mut self.machine, &mut self.doc)? {
+        match self
+            .rest
+            .parse(self.alloc, table, &mut self.machine, &mut self.doc)?
+        {
             Stop::InputEnd => Ok(()),
             Stop::Script(id) => self.end_tag(table, id),
             Stop::Deep => {

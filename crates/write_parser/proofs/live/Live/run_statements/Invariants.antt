@@ -1,4 +1,3 @@
-use Rattle.std.proofs.Common.{◌≡◌, None}
 use Rattle.standard.specs.Entities.{Entities}
 use Rattle.write_parser.specs.Steps.{IsGoing, Moves, frames_of, steps_of}
 use Rattle.write_parser.proofs.live.Live.run_statements.Given as goal

@@ -1,4 +1,4 @@
-use Rattle.std.proofs.Common.{◌≡◌, ◌+◌, ◌<◌, ℕ, List, ◌∷◌, [], None, true, length, drop, get_or, ap, ◌∙◌, sym, subst, ltb, arith}
+use Rattle.std.proofs.Common.{◌≡◌, ◌+◌, ℕ, List, ◌∷◌, [], None, true, length, drop, get_or, ap, ◌∙◌, sym, subst, ltb, arith}
 use Rattle.std.proofs.lemmas.Bool.{ltb-true}
 use Rattle.std.proofs.lemmas.List.{drop_all}
 use Rattle.html_types.specs.declared.script.Statement.{Statement}
@@ -27,12 +27,12 @@ returns c =
     c.in-Some.ensures.lookup.1 in
     elim c.match-branch-2.branch [
       | in-All w ↦
-            step-on c.args.self.now c.run_statement.new.self c.args.nesting.now c.match-branch-2.nesting c.in-Some.statement.now c.run_statement.new.rest c.in_ok-run_statement.field-0
-            (top.done + 1) there c.in_ok-run_statement.ensures goes_on (ap (λ d. left_by d (drop (top.done + 1) top.script)) (sym w.in-All.is)) w.nesting-is
+          step-on c.args.self.now c.run_statement.new.self c.args.nesting.now c.match-branch-2.nesting c.in-Some.statement.now c.run_statement.new.rest c.in_ok-run_statement.field-0
+          (top.done + 1) there c.in_ok-run_statement.ensures goes_on (ap (λ d. left_by d (drop (top.done + 1) top.script)) (sym w.in-All.is)) w.nesting-is
       | in-Nothing w ↦
-            step-on c.args.self.now c.run_statement.new.self c.args.nesting.now c.match-branch-2.nesting c.in-Some.statement.now c.run_statement.new.rest c.in_ok-run_statement.field-0
-            (length c.as_slice-statements.result.now) there c.in_ok-run_statement.ensures goes_on
-            (ap (λ l. drop (length l) top.script) c.as_slice-statements.ensures ∙ (all_done top.script ∙ ap (λ d. left_by d (drop (top.done + 1) top.script)) (sym w.in-Nothing.is))) w.nesting-is
+          step-on c.args.self.now c.run_statement.new.self c.args.nesting.now c.match-branch-2.nesting c.in-Some.statement.now c.run_statement.new.rest c.in_ok-run_statement.field-0
+          (length c.as_slice-statements.result.now) there c.in_ok-run_statement.ensures goes_on
+          (ap (λ l. drop (length l) top.script) c.as_slice-statements.ensures ∙ (all_done top.script ∙ ap (λ d. left_by d (drop (top.done + 1) top.script)) (sym w.in-Nothing.is))) w.nesting-is
     ]
   where
     all_done : (list : List Statement) → drop (length list) list ≡ []

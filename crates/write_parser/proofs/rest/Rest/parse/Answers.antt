@@ -1,6 +1,6 @@
-use Rattle.std.proofs.Common.{◌≡◌, drop, subst, sym, ◌∙◌, ap}
+use Rattle.std.proofs.Common.{◌≡◌, drop, subst, ◌∙◌, ap}
 use Rattle.std.specs.String.{string_bytes}
-use Rattle.write_parser.specs.Parsing.{TextParsed, RestParsed}
+use Rattle.write_parser.specs.Parsing.{TextParsed}
 use Rattle.write_parser.proofs.ParsingLemmas.{rest-parsed}
 use Rattle.write_parser.proofs.rest.Rest.parse.Goals as goal
 
