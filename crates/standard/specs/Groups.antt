@@ -23,8 +23,20 @@ words_of group.Special =
     Tbody ∷ Td ∷ Template ∷ Textarea ∷ Tfoot ∷ Th ∷ Thead ∷ Title ∷ Tr ∷ Track ∷ Ul ∷ Wbr ∷ Xmp ∷ []
 words_of group.ClosedImplicitly =
     Dd ∷ Dt ∷ Li ∷ Optgroup ∷ Option ∷ P ∷ Rb ∷ Rp ∷ Rt ∷ Rtc ∷ []
+words_of group.ClosedThoroughly =
+    Caption ∷ Colgroup ∷ Dd ∷ Dt ∷ Li ∷ Optgroup ∷ Option ∷ P ∷ Rb ∷ Rp ∷ Rt ∷ Rtc ∷ Tbody ∷ Td ∷ Tfoot ∷ Th ∷ Thead ∷ Tr ∷ []
 words_of group.TableContext =
     Table ∷ Template ∷ Html ∷ []
+words_of group.TableBodyContext =
+    Tbody ∷ Tfoot ∷ Thead ∷ Template ∷ Html ∷ []
+words_of group.RowContext =
+    Tr ∷ Template ∷ Html ∷ []
+words_of group.TableSections =
+    Tbody ∷ Tfoot ∷ Thead ∷ []
+words_of group.Cells =
+    Td ∷ Th ∷ []
+words_of group.TextTargets =
+    Table ∷ Tbody ∷ Template ∷ Tfoot ∷ Thead ∷ Tr ∷ []
 words_of group.FosterTargets =
     Table ∷ Tbody ∷ Tfoot ∷ Thead ∷ Tr ∷ []
 words_of group.PassedItems =

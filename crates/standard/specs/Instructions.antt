@@ -8,7 +8,7 @@ use Rattle.html_types.specs.declared.word.Word.TheVariants as word
 use Rattle.html_types.specs.declared.instruction.Instr.{Instr}
 use Rattle.html_types.specs.declared.instruction.Instr.TheVariants as ins
 use Rattle.html_types.specs.declared.instruction.Test.{Test}
-use Rattle.html_types.specs.declared.instruction.Test.TheVariants.{InScope, Current, OnStack, Listed, Quirks, SecondIsBody, FramesetOk, QuirkyDoctype, InForm, HiddenInput}
+use Rattle.html_types.specs.declared.instruction.Test.TheVariants.{InScope, Current, OnStack, Listed, Quirks, SecondIsBody, FramesetOk, QuirkyDoctype, InForm, HiddenInput, InTemplates, InTables, OptionInOptgroup}
 use Rattle.html_types.specs.declared.instruction.Scope.TheVariants as scope
 use Rattle.html_types.specs.declared.instruction.Mode.{Mode}
 use Rattle.html_types.specs.declared.instruction.Mode.TheVariants as mode
@@ -33,8 +33,10 @@ use Rattle.html_types.specs.declared.open.Format.{Format}
 use Rattle.html_types.specs.declared.open.Format.TheVariants.{Marker, Element}
 use Rattle.html_types.specs.declared.open.Open.{Open}
 use Rattle.standard.specs.Tree.{attribute}
+use Rattle.standard.specs.Space.{is_space}
 use Rattle.standard.specs.Elements.{is_word, is_meant, is_one_of}
-use Rattle.standard.specs.Stack.{in_scope, on_stack, current_is, current_id, pop, until, pop_to, implied, close, close_item, other_end, place, first_open, second_open, is_the, without_open, open_in_scope}
+use Rattle.standard.specs.Stack.{in_scope, on_stack, current_is, option_in_optgroup, current_id, pop, until, pop_to, pop_to_root, implied, implied_thoroughly, close, close_item, other_end, place, first_open, second_open, is_the, without_open, open_in_scope}
+use Rattle.standard.specs.Reset.{reset_mode}
 use Rattle.standard.specs.Formatting.{listed, clear_to_marker, kept, lost, list_element, entry_named, without_entry}
 
 -- the open state, the operations so far, and how to go on
@@ -67,6 +69,20 @@ is_hidden_input _ = false
 abbrev pub in_form : Open → Bool
 in_form b = is_some b.form && not (on_stack (is_word word.Template) b.stack)
 
+-- template insertion modes are left
+abbrev pub has_modes : List Mode → Bool
+has_modes [] = false
+has_modes (m ∷ ms) = true
+
+-- the modes in which a select goes by "in select in table"
+abbrev pub is_table_mode : Mode → Bool
+is_table_mode mode.InTable = true
+is_table_mode mode.InCaption = true
+is_table_mode mode.InTableBody = true
+is_table_mode mode.InRow = true
+is_table_mode mode.InCell = true
+is_table_mode _ = false
+
 abbrev pub holds : Test → Token → Open → Bool
 holds (InScope s w) t b = in_scope s (is_meant w t) b.stack
 holds (Current w) t b = current_is (is_meant w t) b.stack
@@ -78,6 +94,9 @@ holds FramesetOk t b = b.frameset_ok
 holds QuirkyDoctype t b = is_quirky t
 holds InForm t b = in_form b
 holds HiddenInput t b = is_hidden_input t
+holds InTemplates t b = has_modes b.template_modes
+holds InTables t b = is_table_mode b.mode
+holds OptionInOptgroup t b = option_in_optgroup b.stack
 
 -- ---- elements
 
@@ -180,7 +199,57 @@ abbrev pub add_attributes : Option OpenElement → Tag → Open → List Op → 
 add_attributes None tag b o = on b o
 add_attributes (Some e) tag b o = on b (o ++ op.AddAttributes e.id tag.attributes ∷ [])
 
+-- an element taken out of its parent
+abbrev pub detach_second : Option OpenElement → Open → List Op → Config
+detach_second None b o = on b o
+detach_second (Some e) b o = on b (o ++ op.Detach e.id ∷ [])
+
+-- ---- the pending table character tokens (13.2.6.4.10)
+
+abbrev pub append_pending : Token → Open → List Op → Config
+append_pending (Character c) b o = on (record b { pending_text = b.pending_text ++ c ∷ [] }) o
+append_pending _ b o = on b o
+
+abbrev pub all_space : List ℕ → Bool
+all_space [] = true
+all_space (c ∷ cs) = is_space c && all_space cs
+
+-- the operations that insert characters at a place
+abbrev pub texts : Place → List ℕ → List Op
+texts p cs = map (λ c. op.Text p (c ∷ [])) cs
+
+-- a character by the rules of "in body" (13.2.6.4.7), behind the reconstruction
+abbrev pub body_text : ℕ → Config → Config
+body_text c r =
+    elim r.flow as (λ _. Config) [
+      | On ↦ on (record r.open_state { frameset_ok = is_space c && r.open_state.frameset_ok }) (r.ops ++ op.Text (here r.open_state) (c ∷ []) ∷ [])
+      | Skip ↦ r
+      | Leave n ↦ r
+    ]
+
+abbrev pub body_character : ℕ → Open → List Op → Config
+body_character c b o = body_text c (reconstruct b o)
+
+-- one character after another
+abbrev pub body_characters : List ℕ → Config → Config
+body_characters [] r = r
+body_characters (c ∷ cs) r =
+    elim r.flow as (λ _. Config) [ On ↦ body_characters cs (body_character c r.open_state r.ops) | Skip ↦ r | Leave n ↦ r ]
+
+-- no character is pending any more, and foster parenting is off
+abbrev pub none_pending : Config → Config
+none_pending r = record r { open_state = record r.open_state { pending_text = []; foster = false } }
+
+abbrev pub insert_pending : Open → List Op → Config
+insert_pending b o =
+    if all_space b.pending_text then on (record b { pending_text = [] }) (o ++ texts (here b) b.pending_text)
+    else none_pending (body_characters b.pending_text (on (record b { foster = true }) o))
+
 -- ---- pointers and modes
+
+abbrev pub pop_mode : List Mode → List Mode
+pop_mode [] = []
+pop_mode (m ∷ ms) = ms
 
 abbrev pub push_head : Option NodeId → Open → List Op → Config
 push_head None b o = on b o
@@ -247,7 +316,9 @@ step ins.AppendDoctype t b o = append_doctype t b o
 step ins.Pop t b o = on (record b { stack = pop b.stack }) o
 step (ins.Until w) t b o = on (record b { stack = until (is_meant w t) b.stack }) o
 step (ins.PopTo g) t b o = on (record b { stack = pop_to (is_one_of g) b.stack }) o
+step ins.PopToRoot t b o = on (record b { stack = pop_to_root b.stack }) o
 step ins.Implied t b o = on (record b { stack = implied (is_meant who.Nobody t) b.stack }) o
+step ins.ImpliedThoroughly t b o = on (record b { stack = implied_thoroughly b.stack }) o
 step (ins.ImpliedBut w) t b o = on (record b { stack = implied (is_meant w t) b.stack }) o
 step (ins.Close s w) t b o = on (record b { stack = close s (is_meant w t) b.stack }) o
 step (ins.CloseItem w) t b o = on (record b { stack = close_item (is_meant w t) b.stack }) o
@@ -267,18 +338,24 @@ step ins.PointForm t b o = on (record b { form = current_id b.stack }) o
 step ins.EndForm t b o = end_form (is_meant who.Nobody t) b o
 step ins.AddToFirst t b o = for_tag (add_attributes (first_open b.stack)) t b o
 step ins.AddToSecond t b o = for_tag (add_attributes (second_open b.stack)) t b o
+step ins.DetachSecond t b o = detach_second (second_open b.stack) b o
 step (ins.Enter m) t b o = on (record b { mode = m }) o
 step ins.KeepMode t b o = on (record b { original = Some b.mode }) o
 step ins.Restore t b o = on (record b { mode = original_or mode.InBody b.original; original = None }) o
+step (ins.PushTemplateMode m) t b o = on (record b { template_modes = m ∷ b.template_modes }) o
+step ins.PopTemplateMode t b o = on (record b { template_modes = pop_mode b.template_modes }) o
+step ins.Reset t b o = on (record b { mode = reset_mode b.stack b.head b.template_modes }) o
+step ins.AppendPending t b o = append_pending t b o
+step ins.InsertPending t b o = insert_pending b o
 step ins.Adopt t b o = for_tag adopt_own t b o
 step ins.AdoptAnchor t b o = adopt_anchor (entry_named (is_word word.A) b.formats) b o
 step ins.AdoptNobr t b o = config b o (Leave (next.Adopt word.Nobr Nobr))
 step (ins.Switch r) t b o = config b o (Leave (next.Switch r))
 step (ins.Using m) t b o = config b o (Leave (next.Using m))
+step ins.Foster t b o = config (record b { foster = true }) o (Leave next.Foster)
 step ins.Again t b o = config b o (Leave next.Again)
 step ins.StopAtScript t b o = stop_at_script b.stack b o
 step ins.Finish t b o = config b o (Leave next.Finished)
-step ins.Missing t b o = config b o (Leave next.Missing)
 
 -- one instruction of a row: left out where the one before said so, or the token is done
 abbrev pub turn : Token → Config → Instr → Config

@@ -1,5 +1,5 @@
 -- Tree construction (13.2.6): the row of a mode for a token, and what processing a token comes to.
-use Rattle.std.specs.Prelude.{ℕ, Bool, false, ◌==◌, ◌||◌, ◌&&◌, if◌then◌else◌, List, [], ◌∷◌}
+use Rattle.std.specs.Prelude.{ℕ, Bool, false, ◌==◌, ◌&&◌, if◌then◌else◌, List, [], ◌∷◌}
 use Rattle.std.proofs.Common.{zero, suc}
 use Rattle.html_types.specs.declared.word.Word.{Word}
 use Rattle.html_types.specs.declared.name.Name.{Name}
@@ -7,27 +7,26 @@ use Rattle.html_types.specs.declared.name.Name.TheVariants.{Known, Other}
 use Rattle.html_types.specs.declared.instruction.Instr.{Instr}
 use Rattle.html_types.specs.declared.instruction.Instr.TheVariants as ins
 use Rattle.html_types.specs.declared.instruction.Mode.{Mode}
-use Rattle.html_types.specs.declared.instruction.Mode.TheVariants.{Initial, BeforeHtml, BeforeHead, InHead, AfterHead, InBody, InText, AfterBody, AfterAfterBody}
+use Rattle.html_types.specs.declared.instruction.Mode.TheVariants.{Initial, BeforeHtml, BeforeHead, InHead, AfterHead, InBody, InText, InTable, InTableText, InCaption, InColumnGroup, InTableBody, InRow, InCell, InSelect, InSelectInTable, InTemplate, AfterBody, InFrameset, AfterFrameset, AfterAfterBody, AfterAfterFrameset}
 use Rattle.html_types.specs.declared.instruction.Flow.{Flow}
 use Rattle.html_types.specs.declared.instruction.Flow.TheVariants.{On, Skip, Leave}
 use Rattle.html_types.specs.declared.instruction.Next.{Next}
 use Rattle.html_types.specs.declared.instruction.Next.TheVariants as next
 use Rattle.html_types.specs.declared.instruction.Then.{Then}
 use Rattle.html_types.specs.declared.token.Token.{Token}
-use Rattle.html_types.specs.declared.token.Token.TheVariants.{StartTag, EndTag, Character, Comment, Doctype, EndOfFile, Missing}
+use Rattle.html_types.specs.declared.token.Token.TheVariants.{StartTag, EndTag, Character, Comment, Doctype, EndOfFile}
 use Rattle.html_types.specs.declared.operation.Op.{Op}
 use Rattle.html_types.specs.declared.open.Open.{Open}
+use Rattle.standard.specs.Space.{is_space}
 use Rattle.standard.specs.Rows.{row_for}
 use Rattle.standard.specs.Instructions.{Config, on, run}
 use Rattle.standard.specs.Adoption.{Adopted, adopt}
 use Rattle.standard.specs.RulesHead.{initial_doctype, initial_anything, before_html_start, before_html_end, before_html_anything, before_head_start, before_head_end, before_head_anything, in_head_start, in_head_end, in_head_anything, after_head_start, after_head_end, after_head_anything}
-use Rattle.standard.specs.RulesBody.{in_body_space, in_body_character, in_body_start, in_body_any_start, in_body_end, in_body_any_end, after_adopt, in_text_end_of_file, in_text_end, in_text_any_end, after_body_start, after_body_end, after_body_anything, after_after_body_start, after_after_body_anything}
+use Rattle.standard.specs.RulesBody.{in_body_space, in_body_character, in_body_start, in_body_any_start, in_body_end, in_body_any_end, in_body_end_of_file, after_adopt, in_text_end_of_file, in_text_end, in_text_any_end, after_body_start, after_body_end, after_body_anything, after_after_body_start, after_after_body_anything}
+use Rattle.standard.specs.RulesTable.{in_table_character, in_table_start, in_table_any_start, in_table_end, in_table_any_end, in_table_text_anything, in_caption_start, in_caption_end, in_caption_anything, in_column_group_start, in_column_group_end, in_column_group_anything, in_table_body_start, in_table_body_end, in_table_body_anything, in_row_start, in_row_end, in_row_anything, in_cell_start, in_cell_end, in_cell_anything}
+use Rattle.standard.specs.RulesRest.{in_select_start, in_select_any_start, in_select_end, in_select_any_end, in_select_in_table_start, in_select_in_table_end, in_select_in_table_anything, in_template_start, in_template_any_start, in_template_end, in_template_any_end, in_template_end_of_file, in_frameset_start, in_frameset_end, in_frameset_anything, after_frameset_start, after_frameset_end, after_frameset_anything, after_after_frameset_start, after_after_frameset_anything}
 
 -- ---- the table
-
--- TAB, LF, FF, CR, SPACE
-abbrev pub is_space : ℕ → Bool
-is_space c = c == 9 || c == 10 || c == 12 || c == 13 || c == 32
 
 -- what a rule tells apart among characters
 abbrev pub character_row : Mode → ℕ → List Instr
@@ -38,8 +37,21 @@ character_row InHead c = if is_space c then ins.InsertText ∷ [] else in_head_a
 character_row AfterHead c = if is_space c then ins.InsertText ∷ [] else after_head_anything
 character_row InBody c = if c == 0 then [] else (if is_space c then in_body_space else in_body_character)
 character_row InText c = ins.InsertText ∷ []
+character_row InTable c = in_table_character
+character_row InTableText c = if c == 0 then [] else ins.AppendPending ∷ []
+character_row InCaption c = in_caption_anything
+character_row InColumnGroup c = if is_space c then ins.InsertText ∷ [] else in_column_group_anything
+character_row InTableBody c = in_table_body_anything
+character_row InRow c = in_row_anything
+character_row InCell c = in_cell_anything
+character_row InSelect c = if c == 0 then [] else ins.InsertText ∷ []
+character_row InSelectInTable c = in_select_in_table_anything
+character_row InTemplate c = ins.Using InBody ∷ []
 character_row AfterBody c = if is_space c then ins.Using InBody ∷ [] else after_body_anything
+character_row InFrameset c = if is_space c then ins.InsertText ∷ [] else in_frameset_anything
+character_row AfterFrameset c = if is_space c then ins.InsertText ∷ [] else after_frameset_anything
 character_row AfterAfterBody c = if is_space c then ins.Using InBody ∷ [] else after_after_body_anything
+character_row AfterAfterFrameset c = if is_space c then ins.Using InBody ∷ [] else after_after_frameset_anything
 
 abbrev pub known_start_row : Mode → Word → List Instr
 known_start_row Initial w = initial_anything
@@ -49,8 +61,21 @@ known_start_row InHead w = row_for in_head_start in_head_anything w
 known_start_row AfterHead w = row_for after_head_start after_head_anything w
 known_start_row InBody w = row_for in_body_start in_body_any_start w
 known_start_row InText w = []
+known_start_row InTable w = row_for in_table_start in_table_any_start w
+known_start_row InTableText w = in_table_text_anything
+known_start_row InCaption w = row_for in_caption_start in_caption_anything w
+known_start_row InColumnGroup w = row_for in_column_group_start in_column_group_anything w
+known_start_row InTableBody w = row_for in_table_body_start in_table_body_anything w
+known_start_row InRow w = row_for in_row_start in_row_anything w
+known_start_row InCell w = row_for in_cell_start in_cell_anything w
+known_start_row InSelect w = row_for in_select_start in_select_any_start w
+known_start_row InSelectInTable w = row_for in_select_in_table_start in_select_in_table_anything w
+known_start_row InTemplate w = row_for in_template_start in_template_any_start w
 known_start_row AfterBody w = row_for after_body_start after_body_anything w
+known_start_row InFrameset w = row_for in_frameset_start in_frameset_anything w
+known_start_row AfterFrameset w = row_for after_frameset_start after_frameset_anything w
 known_start_row AfterAfterBody w = row_for after_after_body_start after_after_body_anything w
+known_start_row AfterAfterFrameset w = row_for after_after_frameset_start after_after_frameset_anything w
 
 -- a start tag that the rules don't name
 abbrev pub other_start_row : Mode → List Instr
@@ -61,8 +86,21 @@ other_start_row InHead = in_head_anything
 other_start_row AfterHead = after_head_anything
 other_start_row InBody = in_body_any_start
 other_start_row InText = []
+other_start_row InTable = in_table_any_start
+other_start_row InTableText = in_table_text_anything
+other_start_row InCaption = in_caption_anything
+other_start_row InColumnGroup = in_column_group_anything
+other_start_row InTableBody = in_table_body_anything
+other_start_row InRow = in_row_anything
+other_start_row InCell = in_cell_anything
+other_start_row InSelect = in_select_any_start
+other_start_row InSelectInTable = in_select_in_table_anything
+other_start_row InTemplate = in_template_any_start
 other_start_row AfterBody = after_body_anything
+other_start_row InFrameset = in_frameset_anything
+other_start_row AfterFrameset = after_frameset_anything
 other_start_row AfterAfterBody = after_after_body_anything
+other_start_row AfterAfterFrameset = after_after_frameset_anything
 
 abbrev pub known_end_row : Mode → Word → List Instr
 known_end_row Initial w = initial_anything
@@ -72,8 +110,21 @@ known_end_row InHead w = row_for in_head_end [] w
 known_end_row AfterHead w = row_for after_head_end [] w
 known_end_row InBody w = row_for in_body_end in_body_any_end w
 known_end_row InText w = row_for in_text_end in_text_any_end w
+known_end_row InTable w = row_for in_table_end in_table_any_end w
+known_end_row InTableText w = in_table_text_anything
+known_end_row InCaption w = row_for in_caption_end in_caption_anything w
+known_end_row InColumnGroup w = row_for in_column_group_end in_column_group_anything w
+known_end_row InTableBody w = row_for in_table_body_end in_table_body_anything w
+known_end_row InRow w = row_for in_row_end in_row_anything w
+known_end_row InCell w = row_for in_cell_end in_cell_anything w
+known_end_row InSelect w = row_for in_select_end in_select_any_end w
+known_end_row InSelectInTable w = row_for in_select_in_table_end in_select_in_table_anything w
+known_end_row InTemplate w = row_for in_template_end in_template_any_end w
 known_end_row AfterBody w = row_for after_body_end after_body_anything w
+known_end_row InFrameset w = row_for in_frameset_end in_frameset_anything w
+known_end_row AfterFrameset w = row_for after_frameset_end after_frameset_anything w
 known_end_row AfterAfterBody w = after_after_body_anything
+known_end_row AfterAfterFrameset w = after_after_frameset_anything
 
 -- an end tag that the rules don't name
 abbrev pub other_end_row : Mode → List Instr
@@ -84,20 +135,38 @@ other_end_row InHead = []
 other_end_row AfterHead = []
 other_end_row InBody = in_body_any_end
 other_end_row InText = in_text_any_end
+other_end_row InTable = in_table_any_end
+other_end_row InTableText = in_table_text_anything
+other_end_row InCaption = in_caption_anything
+other_end_row InColumnGroup = in_column_group_anything
+other_end_row InTableBody = in_table_body_anything
+other_end_row InRow = in_row_anything
+other_end_row InCell = in_cell_anything
+other_end_row InSelect = in_select_any_end
+other_end_row InSelectInTable = in_select_in_table_anything
+other_end_row InTemplate = in_template_any_end
 other_end_row AfterBody = after_body_anything
+other_end_row InFrameset = in_frameset_anything
+other_end_row AfterFrameset = after_frameset_anything
 other_end_row AfterAfterBody = after_after_body_anything
+other_end_row AfterAfterFrameset = after_after_frameset_anything
 
 -- where a mode says nothing of comments they go to the appropriate place
 abbrev pub comment_row : Mode → List Instr
 comment_row Initial = ins.CommentToPage ∷ []
 comment_row BeforeHtml = ins.CommentToPage ∷ []
+comment_row InTableText = in_table_text_anything
+comment_row InTemplate = ins.Using InBody ∷ []
 comment_row AfterBody = ins.CommentToRoot ∷ []
 comment_row AfterAfterBody = ins.CommentToPage ∷ []
+comment_row AfterAfterFrameset = ins.CommentToPage ∷ []
 comment_row _ = ins.InsertComment ∷ []
 
 -- everywhere but at the beginning a doctype is left out
 abbrev pub doctype_row : Mode → List Instr
 doctype_row Initial = initial_doctype
+doctype_row InTableText = in_table_text_anything
+doctype_row InTemplate = ins.Using InBody ∷ []
 doctype_row _ = []
 
 abbrev pub end_of_file_row : Mode → List Instr
@@ -106,10 +175,23 @@ end_of_file_row BeforeHtml = before_html_anything
 end_of_file_row BeforeHead = before_head_anything
 end_of_file_row InHead = in_head_anything
 end_of_file_row AfterHead = after_head_anything
-end_of_file_row InBody = ins.Finish ∷ []
+end_of_file_row InBody = in_body_end_of_file
 end_of_file_row InText = in_text_end_of_file
+end_of_file_row InTable = ins.Using InBody ∷ []
+end_of_file_row InTableText = in_table_text_anything
+end_of_file_row InCaption = in_caption_anything
+end_of_file_row InColumnGroup = ins.Using InBody ∷ []
+end_of_file_row InTableBody = in_table_body_anything
+end_of_file_row InRow = in_row_anything
+end_of_file_row InCell = in_cell_anything
+end_of_file_row InSelect = ins.Using InBody ∷ []
+end_of_file_row InSelectInTable = in_select_in_table_anything
+end_of_file_row InTemplate = in_template_end_of_file
 end_of_file_row AfterBody = ins.Finish ∷ []
+end_of_file_row InFrameset = ins.Finish ∷ []
+end_of_file_row AfterFrameset = ins.Finish ∷ []
 end_of_file_row AfterAfterBody = ins.Finish ∷ []
+end_of_file_row AfterAfterFrameset = ins.Finish ∷ []
 
 abbrev pub start_row : Mode → Name → List Instr
 start_row m (Known w) = known_start_row m w
@@ -127,7 +209,6 @@ row m (Character c) = character_row m c
 row m (Comment text) = comment_row m
 row m (Doctype name force) = doctype_row m
 row m EndOfFile = end_of_file_row m
-row m Missing = ins.Missing ∷ []
 
 -- ---- processing a token
 
@@ -178,6 +259,7 @@ pub data Round : Type 0 where
 abbrev pub round_after : Open → Next → Round
 round_after b next.Again = once b.mode
 round_after b (next.Using m) = once m
+round_after b next.Foster = once InBody
 round_after b n = stop n
 
 -- what the round comes to; `more` is processing the token by the rules of a mode
@@ -185,23 +267,27 @@ abbrev pub go_round : (Mode → Answer) → Open → List Op → Round → Answe
 go_round more b o (once m) = more m
 go_round more b o (stop x) = answer b o x
 
--- by the rules of a mode, and of those that it is then to go by, at most so many times
+-- by the rules of a mode, and of those that it is then to go by, at most so many times; no token goes by more
 unfoldable pub process : ℕ → Mode → Token → Open → List Op → Answer
-process zero m t b o = answer b o next.Missing
+process zero m t b o = answer b o next.Done
 process (suc n) m t b o =
     let a : Answer = by_rules m t b o in
     go_round (λ m'. process n m' t a.open_state a.ops) a.open_state a.ops (round_after a.open_state a.next)
 
 -- no token goes by more rules than this
 abbrev pub rounds : ℕ
-rounds = 16
+rounds = 4096
 
 abbrev pub is_line_feed : Token → Bool
 is_line_feed (Character c) = c == 10
 is_line_feed _ = false
 
+-- foster parenting is off behind a token
+abbrev pub settled_answer : Answer → Answer
+settled_answer a = record a { open_state = record a.open_state { foster = false } }
+
 -- a token: a line feed is left out where the one before asks for that
 unfoldable pub construct : Token → Open → List Op → Answer
 construct t b o =
     let b' : Open = record b { skip_line_feed = false } in
-    if b.skip_line_feed && is_line_feed t then answer b' o next.Done else process rounds b.mode t b' o
+    settled_answer (if b.skip_line_feed && is_line_feed t then answer b' o next.Done else process rounds b.mode t b' o)

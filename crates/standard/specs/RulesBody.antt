@@ -4,15 +4,15 @@ use Rattle.std.specs.Prelude.{Bool, true, false, List, [], ◌∷◌}
 use Rattle.html_types.specs.declared.word.Word.{Word}
 use Rattle.html_types.specs.declared.word.Word.TheVariants.{A, Address, Applet, Area, Article, Aside, B, Base, Basefont, Bgsound, Big, Blockquote, Body, Br, Button, Caption, Center, Code, Col, Colgroup, Dd, Details, Dialog, Dir, Div, Dl, Dt, Em, Embed, Fieldset, Figcaption, Figure, Font, Footer, Form, Frame, Frameset, H1, H2, H3, H4, H5, H6, Head, Header, Hgroup, Hr, Html, I, Iframe, Image, Img, Input, Keygen, Li, Link, Listing, Main, Marquee, Menu, Meta, Nav, Nobr, Noembed, Noframes, Noscript, Object, Ol, Optgroup, Option, P, Param, Plaintext, Pre, Rb, Rp, Rt, Rtc, Ruby, S, Script, Search, Section, Select, Small, Source, Strike, Strong, Style, Summary, Table, Tbody, Td, Template, Textarea, Tfoot, Th, Thead, Title, Tr, Track, Tt, U, Ul, Wbr, Xmp}
 use Rattle.html_types.specs.declared.instruction.Instr.{Instr}
-use Rattle.html_types.specs.declared.instruction.Instr.TheVariants.{Need, Forbid, When, Unless, Insert, InsertA, Void, VoidA, VoidAs, InsertText, Pop, Until, Implied, ImpliedBut, Close, CloseItem, AnyOtherEnd, Reconstruct, Marker, ClearToMarker, TakeOff, NotOk, SkipLineFeed, PointForm, EndForm, AddToFirst, AddToSecond, Enter, KeepMode, Restore, Adopt, AdoptAnchor, AdoptNobr, Switch, Using, Again, StopAtScript, Missing}
+use Rattle.html_types.specs.declared.instruction.Instr.TheVariants.{Need, Forbid, When, Unless, Insert, InsertA, Void, VoidA, VoidAs, InsertText, Pop, Until, PopToRoot, Implied, ImpliedBut, Close, CloseItem, AnyOtherEnd, Reconstruct, Marker, ClearToMarker, TakeOff, NotOk, SkipLineFeed, PointForm, EndForm, AddToFirst, AddToSecond, DetachSecond, Enter, KeepMode, Restore, Adopt, AdoptAnchor, AdoptNobr, Switch, Using, Again, StopAtScript, Finish}
 use Rattle.html_types.specs.declared.instruction.Instr.TheVariants as ins
 use Rattle.html_types.specs.declared.instruction.Then.{Then}
 use Rattle.html_types.specs.declared.instruction.Then.TheVariants as behind
-use Rattle.html_types.specs.declared.instruction.Test.TheVariants.{InScope, Current, OnStack, Listed, SecondIsBody, InForm, HiddenInput}
+use Rattle.html_types.specs.declared.instruction.Test.TheVariants.{InScope, Current, OnStack, Listed, Quirks, SecondIsBody, FramesetOk, InForm, HiddenInput, InTemplates, InTables}
 use Rattle.html_types.specs.declared.instruction.Who.TheVariants.{Own, The, Any}
 use Rattle.html_types.specs.declared.instruction.Group.TheVariants.{Headings, DefinitionItems}
 use Rattle.html_types.specs.declared.instruction.Scope.TheVariants as scope
-use Rattle.html_types.specs.declared.instruction.Mode.TheVariants.{InHead, InBody, InText, AfterBody, AfterAfterBody}
+use Rattle.html_types.specs.declared.instruction.Mode.TheVariants.{InHead, InBody, InText, InTable, InSelect, InSelectInTable, InTemplate, AfterBody, InFrameset, AfterAfterBody}
 use Rattle.html_types.specs.declared.instruction.Reading.TheVariants.{Rcdata, Rawtext}
 use Rattle.html_types.specs.declared.instruction.Reading.TheVariants as reading
 
@@ -35,7 +35,7 @@ in_body_start = (
   Need SecondIsBody ∷ Forbid (OnStack (The Template)) ∷ NotOk ∷ AddToSecond ∷ [],
 ) ∷ (
   Frameset ∷ [],
-  Missing ∷ [],
+  Need SecondIsBody ∷ Need FramesetOk ∷ DetachSecond ∷ PopToRoot ∷ Insert ∷ Enter InFrameset ∷ [],
 ) ∷ (
   Address ∷ Article ∷ Aside ∷ Blockquote ∷ Center ∷ Details ∷ Dialog ∷ Dir ∷ Div ∷ Dl ∷ Fieldset ∷ Figcaption ∷ Figure ∷ Footer ∷ Header ∷ Hgroup ∷ Main ∷ Menu ∷ Nav ∷ Ol ∷ P ∷ Search ∷ Section ∷ Summary ∷ Ul ∷ [],
   Close scope.Button (The P) ∷ Insert ∷ [],
@@ -74,7 +74,7 @@ in_body_start = (
   Reconstruct ∷ Insert ∷ Marker ∷ NotOk ∷ [],
 ) ∷ (
   Table ∷ [],
-  Missing ∷ [],
+  Unless Quirks ∷ Close scope.Button (The P) ∷ Insert ∷ NotOk ∷ Enter InTable ∷ [],
 ) ∷ (
   Area ∷ Br ∷ Embed ∷ Img ∷ Keygen ∷ Wbr ∷ [],
   Reconstruct ∷ Void ∷ NotOk ∷ [],
@@ -104,7 +104,7 @@ in_body_start = (
   Insert ∷ KeepMode ∷ Enter InText ∷ Switch Rawtext ∷ [],
 ) ∷ (
   Select ∷ [],
-  Missing ∷ [],
+  Reconstruct ∷ Insert ∷ NotOk ∷ Unless InTables ∷ Enter InSelect ∷ When InTables ∷ Enter InSelectInTable ∷ [],
 ) ∷ (
   Optgroup ∷ Option ∷ [],
   When (Current (The Option)) ∷ Pop ∷ Reconstruct ∷ Insert ∷ [],
@@ -165,6 +165,9 @@ in_body_end = (
 -- any other end tag
 abbrev pub in_body_any_end : List Instr
 in_body_any_end = AnyOtherEnd ∷ []
+
+abbrev pub in_body_end_of_file : List Instr
+in_body_end_of_file = When InTemplates ∷ Using InTemplate ∷ Finish ∷ []
 
 -- the rest of a row behind the adoption agency algorithm
 abbrev pub behind_adoption : Then → List Instr

@@ -3,9 +3,10 @@ use Rattle.std.specs.Prelude.{List, [], ◌∷◌}
 use Rattle.html_types.specs.declared.word.Word.{Word}
 use Rattle.html_types.specs.declared.word.Word.TheVariants.{Base, Basefont, Bgsound, Body, Br, Frameset, Head, Html, Link, Meta, Noframes, Noscript, Script, Style, Template, Title}
 use Rattle.html_types.specs.declared.instruction.Instr.{Instr}
-use Rattle.html_types.specs.declared.instruction.Instr.TheVariants.{When, Insert, InsertA, InsertRoot, InsertRootA, Void, AppendDoctype, Pop, NotOk, BecomeQuirky, PointHead, PushHead, TakeHeadOff, Enter, KeepMode, Switch, Using, Again, Missing}
-use Rattle.html_types.specs.declared.instruction.Test.TheVariants.{QuirkyDoctype}
-use Rattle.html_types.specs.declared.instruction.Mode.TheVariants.{BeforeHtml, BeforeHead, InHead, AfterHead, InBody, InText}
+use Rattle.html_types.specs.declared.instruction.Instr.TheVariants.{Need, When, Insert, InsertA, InsertRoot, InsertRootA, Void, AppendDoctype, Pop, Until, ImpliedThoroughly, Marker, ClearToMarker, NotOk, BecomeQuirky, PointHead, PushHead, TakeHeadOff, Enter, KeepMode, PushTemplateMode, PopTemplateMode, Reset, Switch, Using, Again}
+use Rattle.html_types.specs.declared.instruction.Test.TheVariants.{OnStack, QuirkyDoctype}
+use Rattle.html_types.specs.declared.instruction.Who.TheVariants.{The}
+use Rattle.html_types.specs.declared.instruction.Mode.TheVariants.{BeforeHtml, BeforeHead, InHead, AfterHead, InBody, InText, InTemplate, InFrameset}
 use Rattle.html_types.specs.declared.instruction.Reading.TheVariants.{Rcdata, Rawtext, ScriptData}
 
 -- 13.2.6.4.1 The "initial" insertion mode: white space is left out, a comment goes to the Document
@@ -69,7 +70,7 @@ in_head_start = (
   Insert ∷ KeepMode ∷ Enter InText ∷ Switch ScriptData ∷ [],
 ) ∷ (
   Template ∷ [],
-  Missing ∷ [],
+  Insert ∷ Marker ∷ NotOk ∷ Enter InTemplate ∷ PushTemplateMode InTemplate ∷ [],
 ) ∷ (
   Head ∷ [],
   [],
@@ -84,7 +85,7 @@ in_head_end = (
   Pop ∷ Enter AfterHead ∷ Again ∷ [],
 ) ∷ (
   Template ∷ [],
-  Missing ∷ [],
+  Need (OnStack (The Template)) ∷ ImpliedThoroughly ∷ Until (The Template) ∷ ClearToMarker ∷ PopTemplateMode ∷ Reset ∷ [],
 ) ∷ []
 
 abbrev pub in_head_anything : List Instr
@@ -100,7 +101,7 @@ after_head_start = (
   Insert ∷ NotOk ∷ Enter InBody ∷ [],
 ) ∷ (
   Frameset ∷ [],
-  Missing ∷ [],
+  Insert ∷ Enter InFrameset ∷ [],
 ) ∷ (
   Base ∷ Basefont ∷ Bgsound ∷ Link ∷ Meta ∷ [],
   PushHead ∷ Void ∷ TakeHeadOff ∷ [],
@@ -115,7 +116,7 @@ after_head_start = (
   PushHead ∷ Insert ∷ TakeHeadOff ∷ KeepMode ∷ Enter InText ∷ Switch ScriptData ∷ [],
 ) ∷ (
   Template ∷ [],
-  Missing ∷ [],
+  PushHead ∷ Insert ∷ TakeHeadOff ∷ Marker ∷ NotOk ∷ Enter InTemplate ∷ PushTemplateMode InTemplate ∷ [],
 ) ∷ (
   Head ∷ [],
   [],
@@ -127,7 +128,7 @@ after_head_end = (
   InsertA Body ∷ Enter InBody ∷ Again ∷ [],
 ) ∷ (
   Template ∷ [],
-  Missing ∷ [],
+  Using InHead ∷ [],
 ) ∷ []
 
 abbrev pub after_head_anything : List Instr

@@ -28,6 +28,12 @@ abbrev pub current_is : (Name → Bool) → List OpenElement → Bool
 current_is is [] = false
 current_is is (e ∷ es) = is e.name
 
+-- the current node is an option, right above an optgroup
+abbrev pub option_in_optgroup : List OpenElement → Bool
+option_in_optgroup [] = false
+option_in_optgroup (e ∷ []) = false
+option_in_optgroup (e ∷ d ∷ es) = is_word word.Option e.name && is_word word.Optgroup d.name
+
 abbrev pub current_id : List OpenElement → Option NodeId
 current_id [] = None
 current_id (e ∷ es) = Some e.id
@@ -50,10 +56,21 @@ abbrev pub pop_to : (Name → Bool) → List OpenElement → List OpenElement
 pop_to is [] = []
 pop_to is (e ∷ es) = if is e.name then e ∷ es else pop_to is es
 
+-- popped but for the bottom
+abbrev pub pop_to_root : List OpenElement → List OpenElement
+pop_to_root [] = []
+pop_to_root (e ∷ []) = e ∷ []
+pop_to_root (e ∷ d ∷ es) = pop_to_root (d ∷ es)
+
 -- implied end tags, but for these
 abbrev pub implied : (Name → Bool) → List OpenElement → List OpenElement
 implied but [] = []
 implied but (e ∷ es) = if is_one_of group.ClosedImplicitly e.name && not (but e.name) then implied but es else e ∷ es
+
+-- all implied end tags, thoroughly
+abbrev pub implied_thoroughly : List OpenElement → List OpenElement
+implied_thoroughly [] = []
+implied_thoroughly (e ∷ es) = if is_one_of group.ClosedThoroughly e.name then implied_thoroughly es else e ∷ es
 
 abbrev pub close : Scope → (Name → Bool) → List OpenElement → List OpenElement
 close s is es = if in_scope s is es then until is (implied is es) else es
