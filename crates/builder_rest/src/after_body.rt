@@ -36,7 +36,6 @@ pub fn after_body(token: &Token) -> &'static [Instr]
             force_quirks: _,
         } => &[],
         Token::EndOfFile => &[Finish],
-        Token::Missing => &[Missing],
     }
 }
 
@@ -82,7 +81,6 @@ pub fn after_after_body(token: &Token) -> &'static [Instr]
             force_quirks: _,
         } => &[],
         Token::EndOfFile => &[Finish],
-        Token::Missing => &[Missing],
     }
 }
 
