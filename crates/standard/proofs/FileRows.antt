@@ -6,7 +6,6 @@ use Rattle.html_types.specs.Text.{same_text}
 use Rattle.html_types.specs.declared.script.Ending.{Ending}
 use Rattle.html_types.specs.declared.script.Ending.TheVariants as ending
 use Rattle.standard.specs.Scripts.{Fetched, got, missing, faulted, is_lawful}
-use Rattle.standard.specs.Serial.{World}
 use Rattle.standard.proofs.OnLiterals.{serial_on_literals}
 use Rattle.standard.proofs.Rows.{written_in, wants, times}
 

@@ -1,8 +1,7 @@
 -- Nested scripts by a list of frames: each step of a program keeps what comes of it.
-use Rattle.std.proofs.Common.{◌≡◌, ℕ, zero, suc, ◌+◌, ◌-◌, true, false, List, [], ◌∷◌, ◌++◌, Option, Some, None, refl, length, take, drop, sym, ◌∙◌, ap, subst, nat_le, length-append, append_assoc, append-nil, arith}
+use Rattle.std.proofs.Common.{◌≡◌, ℕ, zero, suc, ◌+◌, ◌-◌, List, [], ◌∷◌, ◌++◌, Option, Some, None, refl, length, take, drop, sym, ◌∙◌, ap, subst, length-append, append_assoc, append-nil, arith}
 use Rattle.std.proofs.Math.Seq.{take-append_seam, drop-append_seam}
 use Rattle.std.proofs.lemmas.Bool.{le-leb, lt-leb}
-use Rattle.std.specs.Prelude.{⊤}
 use Rattle.html_types.specs.declared.operation.NodeId.{NodeId}
 use Rattle.html_types.specs.declared.script.Why.TheVariants as why
 use Rattle.html_types.specs.declared.script.Statement.{Statement}
@@ -17,10 +16,10 @@ use Rattle.standard.specs.Outer.{outer_text}
 use Rattle.standard.specs.Scripts.{file_statements}
 use Rattle.standard.specs.Statements.{statements}
 use Rattle.standard.specs.Parser.{Parser}
-use Rattle.standard.specs.Serial.{World, Serial, Flow, goes, refuses, starved, ◌then◌, advanced, advance, before_point, after_point, moved, tree_of, inside, back_at, insert, remove, with_line, read, write_limit, execute, run_statements, on_element, write, go_on, stopped, end_of_script, run_prepared}
+use Rattle.standard.specs.Serial.{World, Serial, Flow, goes, refuses, starved, ◌then◌, advanced, advance, before_point, after_point, moved, inside, back_at, insert, remove, with_line, read, execute, run_statements, on_element, write, go_on, stopped, end_of_script, run_prepared}
 use Rattle.standard.specs.Laws.{HasParsed}
-use Rattle.standard.specs.Frames.{Frame, Nest, rests, point_of, state_of, back_in, resume_in, resume, NestComesTo, TagComesTo, TextComesTo, FramesEnd, ScriptsEnter, FilesEnter, StillTags, ExternalTags, InlineTags, outside_language, OutsideTexts, TextsBegin, begun, parsed_to, RestsEnd, RestsStop, RestsRefuse, Waits, frame_ended, FrameEnds, with_list, wrote, WritesFit, WritesRefuse, removed, Removes, has_read, ReadsById, ReadsRoot, LacksElement, thrown, Throws}
-use Rattle.standard.proofs.Fuel.{Refines, Refines_refl, Refines_trans, Refines_then, run_statements-more, go_on-more, end_of_script-more, execute-more}
+use Rattle.standard.specs.Frames.{Frame, Nest, rests, state_of, back_in, resume_in, resume, NestComesTo, TagComesTo, FramesEnd, ScriptsEnter, FilesEnter, StillTags, ExternalTags, InlineTags, outside_language, OutsideTexts, TextsBegin, begun, parsed_to, RestsEnd, RestsStop, RestsRefuse, Waits, frame_ended, FrameEnds, wrote, WritesFit, WritesRefuse, Removes, ReadsById, ReadsRoot, LacksElement, thrown, Throws}
+use Rattle.standard.proofs.Fuel.{Refines, Refines_refl, Refines_trans, Refines_then, run_statements-more, go_on-more}
 use Rattle.standard.proofs.Parse.{advance-parse}
 use Rattle.standard.proofs.Passing.{parse-left}
 
