@@ -32,8 +32,6 @@ pub enum Why {
     Page,
     /// A read that failed.
     Fault,
-    /// A row, a statement or a kind of script that isn't there yet.
-    Unready,
 }
 
 /// A statement of a script. A text in it is the value of its JSON string.

@@ -1,5 +1,6 @@
 mod OnLiterals
 mod Rows
+mod TableRows
 pub mod Fuel
 pub mod Total
 pub mod Parse

@@ -1,12 +1,10 @@
 -- What is proved of the serial parse itself.
-use Rattle.std.specs.Prelude.{◌≡◌, ℕ, suc, ◌+◌, ◌≤◌, ◌<◌, Bool, List, [], ◌∷◌, ◌++◌, length, drop, flat_map, Option, Some, None}
+use Rattle.std.specs.Prelude.{◌≡◌, ℕ, suc, ◌+◌, Bool, List, [], ◌∷◌, ◌++◌, length, drop, flat_map, Option, Some, None}
 use Rattle.html_types.specs.declared.operation.NodeId.{NodeId}
 use Rattle.html_types.specs.declared.script.Ending.{Ending}
 use Rattle.html_types.specs.declared.script.Ending.TheVariants as ending
 use Rattle.html_types.specs.declared.script.Why.{Why}
 use Rattle.html_types.specs.declared.script.Why.TheVariants as why
-use Rattle.html_types.specs.declared.script.Statement.{Statement}
-use Rattle.html_types.specs.declared.script.Statement.TheVariants as statement
 use Rattle.html_types.specs.declared.script.Line.{Line}
 use Rattle.html_types.specs.declared.script.Line.TheVariants as line
 use Rattle.html_types.specs.declared.instruction.Stop.{Stop}
@@ -17,9 +15,10 @@ use Rattle.standard.specs.Entities.{Entities}
 use Rattle.standard.specs.Act.{Doc, acts}
 use Rattle.standard.specs.Statements.{statements}
 use Rattle.standard.specs.Prepare.{still, inline, external}
+use Rattle.standard.specs.Scripts.{got, missing, faulted, file_statements}
 use Rattle.standard.specs.Parser.{Parser, Parsed, parse, finish}
 use Rattle.standard.specs.Page.{Page}
-use Rattle.standard.specs.Serial.{World, Outcome, IsSerial, Advanced, advanced, advance, Serial, Flow, goes, refuses, with_line, write_limit, one_more_executed, back_at, inside, run_statements, run_prepared, prepared, Moment, reading, tag_ended, over, finished, refusal, taken, ended, Leads, Passes}
+use Rattle.standard.specs.Serial.{World, fetched, Outcome, IsSerial, Advanced, advanced, advance, Serial, Flow, goes, refuses, with_line, awaiting, one_more_executed, end_of_script, prepared, run_text, Moment, reading, tag_ended, awaits, over, behind_script, finished, refusal, taken, ended, Leads, Passes}
 use Rattle.standard.specs.Output.{line_text, output, output_with}
 
 -- ---- outcomes
@@ -62,7 +61,6 @@ abbrev pub moment_at : Serial → Parser → Doc → List ℕ → Stop → Momen
 moment_at s p d input stop.InputEnd = reading (taken p d input s)
 moment_at s p d input (stop.Script i) = tag_ended i (taken p d input s)
 moment_at s p d input stop.Deep = over (refusal why.Depth (taken p d input s))
-moment_at s p d input stop.Missing = over (refusal why.Unready (taken p d input s))
 
 -- What a parser that stood at p has made of the text x, on the document d: where it then stands, the document with its
 -- operations done, the characters that it didn't use, and why it stopped.
@@ -102,7 +100,6 @@ pub record HasFinished (es : Entities) (p : Parser) (d : Doc) (p' : Parser) (d' 
 abbrev pub outcome_at : Serial → Parser → Doc → Finish → Outcome
 outcome_at s p d finale.Finished = record { result = finished; last = taken p d [] s }
 outcome_at s p d finale.Deep = refusal why.Depth (taken p d [] s)
-outcome_at s p d finale.Missing = refusal why.Unready (taken p d [] s)
 
 abbrev pub FinishLeads : Type 0
 FinishLeads = (w : World) (m : Moment) (s : Serial) (p : Parser) (d : Doc) (f : Finish) →
@@ -114,18 +111,14 @@ OverIsSerial = (page : Page) (w : World) (o : Outcome) → Passes page w (over o
 
 -- ---- scripts
 
--- what the statements come to on s, with enough fuel
-abbrev pub StatementsComeTo : World → List Statement → Serial → Flow → Type 0
-StatementsComeTo w list s f = (n : ℕ) × (run_statements n w list s ≡ f)
-
--- what a script whose end tag was met comes to
+-- what a script whose end tag was met comes to; level and insertion point are then again those of s
 abbrev pub ScriptComesTo : World → NodeId → Serial → Flow → Type 0
-ScriptComesTo w i s f = (n : ℕ) × (run_prepared n w (prepared i s) (inside s) ≡ f)
+ScriptComesTo w i s f = (n : ℕ) × (end_of_script n w i s ≡ f)
 
 -- The moment behind a script: it comes to that moment, or the parse is over.
 abbrev pub ScriptLeads : Type 0
 ScriptLeads = (e : Ending) (w : World) (m : Moment) (i : NodeId) (s t : Serial) →
-    Leads e w m (tag_ended i s) → ScriptComesTo w i s (goes t) → Leads e w m (reading (back_at s t))
+    Leads e w m (tag_ended i s) → ScriptComesTo w i s (goes t) → Leads e w m (behind_script t)
 
 abbrev pub ScriptRefuses : Type 0
 ScriptRefuses = (e : Ending) (w : World) (m : Moment) (i : NodeId) (s t : Serial) (r : Why) →
@@ -133,75 +126,44 @@ ScriptRefuses = (e : Ending) (w : World) (m : Moment) (i : NodeId) (s t : Serial
 
 -- a script that doesn't run
 abbrev pub StillScripts : Type 0
-StillScripts = (w : World) (i : NodeId) (s : Serial) → prepared i s ≡ still → ScriptComesTo w i s (goes (inside s))
+StillScripts = (w : World) (i : NodeId) (s : Serial) → prepared i s ≡ still → ScriptComesTo w i s (goes s)
 
--- a script that isn't there yet
+-- an external script
 abbrev pub ExternalScripts : Type 0
-ExternalScripts = (w : World) (i : NodeId) (s : Serial) (name : List ℕ) → prepared i s ≡ external name → ScriptComesTo w i s (refuses why.Unready (inside s))
+ExternalScripts = (w : World) (i : NodeId) (s : Serial) (name : List ℕ) → prepared i s ≡ external name →
+    ScriptComesTo w i s (goes (awaiting (Some name) s))
 
 -- a text that isn't in the language
 abbrev pub SyntaxErrors : Type 0
 SyntaxErrors = (w : World) (i : NodeId) (s : Serial) (t : List ℕ) → prepared i s ≡ inline t → statements t ≡ None →
-    ScriptComesTo w i s (goes (with_line (line.Syntax (suc s.side.executed)) (one_more_executed (inside s))))
+    ScriptComesTo w i s (goes (with_line (line.Syntax (suc s.side.executed)) (one_more_executed s)))
 
--- a text in the language comes to what its statements come to
-abbrev pub ScriptsRun : Type 0
-ScriptsRun = (w : World) (i : NodeId) (s : Serial) (t : List ℕ) (list : List Statement) (f : Flow) → prepared i s ≡ inline t → statements t ≡ Some list →
-    StatementsComeTo w list (one_more_executed (inside s)) f → ScriptComesTo w i s f
+-- ---- a script that is awaited
 
--- The script whose end tag was met at s has come to t, with the statements of the list left: what they come to, it comes to.
-abbrev pub ScriptStands : World → NodeId → Serial → List Statement → Serial → Type 0
-ScriptStands w i s list t = (f : Flow) → StatementsComeTo w list t f → ScriptComesTo w i s f
+abbrev pub AwaitsMissing : Type 0
+AwaitsMissing = (e : Ending) (w : World) (m : Moment) (name : List ℕ) (s : Serial) →
+    Leads e w m (awaits name s) → fetched w name ≡ missing → Leads e w m (reading (with_line (line.Miss name) s))
 
--- ---- statements
+abbrev pub AwaitsFault : Type 0
+AwaitsFault = (e : Ending) (w : World) (m : Moment) (name : List ℕ) (s : Serial) →
+    Leads e w m (awaits name s) → fetched w name ≡ faulted → Leads e w m (over (refusal why.Fault s))
 
--- all text that was written is used
-abbrev pub IsIdle : Serial → Type 0
-IsIdle s = s.point ≡ length s.input
+-- what a file of these bytes comes to; level and insertion point are then again those of s
+abbrev pub FileComesTo : World → List ℕ → Serial → Flow → Type 0
+FileComesTo w bytes s f = (n : ℕ) × (run_text n w (file_statements bytes) s ≡ f)
 
--- a text was written, and the parser went over it
-abbrev pub wrote : Parser → Doc → List ℕ → Serial → Serial
-wrote p d t s = record s { parser = p; side = record s.side { doc = d; written = s.side.written + length t } }
+abbrev pub AwaitsGot : Type 0
+AwaitsGot = (e : Ending) (w : World) (m : Moment) (name bytes : List ℕ) (s t : Serial) →
+    Leads e w m (awaits name s) → fetched w name ≡ got bytes → FileComesTo w bytes s (goes t) → Leads e w m (behind_script t)
 
--- the same where it stopped, with that part of the text left
-abbrev pub wrote_part : Parser → Doc → List ℕ → List ℕ → Serial → Serial
-wrote_part p d t left s = record (wrote p d t s) { input = left ++ s.input }
+abbrev pub AwaitsRefuses : Type 0
+AwaitsRefuses = (e : Ending) (w : World) (m : Moment) (name bytes : List ℕ) (s t : Serial) (r : Why) →
+    Leads e w m (awaits name s) → fetched w name ≡ got bytes → FileComesTo w bytes s (refuses r t) → Leads e w m (over (refusal r t))
 
--- no statement is left
-abbrev pub StatementsEnd : Type 0
-StatementsEnd = (w : World) (s : Serial) → StatementsComeTo w [] s (goes s)
-
--- A write whose text the parser takes whole: the other statements follow.
-abbrev pub WritesGoOn : Type 0
-WritesGoOn = (w : World) (t : List ℕ) (list : List Statement) (s : Serial) (p : Parser) (d : Doc) (left : List ℕ) (f : Flow) →
-    IsIdle s → s.side.written + length t ≤ write_limit → HasParsed w.entities s.parser s.side.doc t p d left stop.InputEnd →
-    StatementsComeTo w list (wrote p d t s) f → StatementsComeTo w (statement.Write t ∷ list) s f
-
--- why a stop in a text that is written refuses the page
-abbrev pub why_at : Stop → Option Why
-why_at stop.InputEnd = None
-why_at (stop.Script i) = Some why.Unready
-why_at stop.Deep = Some why.Depth
-why_at stop.Missing = Some why.Unready
-
--- A write in whose text the parser stops.
-abbrev pub WritesRefuse : Type 0
-WritesRefuse = (w : World) (t : List ℕ) (list : List Statement) (s : Serial) (p : Parser) (d : Doc) (left : List ℕ) (stopped : Stop) (r : Why) →
-    IsIdle s → s.side.written + length t ≤ write_limit → HasParsed w.entities s.parser s.side.doc t p d left stopped → why_at stopped ≡ Some r →
-    StatementsComeTo w (statement.Write t ∷ list) s (refuses r (wrote_part p d t left s))
-
--- a write of more than scripts may write
-abbrev pub LongWritesRefuse : Type 0
-LongWritesRefuse = (w : World) (t : List ℕ) (list : List Statement) (s : Serial) → write_limit < s.side.written + length t →
-    StatementsComeTo w (statement.Write t ∷ list) s (refuses why.Writes s)
-
--- the statements that aren't there yet
-abbrev pub IsUnready : Statement → Type 0
-IsUnready (statement.Write t) = ⊥
-IsUnready _ = Unit {0}
-
-abbrev pub OthersRefuse : Type 0
-OthersRefuse = (w : World) (a : Statement) (list : List Statement) (s : Serial) → IsUnready a → StatementsComeTo w (a ∷ list) s (refuses why.Unready s)
+-- a file that isn't in the language
+abbrev pub FileSyntaxErrors : Type 0
+FileSyntaxErrors = (w : World) (bytes : List ℕ) (s : Serial) → file_statements bytes ≡ None →
+    FileComesTo w bytes s (goes (with_line (line.Syntax (suc s.side.executed)) (one_more_executed s)))
 
 -- ---- lines
 
@@ -212,6 +174,7 @@ GoesOnFrom a b = (more : List Line) × (b ≡ a ++ more)
 abbrev pub lines_of : Moment → List Line
 lines_of (reading s) = s.side.lines
 lines_of (tag_ended i s) = s.side.lines
+lines_of (awaits name s) = s.side.lines
 lines_of (over o) = o.last.side.lines
 
 -- the lines of every moment that a parse passes through begin those of its outcome

@@ -31,9 +31,11 @@ pub mod Dump
 pub mod Statements
 pub mod Prepare
 pub mod Page
+pub mod Scripts
 pub mod Parser
 pub mod Serial
 pub mod Output
 pub mod Laws
+pub mod Frames
 pub mod Naming
 pub mod NamingLaws

@@ -22,7 +22,6 @@ refusal_text why.Depth = codes "refused depth\n"
 refusal_text why.Writes = codes "refused writes\n"
 refusal_text why.Page = codes "refused page\n"
 refusal_text why.Fault = []
-refusal_text why.Unready = []
 
 abbrev pub tree_text : Nodes → List ℕ
 tree_text t = codes "tree " ++ json_string (document_text t) ++ codes "\n"

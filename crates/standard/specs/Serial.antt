@@ -1,5 +1,5 @@
 -- The serial parse of a page: its characters one by one (13.2.3, 13.2.5), and its scripts where their end tags are met
--- (13.2.6.4.8, the document.write() steps). What isn't there yet refuses it with Unready.
+-- (13.2.6.4.8, the document.write() steps).
 use Rattle.std.specs.Prelude.{◌≡◌, ℕ, zero, suc, ◌+◌, ◌-◌, nat_le, Bool, true, false, List, [], ◌∷◌, ◌++◌, length, take, drop, Option, Some, None, option_and_then}
 use Rattle.html_types.specs.declared.operation.NodeId.{NodeId}
 use Rattle.html_types.specs.declared.script.Ending.{Ending}
@@ -15,8 +15,11 @@ use Rattle.html_types.specs.declared.instruction.Stop.TheVariants as stop
 use Rattle.html_types.specs.declared.instruction.Finish.TheVariants as finale
 use Rattle.standard.specs.Page.{Page}
 use Rattle.standard.specs.Entities.{Entities}
+use Rattle.standard.specs.Tree.{Nodes, detached, find_id, first_element}
 use Rattle.standard.specs.Act.{Doc, new_doc, acts, node_of}
+use Rattle.standard.specs.Outer.{outer_text}
 use Rattle.standard.specs.Prepare.{Prepared, still, inline, external, prepare}
+use Rattle.standard.specs.Scripts.{Fetched, got, missing, faulted, is_lawful, file_statements}
 use Rattle.standard.specs.Statements.{statements}
 use Rattle.standard.specs.Parser.{Parser, new_parser, Took, took, take_character, Finished, finish}
 
@@ -25,6 +28,16 @@ use Rattle.standard.specs.Parser.{Parser, new_parser, Took, took, take_character
 -- what stays the same over a parse
 pub record World : Type 0 where
   pub entities : Entities
+  -- the files of external scripts, by their names
+  pub scripts : List ℕ → Fetched
+
+-- a name that isn't lawful is missing
+abbrev pub fetched_if : Bool → World → List ℕ → Fetched
+fetched_if false w name = missing
+fetched_if true w name = w.scripts name
+
+abbrev pub fetched : World → List ℕ → Fetched
+fetched w name = fetched_if (is_lawful name) w name
 
 -- ---- the state
 
@@ -33,6 +46,8 @@ pub record Side : Type 0 where
   pub doc : Doc
   -- the script nesting level
   pub level : ℕ
+  -- the `src` of the pending parsing-blocking script
+  pub pending : Option (List ℕ)
   -- the characters written and the scripts executed so far
   pub written : ℕ
   pub executed : ℕ
@@ -62,7 +77,7 @@ first page = record {
   input = page.text;
   point = 0;
   parser = new_parser 0;
-  side = record { doc = new_doc; level = 0; written = 0; executed = 0; lines = [] };
+  side = record { doc = new_doc; level = 0; pending = None; written = 0; executed = 0; lines = [] };
 }
 
 -- A part of the parse goes on, or refuses, or runs out of fuel.
@@ -109,6 +124,9 @@ moved p d rest s = record s { input = rest ++ after_point s; parser = p; side = 
 abbrev pub write_limit : ℕ
 write_limit = 1048576
 
+abbrev pub tree_of : Serial → Nodes
+tree_of s = s.side.doc.tree
+
 -- the text stands in the input just before the insertion point
 abbrev pub insert : List ℕ → Serial → Serial
 insert t s = record s { input = before_point s ++ t ++ after_point s; side = record s.side { written = s.side.written + length t } }
@@ -118,6 +136,10 @@ at_level k s = record s { side = record s.side { level = k } }
 
 abbrev pub at_point : ℕ → Serial → Serial
 at_point n s = record s { point = n }
+
+-- the parser waits for the script of that name, or for none
+abbrev pub awaiting : Option (List ℕ) → Serial → Serial
+awaiting name s = record s { side = record s.side { pending = name } }
 
 abbrev pub one_more_executed : Serial → Serial
 one_more_executed s = record s { side = record s.side { executed = suc s.side.executed } }
@@ -130,45 +152,75 @@ back_at s t = at_level s.side.level (at_point s.point t)
 abbrev pub inside : Serial → Serial
 inside s = at_level (suc s.side.level) (at_point (length s.input) s)
 
--- Each function takes the value that it goes by as an argument, and the fuel first.
+-- the element is taken out of its parent
+abbrev pub remove : ℕ → Serial → Serial
+remove e s = record s { side = record s.side { doc = record s.side.doc { tree = detached (tree_of s) e } } }
+
+-- script k reads the element
+abbrev pub read : ℕ → ℕ → Serial → Serial
+read k e s = with_line (line.Log k (outer_text (tree_of s) e)) s
+
+-- the script of that id, prepared on the tree as it is
+abbrev pub prepared : NodeId → Serial → Prepared
+prepared i s = prepare s.side.doc.tree (node_of s.side.doc.bound i)
+
+-- Each function takes the value that it goes by as an argument, and the fuel first. The number k is that of the executing
+-- script, counted from 1 over the scripts executed.
 unfoldable mutual
   -- a text runs: the statements of its language, or none
   pub execute : ℕ → World → Option (List Statement) → Serial → Flow
   execute zero w text s = starved
   execute (suc n) w None s = goes (with_line (line.Syntax (suc s.side.executed)) (one_more_executed s))
-  execute (suc n) w (Some list) s = run_statements n w list (one_more_executed s)
+  execute (suc n) w (Some list) s = run_statements n w (suc s.side.executed) list (one_more_executed s)
 
-  pub run_statements : ℕ → World → List Statement → Serial → Flow
-  run_statements zero w list s = starved
-  run_statements (suc n) w [] s = goes s
-  run_statements (suc n) w (statement.Write t ∷ list) s =
-      write n w (nat_le (s.side.written + length t) write_limit) t s then λ s'. run_statements n w list s'
-  run_statements (suc n) w (statement.Remove v ∷ list) s = refuses why.Unready s
-  run_statements (suc n) w (statement.LogById v ∷ list) s = refuses why.Unready s
-  run_statements (suc n) w (statement.LogRoot ∷ list) s = refuses why.Unready s
+  pub run_statements : ℕ → World → ℕ → List Statement → Serial → Flow
+  run_statements zero w k list s = starved
+  run_statements (suc n) w k [] s = goes s
+  run_statements (suc n) w k (statement.Write t ∷ list) s =
+      write n w (nat_le (s.side.written + length t) write_limit) t s then λ s'. run_statements n w k list s'
+  run_statements (suc n) w k (statement.Remove v ∷ list) s = on_element n w k list remove (find_id (tree_of s) v) s
+  run_statements (suc n) w k (statement.LogById v ∷ list) s = on_element n w k list (read k) (find_id (tree_of s) v) s
+  run_statements (suc n) w k (statement.LogRoot ∷ list) s = on_element n w k list (read k) (first_element (tree_of s)) s
 
-  -- the written text is parsed up to the insertion point
+  -- what a statement does to an element, or the end of this text where there is none
+  pub on_element : ℕ → World → ℕ → List Statement → (ℕ → Serial → Serial) → Option ℕ → Serial → Flow
+  on_element zero w k list work found s = starved
+  on_element (suc n) w k list work None s = goes (with_line (line.Throw k) s)
+  on_element (suc n) w k list work (Some e) s = run_statements n w k list (work e s)
+
+  -- document.write(): past the limit nothing is inserted
   pub write : ℕ → World → Bool → List ℕ → Serial → Flow
   write zero w fits t s = starved
   write (suc n) w false t s = refuses why.Writes s
-  write (suc n) w true t s = go_on n w (insert t s)
+  write (suc n) w true t s = go_on n w s.side.pending (insert t s)
 
-  pub go_on : ℕ → World → Serial → Flow
-  go_on zero w s = starved
-  go_on (suc n) w s = stopped n w s (advance w.entities s.parser s.side.doc (before_point s))
+  -- the parser goes on up to the insertion point, unless a script is pending
+  pub go_on : ℕ → World → Option (List ℕ) → Serial → Flow
+  go_on zero w pending s = starved
+  go_on (suc n) w None s = stopped n w s (advance w.entities s.parser s.side.doc (before_point s))
+  go_on (suc n) w (Some name) s = goes s
 
   -- the parser took the characters before the insertion point, or those up to a stop
   pub stopped : ℕ → World → Serial → Advanced → Flow
   stopped zero w s a = starved
   stopped (suc n) w s (advanced p d rest stop.InputEnd) = goes (moved p d rest s)
+  stopped (suc n) w s (advanced p d rest (stop.Script i)) = end_of_script n w i (moved p d rest s) then λ t. go_on n w t.side.pending t
   stopped (suc n) w s (advanced p d rest stop.Deep) = refuses why.Depth (moved p d rest s)
-  stopped (suc n) w s (advanced p d rest _) = refuses why.Unready (moved p d rest s)
 
--- a script whose end tag was met, as it was prepared
-abbrev pub run_prepared : ℕ → World → Prepared → Serial → Flow
-run_prepared n w still s = goes s
-run_prepared n w (inline t) s = execute n w (statements t) s
-run_prepared n w (external name) s = refuses why.Unready s
+  -- the end tag of a script: it is prepared one level up, with the insertion point just before the next input character
+  pub end_of_script : ℕ → World → NodeId → Serial → Flow
+  end_of_script zero w i s = starved
+  end_of_script (suc n) w i s = run_prepared n w (prepared i s) (inside s) then λ t. goes (back_at s t)
+
+  pub run_prepared : ℕ → World → Prepared → Serial → Flow
+  run_prepared zero w k s = starved
+  run_prepared (suc n) w still s = goes s
+  run_prepared (suc n) w (inline t) s = execute n w (statements t) s
+  run_prepared (suc n) w (external name) s = goes (awaiting (Some name) s)
+
+-- a script that was awaited runs, one level up
+abbrev pub run_text : ℕ → World → Option (List Statement) → Serial → Flow
+run_text n w text s = execute n w text (inside s) then λ t. goes (back_at s t)
 
 -- ---- the moments at level 0
 
@@ -177,13 +229,9 @@ pub data Moment : Type 0 where
   reading : Serial → Moment
   -- a script end tag was met
   tag_ended : NodeId → Serial → Moment
+  -- the script of that name is awaited; it is pending no more
+  awaits : List ℕ → Serial → Moment
   over : Outcome → Moment
-
-abbrev pub why_of : Ending → Why
-why_of ending.Bad = why.BadUtf8
-why_of ending.Long = why.Page
-why_of ending.Fault = why.Fault
-why_of ending.End = why.Unready
 
 -- at level 0 the insertion point is at the end of the input
 abbrev pub taken : Parser → Doc → List ℕ → Serial → Serial
@@ -192,37 +240,50 @@ taken p d cs s = record s { input = cs; parser = p; side = record s.side { doc =
 abbrev pub at_end : Serial → Finished → Outcome
 at_end s f =
     let last = taken f.parser (acts s.side.doc f.ops) [] s in
-    elim f.finish [ finale.Finished ↦ record { result = finished; last = last } | finale.Deep ↦ refusal why.Depth last | finale.Missing ↦ refusal why.Unready last ]
+    elim f.finish [ finale.Finished ↦ record { result = finished; last = last } | finale.Deep ↦ refusal why.Depth last ]
 
 -- the input is used: the page's ending is applied
 abbrev pub ended : Entities → Ending → Serial → Outcome
 ended es ending.End s = at_end s (finish es s.parser)
-ended es e s = refusal (why_of e) s
+ended es ending.Bad s = refusal why.BadUtf8 s
+ended es ending.Long s = refusal why.Page s
+ended es ending.Fault s = refusal why.Fault s
 
 -- one character was taken
 abbrev pub after_character : Serial → List ℕ → Took → Moment
 after_character s cs (took ops p stop.InputEnd) = reading (taken p (acts s.side.doc ops) cs s)
 after_character s cs (took ops p (stop.Script i)) = tag_ended i (taken p (acts s.side.doc ops) cs s)
 after_character s cs (took ops p stop.Deep) = over (refusal why.Depth (taken p (acts s.side.doc ops) cs s))
-after_character s cs (took ops p stop.Missing) = over (refusal why.Unready (taken p (acts s.side.doc ops) cs s))
 
-abbrev pub after_script : Serial → Flow → Option Moment
-after_script s (goes t) = Some (reading (back_at s t))
-after_script s (refuses w t) = Some (over (refusal w t))
-after_script s starved = None
+-- the pending script is cleared and awaited; where none is, the parser goes on
+abbrev pub unless_pending : Option (List ℕ) → Serial → Moment
+unless_pending None s = reading s
+unless_pending (Some name) s = awaits name (awaiting None s)
+
+-- the moment behind a script, at level 0 again
+abbrev pub behind_script : Serial → Moment
+behind_script t = unless_pending t.side.pending t
+
+abbrev pub after_script : Flow → Option Moment
+after_script (goes t) = Some (behind_script t)
+after_script (refuses w t) = Some (over (refusal w t))
+after_script starved = None
+
+-- the awaited script was fetched
+abbrev pub after_fetch : ℕ → World → List ℕ → Serial → Fetched → Option Moment
+after_fetch n w name s (got bytes) = after_script (run_text n w (file_statements bytes) s)
+after_fetch n w name s missing = Some (reading (with_line (line.Miss name) s))
+after_fetch n w name s faulted = Some (over (refusal why.Fault s))
 
 abbrev pub read_next : Entities → Ending → Serial → List ℕ → Moment
 read_next es e s [] = over (ended es e s)
 read_next es e s (c ∷ cs) = after_character s cs (take_character es s.parser c)
 
--- the script of that id, prepared on the tree as it is
-abbrev pub prepared : NodeId → Serial → Prepared
-prepared i s = prepare s.side.doc.tree (node_of s.side.doc.bound i)
-
 -- the moment after this one, with fuel for the script that runs between them
 unfoldable pub moment_after : ℕ → Ending → World → Moment → Option Moment
 moment_after n e w (reading s) = Some (read_next w.entities e s s.input)
-moment_after n e w (tag_ended i s) = after_script s (run_prepared n w (prepared i s) (inside s))
+moment_after n e w (tag_ended i s) = after_script (end_of_script n w i s)
+moment_after n e w (awaits name s) = after_fetch n w name s (fetched w name)
 moment_after n e w (over o) = Some (over o)
 
 -- k moments on from m
