@@ -29,12 +29,7 @@ fn is_all_space(text: &str) -> bool
 }
 
 /// Inserts characters at a place.
-fn insert_characters(
-    alloc: Global,
-    place: Place,
-    text: &str,
-    ops: &mut Ops,
-) -> Result<(), NoMemory>
+fn insert_characters(alloc: Global, place: Place, text: &str, ops: &mut Ops) -> Result<(), NoMemory>
     ensures { IfOk result (λ _. ops.new ≡ ops.old ++ texts place (chars text.now)) }
 {
     for c in text.chars() {
@@ -87,11 +82,7 @@ fn insert_body_characters(
 
 /// Inserts the pending characters: as they are where all are white space, else by the rules of "in body" with foster
 /// parenting on. There are none then.
-pub fn insert_pending_text(
-    alloc: Global,
-    state: &mut Open,
-    ops: &mut Ops,
-) -> Result<Flow, NoMemory>
+pub fn insert_pending_text(alloc: Global, state: &mut Open, ops: &mut Ops) -> Result<Flow, NoMemory>
     requires { length state.old.stack ≤ 512 }
     ensures done { IfOk result (λ flow. config state.new ops.new flow ≡ insert_pending state.old ops.old) }
     ensures bounded { length state.new.stack ≤ 512 }
