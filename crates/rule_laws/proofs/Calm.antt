@@ -1,9 +1,8 @@
 -- An instruction that doesn't say so asks for no other round; so does a row of them.
-use Rattle.std.proofs.Common.{ℕ, Bool, true, false, ◌≡◌, ◌&&◌, List, [], ◌∷◌, ◌++◌, Option, Some, None, refl, sym, true≢false, reverse, inl, inr}
+use Rattle.std.proofs.Common.{ℕ, Bool, true, false, ◌≡◌, ◌&&◌, List, [], ◌∷◌, ◌++◌, Option, Some, None, refl, sym, true≢false, reverse}
 use Rattle.std.specs.Prelude.{if◌then◌else◌}
 use Rattle.html_types.specs.declared.instruction.Instr.{Instr}
 use Rattle.html_types.specs.declared.instruction.Instr.TheVariants as ins
-use Rattle.html_types.specs.declared.instruction.Mode.{Mode}
 use Rattle.html_types.specs.declared.instruction.Who.TheVariants as who
 use Rattle.html_types.specs.declared.instruction.Flow.{Flow}
 use Rattle.html_types.specs.declared.instruction.Flow.TheVariants.{On, Skip, Leave}
@@ -13,7 +12,7 @@ use Rattle.html_types.specs.declared.name.Name.{Name}
 use Rattle.html_types.specs.declared.name.Name.TheVariants.{Known, Other}
 use Rattle.html_types.specs.declared.token.Tag.{Tag}
 use Rattle.html_types.specs.declared.token.Token.{Token}
-use Rattle.html_types.specs.declared.token.Token.TheVariants.{StartTag, EndTag, Character, Comment, Doctype, EndOfFile}
+use Rattle.html_types.specs.declared.token.Token.TheVariants.{StartTag, EndTag, Character, Comment, Doctype}
 use Rattle.html_types.specs.declared.operation.NodeId.{NodeId}
 use Rattle.html_types.specs.declared.operation.Place.{Place}
 use Rattle.html_types.specs.declared.operation.Place.TheVariants.{Page}
@@ -24,7 +23,7 @@ use Rattle.html_types.specs.declared.open.OpenElement.{OpenElement}
 use Rattle.standard.specs.Elements.{is_word, is_meant}
 use Rattle.standard.specs.Stack.{on_stack, first_open, second_open}
 use Rattle.standard.specs.Formatting.{lost, kept, entry_named}
-use Rattle.standard.specs.Instructions.{Config, config, on, room, holds, here, insert, insert_at, insert_root, void, void_as, named, tag_of, for_tag, enlist, end_form, form_closed, form_closed_in_template, adopt_name, adopt_own, adopt_anchor, reopen, reopen_all, insert_text, insert_comment, append_doctype, end_of, add_attributes, detach_second, push_head, stop_at_script, append_pending, all_space, texts, body_text, body_character, body_characters, none_pending, insert_pending, reconstruct, step, run}
+use Rattle.standard.specs.Instructions.{Config, config, on, room, holds, here, insert, insert_at, insert_root, void, void_as, named, tag_of, for_tag, enlist, end_form, form_closed, form_closed_in_template, adopt_name, adopt_own, adopt_anchor, reopen, reopen_all, insert_text, insert_comment, append_doctype, end_of, add_attributes, detach_second, push_head, stop_at_script, append_pending, all_space, texts, body_text, body_characters, none_pending, insert_pending, reconstruct, step, run}
 use Rattle.rule_laws.proofs.Readings.{calm_next, calm, is_quiet, all_quiet}
 
 -- ---- one instruction

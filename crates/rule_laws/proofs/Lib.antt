@@ -4,5 +4,5 @@ mod Calm
 mod Pending
 mod Takes
 mod Walk
--- mod Rows
--- mod Rounds
+mod Rows
+mod Rounds

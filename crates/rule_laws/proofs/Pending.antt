@@ -1,5 +1,5 @@
 -- The pending characters open no more elements than there is room for, and leave the original mode as it was.
-use Rattle.std.proofs.Common.{◌≡◌, refl, ◌∙◌, ap, sym, ℕ, suc, ◌+◌, ◌≤◌, ◌<◌, Bool, true, false, List, [], ◌∷◌, ◌++◌, length, Option, Some, None, nat_lt, reverse, arith}
+use Rattle.std.proofs.Common.{◌≡◌, refl, ℕ, suc, ◌≤◌, ◌<◌, Bool, true, false, List, [], ◌∷◌, length, Option, reverse, arith}
 use Rattle.std.proofs.lemmas.Bool.{ltb-true}
 use Rattle.std.specs.Prelude.{if◌then◌else◌}
 use Rattle.html_types.specs.declared.instruction.Mode.{Mode}
@@ -10,7 +10,6 @@ use Rattle.html_types.specs.declared.token.Tag.{Tag}
 use Rattle.html_types.specs.declared.operation.Op.{Op}
 use Rattle.html_types.specs.declared.open.Open.{Open}
 use Rattle.html_types.specs.declared.open.Format.TheVariants.{Element}
-use Rattle.html_types.specs.declared.open.OpenElement.{OpenElement}
 use Rattle.standard.specs.Formatting.{lost, kept}
 use Rattle.standard.specs.Instructions.{Config, config, on, room, here, made, pushed, reopen, reopen_all, reconstruct, body_text, body_characters}
 use Rattle.rule_laws.proofs.Counts.{count, all, count-all}

@@ -1,5 +1,5 @@
 -- Each mode comes to an end in a few rounds, or to a round that makes the weight less: the rows say so.
-use Rattle.std.proofs.Common.{◌≡◌, refl, sym, subst, true≢false, ℕ, zero, suc, ◌≤◌, ◌<◌, ◌==◌, Bool, true, false, ◌&&◌, List, [], ◌∷◌, arith}
+use Rattle.std.proofs.Common.{◌≡◌, refl, sym, subst, ℕ, zero, suc, ◌≤◌, ◌==◌, Bool, true, false, ◌&&◌, List, [], ◌∷◌, arith}
 use Rattle.std.specs.Prelude.{if◌then◌else◌}
 use Rattle.html_types.specs.declared.word.Word.{Word}
 use Rattle.html_types.specs.declared.word.Word.TheVariants.{A}
@@ -19,11 +19,11 @@ use Rattle.html_types.specs.declared.open.Open.{Open}
 use Rattle.standard.specs.Space.{is_space}
 use Rattle.standard.specs.Elements.{is_meant}
 use Rattle.standard.specs.Stack.{on_stack, until}
-use Rattle.standard.specs.Instructions.{Config, config, on, run}
+use Rattle.standard.specs.Instructions.{config, on, run}
 use Rattle.standard.specs.RulesHead.{initial_anything, before_html_anything, before_head_anything, in_head_anything, after_head_anything}
 use Rattle.standard.specs.RulesBody.{in_body_space, in_body_character, after_body_anything, after_after_body_anything}
 use Rattle.standard.specs.RulesTable.{in_table_character, in_caption_anything, in_column_group_anything, in_table_body_anything, in_row_anything, in_cell_anything}
-use Rattle.standard.specs.RulesRest.{in_select_in_table_anything, in_template_end_of_file, in_frameset_anything, after_frameset_anything, after_after_frameset_anything}
+use Rattle.standard.specs.RulesRest.{in_select_in_table_anything, in_frameset_anything, after_frameset_anything, after_after_frameset_anything}
 use Rattle.standard.specs.Rules.{row, known_start_row, other_start_row, known_end_row, other_end_row, start_row, end_row, comment_row, doctype_row, end_of_file_row}
 use Rattle.rule_laws.proofs.Counts.{until-falls, until-fewer, all, is_weighty, weighty-word}
 use Rattle.rule_laws.proofs.Readings.{weight_of, Small, no_more, fallen, walk, Fine}
@@ -33,18 +33,18 @@ use Rattle.rule_laws.proofs.Walk.{run-walk}
 -- ---- rounds, as the rows alone say
 
 -- what the round of a mode comes to, where the function says of each mode whether the next one may go by it
-abbrev pub Rounds : Type 0
-Rounds = Mode → (Mode → Bool) → Bool
+abbrev pub Table : Type 0
+Table = Mode → (Mode → Bool) → Bool
 
 -- within so many rounds the token is done, or the weight is less
-unfoldable pub settles : Rounds → ℕ → Mode → Bool
+unfoldable pub settles : Table → ℕ → Mode → Bool
 settles round zero m = false
 settles round (suc k) m = round m (λ m'. settles round k m')
 
-abbrev pub by_rows : Bool → (Mode → List Instr) → Rounds
+abbrev pub by_rows : Bool → (Mode → List Instr) → Table
 by_rows x rows m h = walk x h no_more false (rows m)
 
-abbrev pub Sound : Bool → Token → Rounds → Type 0
+abbrev pub Sound : Bool → Token → Table → Type 0
 Sound x t round = (h : Mode → Bool) (v : ℕ) (m : Mode) (b : Open) (o : List Op) → Small b → weight_of x b ≤ v → round m h ≡ true → Fine x h v (run t (on b o) (row m t))
 
 pub rows-sound : (x : Bool) (t : Token) (rows : Mode → List Instr) → ((m : Mode) → row m t ≡ rows m) → Sound x t (by_rows x rows)
@@ -142,7 +142,7 @@ unfolding row
 character-rows c Initial = refl
 character-rows c _ = refl
 
-characters : (nul space : Bool) → every (λ m. settles (by_rows true (character_rows nul space)) 7 m) modes ≡ true
+characters : (nul space : Bool) → every (λ m. settles (by_rows true (character_rows nul space)) chain m) modes ≡ true
 unfolding settles
 characters true true = refl
 characters true false = refl
@@ -150,72 +150,72 @@ characters false true = refl
 characters false false = refl
 
 pub characters-settle : (nul space : Bool) (m : Mode) → settles (by_rows true (character_rows nul space)) chain m ≡ true
-characters-settle nul space m = each (λ m'. settles (by_rows true (character_rows nul space)) 7 m') (characters nul space) m
+characters-settle nul space m = each (λ m'. settles (by_rows true (character_rows nul space)) chain m') (characters nul space) m
 
 -- ---- tags
 
-words-start : (w : Word) → every (λ m. settles (by_rows false (λ m'. known_start_row m' w)) 7 m) modes ≡ true
+words-start : (w : Word) → every (λ m. settles (by_rows false (λ m'. known_start_row m' w)) chain m) modes ≡ true
 unfolding settles
 words-start A = refl
 words-start _ = refl
 
-others-start : every (λ m. settles (by_rows false other_start_row) 7 m) modes ≡ true
+others-start : every (λ m. settles (by_rows false other_start_row) chain m) modes ≡ true
 unfolding settles
 others-start = refl
 
 pub starts-settle : (n : Name) (m : Mode) → settles (by_rows false (λ m'. start_row m' n)) chain m ≡ true
-starts-settle (Known w) m = each (λ m'. settles (by_rows false (λ m''. known_start_row m'' w)) 7 m') (words-start w) m
-starts-settle (Other t) m = each (λ m'. settles (by_rows false other_start_row) 7 m') others-start m
+starts-settle (Known w) m = each (λ m'. settles (by_rows false (λ m''. known_start_row m'' w)) chain m') (words-start w) m
+starts-settle (Other t) m = each (λ m'. settles (by_rows false other_start_row) chain m') others-start m
 
-words-end : (w : Word) → every (λ m. settles (by_rows false (λ m'. known_end_row m' w)) 7 m) modes ≡ true
+words-end : (w : Word) → every (λ m. settles (by_rows false (λ m'. known_end_row m' w)) chain m) modes ≡ true
 unfolding settles
 words-end A = refl
 words-end _ = refl
 
-others-end : every (λ m. settles (by_rows false other_end_row) 7 m) modes ≡ true
+others-end : every (λ m. settles (by_rows false other_end_row) chain m) modes ≡ true
 unfolding settles
 others-end = refl
 
 pub ends-settle : (n : Name) (m : Mode) → settles (by_rows false (λ m'. end_row m' n)) chain m ≡ true
-ends-settle (Known w) m = each (λ m'. settles (by_rows false (λ m''. known_end_row m'' w)) 7 m') (words-end w) m
-ends-settle (Other t) m = each (λ m'. settles (by_rows false other_end_row) 7 m') others-end m
+ends-settle (Known w) m = each (λ m'. settles (by_rows false (λ m''. known_end_row m'' w)) chain m') (words-end w) m
+ends-settle (Other t) m = each (λ m'. settles (by_rows false other_end_row) chain m') others-end m
 
 -- ---- comments and doctypes
 
-comments : every (λ m. settles (by_rows false comment_row) 7 m) modes ≡ true
+comments : every (λ m. settles (by_rows false comment_row) chain m) modes ≡ true
 unfolding settles
 comments = refl
 
 pub comments-settle : (m : Mode) → settles (by_rows false comment_row) chain m ≡ true
-comments-settle m = each (λ m'. settles (by_rows false comment_row) 7 m') comments m
+comments-settle m = each (λ m'. settles (by_rows false comment_row) chain m') comments m
 
-doctypes : every (λ m. settles (by_rows false doctype_row) 7 m) modes ≡ true
+doctypes : every (λ m. settles (by_rows false doctype_row) chain m) modes ≡ true
 unfolding settles
 doctypes = refl
 
 pub doctypes-settle : (m : Mode) → settles (by_rows false doctype_row) chain m ≡ true
-doctypes-settle m = each (λ m'. settles (by_rows false doctype_row) 7 m') doctypes m
+doctypes-settle m = each (λ m'. settles (by_rows false doctype_row) chain m') doctypes m
 
 -- ---- the end of the file
 
 -- "in template" pops a template, or parsing stops
-abbrev pub at_end : Rounds
+abbrev pub at_end : Table
 at_end InTemplate h = true
 at_end m h = walk false h no_more false (end_of_file_row m)
 
-ends : every (λ m. settles at_end 7 m) modes ≡ true
+ends : every (λ m. settles at_end chain m) modes ≡ true
 unfolding settles
 ends = refl
 
 pub end-settles : (m : Mode) → settles at_end chain m ≡ true
-end-settles m = each (λ m'. settles at_end 7 m') ends m
+end-settles m = each (λ m'. settles at_end chain m') ends m
 
 -- behind the test of whether a template is open
 abbrev behind_test : List Instr
 behind_test = ins.Finish ∷ ins.Until (who.The word.Template) ∷ ins.ClearToMarker ∷ ins.PopTemplateMode ∷ ins.Reset ∷ ins.Again ∷ []
 
-template-end : (h : Mode → Bool) (v : ℕ) (b : Open) (o : List Op) → Small b → weight_of false b ≤ v → (open : Bool) → on_stack (is_meant (who.The word.Template) EndOfFile) b.stack ≡ open
-    → Fine false h v (run EndOfFile (config b o (if open then Skip else On)) behind_test)
+template-end : (h : Mode → Bool) (v : ℕ) (b : Open) (o : List Op) → Small b → weight_of false b ≤ v → (there : Bool) → on_stack (is_meant (who.The word.Template) EndOfFile) b.stack ≡ there
+    → Fine false h v (run EndOfFile (config b o (if there then Skip else On)) behind_test)
 unfolding run
 template-end h v b o s w true e =
     let is : Name → Bool = is_meant (who.The word.Template) EndOfFile in

@@ -1,5 +1,5 @@
 -- Each instruction does what is said of its kind.
-use Rattle.std.proofs.Common.{◌≡◌, refl, ◌∙◌, ap, sym, subst, true≢false, ℕ, suc, ◌+◌, ◌≤◌, ◌<◌, ◌⊎◌, inl, inr, Bool, true, false, ◌||◌, List, [], ◌∷◌, ◌++◌, Option, Some, None, arith}
+use Rattle.std.proofs.Common.{◌≡◌, refl, ap, sym, subst, true≢false, ℕ, ◌+◌, ◌≤◌, ◌<◌, ◌⊎◌, inl, inr, Bool, true, false, List, [], ◌∷◌, ◌++◌, Option, Some, None, arith}
 use Rattle.std.specs.Prelude.{if◌then◌else◌}
 use Rattle.html_types.specs.declared.word.Word.{Word}
 use Rattle.html_types.specs.declared.word.Word.TheVariants as word
@@ -17,18 +17,17 @@ use Rattle.html_types.specs.declared.instruction.Next.{Next}
 use Rattle.html_types.specs.declared.instruction.Next.TheVariants as next
 use Rattle.html_types.specs.declared.token.Tag.{Tag}
 use Rattle.html_types.specs.declared.token.Token.{Token}
-use Rattle.html_types.specs.declared.operation.NodeId.{NodeId}
 use Rattle.html_types.specs.declared.operation.Place.{Place}
 use Rattle.html_types.specs.declared.operation.Place.TheVariants.{Page}
 use Rattle.html_types.specs.declared.operation.Op.{Op}
 use Rattle.html_types.specs.declared.open.Open.{Open}
 use Rattle.html_types.specs.declared.open.OpenElement.{OpenElement}
-use Rattle.standard.specs.Elements.{is_word, is_one_of, is_meant}
+use Rattle.standard.specs.Elements.{is_one_of, is_meant}
 use Rattle.standard.specs.Stack.{pop, until, pop_to, implied}
 use Rattle.standard.specs.Reset.{reset_mode}
 use Rattle.standard.specs.Instructions.{Config, config, on, room, holds, here, made, pushed, insert_at, tag_of, texts, all_space, body_characters, none_pending, insert_pending, original_or, step}
 use Rattle.rule_laws.proofs.Counts.{add, count, all, is_weighty, weighty-word, fewer-than-all, pop-fewer, until-fewer, pop_to-fewer, implied-fewer, until-cuts}
-use Rattle.rule_laws.proofs.Readings.{calm_next, kept_weight, pending_weight, weight, weight_of, Small, Fact, no_more, cut_off, at, fallen, Knows, KnowsOf, Move, stays, lowers, enters, cuts, resets, restores, or_fallen, behind, Change, Kind, tame, branch, goes, again, loud, until_kind, kind, Takes, Splits, Obeys}
+use Rattle.rule_laws.proofs.Readings.{calm_next, kept_weight, pending_weight, weight, weight_of, Small, Fact, no_more, cut_off, at, fallen, Knows, stays, lowers, cuts, resets, restores, or_fallen, Change, tame, loud, until_kind, kind, Takes, Splits, Obeys}
 use Rattle.rule_laws.proofs.Calm.{straight, insert_pending-straight}
 use Rattle.rule_laws.proofs.Pending.{Kept, room-small, body_characters-kept}
 

@@ -1,6 +1,5 @@
 -- A row comes to what its walk says.
-use Rattle.std.proofs.Common.{◌≡◌, refl, sym, subst, true≢false, ℕ, ◌≤◌, ◌<◌, ◌⊎◌, inl, inr, Bool, true, false, ◌&&◌, List, [], ◌∷◌, arith}
-use Rattle.std.specs.Prelude.{if◌then◌else◌}
+use Rattle.std.proofs.Common.{◌≡◌, sym, subst, true≢false, ℕ, inl, inr, Bool, true, false, ◌&&◌, List, [], ◌∷◌}
 use Rattle.html_types.specs.declared.instruction.Instr.{Instr}
 use Rattle.html_types.specs.declared.instruction.Mode.{Mode}
 use Rattle.html_types.specs.declared.instruction.Mode.TheVariants.{InBody}
@@ -11,9 +10,8 @@ use Rattle.html_types.specs.declared.instruction.Next.TheVariants as next
 use Rattle.html_types.specs.declared.token.Token.{Token}
 use Rattle.html_types.specs.declared.operation.Op.{Op}
 use Rattle.html_types.specs.declared.open.Open.{Open}
-use Rattle.html_types.specs.declared.open.OpenElement.{OpenElement}
-use Rattle.standard.specs.Instructions.{Config, config, on, step, run}
-use Rattle.rule_laws.proofs.Readings.{calm_next, calm, is_quiet, all_quiet, weight_of, Small, Fact, no_more, cut_off, at, fallen, Knows, KnowsOf, Move, stays, behind, Change, Kind, tame, branch, goes, again, loud, kind, Takes, Splits, GoesTo, GoesAgain, Obeys, allows, walk, Lower, FineNext, FineFlow, Fine}
+use Rattle.standard.specs.Instructions.{Config, config, step, run}
+use Rattle.rule_laws.proofs.Readings.{calm_next, calm, is_quiet, all_quiet, weight_of, Small, Fact, no_more, cut_off, at, fallen, KnowsOf, Move, behind, Kind, tame, branch, goes, again, loud, kind, Takes, Splits, GoesTo, GoesAgain, Obeys, allows, walk, Lower, FineNext, FineFlow, Fine}
 use Rattle.rule_laws.proofs.Calm.{step-calm, run-left, run-quiet, split}
 use Rattle.rule_laws.proofs.Takes.{at-most, obeys}
 
@@ -85,8 +83,8 @@ flow-fine x h v t is b o On leaves p q l f = absurd (p l)
 flow-fine x h v t is b o Skip leaves p q l f = absurd (q l)
 flow-fine x h v t is b o (Leave n) leaves p q l f = left-fine x h v t is b o n f
 
-instr-fine : (x : Bool) (h : Mode → Bool) (v : ℕ) (t : Token) (i : Instr) (is : List Instr) (k : Fact) (b : Open) (o : List Op) (κ : Kind) → Obeys κ x b (step i t b o) → Small b → KnowsOf x k v b
-    → elim κ as (λ _. Bool) [ tame move ↦ walk x h (behind move k) false is | branch ↦ walk x h k false is && walk x h k true is | goes m ↦ h m | again ↦ allows h k | loud ↦ is_quiet true i && all_quiet true is ] ≡ true
+instr-fine : (x : Bool) (h : Mode → Bool) (v : ℕ) (t : Token) (i : Instr) (is : List Instr) (k : Fact) (b : Open) (o : List Op) (what : Kind) → Obeys what x b (step i t b o) → Small b → KnowsOf x k v b
+    → elim what as (λ _. Bool) [ tame move ↦ walk x h (behind move k) false is | branch ↦ walk x h k false is && walk x h k true is | goes m ↦ h m | again ↦ allows h k | loud ↦ is_quiet true i && all_quiet true is ] ≡ true
     → Rest x h v t is → Fine x h v (run t (step i t b o) is)
 instr-fine x h v t i is k b o (tame move) obeyed s w e rest = let c : Config = step i t b o in tame-fine x h v t is move k b c.open_state c.ops c.flow obeyed s w e rest
 instr-fine x h v t i is k b o branch obeyed s w e rest =
