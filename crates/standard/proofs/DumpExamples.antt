@@ -16,6 +16,7 @@ use Rattle.standard.specs.Serial.{serial_with}
 use Rattle.standard.specs.Dump.{dump_lines, dump_text}
 use Rattle.standard.specs.Output.{output_with}
 use Rattle.standard.proofs.OnLiterals.{serial_on_literals}
+use Rattle.standard.proofs.Rows.{without_files}
 
 -- a node of that kind under a parent, with these children
 abbrev under : ℕ → Kind → List ℕ → Node
@@ -60,13 +61,13 @@ child_of_a_void_element : dump_text (
 unfolding dump_lines digits encode_utf8 json_on_literals
 child_of_a_void_element = refl
 
-a_page : option_map (output_with true) (serial_with 10000 (record { text = codes "<!DOCTYPE html><!--c--><p id=k class='\"'>a<b>d<!---->e</p>"; ending = ending.End }) (record { entities = [] }))
+a_page : option_map (output_with true) (serial_with 10000 (record { text = codes "<!DOCTYPE html><!--c--><p id=k class='\"'>a<b>d<!---->e</p>"; ending = ending.End }) (without_files []))
     ≡ Some (codes "node 0 doctype \"html\"\nnode 0 comment \"c\"\nnode 0 element \"html\"\nnode 1 element \"head\"\nnode 1 element \"body\"\nnode 2 element \"p\" \"id\" \"k\" \"class\" \"\\\"\"\nnode 3 text \"a\"\nnode 3 element \"b\"\nnode 4 text \"d\"\nnode 4 comment \"\"\nnode 4 text \"e\"\nend\n")
 unfolding serial_on_literals dump_lines output_with
 a_page = refl
 
 -- the lines of the scripts stand before it, and a refusal has no dump
-a_refused_page : option_map (output_with true) (serial_with 10000 (record { text = codes "<script>x</script>"; ending = ending.Bad }) (record { entities = [] }))
+a_refused_page : option_map (output_with true) (serial_with 10000 (record { text = codes "<script>x</script>"; ending = ending.Bad }) (without_files []))
     ≡ Some (codes "syntax 1\nrefused bad-utf8\n")
 unfolding serial_on_literals dump_lines output_with
 a_refused_page = refl

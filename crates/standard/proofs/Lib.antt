@@ -1,11 +1,15 @@
 mod OnLiterals
 mod Rows
+mod TableRows
+mod ScriptRows
+mod FileRows
 pub mod Fuel
 pub mod Total
 pub mod Parse
 pub mod Batch
 pub mod Passing
 pub mod Scripts
+pub mod Frames
 pub mod Kept
 pub mod Lines
 pub mod AdoptionFraming

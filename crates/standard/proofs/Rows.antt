@@ -1,4 +1,4 @@
--- Worked pages: what is written for each, by computation. Where nothing is written the page meets a row that isn't there yet.
+-- Worked pages: what is written for each, by computation.
 use Rattle.std.proofs.Common.{◌≡◌, ℕ, zero, suc, ◌++◌, true, false, List, [], Option, Some, option_map, refl, codes}
 use Prim.Native.String.{String}
 use Rattle.std.specs.Prelude.{encode_utf8_all}
@@ -8,23 +8,32 @@ use Rattle.standard.specs.Entities.{Entities}
 use Rattle.standard.specs.Instructions.{is_hidden}
 use Rattle.standard.specs.Adoption.{adopt}
 use Rattle.standard.specs.Rules.{adopting}
-use Rattle.standard.specs.Serial.{serial_with}
+use Rattle.standard.specs.Scripts.{missing}
+use Rattle.standard.specs.Serial.{World, serial_with}
 use Rattle.standard.specs.Output.{output}
 use Rattle.standard.proofs.OnLiterals.{serial_on_literals}
 use Rattle.standard.proofs.TokenizerRows.{some_names}
 
--- what is written for a page of this text and ending, where these names are listed
-abbrev written_with : Entities → List ℕ → Ending → Option (List ℕ)
-written_with names text ending = option_map output (serial_with 10000 (record { text = text; ending = ending }) (record { entities = names }))
+-- what is written for a page of this text and ending
+abbrev pub written_in : World → List ℕ → Ending → Option (List ℕ)
+written_in w text ending = option_map output (serial_with 10000 (record { text = text; ending = ending }) w)
+
+-- these entities, and no script has a file
+abbrev pub without_files : Entities → World
+without_files names = record { entities = names; scripts = λ name. missing }
+
+-- where these names are listed
+abbrev pub written_with : Entities → List ℕ → Ending → Option (List ℕ)
+written_with names text ending = written_in (without_files names) text ending
 
 -- and where none is
-abbrev written_for : List ℕ → Ending → Option (List ℕ)
+abbrev pub written_for : List ℕ → Ending → Option (List ℕ)
 written_for text ending = written_with [] text ending
 
-abbrev written : String → Ending → Option (List ℕ)
+abbrev pub written : String → Ending → Option (List ℕ)
 written page ending = written_for (codes page) ending
 
-abbrev wants : String → Option (List ℕ)
+abbrev pub wants : String → Option (List ℕ)
 wants s = Some (encode_utf8_all (codes s))
 
 empty_page : written "" ending.End ≡ wants "tree \"<html><head></head><body></body></html>\"\n"
@@ -130,10 +139,6 @@ xmp = refl
 formatting_left_open : written "<p>a<b>c" ending.End ≡ wants "tree \"<html><head></head><body><p>a<b>c</b></p></body></html>\"\n"
 unfolding serial_on_literals
 formatting_left_open = refl
-
-table_is_missing : written "<p>a<table>c" ending.End ≡ wants ""
-unfolding serial_on_literals
-table_is_missing = refl
 
 reference : written_with some_names (codes "<p>a&amp;c") ending.End ≡ wants "tree \"<html><head></head><body><p>a&amp;c</p></body></html>\"\n"
 unfolding serial_on_literals
@@ -307,18 +312,6 @@ empty_script : written "<script></script>a" ending.End ≡ wants "tree \"<html><
 unfolding serial_on_literals
 empty_script = refl
 
-external_script : written "<script src=a></script>b" ending.End ≡ wants ""
-unfolding serial_on_literals
-external_script = refl
-
-removal : written "<script>document.getElementById(\"a\").remove();</script>" ending.End ≡ wants ""
-unfolding serial_on_literals
-removal = refl
-
-written_script : written "<script>document.write(\"<script>foo();<\\/script>\");</script>" ending.End ≡ wants ""
-unfolding serial_on_literals
-written_script = refl
-
 two_writes : written "<script>document.write(\"a\");document.write(\"<p>b\");</script>c" ending.End ≡ wants "tree \"<html><head><script>document.write(\\\"a\\\");document.write(\\\"<p>b\\\");</script></head><body>a<p>bc</p></body></html>\"\n"
 unfolding serial_on_literals
 two_writes = refl
@@ -445,7 +438,7 @@ noscript : written "<noscript><p>a</noscript><body><noscript><p>b</noscript>c" e
 unfolding serial_on_literals
 noscript = refl
 
-abbrev times : ℕ → List ℕ → List ℕ
+abbrev pub times : ℕ → List ℕ → List ℕ
 times zero t = []
 times (suc n) t = t ++ times n t
 

@@ -20,9 +20,11 @@
 --                            ReadsRoot, Throws
 --     no frame               FramesEnd
 --
+-- A program that keeps the innermost frame last has `reverse` of its list here.
+--
 -- At level 0 `ScriptsEnter` and `FilesEnter` make of it what `ScriptLeads`, `ScriptRefuses`, `AwaitsGot` and `AwaitsRefuses`
 -- (Laws.antt) ask for; the moment is then `behind_script (state_of x)`.
-use Rattle.std.specs.Prelude.{◌≡◌, ℕ, zero, suc, ◌+◌, ◌≤◌, ◌<◌, ⊤, List, [], ◌∷◌, ◌++◌, length, Option, Some, None}
+use Rattle.std.specs.Prelude.{◌≡◌, ℕ, suc, ◌+◌, ◌≤◌, ◌<◌, ⊤, List, [], ◌∷◌, ◌++◌, length, Option, Some, None}
 use Rattle.html_types.specs.declared.operation.NodeId.{NodeId}
 use Rattle.html_types.specs.declared.script.Why.TheVariants as why
 use Rattle.html_types.specs.declared.script.Statement.{Statement}
@@ -199,10 +201,6 @@ frame_ended rest (f ∷ fs) x = record x { frames = record f { rest = rest ++ f.
 abbrev pub FrameEnds : Type 0
 FrameEnds = (w : World) (x : Nest) (f : Frame) (fs : List Frame) (g : Flow) → x.frames ≡ f ∷ fs → f.list ≡ [] → Waits x.pending f.rest →
     NestComesTo w (frame_ended f.rest fs x) g → NestComesTo w x g
-
--- the innermost frame has these statements left
-abbrev pub with_list : List Statement → Frame → List Frame → Nest → Nest
-with_list list f fs x = record x { frames = record f { list = list } ∷ fs }
 
 -- a text was written
 abbrev pub wrote : List ℕ → List Statement → Frame → List Frame → Nest → Nest
