@@ -1,9 +1,10 @@
 //! The definitions of the parser, in the terms of the WHATWG HTML Standard, and the laws that are proved of them.
 //!
 //! Reading order of `specs/`: Class, Step, TextStates, EscapeStates, TagStates, CommentStates, DoctypeStates, MarkStates,
-//! Entities, ReferenceStates, Tokenizer (13.2.5); Elements, Stack, Formatting, Instructions (13.2.4); Groups, RulesHead,
-//! RulesBody, Adoption, Rules (13.2.6); Tree, Act, Outer, Dump (the tree and its texts); Page, Statements, Prepare,
-//! Scripts (scripts and their files); Parser, Serial (the serial parse); Output; Laws, Frames.
+//! Entities, ReferenceStates, Tokenizer (13.2.5); Space, Groups, Elements, Stack, Reset, Formatting, Instructions
+//! (13.2.4); Rows, RulesHead, RulesBody, RulesTable, RulesRest, Adoption, Rules (13.2.6); Tree, Act, Outer, Dump (the tree
+//! and its texts); Page, Statements, Prepare, Scripts (scripts and their files); Parser, Serial (the serial parse); Output;
+//! Laws, Frames.
 #![tactic(auto)]
 
 ghost use Rattle.standard.specs.Laws.{HasOneOutcome, ParsesInPieces, AdvancesByParse, BatchesLead, WholeBatchesLead, LeavesNothing, EndLeads, FinishLeads, OverIsSerial};
