@@ -213,7 +213,7 @@ fn exec_on(
         Instr::List => list_current(alloc, state, token, ops)?,
         Instr::Marker => state.formats.push(Format::Marker)?,
         Instr::PushTemplateMode(mode) => state.template_modes.push(mode)?,
-        Instr::AppendPending => keep_character(state, token)?,
+        Instr::AppendPending => keep_character(state, token, ops)?,
         _ => change(state, instr, token, ops),
     }
     Ok(())

@@ -1,18 +1,19 @@
 //! The pending table character tokens (13.2.6.4.10).
 
-ghost use Rattle.std.specs.Prelude.{◌≡◌, ◌≤◌, length, IfOk};
+ghost use Rattle.std.specs.Prelude.{◌≡◌, ◌≤◌, ◌++◌, length, IfOk};
 ghost use Rattle.std.specs.Str.{chars};
-ghost use Rattle.standard.specs.Instructions.{config, on, append_pending, all_space, body_character, body_characters, insert_pending};
+ghost use Rattle.standard.specs.Instructions.{config, on, append_pending, all_space, texts, body_character, body_characters, insert_pending};
 
 use crate::insert::{place_now, reopen_lost};
 use crate::space::is_space;
-use html_types::{Flow, NoMemory, Open, Ops, Text, Token};
+use html_types::{Flow, NoMemory, Open, Ops, Place, Text, Token};
 use std::alloc::Global;
 use std::mem;
 
 /// Adds the token's character to the pending ones.
-pub fn keep_character(state: &mut Open, token: &Token) -> Result<(), NoMemory>
-    ensures { IfOk result (λ _. state.new ≡ append_pending token.now state.old) }
+pub fn keep_character(state: &mut Open, token: &Token, ops: &Ops) -> Result<(), NoMemory>
+    ensures done { IfOk result (λ _. on state.new ops.now ≡ append_pending token.now state.old ops.now) }
+    ensures stack { state.new.stack ≡ state.old.stack }
 {
     match token {
         Token::Character(c) => state.pending_text.push(*c),
@@ -24,23 +25,13 @@ pub fn keep_character(state: &mut Open, token: &Token) -> Result<(), NoMemory>
 fn is_all_space(text: &str) -> bool
     ensures { result ≡ all_space (chars text.now) }
 {
-    for c in text.chars() {
-        if !is_space(c) {
-            return false;
-        }
-    }
-    true
+    text.chars().all(is_space)
 }
 
-/// Inserts characters as they are.
-fn insert_characters(
-    alloc: Global,
-    state: &Open,
-    text: &str,
-    ops: &mut Ops,
-) -> Result<(), NoMemory>
+/// Inserts characters at a place.
+fn insert_characters(alloc: Global, place: Place, text: &str, ops: &mut Ops) -> Result<(), NoMemory>
+    ensures { IfOk result (λ _. ops.new ≡ ops.old ++ texts place (chars text.now)) }
 {
-    let place = place_now(state);
     for c in text.chars() {
         ops.push_character(alloc, place, c)?;
     }
@@ -91,18 +82,14 @@ fn insert_body_characters(
 
 /// Inserts the pending characters: as they are where all are white space, else by the rules of "in body" with foster
 /// parenting on. There are none then.
-pub fn insert_pending_text(
-    alloc: Global,
-    state: &mut Open,
-    ops: &mut Ops,
-) -> Result<Flow, NoMemory>
+pub fn insert_pending_text(alloc: Global, state: &mut Open, ops: &mut Ops) -> Result<Flow, NoMemory>
     requires { length state.old.stack ≤ 512 }
     ensures done { IfOk result (λ flow. config state.new ops.new flow ≡ insert_pending state.old ops.old) }
     ensures bounded { length state.new.stack ≤ 512 }
 {
     let text = mem::replace(&mut state.pending_text, Text::new(alloc));
     if is_all_space(text.as_str()) {
-        insert_characters(alloc, state, text.as_str(), ops)?;
+        insert_characters(alloc, place_now(state), text.as_str(), ops)?;
         return Ok(Flow::On);
     }
     state.foster = true;

@@ -1,8 +1,8 @@
 //! Reset the insertion mode appropriately (13.2.4.1).
 
-ghost use Rattle.std.specs.Prelude.{◌≡◌, reverse};
+ghost use Rattle.std.specs.Prelude.{◌≡◌, ◌∷◌, reverse, MatchOption};
 ghost use Rattle.standard.specs.Instructions.{is_table_mode as is_of_table};
-ghost use Rattle.standard.specs.Reset.{select_mode, reset_mode};
+ghost use Rattle.standard.specs.Reset.{select_mode, template_mode, root_mode, reset_mode};
 
 use html_types::{Mode, Modes, Name, NodeId, OpenElement, Stack, Word};
 use tag_sets::is_the;
@@ -35,15 +35,41 @@ fn mode_of_select(all: &[OpenElement]) -> Mode
     Mode::InSelect
 }
 
-/// The mode that an element of that name stands for. It stands right above these elements.
-fn mode_of_word(
-    word: Word,
+/// The current template insertion mode. (There always is one where a template is open.)
+fn current_template_mode(modes: &Modes) -> Mode
+    ensures { result ≡ template_mode modes.now }
+{
+    match modes.as_slice().split_last() {
+        None => Mode::InBody,
+        Some((last, _)) => *last,
+    }
+}
+
+/// The mode of the html element, by the head element pointer.
+fn mode_of_root(head: Option<NodeId>) -> Mode
+    ensures { result ≡ root_mode head }
+{
+    match head {
+        None => Mode::BeforeHead,
+        Some(_) => Mode::AfterHead,
+    }
+}
+
+/// The mode that an element tells, which stands right above these elements.
+fn told_mode(
+    element: &OpenElement,
     below: &[OpenElement],
     head: Option<NodeId>,
-    template_modes: &Modes,
+    modes: &Modes,
 ) -> Option<Mode>
+    ensures { let mode = reset_mode (element.now ∷ reverse below.now) head modes.now in MatchOption result
+        (mode ≡ reset_mode (reverse below.now) head modes.now)
+        (λ told. mode ≡ told) }
 {
-    match word {
+    let Name::Known(word) = &element.name else {
+        return None;
+    };
+    match *word {
         Word::Select => Some(mode_of_select(below)),
         Word::Td | Word::Th => Some(Mode::InCell),
         Word::Tr => Some(Mode::InRow),
@@ -51,26 +77,23 @@ fn mode_of_word(
         Word::Caption => Some(Mode::InCaption),
         Word::Colgroup => Some(Mode::InColumnGroup),
         Word::Table => Some(Mode::InTable),
-        Word::Template => template_modes.as_slice().last().copied(),
+        Word::Template => Some(current_template_mode(modes)),
         Word::Head => Some(Mode::InHead),
         Word::Body => Some(Mode::InBody),
         Word::Frameset => Some(Mode::InFrameset),
-        Word::Html if head.is_some() => Some(Mode::AfterHead),
-        Word::Html => Some(Mode::BeforeHead),
+        Word::Html => Some(mode_of_root(head)),
         _ => None,
     }
 }
 
-/// The mode that resetting it comes to: the latest element that stands for a mode decides.
-pub fn mode_to_reset_to(stack: &Stack, head: Option<NodeId>, template_modes: &Modes) -> Mode
-    ensures { result ≡ reset_mode stack.now head template_modes.now }
+/// The mode that resetting it comes to: that of the first element, from the current node on, that tells one.
+pub fn mode_to_reset_to(stack: &Stack, head: Option<NodeId>, modes: &Modes) -> Mode
+    ensures { result ≡ reset_mode stack.now head modes.now }
 {
     let mut items = stack.as_slice();
     while let Some((last, rest)) = items.split_last() {
-        if let Name::Known(word) = &last.name {
-            if let Some(mode) = mode_of_word(*word, rest, head, template_modes) {
-                return mode;
-            }
+        if let Some(mode) = told_mode(last, rest, head, modes) {
+            return mode;
         }
         items = rest;
     }

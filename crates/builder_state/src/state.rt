@@ -9,8 +9,8 @@ ghost use Rattle.builder_state.specs.Push.{opened};
 use crate::insert::{LIMIT, place_now, reopen_lost};
 use crate::machine::run_row;
 use html_types::{
-    Flow, Formats, Instr, Mode, Modes, Next, NoMemory, NodeId, Open, OpenElement, Ops, Place, Stack,
-    Text, Token,
+    Flow, Formats, Instr, Mode, Modes, Next, NoMemory, NodeId, Open, OpenElement, Ops, Place,
+    Stack, Text, Token,
 };
 use std::alloc::Global;
 use std::marker::Model;

@@ -128,6 +128,7 @@ pub fn pop_back_to(stack: &mut Stack, group: Group)
 }
 
 /// Pops all but the first element.
+#[tactic(auto, using(std::proofs::lemmas::Grind::common_steps, crate::proofs::Bottom::pop_to_root_few))]
 pub fn pop_to_first(stack: &mut Stack)
     ensures left { stack.new ≡ pop_to_root stack.old }
     ensures shorter { length stack.new ≤ length stack.old }
