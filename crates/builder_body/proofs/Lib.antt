@@ -1,4 +1,0 @@
-mod Endings
-mod Steps
-mod Chains
-pub mod Rounds

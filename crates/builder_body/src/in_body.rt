@@ -8,7 +8,8 @@ use crate::in_body_end::end;
 use crate::in_body_start::start;
 use builder_state::is_space;
 use html_types::instruction::Instr::*;
-use html_types::{Instr, Name, Token};
+use html_types::instruction::Test::InTemplates;
+use html_types::{Instr, Mode, Name, Token};
 
 /// "in body"
 #[tactic(auto, unfolding(standard::specs::Rules::row))]
@@ -30,8 +31,7 @@ pub fn in_body(token: &Token) -> &'static [Instr]
             name: _,
             force_quirks: _,
         } => &[],
-        Token::EndOfFile => &[Finish],
-        Token::Missing => &[Missing],
+        Token::EndOfFile => &[When(InTemplates), Using(Mode::InTemplate), Finish],
     }
 }
 

@@ -26,6 +26,14 @@ pub fn start(word: Word) -> &'static [Instr]
             NotOk,
             AddToSecond,
         ],
+        Frameset => &[
+            Need(SecondIsBody),
+            Need(FramesetOk),
+            DetachSecond,
+            PopToRoot,
+            Insert,
+            Enter(Mode::InFrameset),
+        ],
         Address
         | Article
         | Aside
@@ -70,6 +78,7 @@ pub fn start(word: Word) -> &'static [Instr]
             NotOk,
         ],
         Applet | Marquee | Object => &[Reconstruct, Insert, Marker, NotOk],
+        Table => &[Unless(Quirks), CLOSE_P, Insert, NotOk, Enter(Mode::InTable)],
         Area | Br | Embed | Img | Keygen | Wbr => &[Reconstruct, Void, NotOk],
         Param | Source | Track => &[Void],
         Hr => &[CLOSE_P, Void, NotOk],
@@ -103,6 +112,15 @@ pub fn start(word: Word) -> &'static [Instr]
             Enter(Mode::InText),
             Switch(Reading::Rawtext),
         ],
+        Select => &[
+            Reconstruct,
+            Insert,
+            NotOk,
+            Unless(InTables),
+            Enter(Mode::InSelect),
+            When(InTables),
+            Enter(Mode::InSelectInTable),
+        ],
         Optgroup | Word::Option => &[When(Current(The(Word::Option))), Pop, Reconstruct, Insert],
         Rb | Rtc => &[When(InScope(Scope::Default, The(Ruby))), Implied, Insert],
         Rp | Rt => &[
@@ -133,7 +151,6 @@ pub fn start(word: Word) -> &'static [Instr]
         ],
         Image => &[Reconstruct, VoidAs(Img), NotOk],
         Input => &[Reconstruct, Void, Unless(HiddenInput), NotOk],
-        Frameset | Select | Table => &[Missing],
         _ => &[Reconstruct, Insert],
     }
 }

@@ -25,7 +25,6 @@ pub fn in_text(token: &Token) -> &'static [Instr]
             name: _,
             force_quirks: _,
         } => &[],
-        Token::Missing => &[Missing],
     }
 }
 

@@ -1,14 +1,11 @@
-//! The rules of tree construction "in body" (13.2.6.4.7), "text" (13.2.6.4.8), "after body" (13.2.6.4.19) and "after after
-//! body" (13.2.6.4.22).
+//! The rules of tree construction "in body" (13.2.6.4.7) and "text" (13.2.6.4.8).
 #![tactic(auto)]
 
 ghost use Rattle.std.specs.Prelude.{◌≡◌, IsTrue, IfOk};
 ghost use Rattle.standard.specs.Rules.{answer, by_mode, row as row_of};
 ghost use Rattle.builder_body.specs.Modes.{is_body_mode};
-ghost use Rattle.builder_body.specs.Rounds.{RoundsSuffice};
 
 mod after_adoption;
-mod after_body;
 mod in_body;
 mod in_body_end;
 mod in_body_start;
@@ -43,17 +40,9 @@ fn row(mode: Mode, token: &Token) -> &'static [Instr]
     match mode {
         Mode::InBody => in_body::in_body(token),
         Mode::InText => in_text::in_text(token),
-        Mode::AfterBody => after_body::after_body(token),
-        Mode::AfterAfterBody => after_body::after_after_body(token),
-        _ => &[Instr::Missing],
+        _ => &[],
     }
 }
-
-/// Processing a token again, or by the rules of another mode, comes to an end within 16 rounds, in every mode, for every
-/// token and open state.
-pub fn rounds_suffice()
-    ensures { RoundsSuffice }
-{}
 
 #[cfg(test)]
 mod tests {

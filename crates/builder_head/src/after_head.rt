@@ -40,7 +40,6 @@ pub fn after_head(token: &Token) -> &'static [Instr]
             force_quirks: _,
         } => &[],
         Token::EndOfFile => OTHERWISE,
-        Token::Missing => &[Missing],
     }
 }
 
@@ -51,6 +50,7 @@ fn start(word: Word) -> &'static [Instr]
     match word {
         Html => &[Using(Mode::InBody)],
         Body => &[Insert, NotOk, Enter(Mode::InBody)],
+        Frameset => &[Insert, Enter(Mode::InFrameset)],
         Base | Basefont | Bgsound | Link | Meta => &[PushHead, Void, TakeHeadOff],
         Title => &[
             PushHead,
@@ -76,7 +76,15 @@ fn start(word: Word) -> &'static [Instr]
             Enter(Mode::InText),
             Switch(Reading::ScriptData),
         ],
-        Frameset | Template => &[Missing],
+        Template => &[
+            PushHead,
+            Insert,
+            TakeHeadOff,
+            Marker,
+            NotOk,
+            Enter(Mode::InTemplate),
+            PushTemplateMode(Mode::InTemplate),
+        ],
         Head => &[],
         _ => OTHERWISE,
     }
@@ -86,7 +94,7 @@ fn end(word: Word) -> &'static [Instr]
     ensures { result.now ≡ known_end_row Mode.AfterHead word }
 {
     match word {
-        Template => &[Missing],
+        Template => &[Using(Mode::InHead)],
         Body | Html | Br => OTHERWISE,
         _ => &[],
     }

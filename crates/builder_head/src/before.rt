@@ -32,7 +32,6 @@ pub fn initial(token: &Token) -> &'static [Instr]
             Enter(Mode::BeforeHtml),
         ],
         Token::StartTag(_) | Token::EndTag(_) | Token::EndOfFile => NO_DOCTYPE,
-        Token::Missing => &[Missing],
     }
 }
 
@@ -57,7 +56,6 @@ pub fn before_html(token: &Token) -> &'static [Instr]
             force_quirks: _,
         } => &[],
         Token::EndOfFile => NO_HTML,
-        Token::Missing => &[Missing],
     }
 }
 
@@ -100,7 +98,6 @@ pub fn before_head(token: &Token) -> &'static [Instr]
             force_quirks: _,
         } => &[],
         Token::EndOfFile => NO_HEAD,
-        Token::Missing => &[Missing],
     }
 }
 

@@ -5,6 +5,8 @@ ghost use Rattle.standard.specs.Rules.{row, known_start_row, known_end_row};
 
 use builder_state::is_space;
 use html_types::instruction::Instr::*;
+use html_types::instruction::Test::OnStack;
+use html_types::instruction::Who::The;
 use html_types::word::Word::{
     Base, Basefont, Bgsound, Body, Br, Head, Html, Link, Meta, Noframes, Noscript, Script, Style,
     Template, Title,
@@ -40,7 +42,6 @@ pub fn in_head(token: &Token) -> &'static [Instr]
             force_quirks: _,
         } => &[],
         Token::EndOfFile => OTHERWISE,
-        Token::Missing => &[Missing],
     }
 }
 
@@ -68,7 +69,13 @@ fn start(word: Word) -> &'static [Instr]
             Enter(Mode::InText),
             Switch(Reading::ScriptData),
         ],
-        Template => &[Missing],
+        Template => &[
+            Insert,
+            Marker,
+            NotOk,
+            Enter(Mode::InTemplate),
+            PushTemplateMode(Mode::InTemplate),
+        ],
         Head => &[],
         _ => OTHERWISE,
     }
@@ -79,7 +86,14 @@ fn end(word: Word) -> &'static [Instr]
 {
     match word {
         Head => &[Pop, Enter(Mode::AfterHead)],
-        Template => &[Missing],
+        Template => &[
+            Need(OnStack(The(Template))),
+            ImpliedThoroughly,
+            Until(The(Template)),
+            ClearToMarker,
+            PopTemplateMode,
+            Reset,
+        ],
         Body | Html | Br => OTHERWISE,
         _ => &[],
     }

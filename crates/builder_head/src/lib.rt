@@ -40,7 +40,7 @@ fn row(mode: Mode, token: &Token) -> &'static [Instr]
         Mode::BeforeHead => before::before_head(token),
         Mode::InHead => in_head::in_head(token),
         Mode::AfterHead => after_head::after_head(token),
-        _ => &[Instr::Missing],
+        _ => &[],
     }
 }
 

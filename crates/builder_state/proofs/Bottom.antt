@@ -1,8 +1,8 @@
--- The bottom of a stack that is written with the current node last.
+-- The bottom of a stack, also of one that is written with the current node last.
 use Rattle.std.proofs.Common.{◌≡◌, ◌∙◌, ◌<◌, refl, ap, List, [], ◌∷◌, ◌++◌, length, reverse, Some, None, arith}
 use Rattle.std.proofs.lemmas.List.{reverse-append}
 use Rattle.html_types.specs.declared.open.OpenElement.{OpenElement}
-use Rattle.standard.specs.Stack.{first_open, second_open}
+use Rattle.standard.specs.Stack.{first_open, second_open, pop_to_root}
 
 first_open_end : (es : List OpenElement) (x : OpenElement) → first_open (es ++ x ∷ []) ≡ Some x
 first_open_end [] x = refl
@@ -25,3 +25,8 @@ pub second_open_few : (es : List OpenElement) → length es < 2 → second_open 
 second_open_few [] h = refl
 second_open_few (x ∷ []) h = refl
 second_open_few (x ∷ y ∷ es) h = absurd (omega arith)
+
+pub pop_to_root_few : (es : List OpenElement) → length es < 2 → pop_to_root es ≡ es
+pop_to_root_few [] h = refl
+pop_to_root_few (x ∷ []) h = refl
+pop_to_root_few (x ∷ y ∷ es) h = absurd (omega arith)

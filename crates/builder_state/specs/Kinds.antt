@@ -3,6 +3,14 @@ use Rattle.std.specs.Prelude.{Bool, true, false, not, ◌&&◌}
 use Rattle.html_types.specs.declared.instruction.Instr.{Instr}
 use Rattle.html_types.specs.declared.instruction.Instr.TheVariants as ins
 
+-- it only asks a question
+abbrev pub is_guard : Instr → Bool
+is_guard (ins.Need c) = true
+is_guard (ins.Forbid c) = true
+is_guard (ins.When c) = true
+is_guard (ins.Unless c) = true
+is_guard _ = false
+
 -- behind it the row goes on, whatever the open state is
 abbrev pub goes_on : Instr → Bool
 goes_on (ins.Need c) = false
@@ -18,18 +26,19 @@ goes_on (ins.VoidA w) = false
 goes_on (ins.VoidAs w) = false
 goes_on ins.Reconstruct = false
 goes_on ins.PushHead = false
+goes_on ins.InsertPending = false
 goes_on ins.Adopt = false
 goes_on ins.AdoptAnchor = false
 goes_on ins.AdoptNobr = false
 goes_on (ins.Switch r) = false
 goes_on (ins.Using m) = false
+goes_on ins.Foster = false
 goes_on ins.Again = false
 goes_on ins.StopAtScript = false
 goes_on ins.Finish = false
-goes_on ins.Missing = false
 goes_on _ = true
 
--- it adds an entry to the list of active formatting elements, or asks for an operation that makes no element
+-- it takes memory: it adds to a list or to the pending text, or asks for an operation that makes no element
 abbrev pub adds : Instr → Bool
 adds ins.InsertText = true
 adds ins.InsertComment = true
@@ -38,8 +47,11 @@ adds ins.CommentToRoot = true
 adds ins.AppendDoctype = true
 adds ins.AddToFirst = true
 adds ins.AddToSecond = true
+adds ins.DetachSecond = true
 adds ins.List = true
 adds ins.Marker = true
+adds (ins.PushTemplateMode m) = true
+adds ins.AppendPending = true
 adds _ = false
 
 -- it only changes the open state, and takes no memory

@@ -6,7 +6,8 @@ ghost use Rattle.standard.specs.Instructions.{holds, in_form, is_quirky};
 use crate::formatting::is_listed;
 use crate::inputs::is_hidden_input;
 use crate::places::second_is_body;
-use crate::walks::{is_current, is_in_scope, is_on_stack};
+use crate::reset::is_table_mode;
+use crate::walks::{is_current, is_in_scope, is_on_stack, is_option_in_optgroup};
 use html_types::{Open, Test, Token, Who, Word};
 
 /// Whether a document of the token's doctype is in quirks mode.
@@ -41,5 +42,8 @@ pub fn test_holds(state: &Open, test: Test, token: &Token) -> bool
         Test::QuirkyDoctype => is_quirky_doctype(token),
         Test::InForm => is_in_form(state, token),
         Test::HiddenInput => is_hidden_input(token),
+        Test::InTemplates => !state.template_modes.as_slice().is_empty(),
+        Test::InTables => is_table_mode(state.mode),
+        Test::OptionInOptgroup => is_option_in_optgroup(&state.stack),
     }
 }

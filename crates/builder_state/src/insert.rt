@@ -5,7 +5,7 @@ ghost use Rattle.html_types.specs.Operations.{later};
 ghost use Rattle.html_types.specs.declared.word.Word.TheVariants as word;
 ghost use Rattle.html_types.specs.declared.operation.Op.TheVariants as op;
 ghost use Rattle.standard.specs.Stack.{first_open, second_open};
-ghost use Rattle.standard.specs.Instructions.{on, config, made, insert_at, insert, insert_root, void, void_as, tag_of, named, for_tag, here, reopen, reconstruct, insert_text, insert_comment, append_doctype, add_attributes, push_head};
+ghost use Rattle.standard.specs.Instructions.{on, config, made, insert_at, insert, insert_root, void, void_as, tag_of, named, for_tag, here, reopen, reconstruct, insert_text, insert_comment, append_doctype, add_attributes, detach_second, push_head};
 
 use crate::formatting::take_lost;
 use crate::places::appropriate;
@@ -374,6 +374,17 @@ fn add_to(alloc: Global, node: NodeId, tag: &Tag, ops: &mut Ops) -> Result<(), N
 {
     let attributes = tag.attributes.copy(alloc)?;
     ops.push(Op::AddAttributes { node, attributes })
+}
+
+/// Takes the second element of the stack out of its parent. It stays on the stack.
+#[tactic(auto, using(std::proofs::lemmas::Grind::common_steps, crate::proofs::Bottom::second_open_reverse, crate::proofs::Bottom::second_open_few))]
+pub fn take_second_out(state: &Open, ops: &mut Ops) -> Result<(), NoMemory>
+    ensures { IfOk result (λ _. on state.now ops.new ≡ detach_second (second_open state.now.stack) state.now ops.old) }
+{
+    match state.stack.as_slice() {
+        [_, second, ..] => ops.push(Op::Detach { node: second.id }),
+        [] | [_] => Ok(()),
+    }
 }
 
 /// Pushes the node that the head element pointer names.

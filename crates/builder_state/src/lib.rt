@@ -8,7 +8,9 @@ mod inputs;
 mod insert;
 mod likes;
 mod machine;
+mod pending;
 mod places;
+mod reset;
 mod space;
 mod state;
 #[cfg(test)]

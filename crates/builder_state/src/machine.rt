@@ -1,13 +1,14 @@
 //! What each instruction of a row does, and the row as a whole.
 
-ghost use Rattle.std.specs.Prelude.{◌≡◌, ◌≤◌, length, IsTrue, IfOk, None, Some, if◌then◌else◌};
+ghost use Rattle.std.specs.Prelude.{◌≡◌, ◌≤◌, length, IsTrue, IfOk, None, Some, true, if◌then◌else◌};
 ghost use Rattle.html_types.specs.declared.instruction.Flow.TheVariants.{On, Skip, Leave};
 ghost use Rattle.html_types.specs.declared.instruction.Next.TheVariants as next;
 ghost use Rattle.standard.specs.Formatting.{entry_named, without_entry};
 ghost use Rattle.standard.specs.Stack.{without_open};
+ghost use Rattle.standard.specs.Reset.{reset_mode};
 ghost use Rattle.standard.specs.Elements.{is_word};
 ghost use Rattle.standard.specs.Instructions.{config, on, original_or, stop_at_script, for_tag, enlist, adopt_own, adopt_anchor, step, run};
-ghost use Rattle.builder_state.specs.Kinds.{goes_on, is_change};
+ghost use Rattle.builder_state.specs.Kinds.{is_guard, goes_on, is_change};
 
 use crate::checks::test_holds;
 use crate::formatting::{clear_back, entry_of, take_entry_off};
@@ -15,13 +16,15 @@ use crate::forms::end_form_element;
 use crate::insert::{
     add_to_first, add_to_second, insert_bare, insert_bare_root, insert_bare_void, insert_character,
     insert_doctype, insert_for, insert_note, insert_root_for, insert_void, insert_void_as,
-    place_now, push_pointed_head, reopen_lost,
+    place_now, push_pointed_head, reopen_lost, take_second_out,
 };
 use crate::likes::enter;
+use crate::pending::{insert_pending_text, keep_character};
 use crate::places::root_place;
+use crate::reset::mode_to_reset_to;
 use crate::walks::{
     close_found_item, close_in_scope, close_other_end, current_node, pop_back_to, pop_implied,
-    pop_until, take_off,
+    pop_implied_thoroughly, pop_to_first, pop_until, take_off,
 };
 use html_types::{
     Flow, Format, Instr, Mode, Name, Next, NoMemory, NodeId, Open, Ops, Place, Then, Token, Who,
@@ -39,12 +42,28 @@ fn take_head_off(state: &mut Open)
     }
 }
 
-/// The mode is the original mode again. (There always is one in the mode "text".)
+/// The mode is the original mode again. (There always is one in the modes "text" and "in table text".)
 fn restore(state: &mut Open)
     ensures { state.new ≡ record state.old { mode = original_or Mode.InBody state.old.original; original = None } }
 {
     state.mode = state.original.unwrap_or(Mode::InBody);
     state.original = None;
+}
+
+/// Resets the insertion mode appropriately (13.2.4.1).
+fn reset(state: &mut Open)
+    ensures { state.new ≡ record state.old { mode = reset_mode state.old.stack state.old.head state.old.template_modes } }
+{
+    state.mode = mode_to_reset_to(&state.stack, state.head, &state.template_modes);
+}
+
+/// The token goes by the rules of "in body", with foster parenting on.
+fn foster(state: &mut Open) -> Flow
+    ensures flag { state.new ≡ record state.old { foster = true } }
+    ensures left { result ≡ Leave next.Foster }
+{
+    state.foster = true;
+    Flow::Leave(Next::Foster)
 }
 
 /// Pops the current node, a script, at which the parser stops.
@@ -131,6 +150,20 @@ fn when(holds: bool) -> Flow
     if holds { Flow::On } else { Flow::Skip }
 }
 
+/// An instruction that only asks a question.
+fn guard(state: &Open, instr: Instr, token: &Token, ops: &Ops) -> Flow
+    requires { IsTrue (is_guard instr) }
+    ensures { config state.now ops.now result ≡ step instr token.now state.now ops.now }
+{
+    match instr {
+        Instr::Need(test) => need(test_holds(state, test, token)),
+        Instr::Forbid(test) => need(!test_holds(state, test, token)),
+        Instr::When(test) => when(test_holds(state, test, token)),
+        Instr::Unless(test) => when(!test_holds(state, test, token)),
+        _ => Flow::On,
+    }
+}
+
 /// An instruction that closes elements, or changes the list, a flag, a pointer or a mode. It takes no memory.
 fn change(state: &mut Open, instr: Instr, token: &Token, ops: &Ops)
     requires { IsTrue (is_change instr) }
@@ -143,7 +176,9 @@ fn change(state: &mut Open, instr: Instr, token: &Token, ops: &Ops)
         }
         Instr::Until(who) => pop_until(&mut state.stack, who, token),
         Instr::PopTo(group) => pop_back_to(&mut state.stack, group),
+        Instr::PopToRoot => pop_to_first(&mut state.stack),
         Instr::Implied => pop_implied(&mut state.stack, Who::Nobody, token),
+        Instr::ImpliedThoroughly => pop_implied_thoroughly(&mut state.stack),
         Instr::ImpliedBut(who) => pop_implied(&mut state.stack, who, token),
         Instr::Close(scope, who) => close_in_scope(&mut state.stack, scope, who, token),
         Instr::CloseItem(who) => close_found_item(&mut state.stack, who, token),
@@ -160,6 +195,10 @@ fn change(state: &mut Open, instr: Instr, token: &Token, ops: &Ops)
         Instr::Enter(mode) => state.mode = mode,
         Instr::KeepMode => state.original = Some(state.mode),
         Instr::Restore => restore(state),
+        Instr::PopTemplateMode => {
+            let _ = state.template_modes.pop();
+        }
+        Instr::Reset => reset(state),
         _ => {}
     }
 }
@@ -184,8 +223,11 @@ fn exec_on(
         Instr::AppendDoctype => insert_doctype(alloc, state, token, ops)?,
         Instr::AddToFirst => add_to_first(alloc, state, token, ops)?,
         Instr::AddToSecond => add_to_second(alloc, state, token, ops)?,
+        Instr::DetachSecond => take_second_out(state, ops)?,
         Instr::List => list_current(alloc, state, token, ops)?,
         Instr::Marker => state.formats.push(Format::Marker)?,
+        Instr::PushTemplateMode(mode) => state.template_modes.push(mode)?,
+        Instr::AppendPending => keep_character(state, token, ops)?,
         _ => change(state, instr, token, ops),
     }
     Ok(())
@@ -204,10 +246,9 @@ fn exec(
     ensures bounded { length state.new.stack ≤ 512 }
 {
     match instr {
-        Instr::Need(test) => Ok(need(test_holds(state, test, token))),
-        Instr::Forbid(test) => Ok(need(!test_holds(state, test, token))),
-        Instr::When(test) => Ok(when(test_holds(state, test, token))),
-        Instr::Unless(test) => Ok(when(!test_holds(state, test, token))),
+        Instr::Need(_) | Instr::Forbid(_) | Instr::When(_) | Instr::Unless(_) => {
+            Ok(guard(state, instr, token, ops))
+        }
         Instr::Insert => insert_for(alloc, state, token, ops),
         Instr::InsertA(word) => insert_bare(alloc, state, word, ops),
         Instr::InsertRoot => insert_root_for(alloc, state, token, ops),
@@ -217,15 +258,16 @@ fn exec(
         Instr::VoidAs(word) => insert_void_as(alloc, state, word, token, ops),
         Instr::Reconstruct => reopen_lost(alloc, state, ops),
         Instr::PushHead => push_pointed_head(state, ops),
+        Instr::InsertPending => insert_pending_text(alloc, state, ops),
         Instr::Adopt => Ok(ask_adoption(state, token, ops)),
         Instr::AdoptAnchor => Ok(ask_anchor_adoption(state, ops)),
         Instr::AdoptNobr => Ok(adoption(Word::Nobr, Then::Nobr)),
         Instr::Switch(reading) => Ok(Flow::Leave(Next::Switch(reading))),
         Instr::Using(mode) => Ok(Flow::Leave(Next::Using(mode))),
+        Instr::Foster => Ok(foster(state)),
         Instr::Again => Ok(Flow::Leave(Next::Again)),
         Instr::StopAtScript => Ok(stop_at(state, ops)),
         Instr::Finish => Ok(Flow::Leave(Next::Finished)),
-        Instr::Missing => Ok(Flow::Leave(Next::Missing)),
         _ => {
             exec_on(alloc, state, instr, token, ops)?;
             Ok(Flow::On)

@@ -9,7 +9,8 @@ ghost use Rattle.builder_state.specs.Push.{opened};
 use crate::insert::{LIMIT, place_now, reopen_lost};
 use crate::machine::run_row;
 use html_types::{
-    Flow, Formats, Instr, Mode, Next, NoMemory, NodeId, Open, OpenElement, Ops, Place, Stack, Token,
+    Flow, Formats, Instr, Mode, Modes, Next, NoMemory, NodeId, Open, OpenElement, Ops, Place,
+    Stack, Text, Token,
 };
 use std::alloc::Global;
 use std::marker::Model;
@@ -145,6 +146,13 @@ impl Builder {
         was
     }
 
+    /// Foster parenting is off.
+    pub fn stop_fostering(&mut self)
+        ensures { self.new ≡ record self.old { foster = false } }
+    {
+        self.state.foster = false;
+    }
+
     /// The id of the next element that is made.
     pub fn next_id(&self) -> NodeId
         ensures { result ≡ self.now.next }
@@ -165,6 +173,8 @@ impl Builder {
     {
         let stack = self.state.stack.copy(alloc)?;
         let formats = self.state.formats.copy(alloc)?;
+        let template_modes = self.state.template_modes.copy(alloc)?;
+        let pending_text = self.state.pending_text.copy(alloc)?;
         Ok(Builder {
             state: Open {
                 stack,
@@ -173,6 +183,8 @@ impl Builder {
                 form: self.state.form,
                 mode: self.state.mode,
                 original: self.state.original,
+                template_modes,
+                pending_text,
                 frameset_ok: self.state.frameset_ok,
                 quirks: self.state.quirks,
                 skip_line_feed: self.state.skip_line_feed,
@@ -188,6 +200,8 @@ impl Builder {
     {
         self.state.stack.same(&other.state.stack)
             && self.state.formats.same(&other.state.formats)
+            && self.state.template_modes.same(&other.state.template_modes)
+            && self.state.pending_text.same(&other.state.pending_text)
             && same_pointers(&self.state, &other.state)
             && same_modes(&self.state, &other.state)
             && same_flags(&self.state, &other.state)
@@ -205,6 +219,8 @@ fn first_state(alloc: Global, realm: u64) -> Open
         form: None,
         mode: Mode::Initial,
         original: None,
+        template_modes: Modes::new(alloc),
+        pending_text: Text::new(alloc),
         frameset_ok: true,
         quirks: false,
         skip_line_feed: false,

@@ -32,6 +32,22 @@ fn opens_elements(rt: HostRuntime) -> Result<(), Fail> {
 }
 
 #[test]
+fn inserts_pending_text(rt: HostRuntime) -> Result<(), Fail> {
+    let alloc = rt.alloc();
+    let mut builder = Builder::new(alloc, 7);
+    let mut ops = Ops::new(alloc);
+    let row = [
+        Instr::InsertRootA,
+        Instr::AppendPending,
+        Instr::InsertPending,
+    ];
+    let token = Token::Character('x');
+    assert_eq!(rt; builder.run(alloc, &row, &token, &mut ops)?, Flow::On);
+    assert_eq!(rt; ops.as_slice().len(), 3);
+    Ok(())
+}
+
+#[test]
 fn copies_are_the_same(rt: HostRuntime) -> Result<(), Fail> {
     let alloc = rt.alloc();
     let builder = Builder::new(alloc, 7);

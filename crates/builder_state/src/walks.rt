@@ -2,10 +2,10 @@
 
 ghost use Rattle.std.specs.Prelude.{◌≡◌, ◌≤◌, ◌<◌, length, reverse, remove, Some, MatchOption};
 ghost use Rattle.standard.specs.Elements.{is_meant, is_one_of};
-ghost use Rattle.standard.specs.Stack.{in_scope, on_stack, is_open, current_is, current_id, until, pop_to, implied, close, item_found, close_item, end_found, other_end, without_open, open_in_scope};
+ghost use Rattle.standard.specs.Stack.{in_scope, on_stack, is_open, current_is, current_id, until, pop_to, pop_to_root, implied, implied_thoroughly, option_in_optgroup, close, item_found, close_item, end_found, other_end, without_open, open_in_scope};
 
-use html_types::{Group, NodeId, OpenElement, Scope, Stack, Token, Who};
-use tag_sets::{ends, is_any, meant};
+use html_types::{Group, NodeId, OpenElement, Scope, Stack, Token, Who, Word};
+use tag_sets::{ends, is_any, is_the, meant};
 
 /// The current node.
 pub fn current_node(stack: &Stack) -> Option<NodeId>
@@ -56,6 +56,19 @@ pub fn is_on_stack(stack: &Stack, who: Who, token: &Token) -> bool
         items = rest;
     }
     false
+}
+
+/// Whether the current node is an option right above an optgroup.
+pub fn is_option_in_optgroup(stack: &Stack) -> bool
+    ensures { result ≡ option_in_optgroup stack.now }
+{
+    let Some((last, rest)) = stack.as_slice().split_last() else {
+        return false;
+    };
+    match rest.split_last() {
+        None => false,
+        Some((below, _)) => is_the(Word::Option, &last.name) && is_the(Word::Optgroup, &below.name),
+    }
 }
 
 /// Whether the element of that id is on the stack.
@@ -114,6 +127,17 @@ pub fn pop_back_to(stack: &mut Stack, group: Group)
     }
 }
 
+/// Pops all but the first element.
+#[tactic(auto, using(std::proofs::lemmas::Grind::common_steps, crate::proofs::Bottom::pop_to_root_few))]
+pub fn pop_to_first(stack: &mut Stack)
+    ensures left { stack.new ≡ pop_to_root stack.old }
+    ensures shorter { length stack.new ≤ length stack.old }
+{
+    while stack.len() > 1 {
+        let _ = stack.pop();
+    }
+}
+
 /// Generates implied end tags (13.2.6.3), but for those that are meant.
 pub fn pop_implied(stack: &mut Stack, but: Who, token: &Token)
     ensures left { stack.new ≡ implied (is_meant but token.now) stack.old }
@@ -121,6 +145,19 @@ pub fn pop_implied(stack: &mut Stack, but: Who, token: &Token)
 {
     while let Some((last, _)) = stack.as_slice().split_last() {
         if !is_any(Group::ClosedImplicitly, &last.name) || meant(but, token, &last.name) {
+            return;
+        }
+        let _ = stack.pop();
+    }
+}
+
+/// Generates all implied end tags thoroughly (13.2.6.3).
+pub fn pop_implied_thoroughly(stack: &mut Stack)
+    ensures left { stack.new ≡ implied_thoroughly stack.old }
+    ensures shorter { length stack.new ≤ length stack.old }
+{
+    while let Some((last, _)) = stack.as_slice().split_last() {
+        if !is_any(Group::ClosedThoroughly, &last.name) {
             return;
         }
         let _ = stack.pop();

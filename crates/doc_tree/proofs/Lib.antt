@@ -1,5 +1,4 @@
 pub mod Links
-pub mod Counts
 pub mod Trees
 pub mod Puts
 pub mod Texts

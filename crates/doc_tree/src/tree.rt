@@ -84,23 +84,7 @@ fn has_text(kind: &Kind) -> bool
     }
 }
 
-ghost use Rattle.html_types.specs.Numbers.{count_of, place_of};
-
-// Where among the children a node goes that is put before the given one. It is mostly near the end, so it is searched for from there.
-fn place_before(children: &[usize], before: usize) -> usize
-    requires { count_of before children.now ≤ 1 }
-    ensures place { result ≡ place_of children.now (Some before) }
-    ensures within { result ≤ length children.now }
-{
-    let mut place = children.len();
-    'back: while place > 0 {
-        place -= 1;
-        if children[place] == before {
-            return place;
-        }
-    }
-    children.len()
-}
+ghost use Rattle.html_types.specs.Numbers.{place_of};
 
 // Changes of the tree.
 impl Tree {
@@ -220,11 +204,7 @@ impl Tree {
         ensures place { result ≡ place_of (children_of self.now parent) before }
         ensures within { result ≤ length (children_of self.now parent) }
     {
-        let children = self.nodes[parent].children.as_slice();
-        match before {
-            None => children.len(),
-            Some(before) => place_before(children, before),
-        }
+        self.nodes[parent].children.place(before)
     }
 
     // A node without a parent goes among the parent's children, before one of them or last.

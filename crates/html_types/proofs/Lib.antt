@@ -2,4 +2,5 @@ pub mod TextLemmas
 pub mod CharLemmas
 pub mod WordLemmas
 pub mod ListLemmas
+pub mod Counts
 mod Examples

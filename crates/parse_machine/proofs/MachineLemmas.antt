@@ -56,12 +56,24 @@ build_end_token t ts s cr b o b' o' n e =
     ap on e ∙ ap on (construct-framed t b o)
     ∙ sym (after_all-after o (construct t b []).ops (build_end_on s cr (construct t b []).open_state (build_end s cr ts (construct t b []).open_state) (construct t b []).next))
 
--- the same, by what comes next
-pub went_on : (t : Token) (cr : Bool) (m m' : Reached) (b b' : Open) (o o' : List Op) (n : Next) → answer b' o' n ≡ construct t b o → n ≡ next.Done
+-- the same, by what comes next: mostly the next token
+abbrev pub goes_on : Next → Bool
+goes_on (next.Switch r) = false
+goes_on (next.Script i) = false
+goes_on next.Deep = false
+goes_on _ = true
+
+rests : (s : TokState) (cr : Bool) (t : Token) (b : Open) (rest : TokState → Took) (x : Next) → goes_on x ≡ true → rest s ≡ build_on s cr t b rest x
+rests s cr t b rest (next.Switch r) e = cc
+rests s cr t b rest (next.Script i) e = cc
+rests s cr t b rest next.Deep e = cc
+rests s cr t b rest _ e = refl
+
+pub went_on : (t : Token) (cr : Bool) (m m' : Reached) (b b' : Open) (o o' : List Op) (n : Next) → answer b' o' n ≡ construct t b o → goes_on n ≡ true
     → m' ≡ m → WentTo cr m' b' o' went.On ≡ after_ops o (build m.state cr (t ∷ m.tokens) b)
 went_on t cr m m' b b' o o' n e is same =
     ap (λ (v : Reached). WentTo cr v b' o' went.On) same
-    ∙ ap (λ v. after_ops o' (build_on m.state cr t b' (λ s'. build s' cr m.tokens b') v)) (sym is)
+    ∙ ap (λ k. after_ops o' k) (rests m.state cr t b' (λ s'. build s' cr m.tokens b') n is)
     ∙ build_token t m.tokens m.state cr b o b' o' n e
 
 pub went_switched : (t : Token) (cr : Bool) (m m' : Reached) (b b' : Open) (o o' : List Op) (n : Next) (r : Reading) (s' : TokState) → answer b' o' n ≡ construct t b o → n ≡ next.Switch r
@@ -72,26 +84,23 @@ went_switched t cr m m' b b' o o' n r s' e is read tokens state =
     ∙ ap (λ v. after_ops o' (build_on m.state cr t b' (λ s'. build s' cr m.tokens b') v)) (sym is)
     ∙ build_token t m.tokens m.state cr b o b' o' n e
 
-goes : Next → Bool
-goes next.Done = true
-goes (next.Switch r) = true
-goes _ = false
-
 halted : Next → Stop
 halted (next.Script i) = stop.Script i
-halted next.Deep = stop.Deep
-halted _ = stop.Missing
+halted _ = stop.Deep
 
-halts : (s : TokState) (cr : Bool) (t : Token) (b : Open) (o : List Op) (rest : TokState → Took) (x : Next) → goes x ≡ false
+is_halt : Next → Bool
+is_halt (next.Script i) = true
+is_halt next.Deep = true
+is_halt _ = false
+
+halts : (s : TokState) (cr : Bool) (t : Token) (b : Open) (o : List Op) (rest : TokState → Took) (x : Next) → is_halt x ≡ true
     → took o (parser s cr b) (halted x) ≡ after_ops o (build_on s cr t b rest x)
-unfolding goes halted
-halts s cr t b o rest next.Done e = cc
-halts s cr t b o rest (next.Switch r) e = cc
+unfolding is_halt halted
 halts s cr t b o rest (next.Script i) e = ap (λ l. took l (parser s cr b) (stop.Script i)) (sym (append-nil o))
 halts s cr t b o rest next.Deep e = ap (λ l. took l (parser s cr b) stop.Deep) (sym (append-nil o))
-halts s cr t b o rest _ e = ap (λ l. took l (parser s cr b) stop.Missing) (sym (append-nil o))
+halts s cr t b o rest _ e = absurd (cc)
 
-went_at : (t : Token) (cr : Bool) (m m' : Reached) (b b' : Open) (o o' : List Op) (n x : Next) → answer b' o' n ≡ construct t b o → n ≡ x → goes x ≡ false
+went_at : (t : Token) (cr : Bool) (m m' : Reached) (b b' : Open) (o o' : List Op) (n x : Next) → answer b' o' n ≡ construct t b o → n ≡ x → is_halt x ≡ true
     → m' ≡ m → WentTo cr m' b' o' (went.At (halted x)) ≡ after_ops o (build m.state cr (t ∷ m.tokens) b)
 went_at t cr m m' b b' o o' n x e is g same =
     ap (λ (v : Reached). WentTo cr v b' o' (went.At (halted x))) same
@@ -101,34 +110,13 @@ went_at t cr m m' b b' o o' n x e is g same =
 
 pub went_script : (t : Token) (cr : Bool) (m m' : Reached) (b b' : Open) (o o' : List Op) (n : Next) (i : NodeId) → answer b' o' n ≡ construct t b o → n ≡ next.Script i
     → m' ≡ m → WentTo cr m' b' o' (went.At (stop.Script i)) ≡ after_ops o (build m.state cr (t ∷ m.tokens) b)
-unfolding goes halted
+unfolding is_halt halted
 went_script t cr m m' b b' o o' n i e is same = went_at t cr m m' b b' o o' n (next.Script i) e is refl same
 
 pub went_deep : (t : Token) (cr : Bool) (m m' : Reached) (b b' : Open) (o o' : List Op) (n : Next) → answer b' o' n ≡ construct t b o → n ≡ next.Deep
     → m' ≡ m → WentTo cr m' b' o' (went.At stop.Deep) ≡ after_ops o (build m.state cr (t ∷ m.tokens) b)
-unfolding goes halted
+unfolding is_halt halted
 went_deep t cr m m' b b' o o' n e is same = went_at t cr m m' b b' o o' n next.Deep e is refl same
-
--- what a text can't bring, or what isn't there yet
-abbrev pub is_odd : Next → Bool
-is_odd next.Done = false
-is_odd (next.Switch r) = false
-is_odd (next.Script i) = false
-is_odd next.Deep = false
-is_odd _ = true
-
-pub went_missing : (t : Token) (cr : Bool) (m m' : Reached) (b b' : Open) (o o' : List Op) (n : Next) → answer b' o' n ≡ construct t b o → is_odd n ≡ true
-    → m' ≡ m → WentTo cr m' b' o' (went.At stop.Missing) ≡ after_ops o (build m.state cr (t ∷ m.tokens) b)
-unfolding goes halted
-went_missing t cr m m' b b' o o' n e is same = by n is (went_at t cr m m' b b' o o' n n e refl)
-  where
-    by : (n : Next) → is_odd n ≡ true → (goes n ≡ false → m' ≡ m → WentTo cr m' b' o' (went.At (halted n)) ≡ after_ops o (build m.state cr (t ∷ m.tokens) b))
-        → WentTo cr m' b' o' (went.At stop.Missing) ≡ after_ops o (build m.state cr (t ∷ m.tokens) b)
-    by next.Done is f = cc
-    by (next.Switch r) is f = cc
-    by (next.Script i) is f = cc
-    by next.Deep is f = cc
-    by _ is f = f refl same
 
 pub all_used : (cr : Bool) (m m' : Reached) (b : Open) (o : List Op) → m.tokens ≡ [] → m' ≡ m → WentTo cr m' b o AllUsed ≡ after_ops o (build m.state cr m.tokens b)
 unfolding build
@@ -139,37 +127,46 @@ all_used cr m m' b o e same =
 
 -- ---- the last tokens
 
-pub none_last : (cr : Bool) (m m' : Reached) (b : Open) (o : List Op) → m.tokens ≡ [] → m'.state ≡ m.state → EndedTo cr m' b o (ended.At finale.Missing) ≡ after_all o (build_end m.state cr m.tokens b)
+pub none_last : (cr : Bool) (m m' : Reached) (b : Open) (o : List Op) → m.tokens ≡ [] → m'.state ≡ m.state → EndedTo cr m' b o (ended.At finale.Finished) ≡ after_all o (build_end m.state cr m.tokens b)
 unfolding build_end
 none_last cr m m' b o e same =
-    ap (λ s. finished_as o (parser s cr b) finale.Missing) same
-    ∙ ap (λ l. finished_as l (parser m.state cr b) finale.Missing) (sym (append-nil o))
+    ap (λ s. finished_as o (parser s cr b) finale.Finished) same
+    ∙ ap (λ l. finished_as l (parser m.state cr b) finale.Finished) (sym (append-nil o))
     ∙ ap (λ ts. after_all o (build_end m.state cr ts b)) (sym e)
 
-pub ended_on : (t : Token) (cr : Bool) (m m' : Reached) (b b' : Open) (o o' : List Op) (n : Next) → answer b' o' n ≡ construct t b o → n ≡ next.Done
+abbrev pub ends_on : Next → Bool
+ends_on next.Finished = false
+ends_on next.Deep = false
+ends_on _ = true
+
+rests_end : (s : TokState) (cr : Bool) (b : Open) (rest : Finished) (x : Next) → ends_on x ≡ true → rest ≡ build_end_on s cr b rest x
+rests_end s cr b rest next.Finished e = cc
+rests_end s cr b rest next.Deep e = cc
+rests_end s cr b rest _ e = refl
+
+pub ended_on : (t : Token) (cr : Bool) (m m' : Reached) (b b' : Open) (o o' : List Op) (n : Next) → answer b' o' n ≡ construct t b o → ends_on n ≡ true
     → m' ≡ m → EndedTo cr m' b' o' ended.On ≡ after_all o (build_end m.state cr (t ∷ m.tokens) b)
 ended_on t cr m m' b b' o o' n e is same =
     ap (λ (v : Reached). EndedTo cr v b' o' ended.On) same
-    ∙ ap (λ v. after_all o' (build_end_on m.state cr b' (build_end m.state cr m.tokens b') v)) (sym is)
+    ∙ ap (λ f. after_all o' f) (rests_end m.state cr b' (build_end m.state cr m.tokens b') n is)
     ∙ build_end_token t m.tokens m.state cr b o b' o' n e
 
 -- how the end of the input ends at what comes next
 abbrev pub last_of : Next → Finish
-last_of next.Finished = finale.Finished
 last_of next.Deep = finale.Deep
-last_of _ = finale.Missing
+last_of _ = finale.Finished
 
 is_last : Next → Bool
-is_last next.Done = false
-is_last _ = true
+is_last next.Finished = true
+is_last next.Deep = true
+is_last _ = false
 
 finishes : (s : TokState) (cr : Bool) (b : Open) (o : List Op) (rest : Finished) (x : Next) → is_last x ≡ true
     → finished_as o (parser s cr b) (last_of x) ≡ after_all o (build_end_on s cr b rest x)
 unfolding is_last
-finishes s cr b o rest next.Done e = cc
 finishes s cr b o rest next.Finished e = ap (λ l. finished_as l (parser s cr b) finale.Finished) (sym (append-nil o))
 finishes s cr b o rest next.Deep e = ap (λ l. finished_as l (parser s cr b) finale.Deep) (sym (append-nil o))
-finishes s cr b o rest _ e = ap (λ l. finished_as l (parser s cr b) finale.Missing) (sym (append-nil o))
+finishes s cr b o rest _ e = absurd (cc)
 
 ended_at : (t : Token) (cr : Bool) (m m' : Reached) (b b' : Open) (o o' : List Op) (n x : Next) → answer b' o' n ≡ construct t b o → n ≡ x → is_last x ≡ true
     → m' ≡ m → EndedTo cr m' b' o' (ended.At (last_of x)) ≡ after_all o (build_end m.state cr (t ∷ m.tokens) b)
@@ -188,25 +185,6 @@ pub ended_deep : (t : Token) (cr : Bool) (m m' : Reached) (b b' : Open) (o o' : 
     → m' ≡ m → EndedTo cr m' b' o' (ended.At finale.Deep) ≡ after_all o (build_end m.state cr (t ∷ m.tokens) b)
 unfolding is_last
 ended_deep t cr m m' b b' o o' n e is same = ended_at t cr m m' b b' o o' n next.Deep e is refl same
-
--- what the end of the input can't bring, or what isn't there yet
-abbrev pub is_odd_end : Next → Bool
-is_odd_end next.Done = false
-is_odd_end next.Finished = false
-is_odd_end next.Deep = false
-is_odd_end _ = true
-
-pub ended_missing : (t : Token) (cr : Bool) (m m' : Reached) (b b' : Open) (o o' : List Op) (n : Next) → answer b' o' n ≡ construct t b o → is_odd_end n ≡ true
-    → m' ≡ m → EndedTo cr m' b' o' (ended.At finale.Missing) ≡ after_all o (build_end m.state cr (t ∷ m.tokens) b)
-unfolding is_last
-ended_missing t cr m m' b b' o o' n e is same = by n is (ended_at t cr m m' b b' o o' n n e refl)
-  where
-    by : (n : Next) → is_odd_end n ≡ true → (is_last n ≡ true → m' ≡ m → EndedTo cr m' b' o' (ended.At (last_of n)) ≡ after_all o (build_end m.state cr (t ∷ m.tokens) b))
-        → EndedTo cr m' b' o' (ended.At finale.Missing) ≡ after_all o (build_end m.state cr (t ∷ m.tokens) b)
-    by next.Done is f = cc
-    by next.Finished is f = cc
-    by next.Deep is f = cc
-    by _ is f = f refl same
 
 -- ---- a character, and the end
 

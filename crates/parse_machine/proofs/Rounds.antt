@@ -5,7 +5,7 @@ use Rattle.html_types.specs.declared.token.Token.{Token}
 use Rattle.html_types.specs.declared.open.Open.{Open}
 use Rattle.html_types.specs.declared.instruction.Mode.{Mode}
 use Rattle.html_types.specs.declared.instruction.Next.{Next}
-use Rattle.html_types.specs.declared.instruction.Next.TheVariants.{Again, Using, Missing}
+use Rattle.html_types.specs.declared.instruction.Next.TheVariants.{Again, Using, Foster, Done}
 use Rattle.standard.specs.Rules.{Answer, answer, by_rules, go_round, round_after, process}
 use Rattle.parse_machine.specs.declared.token.Round.{Round}
 use Rattle.parse_machine.specs.declared.token.Round.TheVariants.{Once}
@@ -14,6 +14,7 @@ use Rattle.parse_machine.specs.Rounds.{rounded, asked, round_of, rounds_left}
 by_next : (n : ℕ) (t : Token) (b : Open) (o : List Op) (x : Next) → go_round (λ m'. process n m' t b o) b o (round_after b x) ≡ rounds_left n t (rounded b o (asked b x))
 by_next n t b o Again = refl
 by_next n t b o (Using m) = refl
+by_next n t b o Foster = refl
 by_next n t b o _ = refl
 
 turn : (n : ℕ) (m : Mode) (t : Token) (b : Open) (o : List Op) → process (suc n) m t b o ≡ rounds_left n t (round_of m t b o)
@@ -29,7 +30,7 @@ rounds_turn (suc n) m t b b' o o' r h e =
 
 -- no round is left
 pub rounds_end : (n : ℕ) (m : Mode) (t : Token) (b : Open) (o : List Op) (r : Round) (x : Answer) → n ≤ 0 → r ≡ Once m
-    → rounds_left n t (rounded b o r) ≡ x → answer b o Missing ≡ x
+    → rounds_left n t (rounded b o r) ≡ x → answer b o Done ≡ x
 unfolding process
 rounds_end zero m t b o r x h e is = sym (ap (λ v. rounds_left 0 t (rounded b o v)) e) ∙ is
 rounds_end (suc n) m t b o r x h e is = absurd (omega (arith, h))

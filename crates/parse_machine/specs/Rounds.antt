@@ -4,8 +4,9 @@ use Rattle.html_types.specs.declared.operation.Op.{Op}
 use Rattle.html_types.specs.declared.token.Token.{Token}
 use Rattle.html_types.specs.declared.open.Open.{Open}
 use Rattle.html_types.specs.declared.instruction.Mode.{Mode}
+use Rattle.html_types.specs.declared.instruction.Mode.TheVariants.{InBody}
 use Rattle.html_types.specs.declared.instruction.Next.{Next}
-use Rattle.html_types.specs.declared.instruction.Next.TheVariants.{Again, Using}
+use Rattle.html_types.specs.declared.instruction.Next.TheVariants.{Again, Using, Foster}
 use Rattle.standard.specs.Rules.{Answer, answer, by_rules, process}
 use Rattle.parse_machine.specs.declared.token.Round.{Round}
 use Rattle.parse_machine.specs.declared.token.Round.TheVariants.{Once, Over}
@@ -21,6 +22,7 @@ rounded b o r = record { open_state = b; ops = o; round = r }
 abbrev pub asked : Open → Next → Round
 asked b Again = Once b.mode
 asked b (Using m) = Once m
+asked b Foster = Once InBody
 asked b n = Over n
 
 -- what one round comes to

@@ -103,18 +103,13 @@ fn process(
     ensures some { IfOk result (λ went. went ≢ Went.AllUsed) }
 {
     match construct(alloc, builder, token, ops)? {
-        Next::Done => Ok(Went::On),
         Next::Switch(reading) => {
             tokenizer.load(read_as(reading, token));
             Ok(Went::On)
         }
         Next::Script(id) => Ok(Went::At(Stop::Script(id))),
         Next::Deep => Ok(Went::At(Stop::Deep)),
-        Next::Adopt { name: _, then: _ } => Ok(Went::At(Stop::Missing)),
-        Next::Again => Ok(Went::At(Stop::Missing)),
-        Next::Using(_) => Ok(Went::At(Stop::Missing)),
-        Next::Finished => Ok(Went::At(Stop::Missing)),
-        Next::Missing => Ok(Went::At(Stop::Missing)),
+        _ => Ok(Went::On),
     }
 }
 
@@ -177,15 +172,9 @@ fn process_last(
         ≡ after_all ops.old (build_end m.state cr (token.now ∷ m.tokens) builder.old)) }
 {
     match construct(alloc, builder, token, ops)? {
-        Next::Done => Ok(Ended::On),
         Next::Finished => Ok(Ended::At(Finish::Finished)),
         Next::Deep => Ok(Ended::At(Finish::Deep)),
-        Next::Adopt { name: _, then: _ } => Ok(Ended::At(Finish::Missing)),
-        Next::Again => Ok(Ended::At(Finish::Missing)),
-        Next::Using(_) => Ok(Ended::At(Finish::Missing)),
-        Next::Switch(_) => Ok(Ended::At(Finish::Missing)),
-        Next::Script(_) => Ok(Ended::At(Finish::Missing)),
-        Next::Missing => Ok(Ended::At(Finish::Missing)),
+        _ => Ok(Ended::On),
     }
 }
 
@@ -201,7 +190,7 @@ fn process_first_of_last(
     ensures fewer { IfOk result (λ ended. ended ≡ Ended.On → length tokenizer.new.tokens < length tokenizer.old.tokens) }
 {
     match tokenizer.pop() {
-        None => Ok(Ended::At(Finish::Missing)),
+        None => Ok(Ended::At(Finish::Finished)),
         Some(token) => process_last(alloc, builder, &token, ops),
     }
 }

@@ -7,12 +7,14 @@ ghost use Rattle.parse_machine.specs.Rounds.{rounded, round_of};
 use builder_adoption::adopt;
 use builder_body::{after_adopt, body};
 use builder_head::head;
+use builder_rest::rest;
 use builder_state::Builder;
+use builder_table::table;
 use html_types::{Mode, Next, NoMemory, Ops, Then, Token, Word};
 use std::alloc::Global;
 
 /// No token goes by more rules than this.
-const ROUNDS: u32 = 16;
+const ROUNDS: u32 = 8192;
 
 fn is_line_feed(token: &Token) -> bool
     ensures { result ≡ is_line_feed_in token.now }
@@ -33,9 +35,22 @@ fn by_mode(
     match mode {
         Mode::Initial | Mode::BeforeHtml | Mode::BeforeHead | Mode::InHead | Mode::AfterHead =>
             head(alloc, builder, mode, token, ops),
-        Mode::InBody | Mode::InText | Mode::AfterBody | Mode::AfterAfterBody => {
-            body(alloc, builder, mode, token, ops)
-        }
+        Mode::InBody | Mode::InText => body(alloc, builder, mode, token, ops),
+        Mode::InTable
+        | Mode::InTableText
+        | Mode::InCaption
+        | Mode::InColumnGroup
+        | Mode::InTableBody
+        | Mode::InRow
+        | Mode::InCell => table(alloc, builder, mode, token, ops),
+        Mode::InSelect
+        | Mode::InSelectInTable
+        | Mode::InTemplate
+        | Mode::AfterBody
+        | Mode::InFrameset
+        | Mode::AfterFrameset
+        | Mode::AfterAfterBody
+        | Mode::AfterAfterFrameset => rest(alloc, builder, mode, token, ops),
     }
 }
 
@@ -91,6 +106,7 @@ fn one_round(
     match by_rules(alloc, builder, mode, token, ops)? {
         Next::Again => Ok(Round::Once(builder.mode())),
         Next::Using(other) => Ok(Round::Once(other)),
+        Next::Foster => Ok(Round::Once(Mode::InBody)),
         next => Ok(Round::Over(next)),
     }
 }
@@ -116,7 +132,7 @@ fn by_all_rules(
         left -= 1;
     }
     match round {
-        Round::Once(_) => Ok(Next::Missing),
+        Round::Once(_) => Ok(Next::Done),
         Round::Over(next) => Ok(next),
     }
 }
@@ -140,9 +156,12 @@ pub fn construct(
     ensures { IfOk result (λ n. answer builder.new ops.new n ≡ constructed token.now builder.old ops.old) }
 {
     let skip = builder.take_skip();
-    if is_left_out(skip, token) {
-        return Ok(Next::Done);
-    }
-    let mode = builder.mode();
-    by_all_rules(alloc, builder, mode, token, ops)
+    let next = if is_left_out(skip, token) {
+        Next::Done
+    } else {
+        let mode = builder.mode();
+        by_all_rules(alloc, builder, mode, token, ops)?
+    };
+    builder.stop_fostering();
+    Ok(next)
 }

@@ -18,7 +18,7 @@ use Rattle.html_types.specs.declared.instruction.Next.{Next}
 use Rattle.html_types.specs.declared.instruction.Next.TheVariants as next
 use Rattle.html_types.specs.declared.token.Tag.{Tag}
 use Rattle.html_types.specs.declared.token.Token.{Token}
-use Rattle.html_types.specs.declared.token.Token.TheVariants.{StartTag, EndTag, Character, Comment, Doctype, EndOfFile, Missing}
+use Rattle.html_types.specs.declared.token.Token.TheVariants.{StartTag, EndTag, Character, Comment, Doctype, EndOfFile}
 use Rattle.html_types.specs.declared.operation.NodeId.{NodeId}
 use Rattle.html_types.specs.declared.operation.Place.{Place}
 use Rattle.html_types.specs.declared.operation.Place.TheVariants.{Page}
@@ -29,11 +29,13 @@ use Rattle.html_types.specs.declared.open.Open.{Open}
 use Rattle.standard.specs.Elements.{is_word, is_meant}
 use Rattle.standard.specs.Stack.{on_stack, first_open, second_open}
 use Rattle.standard.specs.Formatting.{kept, lost, entry_named}
-use Rattle.standard.specs.Instructions.{Config, config, on, room, made, pushed, insert_at, here, insert, insert_root, void, tag_of, named, void_as, for_tag, enlist, reopen, reopen_all, insert_text, insert_comment, append_doctype, end_of, add_attributes, push_head, form_closed, form_closed_in_template, end_form, stop_at_script, adopt_name, adopt_own, adopt_anchor, step, turn, run}
+use Rattle.standard.specs.Space.{is_space}
+use Rattle.standard.specs.Instructions.{Config, config, on, room, made, pushed, insert_at, here, insert, insert_root, void, tag_of, named, void_as, for_tag, enlist, reopen, reopen_all, reconstruct, insert_text, insert_comment, append_doctype, end_of, add_attributes, detach_second, append_pending, all_space, texts, body_text, body_character, body_characters, none_pending, insert_pending, push_head, form_closed, form_closed_in_template, end_form, stop_at_script, adopt_name, adopt_own, adopt_anchor, step, turn, run}
 use Rattle.standard.specs.Adoption.{Adopted, adopt}
-use Rattle.standard.specs.Rules.{Answer, answer, answer_of, row, by_mode, adopting, with_adoption, by_rules, Round, once, stop, round_after, go_round, process, rounds, is_line_feed, construct}
+use Rattle.standard.specs.Rules.{Answer, answer, answer_of, row, by_mode, adopting, with_adoption, by_rules, Round, once, stop, round_after, go_round, process, rounds, is_line_feed, settled_answer, construct}
 use Rattle.standard.specs.RulesBody.{after_adopt}
 use Rattle.standard.specs.Naming.{config_behind, answer_behind}
+use Rattle.standard.specs.NamingLaws.{FosteringEnds}
 use Rattle.standard.proofs.AdoptionFraming.{adopt-framed}
 
 by_test : (p : List Op) (v : Bool) (x y x' y' : Config) → x' ≡ config_behind p x → y' ≡ config_behind p y → (if v then x' else y') ≡ config_behind p (if v then x else y)
@@ -65,6 +67,9 @@ reopen_all-framed p (tag ∷ tags) b o On =
 reopen_all-framed p (tag ∷ tags) b o Skip = refl
 reopen_all-framed p (tag ∷ tags) b o (Leave n) = refl
 
+reconstruct-framed : (p : List Op) (b : Open) (o : List Op) → reconstruct b (p ++ o) ≡ config_behind p (reconstruct b o)
+reconstruct-framed p b o = reopen_all-framed p (reverse (lost b.stack b.formats)) (record b { formats = kept b.stack b.formats }) o On
+
 -- ---- instructions
 
 by_tag : (p : List Op) (g : Tag → Open → List Op → Config) (t : Token) (b : Open) (o : List Op)
@@ -75,7 +80,6 @@ by_tag p g (Character c) b o h = refl
 by_tag p g (Comment text) b o h = refl
 by_tag p g (Doctype name force) b o h = refl
 by_tag p g EndOfFile b o h = refl
-by_tag p g Missing b o h = refl
 
 one_more : (p : List Op) (b : Open) (o more : List Op) → on b ((p ++ o) ++ more) ≡ config_behind p (on b (o ++ more))
 one_more p b o more = ap (on b) (append_assoc p o more)
@@ -87,7 +91,6 @@ text-framed p (EndTag tag) b o = refl
 text-framed p (Comment text) b o = refl
 text-framed p (Doctype name force) b o = refl
 text-framed p EndOfFile b o = refl
-text-framed p Missing b o = refl
 
 comment-framed : (p : List Op) (at : Place) (t : Token) (b : Open) (o : List Op) → insert_comment at t b (p ++ o) ≡ config_behind p (insert_comment at t b o)
 comment-framed p at (Comment text) b o = one_more p b o _
@@ -96,7 +99,6 @@ comment-framed p at (EndTag tag) b o = refl
 comment-framed p at (Character c) b o = refl
 comment-framed p at (Doctype name force) b o = refl
 comment-framed p at EndOfFile b o = refl
-comment-framed p at Missing b o = refl
 
 doctype-framed : (p : List Op) (t : Token) (b : Open) (o : List Op) → append_doctype t b (p ++ o) ≡ config_behind p (append_doctype t b o)
 doctype-framed p (Doctype name force) b o = one_more p b o _
@@ -105,11 +107,45 @@ doctype-framed p (EndTag tag) b o = refl
 doctype-framed p (Character c) b o = refl
 doctype-framed p (Comment text) b o = refl
 doctype-framed p EndOfFile b o = refl
-doctype-framed p Missing b o = refl
 
 attributes-framed : (p : List Op) (e : Option OpenElement) (tag : Tag) (b : Open) (o : List Op) → add_attributes e tag b (p ++ o) ≡ config_behind p (add_attributes e tag b o)
 attributes-framed p None tag b o = refl
 attributes-framed p (Some e) tag b o = one_more p b o _
+
+detach-framed : (p : List Op) (e : Option OpenElement) (b : Open) (o : List Op) → detach_second e b (p ++ o) ≡ config_behind p (detach_second e b o)
+detach-framed p None b o = refl
+detach-framed p (Some e) b o = one_more p b o _
+
+pending-framed : (p : List Op) (t : Token) (b : Open) (o : List Op) → append_pending t b (p ++ o) ≡ config_behind p (append_pending t b o)
+pending-framed p (Character c) b o = refl
+pending-framed p (StartTag tag) b o = refl
+pending-framed p (EndTag tag) b o = refl
+pending-framed p (Comment text) b o = refl
+pending-framed p (Doctype name force) b o = refl
+pending-framed p EndOfFile b o = refl
+
+body_text-framed : (p : List Op) (c : ℕ) (b : Open) (o : List Op) (n : Flow) → body_text c (config b (p ++ o) n) ≡ config_behind p (body_text c (config b o n))
+body_text-framed p c b o On = one_more p (record b { frameset_ok = is_space c && b.frameset_ok }) o _
+body_text-framed p c b o Skip = refl
+body_text-framed p c b o (Leave n) = refl
+
+body_character-framed : (p : List Op) (c : ℕ) (b : Open) (o : List Op) → body_character c b (p ++ o) ≡ config_behind p (body_character c b o)
+body_character-framed p c b o =
+    let r : Config = reconstruct b o in
+    ap (body_text c) (reconstruct-framed p b o) ∙ body_text-framed p c r.open_state r.ops r.flow
+
+body_characters-framed : (p : List Op) (cs : List ℕ) (b : Open) (o : List Op) (n : Flow) → body_characters cs (config b (p ++ o) n) ≡ config_behind p (body_characters cs (config b o n))
+body_characters-framed p [] b o n = refl
+body_characters-framed p (c ∷ cs) b o On =
+    let r : Config = body_character c b o in
+    ap (body_characters cs) (body_character-framed p c b o) ∙ body_characters-framed p cs r.open_state r.ops r.flow
+body_characters-framed p (c ∷ cs) b o Skip = refl
+body_characters-framed p (c ∷ cs) b o (Leave n) = refl
+
+insert_pending-framed : (p : List Op) (b : Open) (o : List Op) → insert_pending b (p ++ o) ≡ config_behind p (insert_pending b o)
+insert_pending-framed p b o =
+    by_test p (all_space b.pending_text) (on (record b { pending_text = [] }) (o ++ texts (here b) b.pending_text)) (none_pending (body_characters b.pending_text (on (record b { foster = true }) o))) _ _
+    (one_more p (record b { pending_text = [] }) o _) (ap none_pending (body_characters-framed p b.pending_text (record b { foster = true }) o On))
 
 head-framed : (p : List Op) (h : Option NodeId) (b : Open) (o : List Op) → push_head h b (p ++ o) ≡ config_behind p (push_head h b o)
 head-framed p None b o = refl
@@ -145,12 +181,15 @@ step-framed p ins.InsertComment t b o = comment-framed p (here b) t b o
 step-framed p ins.CommentToPage t b o = comment-framed p Page t b o
 step-framed p ins.CommentToRoot t b o = comment-framed p (end_of (first_open b.stack)) t b o
 step-framed p ins.AppendDoctype t b o = doctype-framed p t b o
-step-framed p ins.Reconstruct t b o = reopen_all-framed p (reverse (lost b.stack b.formats)) (record b { formats = kept b.stack b.formats }) o On
+step-framed p ins.Reconstruct t b o = reconstruct-framed p b o
 step-framed p ins.List t b o = by_tag p enlist t b o (λ tag. refl)
 step-framed p ins.PushHead t b o = head-framed p b.head b o
 step-framed p ins.EndForm t b o = form-framed p (is_meant who.Nobody t) b o
 step-framed p ins.AddToFirst t b o = by_tag p (add_attributes (first_open b.stack)) t b o (λ tag. attributes-framed p (first_open b.stack) tag b o)
 step-framed p ins.AddToSecond t b o = by_tag p (add_attributes (second_open b.stack)) t b o (λ tag. attributes-framed p (second_open b.stack) tag b o)
+step-framed p ins.DetachSecond t b o = detach-framed p (second_open b.stack) b o
+step-framed p ins.AppendPending t b o = pending-framed p t b o
+step-framed p ins.InsertPending t b o = insert_pending-framed p b o
 step-framed p ins.Adopt t b o = by_tag p adopt_own t b o (λ tag. adopt_name-framed p tag.name b o)
 step-framed p ins.AdoptAnchor t b o = anchor-framed p (entry_named (is_word word.A) b.formats) b o
 step-framed p ins.StopAtScript t b o = script-framed p b.stack b o
@@ -184,11 +223,11 @@ adoption-behind p t b o (next.Adopt w h) = adopting-behind p w h t b o
 adoption-behind p t b o next.Done = refl
 adoption-behind p t b o next.Again = refl
 adoption-behind p t b o (next.Using m) = refl
+adoption-behind p t b o next.Foster = refl
 adoption-behind p t b o (next.Switch r) = refl
 adoption-behind p t b o (next.Script i) = refl
 adoption-behind p t b o next.Deep = refl
 adoption-behind p t b o next.Finished = refl
-adoption-behind p t b o next.Missing = refl
 
 by_rules-behind : (p : List Op) (m : Mode) (t : Token) (b : Open) (o : List Op) → by_rules m t b (p ++ o) ≡ answer_behind p (by_rules m t b o)
 by_rules-behind p m t b o =
@@ -210,7 +249,7 @@ process-behind p (suc n) m t b o =
 
 pub construct-behind : (p : List Op) (t : Token) (b : Open) (o : List Op) → construct t b (p ++ o) ≡ answer_behind p (construct t b o)
 unfolding construct
-construct-behind p t b o = either (b.skip_line_feed && is_line_feed t)
+construct-behind p t b o = ap settled_answer (either (b.skip_line_feed && is_line_feed t))
   where
     b' : Open
     b' = record b { skip_line_feed = false }
@@ -218,6 +257,10 @@ construct-behind p t b o = either (b.skip_line_feed && is_line_feed t)
     either : (v : Bool) → (if v then answer b' (p ++ o) next.Done else process rounds b.mode t b' (p ++ o)) ≡ answer_behind p (if v then answer b' o next.Done else process rounds b.mode t b' o)
     either true = refl
     either false = process-behind p rounds b.mode t b' o
+
+pub fostering-ends : FosteringEnds
+unfolding construct
+fostering-ends t b o = refl
 
 -- ---- from no operations
 

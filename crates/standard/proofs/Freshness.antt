@@ -12,13 +12,14 @@ use Rattle.html_types.specs.declared.instruction.Instr.{Instr}
 use Rattle.html_types.specs.declared.instruction.Instr.TheVariants as ins
 use Rattle.html_types.specs.declared.instruction.Who.TheVariants as who
 use Rattle.html_types.specs.declared.instruction.Mode.{Mode}
+use Rattle.html_types.specs.declared.instruction.Mode.TheVariants.{InBody}
 use Rattle.html_types.specs.declared.instruction.Flow.{Flow}
 use Rattle.html_types.specs.declared.instruction.Flow.TheVariants.{On, Skip, Leave}
 use Rattle.html_types.specs.declared.instruction.Next.{Next}
 use Rattle.html_types.specs.declared.instruction.Next.TheVariants as next
 use Rattle.html_types.specs.declared.token.Tag.{Tag}
 use Rattle.html_types.specs.declared.token.Token.{Token}
-use Rattle.html_types.specs.declared.token.Token.TheVariants.{StartTag, EndTag, Character, Comment, Doctype, EndOfFile, Missing}
+use Rattle.html_types.specs.declared.token.Token.TheVariants.{StartTag, EndTag, Character, Comment, Doctype, EndOfFile}
 use Rattle.html_types.specs.declared.operation.NodeId.{NodeId}
 use Rattle.html_types.specs.declared.operation.Place.{Place}
 use Rattle.html_types.specs.declared.operation.Place.TheVariants.{Page}
@@ -30,7 +31,7 @@ use Rattle.html_types.specs.declared.open.Open.{Open}
 use Rattle.standard.specs.Elements.{is_word, is_meant, is_one_of}
 use Rattle.standard.specs.Stack.{in_scope, on_stack, until, implied, first_open, second_open, without_open, open_in_scope}
 use Rattle.standard.specs.Formatting.{kept, lost, entry_named}
-use Rattle.standard.specs.Instructions.{Config, config, on, holds, room, made, pushed, insert_at, here, insert, insert_root, void, tag_of, named, void_as, for_tag, enlist, reopen, reopen_all, insert_text, insert_comment, append_doctype, end_of, add_attributes, push_head, form_closed, form_closed_in_template, end_form, stop_at_script, adopt_name, adopt_own, adopt_anchor, step, turn, run}
+use Rattle.standard.specs.Instructions.{Config, config, on, holds, room, made, pushed, insert_at, here, insert, insert_root, void, tag_of, named, void_as, for_tag, enlist, reopen, reopen_all, reconstruct, insert_text, insert_comment, append_doctype, end_of, add_attributes, detach_second, append_pending, all_space, texts, body_text, body_character, body_characters, none_pending, insert_pending, push_head, form_closed, form_closed_in_template, end_form, stop_at_script, adopt_name, adopt_own, adopt_anchor, step, turn, run}
 use Rattle.standard.specs.Adoption.{Adopted, adopt}
 use Rattle.standard.specs.RulesBody.{after_adopt}
 use Rattle.standard.specs.Rules.{Answer, answer, next_of, row, by_mode, adopting, with_adoption, by_rules, round_after, go_round, process, rounds, is_line_feed, construct}
@@ -38,7 +39,7 @@ use Rattle.standard.specs.Act.{IsPlaceBound, IsOpBound, AreOpsBound, known_after
 use Rattle.standard.specs.Naming.{AreOpenBound, IsBoundIfAny, Holds, known_after_all, IsNextBound}
 use Rattle.standard.proofs.FreshnessOps.{known-append, bound-append, same-itself, Follows}
 use Rattle.standard.proofs.AdoptionFreshness.{AdoptedFits, adopt-fits}
-use Rattle.standard.proofs.FreshnessWalks.{IsElementBound, pop-bound, until-bound, pop_to-bound, implied-bound, close-bound, close_item-bound, other_end-bound, without_open-bound, current_id-bound, list_current-bound, without_entry-bound, first_open-bound, second_open-bound, place-bound, clear_to_marker-bound, kept-bound, open-more, formats-more, pointer-more, place-more}
+use Rattle.standard.proofs.FreshnessWalks.{IsElementBound, pop-bound, until-bound, pop_to-bound, pop_to_root-bound, implied-bound, thoroughly-bound, close-bound, close_item-bound, other_end-bound, without_open-bound, current_id-bound, list_current-bound, without_entry-bound, first_open-bound, second_open-bound, place-bound, clear_to_marker-bound, kept-bound, open-more, formats-more, pointer-more, place-more}
 
 abbrev IsFlowBound : (NodeId → Bool) → Flow → Type 0
 IsFlowBound known On = Unit {0}
@@ -162,6 +163,11 @@ module _ (Coming : (NodeId → Bool) → NodeId → Type 0) (law : Follows Comin
   reopen_all-fits (tag ∷ tags) b o Skip f = f
   reopen_all-fits (tag ∷ tags) b o (Leave n) f = f
 
+  reconstruct-fits : (b : Open) (o : List Op) → Fits b o On → ConfigFits (reconstruct b o)
+  reconstruct-fits b o f =
+      reopen_all-fits (reverse (lost b.stack b.formats)) (record b { formats = kept b.stack b.formats }) o On
+      (f.0, record { stack_bound = f.1.stack_bound; formats_bound = kept-bound (after o) b.stack b.formats f.1.formats_bound; head_bound = f.1.head_bound; form_bound = f.1.form_bound; coming = f.1.coming }, tt)
+
   -- ---- instructions
 
   by_tag : (g : Tag → Open → List Op → Config) (t : Token) (b : Open) (o : List Op) → Fits b o On → ((tag : Tag) → ConfigFits (g tag b o)) → ConfigFits (for_tag g t b o)
@@ -171,7 +177,6 @@ module _ (Coming : (NodeId → Bool) → NodeId → Type 0) (law : Follows Comin
   by_tag g (Comment text) b o f h = f
   by_tag g (Doctype name force) b o f h = f
   by_tag g EndOfFile b o f h = f
-  by_tag g Missing b o f h = f
 
   text-fits : (t : Token) (b : Open) (o : List Op) → Fits b o On → ConfigFits (insert_text t b o)
   text-fits (Character c) b o f = one_more b o (op.Text (here b) (c ∷ [])) refl f (here-bound b o f)
@@ -180,7 +185,6 @@ module _ (Coming : (NodeId → Bool) → NodeId → Type 0) (law : Follows Comin
   text-fits (Comment text) b o f = f
   text-fits (Doctype name force) b o f = f
   text-fits EndOfFile b o f = f
-  text-fits Missing b o f = f
 
   comment-fits : (at : Place) (t : Token) (b : Open) (o : List Op) → Fits b o On → IsPlaceBound (after o) at → ConfigFits (insert_comment at t b o)
   comment-fits at (Comment text) b o f p = one_more b o (op.Note at text) refl f p
@@ -189,7 +193,6 @@ module _ (Coming : (NodeId → Bool) → NodeId → Type 0) (law : Follows Comin
   comment-fits at (Character c) b o f p = f
   comment-fits at (Doctype name force) b o f p = f
   comment-fits at EndOfFile b o f p = f
-  comment-fits at Missing b o f p = f
 
   doctype-fits : (t : Token) (b : Open) (o : List Op) → Fits b o On → ConfigFits (append_doctype t b o)
   doctype-fits (Doctype name force) b o f = one_more b o (op.Doctype name) refl f tt
@@ -198,11 +201,62 @@ module _ (Coming : (NodeId → Bool) → NodeId → Type 0) (law : Follows Comin
   doctype-fits (Character c) b o f = f
   doctype-fits (Comment text) b o f = f
   doctype-fits EndOfFile b o f = f
-  doctype-fits Missing b o f = f
 
   attributes-fit : (e : Option OpenElement) (tag : Tag) (b : Open) (o : List Op) → Fits b o On → IsElementBound (after o) e → ConfigFits (add_attributes e tag b o)
   attributes-fit None tag b o f i = f
   attributes-fit (Some e) tag b o f i = one_more b o (op.AddAttributes e.id tag.attributes) refl f i
+
+  detach-fits : (e : Option OpenElement) (b : Open) (o : List Op) → Fits b o On → IsElementBound (after o) e → ConfigFits (detach_second e b o)
+  detach-fits None b o f i = f
+  detach-fits (Some e) b o f i = one_more b o (op.Detach e.id) refl f i
+
+  pending-fits : (t : Token) (b : Open) (o : List Op) → Fits b o On → ConfigFits (append_pending t b o)
+  pending-fits (Character c) b o f = f
+  pending-fits (StartTag tag) b o f = f
+  pending-fits (EndTag tag) b o f = f
+  pending-fits (Comment text) b o f = f
+  pending-fits (Doctype name force) b o f = f
+  pending-fits EndOfFile b o f = f
+
+  body_text-fits : (c : ℕ) (b : Open) (o : List Op) (n : Flow) → Fits b o n → ConfigFits (body_text c (config b o n))
+  body_text-fits c b o On f = one_more b o (op.Text (here b) (c ∷ [])) refl f (here-bound b o f)
+  body_text-fits c b o Skip f = f
+  body_text-fits c b o (Leave n) f = f
+
+  body_character-fits : (c : ℕ) (b : Open) (o : List Op) → Fits b o On → ConfigFits (body_character c b o)
+  body_character-fits c b o f =
+      let r : Config = reconstruct b o in
+      body_text-fits c r.open_state r.ops r.flow (reconstruct-fits b o f)
+
+  body_characters-fit : (cs : List ℕ) (b : Open) (o : List Op) (n : Flow) → Fits b o n → ConfigFits (body_characters cs (config b o n))
+  body_characters-fit [] b o n f = f
+  body_characters-fit (c ∷ cs) b o On f =
+      let r : Config = body_character c b o in
+      body_characters-fit cs r.open_state r.ops r.flow (body_character-fits c b o f)
+  body_characters-fit (c ∷ cs) b o Skip f = f
+  body_characters-fit (c ∷ cs) b o (Leave n) f = f
+
+  texts-known : (k : NodeId → Bool) (at : Place) (cs : List ℕ) → known_after_all k (texts at cs) ≡ k
+  unfolding known_after_all
+  texts-known k at [] = refl
+  texts-known k at (c ∷ cs) = texts-known k at cs
+
+  texts-bound : (k : NodeId → Bool) (at : Place) (cs : List ℕ) → IsPlaceBound k at → AreOpsBound k (texts at cs)
+  unfolding AreOpsBound
+  texts-bound k at [] i = tt
+  texts-bound k at (c ∷ cs) i = (i, texts-bound k at cs i)
+
+  spaces-fit : (cs : List ℕ) (b : Open) (o : List Op) → Fits b o On → Fits b (o ++ texts (here b) cs) On
+  spaces-fit cs b o f = (
+    bound-append known o (texts (here b) cs) f.0 (texts-bound (after o) (here b) cs (here-bound b o f)),
+    subst (λ k. Holds Coming k b.stack b.formats b.head b.form b.next) (sym (known-append known o (texts (here b) cs) ∙ texts-known (after o) (here b) cs)) f.1,
+    tt,
+  )
+
+  insert_pending-fits : (b : Open) (o : List Op) → Fits b o On → ConfigFits (insert_pending b o)
+  insert_pending-fits b o f =
+      of_two (all_space b.pending_text) (on (record b { pending_text = [] }) (o ++ texts (here b) b.pending_text)) (none_pending (body_characters b.pending_text (on (record b { foster = true }) o)))
+      (spaces-fit b.pending_text b o f) (body_characters-fit b.pending_text (record b { foster = true }) o On f)
 
   end_of-bound : (o : List Op) (e : Option OpenElement) → IsElementBound (after o) e → IsPlaceBound (after o) (end_of e)
   end_of-bound o None i = tt
@@ -278,14 +332,14 @@ module _ (Coming : (NodeId → Bool) → NodeId → Type 0) (law : Follows Comin
   step-fits ins.Pop t b o f = with_stack b o _ On f (pop-bound (after o) b.stack f.1.stack_bound) tt
   step-fits (ins.Until w) t b o f = with_stack b o _ On f (until-bound (after o) (is_meant w t) b.stack f.1.stack_bound) tt
   step-fits (ins.PopTo g) t b o f = with_stack b o _ On f (pop_to-bound (after o) (is_one_of g) b.stack f.1.stack_bound) tt
+  step-fits ins.PopToRoot t b o f = with_stack b o _ On f (pop_to_root-bound (after o) b.stack f.1.stack_bound) tt
   step-fits ins.Implied t b o f = with_stack b o _ On f (implied-bound (after o) (is_meant who.Nobody t) b.stack f.1.stack_bound) tt
+  step-fits ins.ImpliedThoroughly t b o f = with_stack b o _ On f (thoroughly-bound (after o) b.stack f.1.stack_bound) tt
   step-fits (ins.ImpliedBut w) t b o f = with_stack b o _ On f (implied-bound (after o) (is_meant w t) b.stack f.1.stack_bound) tt
   step-fits (ins.Close s w) t b o f = with_stack b o _ On f (close-bound (after o) s (is_meant w t) b.stack f.1.stack_bound) tt
   step-fits (ins.CloseItem w) t b o f = with_stack b o _ On f (close_item-bound (after o) (is_meant w t) b.stack f.1.stack_bound) tt
   step-fits ins.AnyOtherEnd t b o f = with_stack b o _ On f (other_end-bound (after o) (is_meant who.Own t) b.stack f.1.stack_bound) tt
-  step-fits ins.Reconstruct t b o f =
-      reopen_all-fits (reverse (lost b.stack b.formats)) (record b { formats = kept b.stack b.formats }) o On
-      (f.0, record { stack_bound = f.1.stack_bound; formats_bound = kept-bound (after o) b.stack b.formats f.1.formats_bound; head_bound = f.1.head_bound; form_bound = f.1.form_bound; coming = f.1.coming }, tt)
+  step-fits ins.Reconstruct t b o f = reconstruct-fits b o f
   step-fits ins.List t b o f = by_tag enlist t b o f (λ tag. entry-fits tag b o f)
   step-fits (ins.TakeOff i) t b o f =
       (f.0, record { stack_bound = without_open-bound (after o) (Some i) b.stack f.1.stack_bound; formats_bound = without_entry-bound (after o) i b.formats f.1.formats_bound; head_bound = f.1.head_bound; form_bound = f.1.form_bound; coming = f.1.coming }, tt)
@@ -301,6 +355,9 @@ module _ (Coming : (NodeId → Bool) → NodeId → Type 0) (law : Follows Comin
   step-fits ins.EndForm t b o f = form-fits (is_meant who.Nobody t) b o f
   step-fits ins.AddToFirst t b o f = by_tag (add_attributes (first_open b.stack)) t b o f (λ tag. attributes-fit (first_open b.stack) tag b o f (first_open-bound (after o) b.stack f.1.stack_bound))
   step-fits ins.AddToSecond t b o f = by_tag (add_attributes (second_open b.stack)) t b o f (λ tag. attributes-fit (second_open b.stack) tag b o f (second_open-bound (after o) b.stack f.1.stack_bound))
+  step-fits ins.DetachSecond t b o f = detach-fits (second_open b.stack) b o f (second_open-bound (after o) b.stack f.1.stack_bound)
+  step-fits ins.AppendPending t b o f = pending-fits t b o f
+  step-fits ins.InsertPending t b o f = insert_pending-fits b o f
   step-fits ins.Adopt t b o f = by_tag adopt_own t b o f (λ tag. adopt_name-fits tag.name b o f)
   step-fits ins.AdoptAnchor t b o f = anchor-fits (entry_named (is_word word.A) b.formats) b o f
   step-fits ins.AdoptNobr t b o f = (f.0, f.1, tt)
@@ -352,11 +409,11 @@ module _ (Coming : (NodeId → Bool) → NodeId → Type 0) (law : Follows Comin
   adoption-fits t b o next.Done f = f
   adoption-fits t b o next.Again f = f
   adoption-fits t b o (next.Using m) f = f
+  adoption-fits t b o next.Foster f = f
   adoption-fits t b o (next.Switch r) f = f
   adoption-fits t b o (next.Script i) f = f
   adoption-fits t b o next.Deep f = f
   adoption-fits t b o next.Finished f = f
-  adoption-fits t b o next.Missing f = f
 
   by_rules-fits : (m : Mode) (t : Token) (b : Open) (o : List Op) → Fits b o On → AnswerFits (by_rules m t b o)
   by_rules-fits m t b o f =
@@ -367,13 +424,13 @@ module _ (Coming : (NodeId → Bool) → NodeId → Type 0) (law : Follows Comin
       → ((m : Mode) → AnswerFits (more m)) → AnswerFits (go_round more b o (round_after b n))
   round-fits more b o next.Again f h = h b.mode
   round-fits more b o (next.Using m) f h = h m
+  round-fits more b o next.Foster f h = h InBody
   round-fits more b o (next.Adopt w i) f h = f
   round-fits more b o next.Done f h = f
   round-fits more b o (next.Switch r) f h = f
   round-fits more b o (next.Script i) f h = f
   round-fits more b o next.Deep f h = f
   round-fits more b o next.Finished f h = f
-  round-fits more b o next.Missing f h = f
 
   process-fits : (n : ℕ) (m : Mode) (t : Token) (b : Open) (o : List Op) → Fits b o On → AnswerFits (process n m t b o)
   unfolding process

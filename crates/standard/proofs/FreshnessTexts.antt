@@ -49,12 +49,12 @@ module _ (Coming : (NodeId → Bool) → NodeId → Type 0) (law : Follows Comin
   build_on-bound known s cr t b rest next.Done h i each = each s
   build_on-bound known s cr t b rest (next.Switch r) h i each = each (read_as r t)
   build_on-bound known s cr t b rest (next.Script id) h i each = (none-bound known b h, none-stop known (stop.Script id) i)
-  build_on-bound known s cr t b rest (next.Adopt w x) h i each = (none-bound known b h, tt)
+  build_on-bound known s cr t b rest (next.Adopt w x) h i each = each s
   build_on-bound known s cr t b rest next.Deep h i each = (none-bound known b h, tt)
-  build_on-bound known s cr t b rest next.Again h i each = (none-bound known b h, tt)
-  build_on-bound known s cr t b rest (next.Using m) h i each = (none-bound known b h, tt)
-  build_on-bound known s cr t b rest next.Finished h i each = (none-bound known b h, tt)
-  build_on-bound known s cr t b rest next.Missing h i each = (none-bound known b h, tt)
+  build_on-bound known s cr t b rest next.Again h i each = each s
+  build_on-bound known s cr t b rest (next.Using m) h i each = each s
+  build_on-bound known s cr t b rest next.Foster h i each = each s
+  build_on-bound known s cr t b rest next.Finished h i each = each s
 
   build-bound : (known : NodeId → Bool) (s : TokState) (cr : Bool) (ts : List Token) (b : Open) → Serves Coming known b → TookBound Coming known (build s cr ts b)
   unfolding build
@@ -85,14 +85,14 @@ module _ (Coming : (NodeId → Bool) → NodeId → Type 0) (law : Follows Comin
 
   build_end_on-bound : (known : NodeId → Bool) (s : TokState) (cr : Bool) (b : Open) (rest : Finished) (n : Next) → Serves Coming known b → FinishedBound known rest → FinishedBound known (build_end_on s cr b rest n)
   build_end_on-bound known s cr b rest next.Done h f = f
-  build_end_on-bound known s cr b rest (next.Switch r) h f = none-bound known b h
-  build_end_on-bound known s cr b rest (next.Script id) h f = none-bound known b h
-  build_end_on-bound known s cr b rest (next.Adopt w x) h f = none-bound known b h
+  build_end_on-bound known s cr b rest (next.Switch r) h f = f
+  build_end_on-bound known s cr b rest (next.Script id) h f = f
+  build_end_on-bound known s cr b rest (next.Adopt w x) h f = f
   build_end_on-bound known s cr b rest next.Deep h f = none-bound known b h
-  build_end_on-bound known s cr b rest next.Again h f = none-bound known b h
-  build_end_on-bound known s cr b rest (next.Using m) h f = none-bound known b h
+  build_end_on-bound known s cr b rest next.Again h f = f
+  build_end_on-bound known s cr b rest (next.Using m) h f = f
+  build_end_on-bound known s cr b rest next.Foster h f = f
   build_end_on-bound known s cr b rest next.Finished h f = none-bound known b h
-  build_end_on-bound known s cr b rest next.Missing h f = none-bound known b h
 
   build_end-bound : (known : NodeId → Bool) (s : TokState) (cr : Bool) (ts : List Token) (b : Open) → Serves Coming known b → FinishedBound known (build_end s cr ts b)
   unfolding build_end
@@ -121,7 +121,6 @@ module _ (Coming : (NodeId → Bool) → NodeId → Type 0) (law : Follows Comin
       (behind-ops known ops (rest p).ops (rest p).parser.open_state f.0.0 r.0, stop-behind known ops (rest p).ops (rest p).stop r.1)
   rest-bound known (took ops p (stop.Script id)) rest f each = f
   rest-bound known (took ops p stop.Deep) rest f each = f
-  rest-bound known (took ops p stop.Missing) rest f each = f
 
   texts-by : (text : List ℕ) (es : Entities) (known : NodeId → Bool) (p : Parser) → Serves Coming known p.open_state → ParsedBound known (parse es p text)
   unfolding parse

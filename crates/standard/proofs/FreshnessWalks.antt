@@ -14,7 +14,7 @@ use Rattle.html_types.specs.declared.token.Tag.{Tag}
 use Rattle.html_types.specs.declared.open.Format.{Format}
 use Rattle.html_types.specs.declared.open.Format.TheVariants.{Marker, Element}
 use Rattle.standard.specs.Elements.{is_word, is_one_of}
-use Rattle.standard.specs.Stack.{in_scope, is_open, current_id, is_empty, pop, until, pop_to, implied, close, item_found, close_item, end_found, other_end, id_or, foster_place, place_in, place, first_open, second_open, without_open, above, from_on, through, below, with_above, block_above, place_for}
+use Rattle.standard.specs.Stack.{in_scope, is_open, current_id, is_empty, pop, until, pop_to, pop_to_root, implied, implied_thoroughly, close, item_found, close_item, end_found, other_end, id_or, foster_place, place_in, place, first_open, second_open, without_open, above, from_on, through, below, with_above, block_above, place_for}
 use Rattle.standard.specs.Formatting.{clear_to_marker, kept, is_like, likes, without_earliest, later_than, entry_on, before_first, renewed, without_entry, with_id, with_behind}
 use Rattle.standard.specs.Instructions.{list_current}
 use Rattle.standard.specs.Act.{IsPlaceBound}
@@ -44,6 +44,15 @@ module _ (known : NodeId → Bool) where
   pub implied-bound : (but : Name → Bool) (es : List OpenElement) → AreOpenBound known es → AreOpenBound known (implied but es)
   implied-bound but [] a = tt
   implied-bound but (e ∷ es) a = of_two (is_one_of group.ClosedImplicitly e.name && not (but e.name)) (implied but es) (e ∷ es) (implied-bound but es a.1) a
+
+  pub pop_to_root-bound : (es : List OpenElement) → AreOpenBound known es → AreOpenBound known (pop_to_root es)
+  pop_to_root-bound [] a = tt
+  pop_to_root-bound (e ∷ []) a = a
+  pop_to_root-bound (e ∷ d ∷ es) a = pop_to_root-bound (d ∷ es) a.1
+
+  pub thoroughly-bound : (es : List OpenElement) → AreOpenBound known es → AreOpenBound known (implied_thoroughly es)
+  thoroughly-bound [] a = tt
+  thoroughly-bound (e ∷ es) a = of_two (is_one_of group.ClosedThoroughly e.name) (implied_thoroughly es) (e ∷ es) (thoroughly-bound es a.1) a
 
   popped : (v : Bool) (is : Name → Bool) (es : List OpenElement) → AreOpenBound known es → AreOpenBound known (if v then until is (implied is es) else es)
   popped v is es a = of_two v (until is (implied is es)) es (until-bound is (implied is es) (implied-bound is es a)) a

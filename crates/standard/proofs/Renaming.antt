@@ -8,11 +8,12 @@ use Rattle.html_types.specs.declared.word.Word.TheVariants as word
 use Rattle.html_types.specs.declared.instruction.Instr.{Instr}
 use Rattle.html_types.specs.declared.instruction.Instr.TheVariants as ins
 use Rattle.html_types.specs.declared.instruction.Test.{Test}
-use Rattle.html_types.specs.declared.instruction.Test.TheVariants.{InScope, Current, OnStack, Listed, Quirks, SecondIsBody, FramesetOk, QuirkyDoctype, InForm, HiddenInput}
+use Rattle.html_types.specs.declared.instruction.Test.TheVariants.{InScope, Current, OnStack, Listed, Quirks, SecondIsBody, FramesetOk, QuirkyDoctype, InForm, HiddenInput, InTemplates, InTables, OptionInOptgroup}
 use Rattle.html_types.specs.declared.instruction.Scope.TheVariants as scope
 use Rattle.html_types.specs.declared.instruction.Then.{Then}
 use Rattle.html_types.specs.declared.instruction.Then.TheVariants.{Nothing, Link, Nobr}
 use Rattle.html_types.specs.declared.instruction.Mode.{Mode}
+use Rattle.html_types.specs.declared.instruction.Mode.TheVariants.{InBody}
 use Rattle.html_types.specs.declared.instruction.Who.TheVariants as who
 use Rattle.html_types.specs.declared.instruction.Flow.{Flow}
 use Rattle.html_types.specs.declared.instruction.Flow.TheVariants.{On, Skip, Leave}
@@ -22,7 +23,7 @@ use Rattle.html_types.specs.declared.name.Name.{Name}
 use Rattle.html_types.specs.declared.name.Name.TheVariants.{Known, Other}
 use Rattle.html_types.specs.declared.token.Tag.{Tag}
 use Rattle.html_types.specs.declared.token.Token.{Token}
-use Rattle.html_types.specs.declared.token.Token.TheVariants.{StartTag, EndTag, Character, Comment, Doctype, EndOfFile, Missing}
+use Rattle.html_types.specs.declared.token.Token.TheVariants.{StartTag, EndTag, Character, Comment, Doctype, EndOfFile}
 use Rattle.html_types.specs.declared.operation.NodeId.{NodeId}
 use Rattle.html_types.specs.declared.operation.Place.{Place}
 use Rattle.html_types.specs.declared.operation.Place.TheVariants.{Page}
@@ -35,17 +36,18 @@ use Rattle.html_types.specs.declared.open.Open.{Open}
 use Rattle.standard.specs.Elements.{is_word, is_meant, is_one_of}
 use Rattle.standard.specs.Stack.{in_scope, on_stack, until, implied, first_open, second_open, is_the, without_open, open_in_scope}
 use Rattle.standard.specs.Formatting.{kept, lost, entry_named, without_entry}
-use Rattle.standard.specs.Instructions.{Config, config, on, holds, room, made, pushed, insert_at, here, insert, insert_root, void, tag_of, named, void_as, for_tag, list_current, enlist, reopen, reopen_all, reconstruct, insert_text, insert_comment, append_doctype, end_of, add_attributes, push_head, form_closed, form_closed_in_template, end_form, stop_at_script, adopt_name, adopt_own, adopt_anchor, step, turn, run}
+use Rattle.standard.specs.Space.{is_space}
+use Rattle.standard.specs.Instructions.{Config, config, on, holds, room, made, pushed, insert_at, here, insert, insert_root, void, tag_of, named, void_as, for_tag, list_current, enlist, reopen, reopen_all, reconstruct, insert_text, insert_comment, append_doctype, end_of, add_attributes, detach_second, append_pending, all_space, texts, body_text, body_character, body_characters, none_pending, insert_pending, push_head, form_closed, form_closed_in_template, end_form, stop_at_script, adopt_name, adopt_own, adopt_anchor, step, turn, run}
 use Rattle.standard.specs.Adoption.{Adopted, adopt}
 use Rattle.standard.specs.RulesBody.{after_adopt}
-use Rattle.standard.specs.Rules.{Answer, answer, answer_of, row, by_mode, adopting, with_adoption, by_rules, round_after, go_round, process, rounds, is_line_feed, construct}
+use Rattle.standard.specs.Rules.{Answer, answer, answer_of, row, by_mode, adopting, with_adoption, by_rules, round_after, go_round, process, rounds, is_line_feed, settled_answer, construct}
 use Rattle.standard.specs.Act.{rename_place, rename_op}
 use Rattle.standard.specs.Naming.{Renames, rename_ops, rename_element, rename_format, rename_open, rename_then, rename_next, rename_flow, rename_instr, rename_row, rename_config, rename_answer}
-use Rattle.standard.proofs.RenamingWalks.{of_two, in_scope-renamed, on_stack-renamed, current_is-renamed, current_id-renamed, first_open-renamed, second_open-renamed, is_the-renamed, pop-renamed, until-renamed, pop_to-renamed, implied-renamed, close-renamed, close_item-renamed, other_end-renamed, place-renamed, listed-renamed, clear_to_marker-renamed, without_open-renamed, kept-renamed, lost-renamed, open_in_scope-renamed, list_element-renamed, entry_named-renamed, without_entry-renamed}
+use Rattle.standard.proofs.RenamingWalks.{of_two, in_scope-renamed, on_stack-renamed, current_is-renamed, option_in_optgroup-renamed, reset_mode-renamed, current_id-renamed, first_open-renamed, second_open-renamed, is_the-renamed, pop-renamed, until-renamed, pop_to-renamed, pop_to_root-renamed, implied-renamed, thoroughly-renamed, close-renamed, close_item-renamed, other_end-renamed, place-renamed, listed-renamed, clear_to_marker-renamed, without_open-renamed, kept-renamed, lost-renamed, open_in_scope-renamed, list_element-renamed, entry_named-renamed, without_entry-renamed}
 use Rattle.standard.proofs.PlainRows.{row-renamed}
 use Rattle.standard.proofs.AdoptionGrowth.{adopt-grows}
 use Rattle.standard.proofs.AdoptionRenaming.{adopt-renamed}
-use Rattle.standard.proofs.RenamingGrowth.{reopen-grows, turn-grows, by_mode-grows, by_rules-grows}
+use Rattle.standard.proofs.RenamingGrowth.{reopen-grows, body_character-grows, turn-grows, by_mode-grows, by_rules-grows}
 
 -- ---- the ids that come
 
@@ -80,6 +82,9 @@ module _ (r : NodeId → NodeId) where
       ap (λ v. v && not (on_stack (is_word word.Template) (map (rename_element r) b.stack))) (some-renamed b.form)
       ∙ ap (λ v. is_some b.form && not v) (on_stack-renamed r (is_word word.Template) b.stack)
   holds-renamed HiddenInput t b = refl
+  holds-renamed InTemplates t b = refl
+  holds-renamed InTables t b = refl
+  holds-renamed OptionInOptgroup t b = option_in_optgroup-renamed r b.stack
 
   room-renamed : (b : Open) → room (rename_open r b) ≡ room b
   room-renamed b = ap (λ n. nat_lt n 512) (length-map b.stack (rename_element r))
@@ -146,7 +151,6 @@ module _ (r : NodeId → NodeId) where
   by_tag g g' (Comment text) b o h = refl
   by_tag g g' (Doctype name force) b o h = refl
   by_tag g g' EndOfFile b o h = refl
-  by_tag g g' Missing b o h = refl
 
   one_more : (b : Open) (o : List Op) (x x' : Op) → x' ≡ rename_op r x → on (rename_open r b) (rename_ops r o ++ x' ∷ []) ≡ rename_config r (on b (o ++ x ∷ []))
   one_more b o x x' e =
@@ -159,7 +163,6 @@ module _ (r : NodeId → NodeId) where
   text-renamed (Comment text) b o = refl
   text-renamed (Doctype name force) b o = refl
   text-renamed EndOfFile b o = refl
-  text-renamed Missing b o = refl
 
   comment-renamed : (at at' : Place) (t : Token) (b : Open) (o : List Op) → at' ≡ rename_place r at → insert_comment at' t (rename_open r b) (rename_ops r o) ≡ rename_config r (insert_comment at t b o)
   comment-renamed at at' (Comment text) b o e = one_more b o (op.Note at text) (op.Note at' text) (ap (λ p. op.Note p text) e)
@@ -168,7 +171,6 @@ module _ (r : NodeId → NodeId) where
   comment-renamed at at' (Character c) b o e = refl
   comment-renamed at at' (Doctype name force) b o e = refl
   comment-renamed at at' EndOfFile b o e = refl
-  comment-renamed at at' Missing b o e = refl
 
   doctype-renamed : (t : Token) (b : Open) (o : List Op) → append_doctype t (rename_open r b) (rename_ops r o) ≡ rename_config r (append_doctype t b o)
   doctype-renamed (Doctype name force) b o = one_more b o (op.Doctype name) (op.Doctype name) refl
@@ -177,7 +179,6 @@ module _ (r : NodeId → NodeId) where
   doctype-renamed (Character c) b o = refl
   doctype-renamed (Comment text) b o = refl
   doctype-renamed EndOfFile b o = refl
-  doctype-renamed Missing b o = refl
 
   end_of-renamed : (e : Option OpenElement) → end_of (option_map (rename_element r) e) ≡ rename_place r (end_of e)
   end_of-renamed None = refl
@@ -192,6 +193,50 @@ module _ (r : NodeId → NodeId) where
       → for_tag (add_attributes e') t (rename_open r b) (rename_ops r o) ≡ rename_config r (for_tag (add_attributes e) t b o)
   add-renamed e e' t b o g = by_tag (add_attributes e) (add_attributes e') t b o (λ tag. ap (λ x. add_attributes x tag (rename_open r b) (rename_ops r o)) g ∙ attributes-renamed e tag b o)
 
+  detach-renamed : (e : Option OpenElement) (b : Open) (o : List Op) → detach_second (option_map (rename_element r) e) (rename_open r b) (rename_ops r o) ≡ rename_config r (detach_second e b o)
+  detach-renamed None b o = refl
+  detach-renamed (Some e) b o = one_more b o (op.Detach e.id) _ refl
+
+  pending-renamed : (t : Token) (b : Open) (o : List Op) → append_pending t (rename_open r b) (rename_ops r o) ≡ rename_config r (append_pending t b o)
+  pending-renamed (Character c) b o = refl
+  pending-renamed (StartTag tag) b o = refl
+  pending-renamed (EndTag tag) b o = refl
+  pending-renamed (Comment text) b o = refl
+  pending-renamed (Doctype name force) b o = refl
+  pending-renamed EndOfFile b o = refl
+
+  body_text-renamed : (c : ℕ) (b : Open) (o : List Op) (f : Flow) → body_text c (rename_config r (config b o f)) ≡ rename_config r (body_text c (config b o f))
+  body_text-renamed c b o On =
+      one_more (record b { frameset_ok = is_space c && b.frameset_ok }) o (op.Text (here b) (c ∷ [])) (op.Text (here (rename_open r b)) (c ∷ [])) (ap (λ at. op.Text at (c ∷ [])) (here-renamed b))
+  body_text-renamed c b o Skip = refl
+  body_text-renamed c b o (Leave x) = refl
+
+  body_character-renamed : (c : ℕ) (b : Open) (o : List Op) → Renames r b.next → body_character c (rename_open r b) (rename_ops r o) ≡ rename_config r (body_character c b o)
+  body_character-renamed c b o n =
+      let x : Config = reconstruct b o in
+      ap (body_text c) (reconstruct-renamed b o n) ∙ body_text-renamed c x.open_state x.ops x.flow
+
+  body_characters-renamed : (cs : List ℕ) (b : Open) (o : List Op) (f : Flow) → Renames r b.next → body_characters cs (rename_config r (config b o f)) ≡ rename_config r (body_characters cs (config b o f))
+  body_characters-renamed [] b o f n = refl
+  body_characters-renamed (c ∷ cs) b o On n =
+      let x : Config = body_character c b o in
+      ap (body_characters cs) (body_character-renamed c b o n)
+      ∙ body_characters-renamed cs x.open_state x.ops x.flow (body_character-grows (Renames r) (renames-one r) c b o n)
+  body_characters-renamed (c ∷ cs) b o Skip n = refl
+  body_characters-renamed (c ∷ cs) b o (Leave x) n = refl
+
+  texts-renamed : (at : Place) (cs : List ℕ) → texts (rename_place r at) cs ≡ rename_ops r (texts at cs)
+  texts-renamed at [] = refl
+  texts-renamed at (c ∷ cs) = ap (λ l. op.Text (rename_place r at) (c ∷ []) ∷ l) (texts-renamed at cs)
+
+  insert_pending-renamed : (b : Open) (o : List Op) → Renames r b.next → insert_pending (rename_open r b) (rename_ops r o) ≡ rename_config r (insert_pending b o)
+  insert_pending-renamed b o n =
+      let cs : List ℕ = b.pending_text in
+      of_two (rename_config r) (all_space cs) (all_space cs) (on (record b { pending_text = [] }) (o ++ texts (here b) cs)) (none_pending (body_characters cs (on (record b { foster = true }) o))) _ _ refl
+      (ap (λ l. on (record (rename_open r b) { pending_text = [] }) (rename_ops r o ++ l)) (ap (λ at. texts at cs) (here-renamed b) ∙ texts-renamed (here b) cs)
+      ∙ ap (on (record (rename_open r b) { pending_text = [] })) (sym (map-append (rename_op r) o (texts (here b) cs))))
+      (ap none_pending (body_characters-renamed cs (record b { foster = true }) o On n))
+
   head-renamed : (h : Option NodeId) (b : Open) (o : List Op) → push_head (option_map r h) (rename_open r b) (rename_ops r o) ≡ rename_config r (push_head h b o)
   head-renamed None b o = refl
   head-renamed (Some i) b o =
@@ -202,7 +247,7 @@ module _ (r : NodeId → NodeId) where
   list_current-renamed tag [] fs = refl
   list_current-renamed tag (e ∷ es) fs = list_element-renamed r e.id tag fs
 
-  off-renamed : (i : NodeId) (b : Open) (o : List Op) → Renames r b.next → step (ins.TakeOff (r i)) Missing (rename_open r b) (rename_ops r o) ≡ rename_config r (step (ins.TakeOff i) Missing b o)
+  off-renamed : (i : NodeId) (b : Open) (o : List Op) → Renames r b.next → step (ins.TakeOff (r i)) EndOfFile (rename_open r b) (rename_ops r o) ≡ rename_config r (step (ins.TakeOff i) EndOfFile b o)
   off-renamed i b o n =
       ap (λ l. on (record (rename_open r b) { stack = l; formats = without_entry (r i) (map (rename_format r) b.formats) }) (rename_ops r o)) (without_open-renamed r n.apart (Some i) b.stack)
       ∙ ap (λ l. on (record (rename_open r b) { stack = map (rename_element r) (without_open (Some i) b.stack); formats = l }) (rename_ops r o)) (without_entry-renamed r n.apart i b.formats)
@@ -272,7 +317,9 @@ module _ (r : NodeId → NodeId) where
   step-renamed ins.Pop t b o n = with_stack b o _ _ (pop-renamed r b.stack)
   step-renamed (ins.Until w) t b o n = with_stack b o _ _ (until-renamed r (is_meant w t) b.stack)
   step-renamed (ins.PopTo g) t b o n = with_stack b o _ _ (pop_to-renamed r (is_one_of g) b.stack)
+  step-renamed ins.PopToRoot t b o n = with_stack b o _ _ (pop_to_root-renamed r b.stack)
   step-renamed ins.Implied t b o n = with_stack b o _ _ (implied-renamed r (is_meant who.Nobody t) b.stack)
+  step-renamed ins.ImpliedThoroughly t b o n = with_stack b o _ _ (thoroughly-renamed r b.stack)
   step-renamed (ins.ImpliedBut w) t b o n = with_stack b o _ _ (implied-renamed r (is_meant w t) b.stack)
   step-renamed (ins.Close s w) t b o n = with_stack b o _ _ (close-renamed r s (is_meant w t) b.stack)
   step-renamed (ins.CloseItem w) t b o n = with_stack b o _ _ (close_item-renamed r (is_meant w t) b.stack)
@@ -288,6 +335,11 @@ module _ (r : NodeId → NodeId) where
   step-renamed ins.EndForm t b o n = form-renamed (is_meant who.Nobody t) b o n
   step-renamed ins.AddToFirst t b o n = add-renamed (first_open b.stack) _ t b o (first_open-renamed r b.stack)
   step-renamed ins.AddToSecond t b o n = add-renamed (second_open b.stack) _ t b o (second_open-renamed r b.stack)
+  step-renamed ins.DetachSecond t b o n =
+      ap (λ e. detach_second e (rename_open r b) (rename_ops r o)) (second_open-renamed r b.stack) ∙ detach-renamed (second_open b.stack) b o
+  step-renamed ins.Reset t b o n = ap (λ m. on (record (rename_open r b) { mode = m }) (rename_ops r o)) (reset_mode-renamed r b.stack b.head b.template_modes)
+  step-renamed ins.AppendPending t b o n = pending-renamed t b o
+  step-renamed ins.InsertPending t b o n = insert_pending-renamed b o n
   step-renamed ins.Adopt t b o n = by_tag adopt_own adopt_own t b o (λ tag. adopt_name-renamed tag.name b o)
   step-renamed ins.AdoptAnchor t b o n =
       ap (λ i. adopt_anchor i (rename_open r b) (rename_ops r o)) (entry_named-renamed r (is_word word.A) b.formats) ∙ anchor-renamed (entry_named (is_word word.A) b.formats) b o
@@ -344,11 +396,11 @@ module _ (r : NodeId → NodeId) where
   adoption-renamed t b o next.Done n = refl
   adoption-renamed t b o next.Again n = refl
   adoption-renamed t b o (next.Using m) n = refl
+  adoption-renamed t b o next.Foster n = refl
   adoption-renamed t b o (next.Switch reading) n = refl
   adoption-renamed t b o (next.Script i) n = refl
   adoption-renamed t b o next.Deep n = refl
   adoption-renamed t b o next.Finished n = refl
-  adoption-renamed t b o next.Missing n = refl
 
   by_rules-renamed : (m : Mode) (t : Token) (b : Open) (o : List Op) → Renames r b.next → by_rules m t (rename_open r b) (rename_ops r o) ≡ rename_answer r (by_rules m t b o)
   by_rules-renamed m t b o n =
@@ -360,13 +412,13 @@ module _ (r : NodeId → NodeId) where
       → go_round more' (rename_open r b) (rename_ops r o) (round_after (rename_open r b) (rename_next r x)) ≡ rename_answer r (go_round more b o (round_after b x))
   round-renamed more more' b o next.Again h = h b.mode
   round-renamed more more' b o (next.Using m) h = h m
+  round-renamed more more' b o next.Foster h = h InBody
   round-renamed more more' b o (next.Adopt w x) h = refl
   round-renamed more more' b o next.Done h = refl
   round-renamed more more' b o (next.Switch reading) h = refl
   round-renamed more more' b o (next.Script i) h = refl
   round-renamed more more' b o next.Deep h = refl
   round-renamed more more' b o next.Finished h = refl
-  round-renamed more more' b o next.Missing h = refl
 
   process-renamed : (k : ℕ) (m : Mode) (t : Token) (b : Open) (o : List Op) → Renames r b.next → process k m t (rename_open r b) (rename_ops r o) ≡ rename_answer r (process k m t b o)
   unfolding process
@@ -383,7 +435,7 @@ module _ (r : NodeId → NodeId) where
   construct-by t b o n =
       let v : Bool = b.skip_line_feed && is_line_feed t in
       let b' : Open = record b { skip_line_feed = false } in
-      of_two (rename_answer r) v v (answer b' o next.Done) (process rounds b.mode t b' o) _ _ refl refl (process-renamed rounds b.mode t b' o n)
+      ap settled_answer (of_two (rename_answer r) v v (answer b' o next.Done) (process rounds b.mode t b' o) _ _ refl refl (process-renamed rounds b.mode t b' o n))
 
 pub rows-renamed : (r : NodeId → NodeId) (t : Token) (c : Config) (row : List Instr) → Renames r c.open_state.next → run t (rename_config r c) (rename_row r row) ≡ rename_config r (run t c row)
 rows-renamed r t c row n = run-renamed r t c row n

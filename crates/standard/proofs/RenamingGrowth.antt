@@ -1,5 +1,5 @@
 -- The next id stays or comes later: what holds of it and is kept from one id to the next holds of the next id then.
-use Rattle.std.proofs.Common.{ℕ, zero, suc, ◌==◌, Bool, true, false, ◌&&◌, List, [], ◌∷◌, reverse, Option, Some, None}
+use Rattle.std.proofs.Common.{ℕ, zero, suc, ◌==◌, Bool, true, false, ◌&&◌, List, [], ◌∷◌, ◌++◌, reverse, Option, Some, None}
 use Rattle.std.specs.Prelude.{if◌then◌else◌}
 use Rattle.html_types.specs.Operations.{later}
 use Rattle.html_types.specs.declared.word.Word.{Word}
@@ -11,6 +11,7 @@ use Rattle.html_types.specs.declared.instruction.Then.{Then}
 use Rattle.html_types.specs.declared.instruction.Instr.{Instr}
 use Rattle.html_types.specs.declared.instruction.Instr.TheVariants as ins
 use Rattle.html_types.specs.declared.instruction.Mode.{Mode}
+use Rattle.html_types.specs.declared.instruction.Mode.TheVariants.{InBody}
 use Rattle.html_types.specs.declared.instruction.Flow.{Flow}
 use Rattle.html_types.specs.declared.instruction.Flow.TheVariants.{On, Skip, Leave}
 use Rattle.html_types.specs.declared.instruction.Next.{Next}
@@ -19,7 +20,7 @@ use Rattle.html_types.specs.declared.instruction.Stop.TheVariants as stop
 use Rattle.html_types.specs.declared.state.TokState.{TokState}
 use Rattle.html_types.specs.declared.token.Tag.{Tag}
 use Rattle.html_types.specs.declared.token.Token.{Token}
-use Rattle.html_types.specs.declared.token.Token.TheVariants.{StartTag, EndTag, Character, Comment, Doctype, EndOfFile, Missing}
+use Rattle.html_types.specs.declared.token.Token.TheVariants.{StartTag, EndTag, Character, Comment, Doctype, EndOfFile}
 use Rattle.html_types.specs.declared.operation.NodeId.{NodeId}
 use Rattle.html_types.specs.declared.operation.Place.{Place}
 use Rattle.html_types.specs.declared.operation.Place.TheVariants.{Page}
@@ -31,7 +32,7 @@ use Rattle.standard.specs.Stack.{on_stack, first_open, second_open}
 use Rattle.standard.specs.Formatting.{kept, lost, entry_named}
 use Rattle.standard.specs.Entities.{Entities}
 use Rattle.standard.specs.Tokenizer.{read, read_end}
-use Rattle.standard.specs.Instructions.{Config, config, on, room, insert_at, here, insert, insert_root, void, tag_of, named, void_as, for_tag, enlist, reopen, reopen_all, insert_text, insert_comment, append_doctype, end_of, add_attributes, push_head, form_closed, form_closed_in_template, end_form, stop_at_script, adopt_name, adopt_own, adopt_anchor, step, turn, run}
+use Rattle.standard.specs.Instructions.{Config, config, on, room, insert_at, here, insert, insert_root, void, tag_of, named, void_as, for_tag, enlist, reopen, reopen_all, reconstruct, insert_text, insert_comment, append_doctype, end_of, add_attributes, detach_second, append_pending, all_space, texts, body_text, body_character, body_characters, none_pending, insert_pending, push_head, form_closed, form_closed_in_template, end_form, stop_at_script, adopt_name, adopt_own, adopt_anchor, step, turn, run}
 use Rattle.standard.specs.Adoption.{Adopted, adopt}
 use Rattle.standard.specs.RulesBody.{after_adopt}
 use Rattle.standard.specs.Rules.{Answer, answer, row, by_mode, adopting, with_adoption, by_rules, round_after, go_round, process, rounds, is_line_feed, construct}
@@ -59,6 +60,9 @@ module _ (P : NodeId → Type 0) (one : (id : NodeId) → P id → P (later 1 id
   reopen_all-grows (tag ∷ tags) b o Skip h = h
   reopen_all-grows (tag ∷ tags) b o (Leave n) h = h
 
+  reconstruct-grows : (b : Open) (o : List Op) → P b.next → P (reconstruct b o).open_state.next
+  reconstruct-grows b o h = reopen_all-grows (reverse (lost b.stack b.formats)) (record b { formats = kept b.stack b.formats }) o On h
+
   by_tag : (g : Tag → Open → List Op → Config) (t : Token) (b : Open) (o : List Op) → P b.next → ((tag : Tag) → P (g tag b o).open_state.next) → P (for_tag g t b o).open_state.next
   by_tag g (StartTag tag) b o h each = each tag
   by_tag g (EndTag tag) b o h each = each tag
@@ -66,7 +70,6 @@ module _ (P : NodeId → Type 0) (one : (id : NodeId) → P id → P (later 1 id
   by_tag g (Comment text) b o h each = h
   by_tag g (Doctype name force) b o h each = h
   by_tag g EndOfFile b o h each = h
-  by_tag g Missing b o h each = h
 
   text-grows : (t : Token) (b : Open) (o : List Op) → P b.next → P (insert_text t b o).open_state.next
   text-grows (Character c) b o h = h
@@ -75,7 +78,6 @@ module _ (P : NodeId → Type 0) (one : (id : NodeId) → P id → P (later 1 id
   text-grows (Comment text) b o h = h
   text-grows (Doctype name force) b o h = h
   text-grows EndOfFile b o h = h
-  text-grows Missing b o h = h
 
   comment-grows : (at : Place) (t : Token) (b : Open) (o : List Op) → P b.next → P (insert_comment at t b o).open_state.next
   comment-grows at (Comment text) b o h = h
@@ -84,7 +86,6 @@ module _ (P : NodeId → Type 0) (one : (id : NodeId) → P id → P (later 1 id
   comment-grows at (Character c) b o h = h
   comment-grows at (Doctype name force) b o h = h
   comment-grows at EndOfFile b o h = h
-  comment-grows at Missing b o h = h
 
   doctype-grows : (t : Token) (b : Open) (o : List Op) → P b.next → P (append_doctype t b o).open_state.next
   doctype-grows (Doctype name force) b o h = h
@@ -93,11 +94,45 @@ module _ (P : NodeId → Type 0) (one : (id : NodeId) → P id → P (later 1 id
   doctype-grows (Character c) b o h = h
   doctype-grows (Comment text) b o h = h
   doctype-grows EndOfFile b o h = h
-  doctype-grows Missing b o h = h
 
   attributes-grow : (e : Option OpenElement) (tag : Tag) (b : Open) (o : List Op) → P b.next → P (add_attributes e tag b o).open_state.next
   attributes-grow None tag b o h = h
   attributes-grow (Some e) tag b o h = h
+
+  detach-grows : (e : Option OpenElement) (b : Open) (o : List Op) → P b.next → P (detach_second e b o).open_state.next
+  detach-grows None b o h = h
+  detach-grows (Some e) b o h = h
+
+  pending-grows : (t : Token) (b : Open) (o : List Op) → P b.next → P (append_pending t b o).open_state.next
+  pending-grows (Character c) b o h = h
+  pending-grows (StartTag tag) b o h = h
+  pending-grows (EndTag tag) b o h = h
+  pending-grows (Comment text) b o h = h
+  pending-grows (Doctype name force) b o h = h
+  pending-grows EndOfFile b o h = h
+
+  body_text-grows : (c : ℕ) (b : Open) (o : List Op) (n : Flow) → P b.next → P (body_text c (config b o n)).open_state.next
+  body_text-grows c b o On h = h
+  body_text-grows c b o Skip h = h
+  body_text-grows c b o (Leave n) h = h
+
+  pub body_character-grows : (c : ℕ) (b : Open) (o : List Op) → P b.next → P (body_character c b o).open_state.next
+  body_character-grows c b o h =
+      let r : Config = reconstruct b o in
+      body_text-grows c r.open_state r.ops r.flow (reconstruct-grows b o h)
+
+  body_characters-grow : (cs : List ℕ) (b : Open) (o : List Op) (n : Flow) → P b.next → P (body_characters cs (config b o n)).open_state.next
+  body_characters-grow [] b o n h = h
+  body_characters-grow (c ∷ cs) b o On h =
+      let r : Config = body_character c b o in
+      body_characters-grow cs r.open_state r.ops r.flow (body_character-grows c b o h)
+  body_characters-grow (c ∷ cs) b o Skip h = h
+  body_characters-grow (c ∷ cs) b o (Leave n) h = h
+
+  insert_pending-grows : (b : Open) (o : List Op) → P b.next → P (insert_pending b o).open_state.next
+  insert_pending-grows b o h =
+      of_two (all_space b.pending_text) (on (record b { pending_text = [] }) (o ++ texts (here b) b.pending_text)) (none_pending (body_characters b.pending_text (on (record b { foster = true }) o)))
+      h (body_characters-grow b.pending_text (record b { foster = true }) o On h)
 
   head-grows : (i : Option NodeId) (b : Open) (o : List Op) → P b.next → P (push_head i b o).open_state.next
   head-grows None b o h = h
@@ -133,12 +168,15 @@ module _ (P : NodeId → Type 0) (one : (id : NodeId) → P id → P (later 1 id
   step-grows ins.CommentToPage t b o h = comment-grows Page t b o h
   step-grows ins.CommentToRoot t b o h = comment-grows (end_of (first_open b.stack)) t b o h
   step-grows ins.AppendDoctype t b o h = doctype-grows t b o h
-  step-grows ins.Reconstruct t b o h = reopen_all-grows (reverse (lost b.stack b.formats)) (record b { formats = kept b.stack b.formats }) o On h
+  step-grows ins.Reconstruct t b o h = reconstruct-grows b o h
   step-grows ins.List t b o h = by_tag enlist t b o h (λ tag. h)
   step-grows ins.PushHead t b o h = head-grows b.head b o h
   step-grows ins.EndForm t b o h = form-grows (is_meant who.Nobody t) b o h
   step-grows ins.AddToFirst t b o h = by_tag (add_attributes (first_open b.stack)) t b o h (λ tag. attributes-grow (first_open b.stack) tag b o h)
   step-grows ins.AddToSecond t b o h = by_tag (add_attributes (second_open b.stack)) t b o h (λ tag. attributes-grow (second_open b.stack) tag b o h)
+  step-grows ins.DetachSecond t b o h = detach-grows (second_open b.stack) b o h
+  step-grows ins.AppendPending t b o h = pending-grows t b o h
+  step-grows ins.InsertPending t b o h = insert_pending-grows b o h
   step-grows ins.Adopt t b o h = by_tag adopt_own t b o h (λ tag. adopt_name-grows tag.name b o h)
   step-grows ins.AdoptAnchor t b o h = anchor-grows (entry_named (is_word word.A) b.formats) b o h
   step-grows ins.StopAtScript t b o h = script-grows b.stack b o h
@@ -169,11 +207,11 @@ module _ (P : NodeId → Type 0) (one : (id : NodeId) → P id → P (later 1 id
   adoption-grows t b o next.Done g = g
   adoption-grows t b o next.Again g = g
   adoption-grows t b o (next.Using m) g = g
+  adoption-grows t b o next.Foster g = g
   adoption-grows t b o (next.Switch r) g = g
   adoption-grows t b o (next.Script i) g = g
   adoption-grows t b o next.Deep g = g
   adoption-grows t b o next.Finished g = g
-  adoption-grows t b o next.Missing g = g
 
   pub by_rules-grows : (m : Mode) (t : Token) (b : Open) (o : List Op) → P b.next → P (by_rules m t b o).open_state.next
   by_rules-grows m t b o h =
@@ -183,13 +221,13 @@ module _ (P : NodeId → Type 0) (one : (id : NodeId) → P id → P (later 1 id
   round-grows : (more : Mode → Answer) (b : Open) (o : List Op) (n : Next) → P b.next → ((m : Mode) → P (more m).open_state.next) → P (go_round more b o (round_after b n)).open_state.next
   round-grows more b o next.Again h each = each b.mode
   round-grows more b o (next.Using m) h each = each m
+  round-grows more b o next.Foster h each = each InBody
   round-grows more b o (next.Adopt w i) h each = h
   round-grows more b o next.Done h each = h
   round-grows more b o (next.Switch r) h each = h
   round-grows more b o (next.Script i) h each = h
   round-grows more b o next.Deep h each = h
   round-grows more b o next.Finished h each = h
-  round-grows more b o next.Missing h each = h
 
   process-grows : (n : ℕ) (m : Mode) (t : Token) (b : Open) (o : List Op) → P b.next → P (process n m t b o).open_state.next
   unfolding process
@@ -221,11 +259,11 @@ module _ (P : NodeId → Type 0) (one : (id : NodeId) → P id → P (later 1 id
   build_on-grows s cr t b rest (next.Switch r) h each = each (read_as r t)
   build_on-grows s cr t b rest (next.Script id) h each = h
   build_on-grows s cr t b rest next.Deep h each = h
-  build_on-grows s cr t b rest (next.Adopt w i) h each = h
-  build_on-grows s cr t b rest next.Again h each = h
-  build_on-grows s cr t b rest (next.Using m) h each = h
-  build_on-grows s cr t b rest next.Finished h each = h
-  build_on-grows s cr t b rest next.Missing h each = h
+  build_on-grows s cr t b rest (next.Adopt w i) h each = each s
+  build_on-grows s cr t b rest next.Again h each = each s
+  build_on-grows s cr t b rest (next.Using m) h each = each s
+  build_on-grows s cr t b rest next.Foster h each = each s
+  build_on-grows s cr t b rest next.Finished h each = each s
 
   build-grows : (s : TokState) (cr : Bool) (ts : List Token) (b : Open) → P b.next → P (parser_of (build s cr ts b)).open_state.next
   unfolding build
@@ -250,14 +288,14 @@ module _ (P : NodeId → Type 0) (one : (id : NodeId) → P id → P (later 1 id
 
   build_end_on-grows : (s : TokState) (cr : Bool) (b : Open) (rest : Finished) (n : Next) → P b.next → P rest.parser.open_state.next → P (build_end_on s cr b rest n).parser.open_state.next
   build_end_on-grows s cr b rest next.Done h g = g
-  build_end_on-grows s cr b rest (next.Switch r) h g = h
-  build_end_on-grows s cr b rest (next.Script id) h g = h
+  build_end_on-grows s cr b rest (next.Switch r) h g = g
+  build_end_on-grows s cr b rest (next.Script id) h g = g
   build_end_on-grows s cr b rest next.Deep h g = h
-  build_end_on-grows s cr b rest (next.Adopt w i) h g = h
-  build_end_on-grows s cr b rest next.Again h g = h
-  build_end_on-grows s cr b rest (next.Using m) h g = h
+  build_end_on-grows s cr b rest (next.Adopt w i) h g = g
+  build_end_on-grows s cr b rest next.Again h g = g
+  build_end_on-grows s cr b rest (next.Using m) h g = g
+  build_end_on-grows s cr b rest next.Foster h g = g
   build_end_on-grows s cr b rest next.Finished h g = h
-  build_end_on-grows s cr b rest next.Missing h g = h
 
   build_end-grows : (s : TokState) (cr : Bool) (ts : List Token) (b : Open) → P b.next → P (build_end s cr ts b).parser.open_state.next
   unfolding build_end
@@ -275,7 +313,6 @@ module _ (P : NodeId → Type 0) (one : (id : NodeId) → P id → P (later 1 id
   rest-grows (took ops p stop.InputEnd) rest h each = each p h
   rest-grows (took ops p (stop.Script id)) rest h each = h
   rest-grows (took ops p stop.Deep) rest h each = h
-  rest-grows (took ops p stop.Missing) rest h each = h
 
   pub text-grows-by : (text : List ℕ) (es : Entities) (p : Parser) → P p.open_state.next → P (parse es p text).parser.open_state.next
   unfolding parse

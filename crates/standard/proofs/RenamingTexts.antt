@@ -29,12 +29,12 @@ module _ (r : NodeId → NodeId) where
   build_on-renamed s cr t b rest rest' next.Done h = h s
   build_on-renamed s cr t b rest rest' (next.Switch reading) h = h (read_as reading t)
   build_on-renamed s cr t b rest rest' (next.Script id) h = refl
-  build_on-renamed s cr t b rest rest' (next.Adopt w x) h = refl
+  build_on-renamed s cr t b rest rest' (next.Adopt w x) h = h s
   build_on-renamed s cr t b rest rest' next.Deep h = refl
-  build_on-renamed s cr t b rest rest' next.Again h = refl
-  build_on-renamed s cr t b rest rest' (next.Using m) h = refl
-  build_on-renamed s cr t b rest rest' next.Finished h = refl
-  build_on-renamed s cr t b rest rest' next.Missing h = refl
+  build_on-renamed s cr t b rest rest' next.Again h = h s
+  build_on-renamed s cr t b rest rest' (next.Using m) h = h s
+  build_on-renamed s cr t b rest rest' next.Foster h = h s
+  build_on-renamed s cr t b rest rest' next.Finished h = h s
 
   build-renamed : (s : TokState) (cr : Bool) (ts : List Token) (b : Open) → Renames r b.next → build s cr ts (rename_open r b) ≡ rename_took r (build s cr ts b)
   unfolding build
@@ -67,14 +67,14 @@ module _ (r : NodeId → NodeId) where
   build_end_on-renamed : (s : TokState) (cr : Bool) (b : Open) (rest rest' : Finished) (x : Next) → rest' ≡ rename_finished r rest
       → build_end_on s cr (rename_open r b) rest' (rename_next r x) ≡ rename_finished r (build_end_on s cr b rest x)
   build_end_on-renamed s cr b rest rest' next.Done h = h
-  build_end_on-renamed s cr b rest rest' (next.Switch reading) h = refl
-  build_end_on-renamed s cr b rest rest' (next.Script id) h = refl
-  build_end_on-renamed s cr b rest rest' (next.Adopt w x) h = refl
+  build_end_on-renamed s cr b rest rest' (next.Switch reading) h = h
+  build_end_on-renamed s cr b rest rest' (next.Script id) h = h
+  build_end_on-renamed s cr b rest rest' (next.Adopt w x) h = h
   build_end_on-renamed s cr b rest rest' next.Deep h = refl
-  build_end_on-renamed s cr b rest rest' next.Again h = refl
-  build_end_on-renamed s cr b rest rest' (next.Using m) h = refl
+  build_end_on-renamed s cr b rest rest' next.Again h = h
+  build_end_on-renamed s cr b rest rest' (next.Using m) h = h
+  build_end_on-renamed s cr b rest rest' next.Foster h = h
   build_end_on-renamed s cr b rest rest' next.Finished h = refl
-  build_end_on-renamed s cr b rest rest' next.Missing h = refl
 
   all-renamed : (ops : List Op) (f : Finished) → after_all (rename_ops r ops) (rename_finished r f) ≡ rename_finished r (after_all ops f)
   all-renamed ops f = ap (λ o. record (rename_finished r f) { ops = o }) (sym (map-append (rename_op r) ops f.ops))
@@ -104,7 +104,6 @@ module _ (r : NodeId → NodeId) where
   rest-renamed (took ops p stop.InputEnd) rest rest' n h = ap (after_character (rename_ops r ops)) (h p n) ∙ character-after ops (rest p)
   rest-renamed (took ops p (stop.Script id)) rest rest' n h = refl
   rest-renamed (took ops p stop.Deep) rest rest' n h = refl
-  rest-renamed (took ops p stop.Missing) rest rest' n h = refl
 
   text-renamed : (text : List ℕ) (es : Entities) (p : Parser) → Renames r p.open_state.next → parse es (rename_parser r p) text ≡ rename_parsed r (parse es p text)
   unfolding parse

@@ -6,6 +6,8 @@ use Rattle.html_types.specs.Operations.{same_id}
 use Rattle.html_types.specs.declared.word.Word.{Word}
 use Rattle.html_types.specs.declared.word.Word.TheVariants as word
 use Rattle.html_types.specs.declared.instruction.Group.TheVariants as group
+use Rattle.html_types.specs.declared.instruction.Mode.{Mode}
+use Rattle.html_types.specs.declared.instruction.Mode.TheVariants as mode
 use Rattle.html_types.specs.declared.instruction.Scope.{Scope}
 use Rattle.html_types.specs.declared.name.Name.{Name}
 use Rattle.html_types.specs.declared.operation.NodeId.{NodeId}
@@ -15,7 +17,8 @@ use Rattle.html_types.specs.declared.open.Format.{Format}
 use Rattle.html_types.specs.declared.open.Format.TheVariants.{Marker, Element}
 use Rattle.html_types.specs.declared.token.Tag.{Tag}
 use Rattle.standard.specs.Elements.{is_word, is_one_of, ends_scope}
-use Rattle.standard.specs.Stack.{in_scope, on_stack, is_open, current_is, current_id, is_empty, pop, until, pop_to, implied, close, item_found, close_item, end_found, other_end, id_or, foster_place, place_in, place, first_open, second_open, is_the, without_open, open_in_scope, above, from_on, through, below, with_above, block_above, place_for}
+use Rattle.standard.specs.Stack.{in_scope, on_stack, is_open, current_is, option_in_optgroup, current_id, is_empty, pop, until, pop_to, pop_to_root, implied, implied_thoroughly, close, item_found, close_item, end_found, other_end, id_or, foster_place, place_in, place, first_open, second_open, is_the, without_open, open_in_scope, above, from_on, through, below, with_above, block_above, place_for}
+use Rattle.standard.specs.Reset.{select_mode, template_mode, root_mode, reset_mode}
 use Rattle.standard.specs.Formatting.{listed, clear_to_marker, kept, lost, is_like, likes, without_earliest, list_element, entry_named, has_entry, tag_of_entry, later_than, entry_on, before_first, renewed, without_entry, with_id, with_behind}
 use Rattle.standard.specs.Act.{rename_place}
 use Rattle.standard.specs.Naming.{rename_element, rename_format}
@@ -27,6 +30,23 @@ of_two g v w x y x' y' e p q = ap (λ u. if u then x' else y') e ∙ by v
     by : (u : Bool) → (if u then x' else y') ≡ g (if u then x else y)
     by true = p
     by false = q
+
+-- the mode that an element of that name tells, or the one that those below it tell
+abbrev told : Name → Mode → Mode → Mode → Mode → Mode
+told n selects template root below =
+    if is_word word.Select n then selects
+    else (if is_one_of group.Cells n then mode.InCell
+    else (if is_word word.Tr n then mode.InRow
+    else (if is_one_of group.TableSections n then mode.InTableBody
+    else (if is_word word.Caption n then mode.InCaption
+    else (if is_word word.Colgroup n then mode.InColumnGroup
+    else (if is_word word.Table n then mode.InTable
+    else (if is_word word.Template n then template
+    else (if is_word word.Head n then mode.InHead
+    else (if is_word word.Body n then mode.InBody
+    else (if is_word word.Frameset n then mode.InFrameset
+    else (if is_word word.Html n then root
+    else below)))))))))))
 
 module _ (r : NodeId → NodeId) where
   abbrev stack_of : List OpenElement → List OpenElement
@@ -81,6 +101,29 @@ module _ (r : NodeId → NodeId) where
   is_the-renamed w None = refl
   is_the-renamed w (Some e) = refl
 
+  pub option_in_optgroup-renamed : (es : List OpenElement) → option_in_optgroup (map (rename_element r) es) ≡ option_in_optgroup es
+  option_in_optgroup-renamed [] = refl
+  option_in_optgroup-renamed (e ∷ []) = refl
+  option_in_optgroup-renamed (e ∷ d ∷ es) = refl
+
+  -- ---- the mode that it tells
+
+  select_mode-renamed : (es : List OpenElement) → select_mode (stack_of es) ≡ select_mode es
+  select_mode-renamed [] = refl
+  select_mode-renamed (e ∷ es) =
+      ap (λ m. if is_word word.Template e.name then mode.InSelect else (if is_word word.Table e.name then mode.InSelectInTable else m)) (select_mode-renamed es)
+
+  root_mode-renamed : (h : Option NodeId) → root_mode (option_map r h) ≡ root_mode h
+  root_mode-renamed None = refl
+  root_mode-renamed (Some i) = refl
+
+  pub reset_mode-renamed : (es : List OpenElement) (h : Option NodeId) (ms : List Mode) → reset_mode (map (rename_element r) es) (option_map r h) ms ≡ reset_mode es h ms
+  reset_mode-renamed [] h ms = refl
+  reset_mode-renamed (e ∷ es) h ms =
+      ap (λ m. told e.name m (template_mode ms) (root_mode (option_map r h)) (reset_mode (stack_of es) (option_map r h) ms)) (select_mode-renamed es)
+      ∙ (ap (λ m. told e.name (select_mode es) (template_mode ms) m (reset_mode (stack_of es) (option_map r h) ms)) (root_mode-renamed h)
+      ∙ ap (told e.name (select_mode es) (template_mode ms) (root_mode h)) (reset_mode-renamed es h ms))
+
   -- ---- what is left of it
 
   pub pop-renamed : (es : List OpenElement) → pop (map (rename_element r) es) ≡ map (rename_element r) (pop es)
@@ -100,6 +143,17 @@ module _ (r : NodeId → NodeId) where
   implied-renamed but (e ∷ es) =
       let v : Bool = is_one_of group.ClosedImplicitly e.name && not (but e.name) in
       of_two stack_of v v (implied but es) (e ∷ es) _ _ refl (implied-renamed but es) refl
+
+  pub pop_to_root-renamed : (es : List OpenElement) → pop_to_root (map (rename_element r) es) ≡ map (rename_element r) (pop_to_root es)
+  pop_to_root-renamed [] = refl
+  pop_to_root-renamed (e ∷ []) = refl
+  pop_to_root-renamed (e ∷ d ∷ es) = pop_to_root-renamed (d ∷ es)
+
+  pub thoroughly-renamed : (es : List OpenElement) → implied_thoroughly (map (rename_element r) es) ≡ map (rename_element r) (implied_thoroughly es)
+  thoroughly-renamed [] = refl
+  thoroughly-renamed (e ∷ es) =
+      let v : Bool = is_one_of group.ClosedThoroughly e.name in
+      of_two stack_of v v (implied_thoroughly es) (e ∷ es) _ _ refl (thoroughly-renamed es) refl
 
   popped : (v w : Bool) (is : Name → Bool) (es : List OpenElement) → w ≡ v
       → (if w then until is (implied is (stack_of es)) else stack_of es) ≡ stack_of (if v then until is (implied is es) else es)

@@ -61,7 +61,7 @@ context_of_a_table : written "<table><p>1<caption>2</caption><p>3<colgroup><p>4<
 unfolding serial_on_literals adopting adopt
 context_of_a_table = refl
 
-no_table_in_scope : written "<template><caption></caption></table><table>a" ending.End ≡ wants "tree \"<html><head><template><caption></caption>a</template></head><body></body></html>\"\n"
+no_table_in_scope : written "<template><caption></caption></table><table>a</template>b" ending.End ≡ wants "tree \"<html><head><template><caption></caption>a</template></head><body>b</body></html>\"\n"
 unfolding serial_on_literals adopting adopt
 no_table_in_scope = refl
 
@@ -154,6 +154,14 @@ template_in_columns = refl
 context_of_a_row : written "<table><tr><p>1<td>2</td><p>3</tr><p>4<td>5</td></tr><p>6</tbody><tr>" ending.End ≡ wants "tree \"<html><head></head><body><p>1</p><p>3</p><p>4</p><p>6</p><table><tbody><tr><td>2</td></tr><tr><td>5</td></tr></tbody><tbody><tr></tr></tbody></table></body></html>\"\n"
 unfolding serial_on_literals adopting adopt
 context_of_a_row = refl
+
+end_of_a_row : written "<table><tr><p>1</tr><!--2-->" ending.End ≡ wants "tree \"<html><head></head><body><p>1</p><table><tbody><tr></tr><!--2--></tbody></table></body></html>\"\n"
+unfolding serial_on_literals adopting adopt
+end_of_a_row = refl
+
+end_of_a_section : written "<table><tbody><p>1</tbody><!--2-->" ending.End ≡ wants "tree \"<html><head></head><body><p>1</p><table><tbody></tbody><!--2--></table></body></html>\"\n"
+unfolding serial_on_literals adopting adopt
+end_of_a_section = refl
 
 context_of_a_section : written "<table><tbody><p>1<tr><p>2<tr><p>3<tfoot><p>4<tbody><tr><p>5</tbody>6" ending.End ≡ wants "tree \"<html><head></head><body><p>1</p><p>2</p><p>3</p><p>4</p><p>5</p>6<table><tbody><tr></tr><tr></tr></tbody><tfoot></tfoot><tbody><tr></tr></tbody></table></body></html>\"\n"
 unfolding serial_on_literals adopting adopt
@@ -326,6 +334,10 @@ select_in_a_template_in_a_table = refl
 mode_of_a_template_behind_another : written "<template><template><tr></template></p>a" ending.End ≡ wants "tree \"<html><head><template><template><tr></tr></template>a</template></head><body></body></html>\"\n"
 unfolding serial_on_literals adopting adopt
 mode_of_a_template_behind_another = refl
+
+modes_behind_templates : written "<template><p>1<template><tr></template></p>2<template><td></template></p>3<template><col></template></p>4<template><caption></template></p>5<template><i></template></p>6" ending.End ≡ wants "tree \"<html><head><template><p>1<template><tr></tr></template></p>2<template><td></td></template><p></p>3<template><col></template><p></p>4<template><caption></caption></template><p></p>5<template><i></i></template><p></p>6</template></head><body></body></html>\"\n"
+unfolding serial_on_literals adopting adopt
+modes_behind_templates = refl
 
 end_in_columns_of_a_template : written "<template><col>" ending.End ≡ wants "tree \"<html><head><template><col></template></head><body></body></html>\"\n"
 unfolding serial_on_literals adopting adopt

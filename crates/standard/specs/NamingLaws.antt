@@ -1,5 +1,5 @@
 -- What holds of tree construction whatever the rows of its tables say.
-use Rattle.std.specs.Prelude.{◌≡◌, ℕ, Bool, List, []}
+use Rattle.std.specs.Prelude.{◌≡◌, ℕ, Bool, false, List, []}
 use Rattle.html_types.specs.declared.instruction.Instr.{Instr}
 use Rattle.html_types.specs.declared.instruction.Mode.{Mode}
 use Rattle.html_types.specs.declared.token.Token.{Token}
@@ -26,6 +26,11 @@ RoundsAppend = (n : ℕ) (m : Mode) (t : Token) (b : Open) (o : List Op) → pro
 
 abbrev pub TokensAppend : Type 0
 TokensAppend = (t : Token) (b : Open) (o : List Op) → construct t b o ≡ answer_behind o (construct t b [])
+
+-- ---- foster parenting is off behind a token
+
+abbrev pub FosteringEnds : Type 0
+FosteringEnds = (t : Token) (b : Open) (o : List Op) → (construct t b o).open_state.foster ≡ false
 
 -- ---- operations name ids that are bound, and elements are made under ids that aren't, where all ids that the open state
 -- holds are bound; and so it is behind the operations. `Coming` says what is asked of the ids that the open state is to give

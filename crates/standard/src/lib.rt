@@ -110,7 +110,7 @@ pub fn lines_begin()
 {}
 
 ghost use Rattle.standard.specs.Naming.{AreFresh, CameBefore};
-ghost use Rattle.standard.specs.NamingLaws.{RowsAppend, RulesAppend, RoundsAppend, TokensAppend};
+ghost use Rattle.standard.specs.NamingLaws.{RowsAppend, RulesAppend, RoundsAppend, TokensAppend, FosteringEnds};
 ghost use Rattle.standard.specs.NamingLaws.{TokensStayBound, CharactersStayBound, EndsStayBound, TextsStayBound};
 ghost use Rattle.standard.specs.NamingLaws.{ActsBind, NewDocServes, DocsServeTexts, DocsServeEnds};
 ghost use Rattle.standard.specs.NamingLaws.{RowsRename, TokensRename, CharactersRename, EndsRename, TextsRename, LaterRenames};
@@ -124,6 +124,11 @@ pub fn appends_operations()
     ensures rules { RulesAppend }
     ensures rounds { RoundsAppend }
     ensures tokens { TokensAppend }
+{}
+
+/// Foster parenting (13.2.6.1) is off behind a token, whatever turned it on.
+pub fn fostering_ends()
+    ensures { FosteringEnds }
 {}
 
 /// Operations name ids that are bound, and elements are made under ids that aren't, where the ids that the open state holds

@@ -16,7 +16,13 @@ pub fn is_in(group: Group, word: Word) -> bool
         Group::DefinitionItems => is_definition_items(word),
         Group::Special => is_special(word),
         Group::ClosedImplicitly => is_closed_implicitly(word),
+        Group::ClosedThoroughly => is_closed_thoroughly(word),
         Group::TableContext => is_table_context(word),
+        Group::TableBodyContext => is_table_body_context(word),
+        Group::RowContext => is_row_context(word),
+        Group::TableSections => is_table_sections(word),
+        Group::Cells => is_cells(word),
+        Group::TextTargets => is_text_targets(word),
         Group::FosterTargets => is_foster_targets(word),
         Group::PassedItems => is_passed_items(word),
     }
@@ -156,10 +162,66 @@ fn is_closed_implicitly(word: Word) -> bool
     )
 }
 
+fn is_closed_thoroughly(word: Word) -> bool
+    ensures { result ≡ in_group Group.ClosedThoroughly word }
+{
+    matches!(
+        &word,
+        Caption
+            | Colgroup
+            | Dd
+            | Dt
+            | Li
+            | Optgroup
+            | Option
+            | P
+            | Rb
+            | Rp
+            | Rt
+            | Rtc
+            | Tbody
+            | Td
+            | Tfoot
+            | Th
+            | Thead
+            | Tr
+    )
+}
+
 fn is_table_context(word: Word) -> bool
     ensures { result ≡ in_group Group.TableContext word }
 {
     matches!(&word, Table | Template | Html)
+}
+
+fn is_table_body_context(word: Word) -> bool
+    ensures { result ≡ in_group Group.TableBodyContext word }
+{
+    matches!(&word, Tbody | Tfoot | Thead | Template | Html)
+}
+
+fn is_row_context(word: Word) -> bool
+    ensures { result ≡ in_group Group.RowContext word }
+{
+    matches!(&word, Tr | Template | Html)
+}
+
+fn is_table_sections(word: Word) -> bool
+    ensures { result ≡ in_group Group.TableSections word }
+{
+    matches!(&word, Tbody | Tfoot | Thead)
+}
+
+fn is_cells(word: Word) -> bool
+    ensures { result ≡ in_group Group.Cells word }
+{
+    matches!(&word, Td | Th)
+}
+
+fn is_text_targets(word: Word) -> bool
+    ensures { result ≡ in_group Group.TextTargets word }
+{
+    matches!(&word, Table | Tbody | Template | Tfoot | Thead | Tr)
 }
 
 fn is_foster_targets(word: Word) -> bool

@@ -1,5 +1,5 @@
 use Rattle.std.proofs.Common.{refl, ap}
-use Rattle.parse_machine.proofs.MachineLemmas.{went_on, went_switched, went_script, went_deep, went_missing, is_odd}
+use Rattle.parse_machine.proofs.MachineLemmas.{went_on, went_switched, went_script, went_deep, goes_on}
 use Rattle.parse_machine.proofs.machine.process.Goals as goal
 
 pub returns-in-Done-clause-built : goal.returns-in-Done-clause-built
@@ -13,18 +13,3 @@ returns-in-Script-clause-built c = λ cr. went_script c.args.token.now cr c.args
 
 pub returns-in-Deep-clause-built : goal.returns-in-Deep-clause-built
 returns-in-Deep-clause-built c = λ cr. went_deep c.args.token.now cr c.args.tokenizer.now c.args.tokenizer.now c.args.builder.now c.construct.new.builder c.args.ops.now c.construct.new.ops c.in_ok-construct.field-0 c.in_ok-construct.ensures c.in-Deep.is refl
-
-pub returns-in-Adopt-clause-built : goal.returns-in-Adopt-clause-built
-returns-in-Adopt-clause-built c = λ cr. went_missing c.args.token.now cr c.args.tokenizer.now c.args.tokenizer.now c.args.builder.now c.construct.new.builder c.args.ops.now c.construct.new.ops c.in_ok-construct.field-0 c.in_ok-construct.ensures (ap is_odd c.in-Adopt.is) refl
-
-pub returns-in-Again-clause-built : goal.returns-in-Again-clause-built
-returns-in-Again-clause-built c = λ cr. went_missing c.args.token.now cr c.args.tokenizer.now c.args.tokenizer.now c.args.builder.now c.construct.new.builder c.args.ops.now c.construct.new.ops c.in_ok-construct.field-0 c.in_ok-construct.ensures (ap is_odd c.in-Again.is) refl
-
-pub returns-in-Using-clause-built : goal.returns-in-Using-clause-built
-returns-in-Using-clause-built c = λ cr. went_missing c.args.token.now cr c.args.tokenizer.now c.args.tokenizer.now c.args.builder.now c.construct.new.builder c.args.ops.now c.construct.new.ops c.in_ok-construct.field-0 c.in_ok-construct.ensures (ap is_odd c.in-Using.is) refl
-
-pub returns-in-Finished-clause-built : goal.returns-in-Finished-clause-built
-returns-in-Finished-clause-built c = λ cr. went_missing c.args.token.now cr c.args.tokenizer.now c.args.tokenizer.now c.args.builder.now c.construct.new.builder c.args.ops.now c.construct.new.ops c.in_ok-construct.field-0 c.in_ok-construct.ensures (ap is_odd c.in-Finished.is) refl
-
-pub returns-in-Missing-clause-built : goal.returns-in-Missing-clause-built
-returns-in-Missing-clause-built c = λ cr. went_missing c.args.token.now cr c.args.tokenizer.now c.args.tokenizer.now c.args.builder.now c.construct.new.builder c.args.ops.now c.construct.new.ops c.in_ok-construct.field-0 c.in_ok-construct.ensures (ap is_odd c.in-Missing.is) refl

@@ -5,7 +5,7 @@ use Rattle.std.proofs.lemmas.List.{get_or_read}
 use Rattle.html_types.specs.declared.tree.Node.{Node}
 use Rattle.html_types.specs.Numbers.{place_of}
 use Rattle.standard.specs.Tree.{no_node, parent_of, children_of, after_all, after_node, first_of}
-use Rattle.doc_tree.proofs.Trees.{parent_below}
+use Rattle.doc_tree.proofs.Trees.{once_among, parent_below}
 use Rattle.doc_tree.proofs.Order.{up_step, up_found, up_past}
 use Rattle.doc_tree.proofs.tree.Tree.next.Goals as goal
 use Rattle.doc_tree.proofs.tree.Tree.next.Goals.{else-place-len-via-then-place-len+else-place-len-2, else-place-len-via-else-place-len}
@@ -30,6 +30,15 @@ index-requires-in-Some c =
     let nodes = c.self.inside.nodes.items in
     let link : parent_of nodes c.loop.at ≡ Some c.in-Some.parent = grind (arith, common_steps) in
     omega (arith, c.self.inside.nodes.ok.0, parent_below nodes c.self.invariant c.loop.at c.in-Some.parent link)
+
+pub place-place-requires : goal.place-place-requires
+place-place-requires c n =
+    let nodes = c.self.inside.nodes.items in
+    let p = c.in-Some.parent in
+    let link : parent_of nodes c.loop.at ≡ Some p = ap (λ (n : Node). n.parent) (sym (get_or_read nodes c.loop.at _ c.loop.invariant.here c.index-in-loop.ensures no_node)) ∙ c.in-Some.is in
+    let p_below = parent_below nodes c.self.invariant c.loop.at p link in
+    let read : c.index-in-Some.result.now.children ≡ children_of nodes p = ap (λ (n : Node). n.children) (get_or_read nodes p _ p_below c.index-in-Some.ensures no_node) in
+    rw read (once_among nodes c.self.invariant n p)
 
 pub returns-then-place-len-2 : goal.returns-then-place-len-2
 returns-then-place-len-2 c =

@@ -1,7 +1,8 @@
-use Rattle.std.proofs.Common.{◌≡◌, ◌<◌, length, arith, Some, false}
+use Rattle.std.proofs.Common.{◌≡◌, ◌<◌, length, ap, arith, Some, false}
 use Rattle.std.proofs.lemmas.Grind.{common_steps}
-use Rattle.standard.specs.Tree.{parent_of, lies_in}
-use Rattle.doc_tree.proofs.Trees.{parent_below, IsTree-moved, IsTree-same}
+use Rattle.html_types.specs.declared.tree.Node.{Node}
+use Rattle.standard.specs.Tree.{parent_of, children_of, lies_in}
+use Rattle.doc_tree.proofs.Trees.{once_among, read_elsewhere, parent_below, IsTree-moved, IsTree-same}
 use Rattle.doc_tree.proofs.Puts.{transferred, transferred_is, moved_done}
 use Rattle.doc_tree.proofs.tree.Tree.transfer.Goals as goal
 
@@ -10,6 +11,15 @@ index_mut-requires-2 c =
     let nodes = c.self.inside.nodes.items in
     let child : parent_of nodes c.args.node ≡ Some c.args.from = rw c.self.view_is c.requires.child in
     omega (arith, c.self.inside.nodes.ok.0, parent_below nodes c.self.invariant c.args.node c.args.from child)
+
+pub remove-requires : goal.remove-requires
+remove-requires c =
+    let nodes = c.self.inside.nodes.items in
+    let child : parent_of nodes c.args.node ≡ Some c.args.from = rw c.self.view_is c.requires.child in
+    let below = parent_below nodes c.self.invariant c.args.node c.args.from child in
+    let read : c.index_mut-2.result.now.children ≡ children_of nodes c.args.from =
+    ap (λ (n : Node). n.children) (read_elsewhere nodes c.args.parent c.args.from _ _ c.requires.elsewhere below c.index_mut-2.ensures.value) in
+    rw read (once_among nodes c.self.invariant c.args.node c.args.from)
 
 pub invariant_of-self-2 : goal.invariant_of-self-2
 invariant_of-self-2 c =

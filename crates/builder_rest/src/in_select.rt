@@ -1,0 +1,142 @@
+//! The rows of "in select" (13.2.6.4.16) and "in select in table" (13.2.6.4.17).
+
+ghost use Rattle.std.specs.Prelude.{◌≡◌};
+ghost use Rattle.standard.specs.Rules.{row, known_start_row, known_end_row};
+
+use html_types::instruction::Instr::*;
+use html_types::instruction::Test::{Current, InScope, OptionInOptgroup};
+use html_types::instruction::Who::{Own, The};
+use html_types::word::Word::{
+    Caption, Hr, Html, Input, Keygen, Optgroup, Script, Select, Table, Tbody, Td, Template,
+    Textarea, Tfoot, Th, Thead, Tr,
+};
+use html_types::{Instr, Mode, Name, Scope, Token, Word};
+
+/// The select element is closed.
+const CLOSE: &[Instr] = &[
+    Need(InScope(Scope::Select, The(Select))),
+    Until(The(Select)),
+    Reset,
+];
+
+/// "in select"
+#[tactic(auto, unfolding(standard::specs::Rules::row))]
+pub fn in_select(token: &Token) -> &'static [Instr]
+    ensures { result.now ≡ row Mode.InSelect token.now }
+{
+    match token {
+        Token::Character(c) => { if *c == '\0' { &[] } else { &[InsertText] } }
+        Token::StartTag(tag) => match &tag.name {
+            Name::Known(word) => in_select_start(*word),
+            Name::Other(_) => &[],
+        },
+        Token::EndTag(tag) => match &tag.name {
+            Name::Known(word) => in_select_end(*word),
+            Name::Other(_) => &[],
+        },
+        Token::Comment(_) => &[InsertComment],
+        Token::Doctype {
+            name: _,
+            force_quirks: _,
+        } => &[],
+        Token::EndOfFile => &[Using(Mode::InBody)],
+    }
+}
+
+fn in_select_start(word: Word) -> &'static [Instr]
+    ensures { result.now ≡ known_start_row Mode.InSelect word }
+{
+    match word {
+        Html => &[Using(Mode::InBody)],
+        Word::Option => &[When(Current(The(Word::Option))), Pop, Insert],
+        Optgroup => &[
+            When(Current(The(Word::Option))),
+            Pop,
+            When(Current(The(Optgroup))),
+            Pop,
+            Insert,
+        ],
+        Hr => &[
+            When(Current(The(Word::Option))),
+            Pop,
+            When(Current(The(Optgroup))),
+            Pop,
+            Void,
+        ],
+        Select => CLOSE,
+        Input | Keygen | Textarea => &[
+            Need(InScope(Scope::Select, The(Select))),
+            Until(The(Select)),
+            Reset,
+            Again,
+        ],
+        Script | Template => &[Using(Mode::InHead)],
+        _ => &[],
+    }
+}
+
+fn in_select_end(word: Word) -> &'static [Instr]
+    ensures { result.now ≡ known_end_row Mode.InSelect word }
+{
+    match word {
+        Optgroup => &[
+            When(OptionInOptgroup),
+            Pop,
+            Need(Current(The(Optgroup))),
+            Pop,
+        ],
+        Word::Option => &[Need(Current(The(Word::Option))), Pop],
+        Select => CLOSE,
+        Template => &[Using(Mode::InHead)],
+        _ => &[],
+    }
+}
+
+/// "in select in table"
+#[tactic(auto, unfolding(standard::specs::Rules::row))]
+pub fn in_select_in_table(token: &Token) -> &'static [Instr]
+    ensures { result.now ≡ row Mode.InSelectInTable token.now }
+{
+    match token {
+        Token::Character(_) => &[Using(Mode::InSelect)],
+        Token::StartTag(tag) => match &tag.name {
+            Name::Known(word) => in_select_in_table_start(*word),
+            Name::Other(_) => &[Using(Mode::InSelect)],
+        },
+        Token::EndTag(tag) => match &tag.name {
+            Name::Known(word) => in_select_in_table_end(*word),
+            Name::Other(_) => &[Using(Mode::InSelect)],
+        },
+        Token::Comment(_) => &[InsertComment],
+        Token::Doctype {
+            name: _,
+            force_quirks: _,
+        } => &[],
+        Token::EndOfFile => &[Using(Mode::InSelect)],
+    }
+}
+
+fn in_select_in_table_start(word: Word) -> &'static [Instr]
+    ensures { result.now ≡ known_start_row Mode.InSelectInTable word }
+{
+    match word {
+        Caption | Table | Tbody | Tfoot | Thead | Tr | Td | Th => {
+            &[Until(The(Select)), Reset, Again]
+        }
+        _ => &[Using(Mode::InSelect)],
+    }
+}
+
+fn in_select_in_table_end(word: Word) -> &'static [Instr]
+    ensures { result.now ≡ known_end_row Mode.InSelectInTable word }
+{
+    match word {
+        Caption | Table | Tbody | Tfoot | Thead | Tr | Td | Th => &[
+            Need(InScope(Scope::Table, Own)),
+            Until(The(Select)),
+            Reset,
+            Again,
+        ],
+        _ => &[Using(Mode::InSelect)],
+    }
+}

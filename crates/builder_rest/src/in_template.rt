@@ -1,0 +1,98 @@
+//! The rows of "in template" (13.2.6.4.18).
+
+ghost use Rattle.std.specs.Prelude.{◌≡◌};
+ghost use Rattle.standard.specs.Rules.{row, known_start_row, known_end_row};
+
+use html_types::instruction::Instr::*;
+use html_types::instruction::Test::OnStack;
+use html_types::instruction::Who::The;
+use html_types::word::Word::{
+    Base, Basefont, Bgsound, Caption, Col, Colgroup, Link, Meta, Noframes, Script, Style, Tbody,
+    Td, Template, Tfoot, Th, Thead, Title, Tr,
+};
+use html_types::{Instr, Mode, Name, Token, Word};
+
+/// What a start tag makes of the template that has no rule of its own.
+const AS_BODY: &[Instr] = &[
+    PopTemplateMode,
+    PushTemplateMode(Mode::InBody),
+    Enter(Mode::InBody),
+    Again,
+];
+
+/// "in template"
+#[tactic(auto, unfolding(standard::specs::Rules::row))]
+pub fn in_template(token: &Token) -> &'static [Instr]
+    ensures { result.now ≡ row Mode.InTemplate token.now }
+{
+    match token {
+        Token::Character(_) => &[Using(Mode::InBody)],
+        Token::StartTag(tag) => match &tag.name {
+            Name::Known(word) => start(*word),
+            Name::Other(_) => AS_BODY,
+        },
+        Token::EndTag(tag) => match &tag.name {
+            Name::Known(word) => end(*word),
+            Name::Other(_) => &[],
+        },
+        Token::Comment(_) => &[Using(Mode::InBody)],
+        Token::Doctype {
+            name: _,
+            force_quirks: _,
+        } => &[Using(Mode::InBody)],
+        Token::EndOfFile => &[
+            Unless(OnStack(The(Template))),
+            Finish,
+            Until(The(Template)),
+            ClearToMarker,
+            PopTemplateMode,
+            Reset,
+            Again,
+        ],
+    }
+}
+
+// The template's mode is replaced by one that fits what comes.
+fn start(word: Word) -> &'static [Instr]
+    ensures { result.now ≡ known_start_row Mode.InTemplate word }
+{
+    match word {
+        Base | Basefont | Bgsound | Link | Meta | Noframes | Script | Style | Template | Title => {
+            &[Using(Mode::InHead)]
+        }
+        Caption | Colgroup | Tbody | Tfoot | Thead => &[
+            PopTemplateMode,
+            PushTemplateMode(Mode::InTable),
+            Enter(Mode::InTable),
+            Again,
+        ],
+        Col => &[
+            PopTemplateMode,
+            PushTemplateMode(Mode::InColumnGroup),
+            Enter(Mode::InColumnGroup),
+            Again,
+        ],
+        Tr => &[
+            PopTemplateMode,
+            PushTemplateMode(Mode::InTableBody),
+            Enter(Mode::InTableBody),
+            Again,
+        ],
+        Td | Th => &[
+            PopTemplateMode,
+            PushTemplateMode(Mode::InRow),
+            Enter(Mode::InRow),
+            Again,
+        ],
+        _ => AS_BODY,
+    }
+}
+
+fn end(word: Word) -> &'static [Instr]
+    ensures { result.now ≡ known_end_row Mode.InTemplate word }
+{
+    match word {
+        Template => &[Using(Mode::InHead)],
+        _ => &[],
+    }
+}

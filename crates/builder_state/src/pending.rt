@@ -1,0 +1,99 @@
+//! The pending table character tokens (13.2.6.4.10).
+
+ghost use Rattle.std.specs.Prelude.{◌≡◌, ◌≤◌, ◌++◌, length, IfOk};
+ghost use Rattle.std.specs.Str.{chars};
+ghost use Rattle.standard.specs.Instructions.{config, on, append_pending, all_space, texts, body_character, body_characters, insert_pending};
+
+use crate::insert::{place_now, reopen_lost};
+use crate::space::is_space;
+use html_types::{Flow, NoMemory, Open, Ops, Place, Text, Token};
+use std::alloc::Global;
+use std::mem;
+
+/// Adds the token's character to the pending ones.
+pub fn keep_character(state: &mut Open, token: &Token, ops: &Ops) -> Result<(), NoMemory>
+    ensures done { IfOk result (λ _. on state.new ops.now ≡ append_pending token.now state.old ops.now) }
+    ensures stack { state.new.stack ≡ state.old.stack }
+{
+    match token {
+        Token::Character(c) => state.pending_text.push(*c),
+        _ => Ok(()),
+    }
+}
+
+/// Whether all characters are white space.
+fn is_all_space(text: &str) -> bool
+    ensures { result ≡ all_space (chars text.now) }
+{
+    text.chars().all(is_space)
+}
+
+/// Inserts characters at a place.
+fn insert_characters(alloc: Global, place: Place, text: &str, ops: &mut Ops) -> Result<(), NoMemory>
+    ensures { IfOk result (λ _. ops.new ≡ ops.old ++ texts place (chars text.now)) }
+{
+    for c in text.chars() {
+        ops.push_character(alloc, place, c)?;
+    }
+    Ok(())
+}
+
+/// Inserts a character by the rules of "in body" (13.2.6.4.7).
+fn insert_body_character(
+    alloc: Global,
+    state: &mut Open,
+    c: char,
+    ops: &mut Ops,
+) -> Result<Flow, NoMemory>
+    requires { length state.old.stack ≤ 512 }
+    ensures done { IfOk result (λ flow. config state.new ops.new flow ≡ body_character c state.old ops.old) }
+    ensures bounded { length state.new.stack ≤ 512 }
+{
+    match reopen_lost(alloc, state, ops)? {
+        Flow::On => {}
+        left => return Ok(left),
+    }
+    ops.push_character(alloc, place_now(state), c)?;
+    if !is_space(c) {
+        state.frameset_ok = false;
+    }
+    Ok(Flow::On)
+}
+
+/// Inserts characters by the rules of "in body", up to one at which an element more than 512 would be open.
+fn insert_body_characters(
+    alloc: Global,
+    state: &mut Open,
+    text: &str,
+    ops: &mut Ops,
+) -> Result<Flow, NoMemory>
+    requires { length state.old.stack ≤ 512 }
+    ensures done { IfOk result (λ flow. config state.new ops.new flow ≡ body_characters (chars text.now) (on state.old ops.old)) }
+    ensures bounded { length state.new.stack ≤ 512 }
+{
+    for c in text.chars() {
+        match insert_body_character(alloc, state, c, ops)? {
+            Flow::On => {}
+            left => return Ok(left),
+        }
+    }
+    Ok(Flow::On)
+}
+
+/// Inserts the pending characters: as they are where all are white space, else by the rules of "in body" with foster
+/// parenting on. There are none then.
+pub fn insert_pending_text(alloc: Global, state: &mut Open, ops: &mut Ops) -> Result<Flow, NoMemory>
+    requires { length state.old.stack ≤ 512 }
+    ensures done { IfOk result (λ flow. config state.new ops.new flow ≡ insert_pending state.old ops.old) }
+    ensures bounded { length state.new.stack ≤ 512 }
+{
+    let text = mem::replace(&mut state.pending_text, Text::new(alloc));
+    if is_all_space(text.as_str()) {
+        insert_characters(alloc, place_now(state), text.as_str(), ops)?;
+        return Ok(Flow::On);
+    }
+    state.foster = true;
+    let flow = insert_body_characters(alloc, state, text.as_str(), ops)?;
+    state.foster = false;
+    Ok(flow)
+}

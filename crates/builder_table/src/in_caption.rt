@@ -1,0 +1,72 @@
+//! The rows of "in caption" (13.2.6.4.11).
+
+ghost use Rattle.std.specs.Prelude.{◌≡◌};
+ghost use Rattle.standard.specs.Rules.{row, known_start_row, known_end_row};
+
+use html_types::instruction::Instr::*;
+use html_types::instruction::Test::InScope;
+use html_types::instruction::Who::The;
+use html_types::word::Word::{
+    Body, Caption, Col, Colgroup, Html, Table, Tbody, Td, Tfoot, Th, Thead, Tr,
+};
+use html_types::{Instr, Mode, Name, Scope, Token, Word};
+
+/// The caption is closed, and the token goes by "in table".
+const CLOSE_AGAIN: &[Instr] = &[
+    Need(InScope(Scope::Table, The(Caption))),
+    Implied,
+    Until(The(Caption)),
+    ClearToMarker,
+    Enter(Mode::InTable),
+    Again,
+];
+
+/// "in caption"
+#[tactic(auto, unfolding(standard::specs::Rules::row))]
+pub fn in_caption(token: &Token) -> &'static [Instr]
+    ensures { result.now ≡ row Mode.InCaption token.now }
+{
+    match token {
+        Token::Character(_) => &[Using(Mode::InBody)],
+        Token::StartTag(tag) => match &tag.name {
+            Name::Known(word) => start(*word),
+            Name::Other(_) => &[Using(Mode::InBody)],
+        },
+        Token::EndTag(tag) => match &tag.name {
+            Name::Known(word) => end(*word),
+            Name::Other(_) => &[Using(Mode::InBody)],
+        },
+        Token::Comment(_) => &[InsertComment],
+        Token::Doctype {
+            name: _,
+            force_quirks: _,
+        } => &[],
+        Token::EndOfFile => &[Using(Mode::InBody)],
+    }
+}
+
+fn start(word: Word) -> &'static [Instr]
+    ensures { result.now ≡ known_start_row Mode.InCaption word }
+{
+    match word {
+        Caption | Col | Colgroup | Tbody | Td | Tfoot | Th | Thead | Tr => CLOSE_AGAIN,
+        _ => &[Using(Mode::InBody)],
+    }
+}
+
+fn end(word: Word) -> &'static [Instr]
+    ensures { result.now ≡ known_end_row Mode.InCaption word }
+{
+    match word {
+        Caption => &[
+            Need(InScope(Scope::Table, The(Caption))),
+            Implied,
+            Until(The(Caption)),
+            ClearToMarker,
+            Enter(Mode::InTable),
+        ],
+        Table => CLOSE_AGAIN,
+        Body | Col | Colgroup | Html | Tbody | Td | Tfoot | Th | Thead | Tr => &[],
+        _ => &[Using(Mode::InBody)],
+    }
+}

@@ -1,0 +1,76 @@
+//! The rows of "in cell" (13.2.6.4.15).
+
+ghost use Rattle.std.specs.Prelude.{◌≡◌};
+ghost use Rattle.standard.specs.Rules.{row, known_start_row, known_end_row};
+
+use html_types::instruction::Instr::*;
+use html_types::instruction::Test::InScope;
+use html_types::instruction::Who::{Any, Own};
+use html_types::word::Word::{
+    Body, Caption, Col, Colgroup, Html, Table, Tbody, Td, Tfoot, Th, Thead, Tr,
+};
+use html_types::{Group, Instr, Mode, Name, Scope, Token, Word};
+
+/// "in cell"
+#[tactic(auto, unfolding(standard::specs::Rules::row))]
+pub fn in_cell(token: &Token) -> &'static [Instr]
+    ensures { result.now ≡ row Mode.InCell token.now }
+{
+    match token {
+        Token::Character(_) => &[Using(Mode::InBody)],
+        Token::StartTag(tag) => match &tag.name {
+            Name::Known(word) => start(*word),
+            Name::Other(_) => &[Using(Mode::InBody)],
+        },
+        Token::EndTag(tag) => match &tag.name {
+            Name::Known(word) => end(*word),
+            Name::Other(_) => &[Using(Mode::InBody)],
+        },
+        Token::Comment(_) => &[InsertComment],
+        Token::Doctype {
+            name: _,
+            force_quirks: _,
+        } => &[],
+        Token::EndOfFile => &[Using(Mode::InBody)],
+    }
+}
+
+// "Close the cell", then once more.
+fn start(word: Word) -> &'static [Instr]
+    ensures { result.now ≡ known_start_row Mode.InCell word }
+{
+    match word {
+        Caption | Col | Colgroup | Tbody | Td | Tfoot | Th | Thead | Tr => &[
+            Implied,
+            Until(Any(Group::Cells)),
+            ClearToMarker,
+            Enter(Mode::InRow),
+            Again,
+        ],
+        _ => &[Using(Mode::InBody)],
+    }
+}
+
+fn end(word: Word) -> &'static [Instr]
+    ensures { result.now ≡ known_end_row Mode.InCell word }
+{
+    match word {
+        Td | Th => &[
+            Need(InScope(Scope::Table, Own)),
+            Implied,
+            Until(Own),
+            ClearToMarker,
+            Enter(Mode::InRow),
+        ],
+        Body | Caption | Col | Colgroup | Html => &[],
+        Table | Tbody | Tfoot | Thead | Tr => &[
+            Need(InScope(Scope::Table, Own)),
+            Implied,
+            Until(Any(Group::Cells)),
+            ClearToMarker,
+            Enter(Mode::InRow),
+            Again,
+        ],
+        _ => &[Using(Mode::InBody)],
+    }
+}

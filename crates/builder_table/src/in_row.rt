@@ -1,0 +1,82 @@
+//! The rows of "in row" (13.2.6.4.14).
+
+ghost use Rattle.std.specs.Prelude.{◌≡◌};
+ghost use Rattle.standard.specs.Rules.{row, known_start_row, known_end_row};
+
+use html_types::instruction::Instr::*;
+use html_types::instruction::Test::InScope;
+use html_types::instruction::Who::{Own, The};
+use html_types::word::Word::{
+    Body, Caption, Col, Colgroup, Html, Table, Tbody, Td, Tfoot, Th, Thead, Tr,
+};
+use html_types::{Group, Instr, Mode, Name, Scope, Token, Word};
+
+/// "Clear the stack back to a table row context."
+const CLEAR: Instr = PopTo(Group::RowContext);
+
+/// The row is closed, and the token goes by "in table body".
+const CLOSE_AGAIN: &[Instr] = &[
+    Need(InScope(Scope::Table, The(Tr))),
+    CLEAR,
+    Pop,
+    Enter(Mode::InTableBody),
+    Again,
+];
+
+/// "in row"
+#[tactic(auto, unfolding(standard::specs::Rules::row))]
+pub fn in_row(token: &Token) -> &'static [Instr]
+    ensures { result.now ≡ row Mode.InRow token.now }
+{
+    match token {
+        Token::Character(_) => &[Using(Mode::InTable)],
+        Token::StartTag(tag) => match &tag.name {
+            Name::Known(word) => start(*word),
+            Name::Other(_) => &[Using(Mode::InTable)],
+        },
+        Token::EndTag(tag) => match &tag.name {
+            Name::Known(word) => end(*word),
+            Name::Other(_) => &[Using(Mode::InTable)],
+        },
+        Token::Comment(_) => &[InsertComment],
+        Token::Doctype {
+            name: _,
+            force_quirks: _,
+        } => &[],
+        Token::EndOfFile => &[Using(Mode::InTable)],
+    }
+}
+
+fn start(word: Word) -> &'static [Instr]
+    ensures { result.now ≡ known_start_row Mode.InRow word }
+{
+    match word {
+        Th | Td => &[CLEAR, Insert, Enter(Mode::InCell), Marker],
+        Caption | Col | Colgroup | Tbody | Tfoot | Thead | Tr => CLOSE_AGAIN,
+        _ => &[Using(Mode::InTable)],
+    }
+}
+
+fn end(word: Word) -> &'static [Instr]
+    ensures { result.now ≡ known_end_row Mode.InRow word }
+{
+    match word {
+        Tr => &[
+            Need(InScope(Scope::Table, The(Tr))),
+            CLEAR,
+            Pop,
+            Enter(Mode::InTableBody),
+        ],
+        Table => CLOSE_AGAIN,
+        Tbody | Tfoot | Thead => &[
+            Need(InScope(Scope::Table, Own)),
+            Need(InScope(Scope::Table, The(Tr))),
+            CLEAR,
+            Pop,
+            Enter(Mode::InTableBody),
+            Again,
+        ],
+        Body | Caption | Col | Colgroup | Html | Td | Th => &[],
+        _ => &[Using(Mode::InTable)],
+    }
+}

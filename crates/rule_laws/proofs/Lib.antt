@@ -1,0 +1,9 @@
+mod Counts
+mod Readings
+mod Calm
+mod Pending
+mod Depth
+mod Takes
+mod Walk
+mod Rows
+mod Rounds
