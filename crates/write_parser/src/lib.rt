@@ -8,6 +8,9 @@ mod nesting;
 mod rest;
 mod writer;
 
+#[cfg(test)]
+mod tests;
+
 pub use left::{Left, Limit};
 pub use parse_machine::Ran;
 pub use writer::Writer;

@@ -19,7 +19,7 @@ returns-in-Remove c =
 
 pub returns-in_ok-node-in-LogById : goal.returns-in_ok-node-in-LogById
 returns-in_ok-node-in-LogById c =
-    let found : c.in_ok-node-in-LogById.node ≡ find_id c.args.self.now.doc.tree c.in-LogById.id = c.in_ok-node-in-LogById.ensures.found ∙ (ap (λ t. find_id t (chars c.as_str.result.now)) c.tree.ensures ∙ ap (find_id c.args.self.now.doc.tree) c.as_str.ensures) in
+    let found : c.in_ok-node-in-LogById.node ≡ find_id c.args.self.now.doc.tree c.in-LogById.id = c.in_ok-node-in-LogById.ensures.found ∙ ap (find_id c.args.self.now.doc.tree) c.as_str.ensures in
     subst (λ a. IfOk c.read.result (λ d. DoesMost c.args.number a c.args.self.now c.args.rest.now c.read.new.self c.args.rest.now d)) (sym c.in-LogById.is)
     (if_ok c.read.result _ _
     (λ d has. does-read-by_id c.args.number c.in-LogById.id c.args.self.now c.args.rest.now c.read.new.self c.args.rest.now d c.requires.going c.requires.waits refl
@@ -28,7 +28,7 @@ returns-in_ok-node-in-LogById c =
 
 pub returns-in-LogRoot : goal.returns-in-LogRoot
 returns-in-LogRoot c =
-    let found : c.first_element-node.result ≡ first_element c.args.self.now.doc.tree = c.first_element-node.ensures.first ∙ ap first_element c.tree-in-LogRoot.ensures in
+    let found : c.root-node.result ≡ first_element c.args.self.now.doc.tree = c.root-node.ensures.root in
     subst (λ a. IfOk c.read-in-LogRoot.result (λ d. DoesMost c.args.number a c.args.self.now c.args.rest.now c.read-in-LogRoot.new.self c.args.rest.now d)) (sym c.in-LogRoot.is)
     (if_ok c.read-in-LogRoot.result _ _
     (λ d has. does-read-root c.args.number c.args.self.now c.args.rest.now c.read-in-LogRoot.new.self c.args.rest.now d c.requires.going c.requires.waits refl
