@@ -321,7 +321,6 @@ impl Doc {
         }
         Ok(())
     }
-
 }
 
 // What a script asks for.
