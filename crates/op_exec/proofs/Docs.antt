@@ -1,5 +1,5 @@
 -- What keeps a document one.
-use Rattle.std.proofs.Common.{◌≡◌, ℕ, ◌<◌, [], ◌∷◌, ◌++◌, length, Option, Some, None, IsSome, false, refl, ap, ◌∙◌, arith, rules}
+use Rattle.std.proofs.Common.{◌≡◌, ℕ, ◌<◌, List, [], ◌∷◌, ◌++◌, length, Option, Some, None, IsSome, Bool, true, false, if◌then◌else◌, refl, ap, ◌∙◌, arith, rules}
 use Rattle.std.specs.Prelude.{unwrap_or, IfSome, IsTrue, is_some}
 use Rattle.std.specs.Map.{values_of, remove_entry}
 use Rattle.std.specs.BTreeMap.{insert_entry, is_at}
@@ -8,12 +8,17 @@ use Rattle.std.specs.declared.cmp.Ordering.TheVariants.{Less, Equal, Greater}
 use Rattle.std.proofs.lemmas.Bool.Decides.{nat_tests}
 use Rattle.std.proofs.lemmas.List.Elements.{All-weaker}
 use Rattle.std.proofs.lemmas.Map.Views.{All-values-insert_entry, IfSome-lookup_from_All}
-use Rattle.standard.specs.Tree.{Nodes, no_node, lone, Keeps}
-use Rattle.html_types.specs.declared.tree.Node.{Node}
-use Rattle.html_types.specs.declared.tree.Kind.{Kind}
+use Rattle.standard.specs.Tree.{Nodes, no_node, lone, with_template, Keeps}
 use Rattle.std.proofs.lemmas.List.{length_push, get_or_push}
+use Rattle.html_types.specs.declared.attributes.Attribute.{Attribute}
+use Rattle.html_types.specs.declared.tree.Node.{Node}
+use Rattle.html_types.specs.declared.name.Name.{Name}
+use Rattle.html_types.specs.declared.word.Word.TheVariants.{Template}
+use Rattle.html_types.specs.declared.tree.Kind.TheVariants.{Element}
 use Rattle.html_types.specs.declared.operation.NodeId.{NodeId}
-use Rattle.standard.specs.Act.{Bound, id_cmp, bound_to, node_of, is_bound}
+use Rattle.standard.specs.Elements.{is_word}
+use Rattle.standard.specs.Act.{Bound, id_cmp, bound_to, node_of, is_bound, element_made}
+use Rattle.doc_tree.proofs.Trees.{node_at-push}
 use Rattle.op_exec.specs.Docs.{IsPlain, IsDoc}
 
 pub IsPlain-kept : (t s : Nodes) (n : ℕ) → Keeps t s → IsPlain t n → IsPlain s n
@@ -57,12 +62,22 @@ remove_entry-insert_entry (e ∷ es) id n absent = by_order (id_cmp id e.0) refl
     by_order Equal is rest = let found : bound_to (e ∷ es) id ≡ Some e.1 = rw is refl in absurd cc
     by_order Greater is rest = rw (is, is) (ap (λ x. e ∷ x) (rest (rw is at absent)))
 
--- a new node is plain
-pub IsPlain-new : (t s : Nodes) (kind : Kind) → 0 < length t → s ≡ t ++ lone kind ∷ [] → IsPlain s (length t)
-IsPlain-new t s kind some is = rw is (omega (arith, length_push t (lone kind)), (λ none. not_none none), ap (λ (v : Node). v.host) (get_or_push t (lone kind) no_node (length t) refl))
+-- a new element is plain
+IsPlain-new : (t : Nodes) (x : Node) → 0 < length t → x.host ≡ None → IsPlain (t ++ x ∷ []) (length t)
+IsPlain-new t x some none = (omega (arith, length_push t x), (λ is. not_none is), ap (λ (v : Node). v.host) (get_or_push t x no_node (length t) refl) ∙ none)
   where
     not_none : length t ≡ 0 → ⊥
-    not_none none = omega arith
+    not_none is = omega arith
+
+IsPlain-more : (t : Nodes) (x : Node) (n : ℕ) → IsPlain t n → IsPlain (t ++ x ∷ []) n
+IsPlain-more t x n plain = (omega (arith, length_push t x, plain.0), plain.1, grind (arith, nat_tests, node_at-push t x n, plain.0, plain.2))
+
+pub IsPlain-element_made : (t s : Nodes) (name : Name) (as' : List Attribute) → 0 < length t → s ≡ element_made t name as' → IsPlain s (length t)
+IsPlain-element_made t s name as' some made = rw made (by (is_word Template name))
+  where
+    by : (is : Bool) → IsPlain (if is then with_template t (Element name as') else t ++ lone (Element name as') ∷ []) (length t)
+    by true = IsPlain-more _ _ (length t) (IsPlain-new t _ some refl)
+    by false = IsPlain-new t (lone (Element name as')) some refl
 
 pub none_from_test : (o : Option ℕ) → is_some o ≡ false → o ≡ None
 none_from_test None none = refl

@@ -2,11 +2,12 @@
 
 ghost use Rattle.std.specs.Prelude.{◌≡◌, ◌≢◌, ◌<◌, length, IsTrue, IsSome, OnOk, OnErr, IfOk, Some, None, false};
 ghost use Rattle.std.specs.Option.{ForSome};
+ghost use Rattle.html_types.specs.declared.word.Word.TheVariants.{Template};
 ghost use Rattle.html_types.specs.declared.operation.Op.TheVariants as op;
 
 use crate::script::{ScriptKind, kind_of_script};
 use doc_tree::Tree;
-use html_types::{Attributes, Kind, Name, NoMemory, NodeId, Op, Ops, Place, Text};
+use html_types::{Attributes, Kind, Name, NoMemory, NodeId, Op, Ops, Place, Text, Word};
 use std::alloc::Global;
 use std::collections::BTreeMap;
 use std::marker::Model;
@@ -78,6 +79,33 @@ fn foster_spot(tree: &Tree, table: usize, above: usize) -> Spot
             },
         },
     }
+}
+
+ghost use Rattle.standard.specs.Tree.{Keeps};
+ghost use Rattle.standard.specs.Elements.{is_word};
+ghost use Rattle.standard.specs.Act.{element_made};
+
+fn is_template(name: &Name) -> bool
+    ensures { result ≡ is_word Template name.now }
+{
+    match name {
+        Name::Known(word) => Word::Template.same(*word),
+        Name::Other(_) => false,
+    }
+}
+
+// A new element, which stands nowhere; a template is made with its contents.
+fn make_element(tree: &mut Tree, name: Name, attributes: Attributes) -> Result<(), NoMemory>
+    ensures ok { OnOk result (tree.new ≡ element_made tree.old name attributes) }
+    ensures err { OnErr result (tree.new ≡ tree.old) }
+    ensures keeps { Keeps tree.old tree.new }
+{
+    if is_template(&name) {
+        tree.make_template(Kind::Element { name, attributes })?;
+    } else {
+        tree.make(Kind::Element { name, attributes })?;
+    }
+    Ok(())
 }
 
 ghost use Rattle.op_exec.specs.Docs.{inserts_nothing};
@@ -159,7 +187,7 @@ impl Doc {
         let attributes = attributes.copy(self.alloc)?;
         let number = self.tree.len();
         self.bound.insert(id, number)?;
-        if let Err(error) = self.tree.make(Kind::Element { name, attributes }) {
+        if let Err(error) = make_element(&mut self.tree, name, attributes) {
             self.bound.remove(&id);
             return Err(error);
         }

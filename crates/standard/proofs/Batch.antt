@@ -27,7 +27,6 @@ reading-step (took ops p' stop.InputEnd) n e w p d s c x y f q rest =
     ∙ (rest p' (acts d ops) ∙ ap Some (sym (behind-after s d ops c x y (f p'))))
 reading-step (took ops p' (stop.Script i)) n e w p d s c x y f q rest = ap (λ k. Some (serial.after_character (taken p d (c ∷ (x ++ y)) s) (x ++ y) k)) q
 reading-step (took ops p' stop.Deep) n e w p d s c x y f q rest = ap (λ k. Some (serial.after_character (taken p d (c ∷ (x ++ y)) s) (x ++ y) k)) q
-reading-step (took ops p' stop.Missing) n e w p d s c x y f q rest = ap (λ k. Some (serial.after_character (taken p d (c ∷ (x ++ y)) s) (x ++ y) k)) q
 
 -- over the front x of the input, after as many moments as characters are used
 pub reading-batch : (x y : List ℕ) (n : ℕ) (e : Ending) (w : World) (p : Parser) (d : Doc) (s : Serial) →

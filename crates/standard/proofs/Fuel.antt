@@ -2,14 +2,17 @@
 use Rattle.std.proofs.Common.{◌≡◌, ℕ, zero, suc, ◌+◌, Bool, true, false, List, [], ◌∷◌, Option, Some, None, option_and_then, refl, sym, ◌∙◌, ap, zero-add, arith}
 use Rattle.std.proofs.lemmas.Option.{none-some, same_Some}
 use Rattle.std.specs.Prelude.{⊤}
+use Rattle.html_types.specs.declared.operation.NodeId.{NodeId}
 use Rattle.html_types.specs.declared.script.Ending.{Ending}
 use Rattle.html_types.specs.declared.script.Statement.{Statement}
 use Rattle.html_types.specs.declared.script.Statement.TheVariants as statement
 use Rattle.html_types.specs.declared.instruction.Stop.TheVariants as stop
 use Rattle.standard.specs.Statements.{statements}
+use Rattle.standard.specs.Tree.{find_id, first_element}
 use Rattle.standard.specs.Prepare.{Prepared, still, inline, external}
+use Rattle.standard.specs.Scripts.{Fetched, got, missing, faulted, file_statements}
 use Rattle.standard.specs.Page.{Page}
-use Rattle.standard.specs.Serial.{World, Outcome, Serial, Flow, goes, refuses, starved, ◌then◌, Advanced, advanced, advance, before_point, inside, insert, one_more_executed, prepared, execute, run_statements, write, go_on, stopped, run_prepared, first, Moment, reading, tag_ended, over, after_script, moment_after, moments_on, outcome_in, serial_with, IsSerial}
+use Rattle.standard.specs.Serial.{World, fetched, Outcome, Serial, Flow, goes, refuses, starved, ◌then◌, Advanced, advanced, advance, before_point, moved, tree_of, inside, back_at, insert, remove, read, one_more_executed, prepared, execute, run_statements, on_element, write, go_on, stopped, end_of_script, run_prepared, run_text, first, Moment, reading, tag_ended, awaits, over, after_script, after_fetch, moment_after, moments_on, outcome_in, serial_with, IsSerial}
 
 -- g is f, unless f ran out of fuel
 abbrev pub Refines : Flow → Flow → Type 0
@@ -45,48 +48,69 @@ mutual
   pub execute-more : (n : ℕ) (w : World) (text : Option (List Statement)) (s : Serial) → Refines (execute n w text s) (execute (suc n) w text s)
   execute-more zero w text s = tt
   execute-more (suc n) w None s = refl
-  execute-more (suc n) w (Some list) s = run_statements-more n w list (one_more_executed s)
+  execute-more (suc n) w (Some list) s = run_statements-more n w (suc s.side.executed) list (one_more_executed s)
 
-  pub run_statements-more : (n : ℕ) (w : World) (list : List Statement) (s : Serial) → Refines (run_statements n w list s) (run_statements (suc n) w list s)
-  run_statements-more zero w list s = tt
-  run_statements-more (suc n) w [] s = refl
-  run_statements-more (suc n) w (statement.Write t ∷ list) s = Refines_then _ _ _ _ (write-more n w _ t s) (λ s'. run_statements-more n w list s')
-  run_statements-more (suc n) w (statement.Remove v ∷ list) s = refl
-  run_statements-more (suc n) w (statement.LogById v ∷ list) s = refl
-  run_statements-more (suc n) w (statement.LogRoot ∷ list) s = refl
+  pub run_statements-more : (n : ℕ) (w : World) (k : ℕ) (list : List Statement) (s : Serial) → Refines (run_statements n w k list s) (run_statements (suc n) w k list s)
+  run_statements-more zero w k list s = tt
+  run_statements-more (suc n) w k [] s = refl
+  run_statements-more (suc n) w k (statement.Write t ∷ list) s = Refines_then _ _ _ _ (write-more n w _ t s) (λ s'. run_statements-more n w k list s')
+  run_statements-more (suc n) w k (statement.Remove v ∷ list) s = on_element-more n w k list remove (find_id (tree_of s) v) s
+  run_statements-more (suc n) w k (statement.LogById v ∷ list) s = on_element-more n w k list (read k) (find_id (tree_of s) v) s
+  run_statements-more (suc n) w k (statement.LogRoot ∷ list) s = on_element-more n w k list (read k) (first_element (tree_of s)) s
+
+  pub on_element-more : (n : ℕ) (w : World) (k : ℕ) (list : List Statement) (work : ℕ → Serial → Serial) (found : Option ℕ) (s : Serial) →
+      Refines (on_element n w k list work found s) (on_element (suc n) w k list work found s)
+  on_element-more zero w k list work found s = tt
+  on_element-more (suc n) w k list work None s = refl
+  on_element-more (suc n) w k list work (Some e) s = run_statements-more n w k list (work e s)
 
   pub write-more : (n : ℕ) (w : World) (fits : Bool) (t : List ℕ) (s : Serial) → Refines (write n w fits t s) (write (suc n) w fits t s)
   write-more zero w fits t s = tt
   write-more (suc n) w false t s = refl
-  write-more (suc n) w true t s = go_on-more n w (insert t s)
+  write-more (suc n) w true t s = go_on-more n w s.side.pending (insert t s)
 
-  pub go_on-more : (n : ℕ) (w : World) (s : Serial) → Refines (go_on n w s) (go_on (suc n) w s)
-  go_on-more zero w s = tt
-  go_on-more (suc n) w s = stopped-more n w s (advance w.entities s.parser s.side.doc (before_point s))
+  pub go_on-more : (n : ℕ) (w : World) (pending : Option (List ℕ)) (s : Serial) → Refines (go_on n w pending s) (go_on (suc n) w pending s)
+  go_on-more zero w pending s = tt
+  go_on-more (suc n) w None s = stopped-more n w s (advance w.entities s.parser s.side.doc (before_point s))
+  go_on-more (suc n) w (Some name) s = refl
 
   pub stopped-more : (n : ℕ) (w : World) (s : Serial) (a : Advanced) → Refines (stopped n w s a) (stopped (suc n) w s a)
   stopped-more zero w s a = tt
   stopped-more (suc n) w s (advanced p d rest stop.InputEnd) = refl
-  stopped-more (suc n) w s (advanced p d rest (stop.Script i)) = refl
+  stopped-more (suc n) w s (advanced p d rest (stop.Script i)) =
+      Refines_then _ _ _ _ (end_of_script-more n w i (moved p d rest s)) (λ t. go_on-more n w t.side.pending t)
   stopped-more (suc n) w s (advanced p d rest stop.Deep) = refl
-  stopped-more (suc n) w s (advanced p d rest stop.Missing) = refl
 
-pub run_prepared-more : (n : ℕ) (w : World) (k : Prepared) (s : Serial) → Refines (run_prepared n w k s) (run_prepared (suc n) w k s)
-run_prepared-more n w still s = refl
-run_prepared-more n w (inline t) s = execute-more n w (statements t) s
-run_prepared-more n w (external name) s = refl
+  pub end_of_script-more : (n : ℕ) (w : World) (i : NodeId) (s : Serial) → Refines (end_of_script n w i s) (end_of_script (suc n) w i s)
+  end_of_script-more zero w i s = tt
+  end_of_script-more (suc n) w i s = Refines_then _ _ _ _ (run_prepared-more n w (prepared i s) (inside s)) (λ t. Refines_refl (goes (back_at s t)))
+
+  pub run_prepared-more : (n : ℕ) (w : World) (k : Prepared) (s : Serial) → Refines (run_prepared n w k s) (run_prepared (suc n) w k s)
+  run_prepared-more zero w k s = tt
+  run_prepared-more (suc n) w still s = refl
+  run_prepared-more (suc n) w (inline t) s = execute-more n w (statements t) s
+  run_prepared-more (suc n) w (external name) s = refl
+
+pub run_text-more : (n : ℕ) (w : World) (text : Option (List Statement)) (s : Serial) → Refines (run_text n w text s) (run_text (suc n) w text s)
+run_text-more n w text s = Refines_then _ _ _ _ (execute-more n w text (inside s)) (λ t. Refines_refl (goes (back_at s t)))
 
 -- ---- moments
 
-after_script-kept : (s : Serial) (f g : Flow) (m : Moment) → Refines f g → after_script s f ≡ Some m → after_script s g ≡ Some m
-after_script-kept s starved g m r h = absurd (none-some m h)
-after_script-kept s (goes t) g m r h = rw r h
-after_script-kept s (refuses w t) g m r h = rw r h
+after_script-kept : (f g : Flow) (m : Moment) → Refines f g → after_script f ≡ Some m → after_script g ≡ Some m
+after_script-kept starved g m r h = absurd (none-some m h)
+after_script-kept (goes t) g m r h = rw r h
+after_script-kept (refuses w t) g m r h = rw r h
+
+after_fetch-more : (n : ℕ) (w : World) (name : List ℕ) (s : Serial) (f : Fetched) (m : Moment) → after_fetch n w name s f ≡ Some m → after_fetch (suc n) w name s f ≡ Some m
+after_fetch-more n w name s (got bytes) m h = after_script-kept _ _ m (run_text-more n w (file_statements bytes) s) h
+after_fetch-more n w name s missing m h = h
+after_fetch-more n w name s faulted m h = h
 
 pub moment_after-more : (n : ℕ) (e : Ending) (w : World) (m m' : Moment) → moment_after n e w m ≡ Some m' → moment_after (suc n) e w m ≡ Some m'
 unfolding moment_after
 moment_after-more n e w (reading s) m' h = h
-moment_after-more n e w (tag_ended i s) m' h = after_script-kept s _ _ m' (run_prepared-more n w (prepared i s) (inside s)) h
+moment_after-more n e w (tag_ended i s) m' h = after_script-kept _ _ m' (end_of_script-more n w i s) h
+moment_after-more n e w (awaits name s) m' h = after_fetch-more n w name s (fetched w name) m' h
 moment_after-more n e w (over o) m' h = h
 
 -- what follows where an optional value is there, and goes on to one that is

@@ -1,11 +1,13 @@
 mod OnLiterals
 mod Rows
+mod TableRows
 pub mod Fuel
 pub mod Total
 pub mod Parse
 pub mod Batch
 pub mod Passing
 pub mod Scripts
+pub mod Frames
 pub mod Kept
 pub mod Lines
 pub mod AdoptionFraming

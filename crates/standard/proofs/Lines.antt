@@ -4,17 +4,19 @@ use Rattle.std.proofs.lemmas.Grind.{flat_map-append}
 use Rattle.html_types.specs.declared.script.Ending.{Ending}
 use Rattle.html_types.specs.declared.script.Ending.TheVariants as ending
 use Rattle.html_types.specs.declared.script.Line.{Line}
+use Rattle.html_types.specs.declared.script.Line.TheVariants as line
 use Rattle.html_types.specs.declared.instruction.Stop.TheVariants as stop
 use Rattle.html_types.specs.declared.instruction.Finish.{Finish}
 use Rattle.html_types.specs.declared.instruction.Finish.TheVariants as finale
 use Rattle.standard.specs.Page.{Page}
+use Rattle.standard.specs.Scripts.{Fetched, got, missing, faulted, file_statements}
 use Rattle.standard.specs.Tree.{Nodes}
 use Rattle.standard.specs.Act.{Doc, acts}
 use Rattle.standard.specs.Parser.{Parser, Took, took, take_character, Finished, finish}
-use Rattle.standard.specs.Serial.{World, Outcome, Serial, Flow, goes, refuses, starved, inside, prepared, Moment, reading, tag_ended, over, at_end, after_character, after_script, read_next, moment_after, moments_on, first, Passes, IsSerial, Result, finished, refused}
+use Rattle.standard.specs.Serial.{World, fetched, Outcome, Serial, Flow, goes, refuses, starved, Moment, reading, tag_ended, awaits, over, at_end, after_character, unless_pending, after_script, after_fetch, read_next, moment_after, moments_on, first, Passes, IsSerial, Result, finished, refused}
 use Rattle.standard.specs.Output.{line_text, result_text, output, result_with, output_with}
 use Rattle.standard.specs.Laws.{outcome_at, lines_of, GoesOnFrom, LinesBegin, OutputBegins, OutputWithBegins}
-use Rattle.standard.proofs.Kept.{Kept, Grows, Grows-steps, run_prepared-kept}
+use Rattle.standard.proofs.Kept.{Kept, Grows, Grows-steps, end_of_script-kept, run_text-kept}
 use Rattle.standard.proofs.Fuel.{moments_on-by, over-by, serial-over}
 use Rattle.standard.proofs.Passing.{moments-add, finished-at}
 
@@ -32,7 +34,6 @@ Follows a (Some m) = GoesOnFrom a (lines_of m)
 outcome-lines : (s : Serial) (p : Parser) (d : Doc) (k : Finish) → (outcome_at s p d k).last.side.lines ≡ s.side.lines
 outcome-lines s p d finale.Finished = refl
 outcome-lines s p d finale.Deep = refl
-outcome-lines s p d finale.Missing = refl
 
 ended-lines : (s : Serial) (f : Finished) → (at_end s f).last.side.lines ≡ s.side.lines
 ended-lines s f = ap (λ (o : Outcome). o.last.side.lines) (finished-at s f) ∙ outcome-lines s f.parser (acts s.side.doc f.ops) f.finish
@@ -48,17 +49,26 @@ read-follows w e s (c ∷ cs) = by_took (take_character w.entities s.parser c)
     by_took (took ops p stop.InputEnd) = same_lines s.side.lines
     by_took (took ops p (stop.Script i)) = same_lines s.side.lines
     by_took (took ops p stop.Deep) = same_lines s.side.lines
-    by_took (took ops p stop.Missing) = same_lines s.side.lines
 
-script-follows : (s : Serial) (f : Flow) → Kept Grows (inside s) f → Follows s.side.lines (after_script s f)
+pending-follows : (a : List Line) (pending : Option (List ℕ)) (t : Serial) → GoesOnFrom a t.side.lines → Follows a (Some (unless_pending pending t))
+pending-follows a None t k = k
+pending-follows a (Some name) t k = k
+
+script-follows : (s : Serial) (f : Flow) → Kept Grows s f → Follows s.side.lines (after_script f)
 script-follows s starved k = tt
-script-follows s (goes t) k = k
+script-follows s (goes t) k = pending-follows s.side.lines t.side.pending t k
 script-follows s (refuses w t) k = k
+
+fetch-follows : (n : ℕ) (w : World) (name : List ℕ) (s : Serial) (f : Fetched) → Follows s.side.lines (after_fetch n w name s f)
+fetch-follows n w name s (got bytes) = script-follows s _ (run_text-kept Grows Grows-steps n w (file_statements bytes) s)
+fetch-follows n w name s missing = (line.Miss name ∷ [], refl)
+fetch-follows n w name s faulted = same_lines s.side.lines
 
 pub moment-follows : (n : ℕ) (e : Ending) (w : World) (m : Moment) → Follows (lines_of m) (moment_after n e w m)
 unfolding moment_after
 moment-follows n e w (reading s) = read-follows w e s s.input
-moment-follows n e w (tag_ended i s) = script-follows s _ (run_prepared-kept Grows Grows-steps n w (prepared i s) (inside s))
+moment-follows n e w (tag_ended i s) = script-follows s _ (end_of_script-kept Grows Grows-steps n w i s)
+moment-follows n e w (awaits name s) = fetch-follows n w name s (fetched w name)
 moment-follows n e w (over o) = same_lines o.last.side.lines
 
 follows_on : (a : List Line) (m' : Moment) (r : Option Moment) → GoesOnFrom a (lines_of m') → Follows (lines_of m') r → Follows a r

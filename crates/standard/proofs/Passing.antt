@@ -79,7 +79,6 @@ unfolding HasStopped
 used-rest (took ops p stop.InputEnd) cs f each h = ap suc (each p h)
 used-rest (took ops p (stop.Script i)) cs f each h = absurd (has_stopped _ tt h)
 used-rest (took ops p stop.Deep) cs f each h = absurd (has_stopped _ tt h)
-used-rest (took ops p stop.Missing) cs f each h = absurd (has_stopped _ tt h)
 
 pub parse-used : (es : Entities) (p : Parser) (x : List ℕ) → (parse es p x).stop ≡ stop.InputEnd → (parse es p x).used ≡ length x
 unfolding parse
@@ -116,11 +115,10 @@ pub finished-at : (s : Serial) (f : Finished) → at_end s f ≡ outcome_at s f.
 finished-at s f = by_finish f.finish
   where
     by_finish : (k : Finish) → (let last = taken f.parser (acts s.side.doc f.ops) [] s in
-        (elim k as (λ _. Outcome) [ finale.Finished ↦ record { result = finished; last = last } | finale.Deep ↦ refusal why.Depth last | finale.Missing ↦ refusal why.Unready last ]))
+        (elim k as (λ _. Outcome) [ finale.Finished ↦ record { result = finished; last = last } | finale.Deep ↦ refusal why.Depth last ]))
         ≡ outcome_at s f.parser (acts s.side.doc f.ops) k
     by_finish finale.Finished = refl
     by_finish finale.Deep = refl
-    by_finish finale.Missing = refl
 
 -- the last operations are executed
 pub leads-finish : FinishLeads

@@ -14,17 +14,17 @@ use Rattle.standard.proofs.OnLiterals.{serial_on_literals}
 use Rattle.standard.proofs.TokenizerRows.{some_names}
 
 -- what is written for a page of this text and ending, where these names are listed
-abbrev written_with : Entities → List ℕ → Ending → Option (List ℕ)
+abbrev pub written_with : Entities → List ℕ → Ending → Option (List ℕ)
 written_with names text ending = option_map output (serial_with 10000 (record { text = text; ending = ending }) (record { entities = names }))
 
 -- and where none is
-abbrev written_for : List ℕ → Ending → Option (List ℕ)
+abbrev pub written_for : List ℕ → Ending → Option (List ℕ)
 written_for text ending = written_with [] text ending
 
-abbrev written : String → Ending → Option (List ℕ)
+abbrev pub written : String → Ending → Option (List ℕ)
 written page ending = written_for (codes page) ending
 
-abbrev wants : String → Option (List ℕ)
+abbrev pub wants : String → Option (List ℕ)
 wants s = Some (encode_utf8_all (codes s))
 
 empty_page : written "" ending.End ≡ wants "tree \"<html><head></head><body></body></html>\"\n"
@@ -130,10 +130,6 @@ xmp = refl
 formatting_left_open : written "<p>a<b>c" ending.End ≡ wants "tree \"<html><head></head><body><p>a<b>c</b></p></body></html>\"\n"
 unfolding serial_on_literals
 formatting_left_open = refl
-
-table_is_missing : written "<p>a<table>c" ending.End ≡ wants ""
-unfolding serial_on_literals
-table_is_missing = refl
 
 reference : written_with some_names (codes "<p>a&amp;c") ending.End ≡ wants "tree \"<html><head></head><body><p>a&amp;c</p></body></html>\"\n"
 unfolding serial_on_literals
@@ -445,7 +441,7 @@ noscript : written "<noscript><p>a</noscript><body><noscript><p>b</noscript>c" e
 unfolding serial_on_literals
 noscript = refl
 
-abbrev times : ℕ → List ℕ → List ℕ
+abbrev pub times : ℕ → List ℕ → List ℕ
 times zero t = []
 times (suc n) t = t ++ times n t
 

@@ -1,11 +1,14 @@
 -- What an operation does to a document, whenever it was asked for: all of it is decided on the tree as it is then.
-use Rattle.std.specs.Prelude.{◌≡◌, ℕ, Bool, false, ◌||◌, is_some, IsTrue, List, [], ◌∷◌, ◌++◌, length, Option, Some, None, unwrap_or}
+use Rattle.std.specs.Prelude.{◌≡◌, ℕ, Bool, false, ◌||◌, is_some, IsTrue, List, [], ◌∷◌, ◌++◌, length, Option, Some, None, unwrap_or, if◌then◌else◌}
 use Rattle.std.specs.Ordering.{nat_cmp, ordering_then}
 use Rattle.std.specs.declared.cmp.Ordering.{Ordering}
 use Rattle.std.specs.Map.{lookup}
 use Rattle.std.specs.BTreeMap.{is_at, insert_entry}
 use Rattle.html_types.specs.Numbers.{place_of}
 use Rattle.html_types.specs.Operations.{same_id}
+use Rattle.html_types.specs.declared.attributes.Attribute.{Attribute}
+use Rattle.html_types.specs.declared.word.Word.TheVariants.{Template}
+use Rattle.html_types.specs.declared.name.Name.{Name}
 use Rattle.html_types.specs.declared.operation.NodeId.{NodeId}
 use Rattle.html_types.specs.declared.operation.Place.{Place}
 use Rattle.html_types.specs.declared.operation.Place.TheVariants.{Page, Inside, Contents, Foster}
@@ -13,7 +16,8 @@ use Rattle.html_types.specs.declared.operation.Op.{Op}
 use Rattle.html_types.specs.declared.operation.Op.TheVariants.{Make, Put, Text, Note, Doctype, Detach, MoveChildren, AddAttributes}
 use Rattle.html_types.specs.declared.tree.Kind.{Kind}
 use Rattle.html_types.specs.declared.tree.Kind.TheVariants as kind
-use Rattle.standard.specs.Tree.{Nodes, new_tree, parent_of, children_of, contents_of, lone, put_of, put_before_of, detached, children_moved, with_new, text_added, attributes_added}
+use Rattle.standard.specs.Elements.{is_word}
+use Rattle.standard.specs.Tree.{Nodes, new_tree, parent_of, children_of, contents_of, lone, with_template, put_of, put_before_of, detached, children_moved, with_new, text_added, attributes_added}
 
 -- ---- which node each id stands for
 
@@ -68,6 +72,11 @@ spot_of d (Foster table above) = foster_spot d.tree (node_of d.bound table) (nod
 
 -- ---- operations
 
+-- a new element, which stands nowhere and has the next number; a template is made with its contents (4.12.3, the template element)
+abbrev pub element_made : Nodes → Name → List Attribute → Nodes
+element_made t name attributes =
+    if is_word Template name then with_template t (kind.Element name attributes) else t ++ lone (kind.Element name attributes) ∷ []
+
 abbrev pub put_from : Nodes → ℕ → ℕ → Option ℕ → Nodes
 put_from t n p None = put_of t n p None
 put_from t n p (Some b) = put_before_of t n b
@@ -83,7 +92,7 @@ abbrev pub text_at : Nodes → List ℕ → Spot → Nodes
 text_at t text spot = text_added t spot.parent (place_of (children_of t spot.parent) spot.before) text
 
 unfoldable pub act : Doc → Op → Doc
-act d (Make id name attributes) = record { tree = d.tree ++ lone (kind.Element name attributes) ∷ []; bound = insert_entry id_cmp d.bound id (length d.tree) }
+act d (Make id name attributes) = record { tree = element_made d.tree name attributes; bound = insert_entry id_cmp d.bound id (length d.tree) }
 act d (Put id place) = record d { tree = put_at d.tree (node_of d.bound id) (spot_of d place) }
 act d (Text place text) = record d { tree = text_at d.tree text (spot_of d place) }
 act d (Note place text) = record d { tree = new_at d.tree (kind.Comment text) (spot_of d place) }

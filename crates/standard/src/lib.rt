@@ -1,12 +1,15 @@
 //! The definitions of the parser, in the terms of the WHATWG HTML Standard, and the laws that are proved of them.
 //!
 //! Reading order of `specs/`: Class, Step, TextStates, EscapeStates, TagStates, CommentStates, DoctypeStates, MarkStates,
-//! Entities, ReferenceStates, Tokenizer (13.2.5); Elements, Stack, Formatting, Instructions (13.2.4); Groups, RulesHead,
-//! RulesBody, Adoption, Rules (13.2.6); Tree, Act, Outer, Dump (the tree and its texts); Statements, Prepare (scripts);
-//! Parser, Serial (the serial parse); Page, Output; Laws.
+//! Entities, ReferenceStates, Tokenizer (13.2.5); Space, Groups, Elements, Stack, Reset, Formatting, Instructions
+//! (13.2.4); Rows, RulesHead, RulesBody, RulesTable, RulesRest, Adoption, Rules (13.2.6); Tree, Act, Outer, Dump (the tree
+//! and its texts); Page, Statements, Prepare, Scripts (scripts and their files); Parser, Serial (the serial parse); Output;
+//! Laws, Frames.
 #![tactic(auto)]
 
-ghost use Rattle.standard.specs.Laws.{HasOneOutcome, ParsesInPieces, AdvancesByParse, BatchesLead, WholeBatchesLead, LeavesNothing, EndLeads, FinishLeads, OverIsSerial, ScriptLeads, ScriptRefuses, StillScripts, ExternalScripts, SyntaxErrors, ScriptsRun, StatementsEnd, WritesGoOn, WritesRefuse, LongWritesRefuse, OthersRefuse, LinesBegin, OutputBegins, OutputWithBegins};
+ghost use Rattle.standard.specs.Laws.{HasOneOutcome, ParsesInPieces, AdvancesByParse, BatchesLead, WholeBatchesLead, LeavesNothing, EndLeads, FinishLeads, OverIsSerial};
+ghost use Rattle.standard.specs.Laws.{ScriptLeads, ScriptRefuses, StillScripts, ExternalScripts, SyntaxErrors, AwaitsMissing, AwaitsFault, AwaitsGot, AwaitsRefuses, FileSyntaxErrors, LinesBegin, OutputBegins, OutputWithBegins};
+ghost use Rattle.standard.specs.Frames.{FramesEnd, ScriptsEnter, FilesEnter, StillTags, ExternalTags, InlineTags, OutsideTexts, TextsBegin, RestsEnd, RestsStop, RestsRefuse, FrameEnds, WritesFit, WritesRefuse, Removes, ReadsById, ReadsRoot, Throws};
 
 /// Every page has exactly one outcome.
 pub fn has_one_outcome()
@@ -44,21 +47,58 @@ pub fn script_leads()
     ensures refuses { ScriptRefuses }
 {}
 
-/// What a script whose end tag was met comes to, by how it was prepared.
+/// What a script whose end tag was met at level 0 comes to, by how it was prepared. One that runs is begun as a list of frames.
 pub fn script_begins()
     ensures still { StillScripts }
     ensures external { ExternalScripts }
     ensures syntax { SyntaxErrors }
-    ensures runs { ScriptsRun }
+    ensures enters { ScriptsEnter }
 {}
 
-/// What statements come to, by the first of them. A written text is parsed whole.
+/// A script that is awaited leads to the moment behind it, by what fetching it gave.
+pub fn awaited_script_leads()
+    ensures missing { AwaitsMissing }
+    ensures fault { AwaitsFault }
+    ensures goes_on { AwaitsGot }
+    ensures refuses { AwaitsRefuses }
+{}
+
+/// What the file of an awaited script comes to. One that runs is begun as a list of frames.
+pub fn file_begins()
+    ensures syntax { FileSyntaxErrors }
+    ensures enters { FilesEnter }
+{}
+
+/// Nested scripts as a list of frames (specs/Frames): the end tag of a script, by how the script was prepared.
+pub fn nested_script_begins()
+    ensures still { StillTags }
+    ensures external { ExternalTags }
+    ensures inline { InlineTags }
+{}
+
+/// Nested scripts: the text of one begins.
+pub fn nested_text_begins()
+    ensures outside { OutsideTexts }
+    ensures begins { TextsBegin }
+{}
+
+/// Nested scripts: the parser takes the text that the innermost wrote.
+pub fn written_text_is_parsed()
+    ensures end { RestsEnd }
+    ensures script { RestsStop }
+    ensures deep { RestsRefuse }
+{}
+
+/// Nested scripts: a statement of the innermost, or its end.
 pub fn statements_run()
-    ensures end { StatementsEnd }
-    ensures write { WritesGoOn }
-    ensures stop { WritesRefuse }
-    ensures long { LongWritesRefuse }
-    ensures other { OthersRefuse }
+    ensures write { WritesFit }
+    ensures long { WritesRefuse }
+    ensures remove { Removes }
+    ensures read { ReadsById }
+    ensures read_root { ReadsRoot }
+    ensures throw { Throws }
+    ensures end { FrameEnds }
+    ensures last { FramesEnd }
 {}
 
 /// The lines of every moment that a parse passes through begin those of its outcome, and what is written for them begins

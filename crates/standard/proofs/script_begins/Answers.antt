@@ -1,4 +1,5 @@
-use Rattle.standard.proofs.Scripts.{still-script, external-script, syntax-error, script-runs}
+use Rattle.standard.proofs.Scripts.{still-script, external-script, syntax-error}
+use Rattle.standard.proofs.Frames.{scripts-enter}
 use Rattle.standard.proofs.script_begins.Goals as goal
 
 pub returns-clause-still : goal.returns-clause-still
@@ -10,5 +11,5 @@ returns-clause-external c = external-script
 pub returns-clause-syntax : goal.returns-clause-syntax
 returns-clause-syntax c = syntax-error
 
-pub returns-clause-runs : goal.returns-clause-runs
-returns-clause-runs c = script-runs
+pub returns-clause-enters : goal.returns-clause-enters
+returns-clause-enters c = scripts-enter

@@ -1,17 +1,26 @@
-use Rattle.standard.proofs.Scripts.{statements-end, write-goes_on, write-refuses, long-write-refuses, others-refuse}
+use Rattle.standard.proofs.Frames.{write-fits, write-refuses, removes, reads_by_id, reads_root, throws, frame-ends, frames-end}
 use Rattle.standard.proofs.statements_run.Goals as goal
 
-pub returns-clause-end : goal.returns-clause-end
-returns-clause-end c = statements-end
-
 pub returns-clause-write : goal.returns-clause-write
-returns-clause-write c = write-goes_on
-
-pub returns-clause-stop : goal.returns-clause-stop
-returns-clause-stop c = write-refuses
+returns-clause-write c = write-fits
 
 pub returns-clause-long : goal.returns-clause-long
-returns-clause-long c = long-write-refuses
+returns-clause-long c = write-refuses
 
-pub returns-clause-other : goal.returns-clause-other
-returns-clause-other c = others-refuse
+pub returns-clause-remove : goal.returns-clause-remove
+returns-clause-remove c = removes
+
+pub returns-clause-read : goal.returns-clause-read
+returns-clause-read c = reads_by_id
+
+pub returns-clause-read_root : goal.returns-clause-read_root
+returns-clause-read_root c = reads_root
+
+pub returns-clause-throw : goal.returns-clause-throw
+returns-clause-throw c = throws
+
+pub returns-clause-end : goal.returns-clause-end
+returns-clause-end c = frame-ends
+
+pub returns-clause-last : goal.returns-clause-last
+returns-clause-last c = frames-end

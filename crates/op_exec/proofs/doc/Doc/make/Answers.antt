@@ -2,7 +2,7 @@ use Rattle.std.proofs.Common.{◌≡◌, None, ap, ◌∙◌}
 use Rattle.std.specs.Map.{remove_entry}
 use Rattle.std.specs.BTreeMap.{is_at}
 use Rattle.standard.specs.Act.{Bound, id_cmp, bound_to}
-use Rattle.op_exec.proofs.Docs.{IsDoc-bound, IsPlain-new, remove_entry-insert_entry, none_from_test}
+use Rattle.op_exec.proofs.Docs.{IsDoc-bound, IsPlain-element_made, remove_entry-insert_entry, none_from_test}
 use Rattle.op_exec.proofs.doc.Doc.make.Goals as goal
 
 pub invariant_of-self-in-Err : goal.invariant_of-self-in-Err
@@ -23,5 +23,5 @@ returns-in-Err-clause-err c =
 
 pub invariant_of-self-in_default : goal.invariant_of-self-in_default
 invariant_of-self-in_default c =
-    let plain = IsPlain-new c.self.inside.tree c.make.new.self _ c.self.invariant.document c.in_default.ensures.ok.1 in
-    rw (c.in_ok-insert.ensures.entries, c.len-number.ensures.len) (IsDoc-bound c.self.inside.tree c.make.new.self c.self.inside.bound.entries c.args.id _ c.self.invariant c.make.ensures.keeps plain)
+    let plain = IsPlain-element_made c.self.inside.tree c.make_element.new.tree c.in_ok-name.name c.in_ok-attributes.attributes c.self.invariant.document c.in_default.ensures.ok in
+    rw (c.in_ok-insert.ensures.entries, c.len-number.ensures.len) (IsDoc-bound c.self.inside.tree c.make_element.new.tree c.self.inside.bound.entries c.args.id _ c.self.invariant c.make_element.ensures.keeps plain)
