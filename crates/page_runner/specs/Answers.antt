@@ -1,5 +1,5 @@
 -- What a run answers: its status and the bytes that the sink took, as a function of what it met outside.
-use Rattle.std.specs.Prelude.{◌≡◌, ◌⊎◌, ℕ, Bool, true, false, List, [], ◌++◌, length, nat_le, if◌then◌else◌, Option, Some, None, IfSome}
+use Rattle.std.specs.Prelude.{◌≡◌, ◌⊎◌, ℕ, Bool, true, false, List, [], ◌++◌, length, nat_le, if◌then◌else◌, Option, Some, None, IfSome, IsSome}
 use Rattle.html_types.specs.declared.script.Why.TheVariants as why
 use Rattle.outside.specs.Outside.{Rose, Seen}
 use Rattle.outside.specs.declared.traits.Port.TheVariants.{Entities, Page, Script}
@@ -98,6 +98,10 @@ Gives before after answer status.NoMemory = TookFront before after answer.1
 Gives before after answer given = (given ≡ answer.0) × Took before after answer.1
 
 -- ---- a run
+
+-- the page at the path was begun, where the files are told
+abbrev pub IsBegun : List ℕ → Seen → Type 0
+IsBegun path now = IfSome now.files (λ map. IsSome (map path) × (now.left Page ≡ map path))
 
 -- from where the page is begun
 pub record PageAnswers (es : Table) (dump : Bool) (path dir : List ℕ) (before after : Seen) (taken taken' : Option (List ℕ)) (result : Status) : Type 0 where

@@ -4,6 +4,7 @@ use Rattle.html_types.specs.declared.script.Ending.{Ending}
 use Rattle.html_types.specs.declared.script.Line.{Line}
 use Rattle.html_types.specs.declared.script.Ending.TheVariants as ending
 use Rattle.outside.specs.Outside.{Seen}
+use Rattle.outside.specs.declared.traits.Port.TheVariants as port
 use Rattle.standard.specs.Entities.{Entities}
 use Rattle.standard.specs.Page.{Page, page_of, text_of, ending_of, shown}
 use Rattle.standard.specs.Scripts.{Fetched}
@@ -16,6 +17,7 @@ use Rattle.page_runner.specs.declared.page.TheConstants.{PAGE_LIMIT}
 use Rattle.page_runner.specs.declared.outcome.Outcome.{Outcome as Told}
 use Rattle.page_runner.specs.declared.driver.Driver.{Driver}
 use Rattle.page_runner.specs.declared.scripts.ScriptFiles.{ScriptFiles}
+use Rattle.page_runner.specs.Given.{FaultsRose}
 use Rattle.page_runner.specs.Taken.{Took, TookFront}
 use Rattle.page_runner.specs.Scripts.{AreScriptsOf, Suits}
 use Rattle.page_runner.specs.Shown.{result_of}
@@ -76,19 +78,20 @@ pub record ParsesFront (es : Entities) (files : ScriptFiles) (whole left : Optio
   pub read_from : IsReadFrom whole left rose page
   pub front : (dump : Bool) (w : World) (o : Outcome) → Suits es files w → ComesTo w page o → TookFront taken taken' (output_with dump o)
 
--- So ended the page with the scripts of the folder.
-pub record EndsWithScripts (es : Entities) (dir : List ℕ) (before after : Seen) (whole left : Option (List ℕ)) (rose : Type 0) (v : View) (taken taken' : Option (List ℕ)) (told : Told) : Type 0 where
+-- So ended the page that was read at its port, with the scripts of the folder.
+pub record EndsWithScripts (es : Entities) (dir : List ℕ) (before after : Seen) (v : View) (taken taken' : Option (List ℕ)) (told : Told) : Type 0 where
   pub scripts : List ℕ → Fetched
   pub are_scripts : AreScriptsOf dir before after scripts
   pub page : PageRead
-  pub read_from : IsReadFrom whole left rose page
+  pub read_from : IsReadFrom (before.left port.Page) (after.left port.Page) (FaultsRose port.Page before after) page
   pub ended : Ended (world_of es scripts) page v taken taken' told
 
-pub record FrontWithScripts (es : Entities) (dir : List ℕ) (before after : Seen) (whole left : Option (List ℕ)) (rose : Type 0) (taken taken' : Option (List ℕ)) : Type 0 where
+-- The sink took a front of what is written of it.
+pub record FrontWithScripts (es : Entities) (dir : List ℕ) (before after : Seen) (taken taken' : Option (List ℕ)) : Type 0 where
   pub scripts : List ℕ → Fetched
   pub are_scripts : AreScriptsOf dir before after scripts
   pub page : PageRead
-  pub read_from : IsReadFrom whole left rose page
+  pub read_from : IsReadFrom (before.left port.Page) (after.left port.Page) (FaultsRose port.Page before after) page
   pub front : (dump : Bool) (o : Outcome) → ComesTo (world_of es scripts) page o → TookFront taken taken' (output_with dump o)
 
 -- ---- where a parse stands

@@ -9,6 +9,8 @@ use Rattle.standard.specs.Entities.{Entities}
 use Rattle.standard.specs.Scripts.{Fetched, got, missing, faulted, is_lawful, file_statements}
 use Rattle.standard.specs.Statements.{statements}
 use Rattle.standard.specs.Serial.{World}
+use Rattle.page_runner.specs.declared.fetch.Fetch.{Fetch}
+use Rattle.page_runner.specs.declared.fetch.Fetch.TheVariants as fetches
 use Rattle.page_runner.specs.declared.scripts.TheConstants.{SCRIPT_LIMIT}
 use Rattle.page_runner.specs.declared.scripts.Script.{Script}
 use Rattle.page_runner.specs.declared.scripts.Script.TheVariants.{Text, Missing, Faulted}
@@ -64,6 +66,13 @@ StandsFor (Text text) (got bytes) = statements (chars (string_bytes text)) ≡ f
 StandsFor Missing missing = Unit {0}
 StandsFor Faulted faulted = Unit {0}
 StandsFor _ _ = ⊥
+
+-- what came of a script is that of what fetching gave
+abbrev pub IsScriptOf : Fetch → Script → Type 0
+IsScriptOf (fetches.Got bytes) (Text text) = statements (chars (string_bytes text)) ≡ file_statements bytes.items
+IsScriptOf fetches.Missing Missing = Unit {0}
+IsScriptOf fetches.Faulted Faulted = Unit {0}
+IsScriptOf _ _ = ⊥
 
 -- These scripts agree with what was met so far.
 pub record Knows (files : ScriptFiles) (scripts : List ℕ → Fetched) : Type 0 where

@@ -1,10 +1,11 @@
 // The page is parsed piece by piece, and its lines are written as they come.
 ghost use Rattle.std.specs.Prelude.{◌≡◌, ◌<◌, ◌≤◌, ◌+◌, ℕ, List, [], length, take, IfOk, IfErr, OnErr, IsErrOf, IsNone};
+ghost use Rattle.std.specs.String.{string_bytes};
 ghost use Rattle.outside.specs.Outside.{Rose, seen, KeepsOthers};
 ghost use Rattle.page_runner.specs.declared.page.Failure.TheVariants as failures;
 ghost use Rattle.write_parser.specs.Writing.{first_view};
 ghost use Rattle.page_runner.specs.Given.{KeepsEntities};
-ghost use Rattle.page_runner.specs.Scripts.{Fetches, ReadScriptsTo};
+ghost use Rattle.page_runner.specs.Scripts.{met_of, Fetches, ReadScriptsTo};
 ghost use Rattle.page_runner.specs.Moments.{IsReady};
 ghost use Rattle.utf8_pieces.specs.Decoder.{HasRead};
 ghost use Rattle.page_runner.specs.Pages.{AreTaken, ReadsOn, ClosesAt, EndsAs, TakesPiece, TakesPieceInPart, ParsesPage, ParsesFront, EndsWithScripts, FrontWithScripts};
@@ -47,13 +48,6 @@ impl From<Failed> for Failure {
     fn from(_error: Failed) -> Failure {
         Failure::Write
     }
-}
-
-/// A page that was parsed.
-#[derive(Drop)]
-pub(crate) struct Parsed {
-    pub driver: Driver,
-    pub outcome: Outcome,
 }
 
 /// The most bytes of a page.
@@ -170,31 +164,32 @@ fn parse_reads<F: Outside, K: Sink>(
     }
 }
 
-/// Parses the page that was begun, with the scripts of the folder, by reads of at most that many bytes, and writes its lines.
-/// Where memory runs out or the sink fails it has taken a front of what is written of the page.
+/// Parses the page that was begun, by reads of at most that many bytes, with the scripts of the driver's folder, and writes its
+/// lines. Where memory runs out or the sink fails it has taken a front of what is written of the page.
 pub(crate) fn parse_page<F: Outside, K: Sink>(
     alloc: Global,
     table: &Table,
     files: &mut F,
     out: &mut K,
-    dir: &str,
+    driver: &mut Driver,
     piece: usize,
-) -> Result<Parsed, Failure>
-    requires { 0 < piece }
-    ensures ok { IfOk result (λ parsed. EndsWithScripts table.now dir.now
-        (seen F.files F.left F.faults F.absences files.old) (seen F.files F.left F.faults F.absences files.new) (F.left files.old Port.Page) (F.left files.new Port.Page)
-        (Rose (F.faults files.old Port.Page) (F.faults files.new Port.Page)) parsed.driver.writer (K.taken out.old) (K.taken out.new) parsed.outcome) }
-    ensures err { OnErr result (FrontWithScripts table.now dir.now
-        (seen F.files F.left F.faults F.absences files.old) (seen F.files F.left F.faults F.absences files.new) (F.left files.old Port.Page) (F.left files.new Port.Page)
-        (Rose (F.faults files.old Port.Page) (F.faults files.new Port.Page)) (K.taken out.old) (K.taken out.new)) }
+) -> Result<Outcome, Failure>
+    requires first { driver.old.writer ≡ first_view 0 }
+    requires none { (name : _) → met_of driver.old.scripts name ≡ None }
+    requires piece { 0 < piece }
+    ensures ok { IfOk result (λ outcome. EndsWithScripts table.now (string_bytes driver.old.scripts.dir)
+        (seen F.files F.left F.faults F.absences files.old) (seen F.files F.left F.faults F.absences files.new)
+        driver.new.writer (K.taken out.old) (K.taken out.new) outcome) }
+    ensures err { OnErr result (FrontWithScripts table.now (string_bytes driver.old.scripts.dir)
+        (seen F.files F.left F.faults F.absences files.old) (seen F.files F.left F.faults F.absences files.new)
+        (K.taken out.old) (K.taken out.new)) }
     ensures others { KeepsEntities (seen F.files F.left F.faults F.absences files.old) (seen F.files F.left F.faults F.absences files.new) }
     ensures no_further { ReadsOn (PAGE_LIMIT + 1) (F.left files.old Port.Page) (F.left files.new Port.Page) }
-    ensures scripts_no_further { ReadScriptsTo SCRIPT_LIMIT dir.now (seen F.files F.left F.faults F.absences files.old) (seen F.files F.left F.faults F.absences files.new) }
+    ensures scripts_no_further { ReadScriptsTo SCRIPT_LIMIT (string_bytes driver.old.scripts.dir)
+        (seen F.files F.left F.faults F.absences files.old) (seen F.files F.left F.faults F.absences files.new) }
     ensures write { IsErrOf result Failure.Write → Rose (K.faults out.old) (K.faults out.new) }
     ensures faults { K.faults out.old ≤ K.faults out.new }
 {
-    let mut driver = Driver::new(alloc, dir)?;
     let mut room = vec![in alloc; 0u8; piece]?;
-    let outcome = parse_reads(alloc, table, files, out, &mut driver, &mut room)?;
-    Ok(Parsed { driver, outcome })
+    parse_reads(alloc, table, files, out, driver, &mut room)
 }

@@ -7,7 +7,7 @@ ghost use Rattle.outside.specs.Outside.{seen, KeepsOthers};
 ghost use Rattle.standard.specs.Scripts.{is_lawful, is_name_character, file_statements};
 ghost use Rattle.standard.specs.Page.{without_mark};
 ghost use Rattle.standard.specs.Statements.{statements};
-ghost use Rattle.page_runner.specs.Scripts.{met_of, MayMeet, Fetches};
+ghost use Rattle.page_runner.specs.Scripts.{met_of, IsScriptOf, Fetches};
 
 use crate::fetch::{Fetch, read_whole};
 use html_types::NoMemory;
@@ -87,7 +87,9 @@ fn text_of(alloc: Global, bytes: &[u8]) -> Result<String, NoMemory>
     Ok(String::from_str(alloc, text)?)
 }
 
-fn script_of(alloc: Global, fetch: Fetch) -> Result<Script, NoMemory> {
+fn script_of(alloc: Global, fetch: Fetch) -> Result<Script, NoMemory>
+    ensures { IfOk result (λ script. IsScriptOf fetch script) }
+{
     match fetch {
         Fetch::Missing => Ok(Script::Missing),
         Fetch::Faulted => Ok(Script::Faulted),

@@ -1,0 +1,142 @@
+-- What fetching does to the scripts that were met.
+use Rattle.std.proofs.Common.{◌≡◌, ℕ, Bool, true, false, List, ◌∷◌, ◌++◌, Option, Some, None, IfSome, refl, sym, ap, ◌∙◌, subst, inl, inr, cond, take, ◌+◌}
+use Rattle.std.specs.Prelude.{◌⊎◌, ◌≤◌, IsSome, IsSomeAnd, IfNone, is_some}
+use denote.Bor.{Bor}
+use Rattle.std.specs.Option.{option_map}
+use Rattle.std.specs.Map.{update}
+use Rattle.std.specs.Str.{chars, bytes_eq, IsUtf8}
+use Rattle.std.specs.String.{string_bytes}
+use Rattle.std.proofs.lemmas.Slice.Eq.{bytes_eq-Decides}
+use Rattle.outside.specs.Outside.{Rose, Seen, Files, NeverFall, KeepsOthers}
+use Rattle.outside.specs.declared.traits.Port.{Port}
+use Rattle.outside.specs.declared.traits.Port.TheVariants as port
+use Rattle.standard.specs.Scripts.{Fetched, got, missing, faulted, is_lawful, file_statements}
+use Rattle.standard.specs.Statements.{statements}
+use Rattle.page_runner.specs.declared.fetch.Fetch.{Fetch}
+use Rattle.page_runner.specs.declared.fetch.Fetch.TheVariants as fetches
+use Rattle.page_runner.specs.declared.scripts.TheConstants.{SCRIPT_LIMIT}
+use Rattle.page_runner.specs.declared.scripts.Script.{Script}
+use Rattle.page_runner.specs.declared.scripts.Script.TheVariants.{Text, Missing, Faulted}
+use Rattle.page_runner.specs.declared.scripts.ScriptFiles.{ScriptFiles}
+use Rattle.page_runner.specs.Given.{given_of, FaultsRose, AbsencesRose, file_at, MayGive, AreRead, ReadTo, untouched, unbegun, begun}
+use Rattle.page_runner.specs.Scripts.{path_of, IsAbsent, MayFetch, ReadScriptsTo, none_begun, last, met_of, StandsFor, IsScriptOf, Knows, Suits, MayMeet, Fetches}
+use Rattle.page_runner.proofs.KeepsLemmas.{rose-on, rose-stays}
+use Rattle.page_runner.proofs.FetchLemmas.{cut-statements, lawful-bytes}
+
+-- ---- one fetch
+
+absent_at : (file : Option (Option (List ℕ))) (rose : Type 0) → rose → IfSome file (λ f. f ≡ None) → IsAbsent file rose
+absent_at None rose cause none = cause
+absent_at (Some f) rose cause none = none
+
+got_at : (file : Option (Option (List ℕ))) (limit : ℕ) (bytes text : List ℕ) → limit ≡ SCRIPT_LIMIT → IfSome file (λ f. IsSomeAnd f (λ whole. bytes ≡ take (limit + 1) whole)) → statements text ≡ file_statements bytes
+    → (whole : List ℕ) × IfSome file (λ f. f ≡ Some whole) × (statements text ≡ file_statements whole)
+got_at None limit bytes text is read same = (bytes, tt, same)
+got_at (Some None) limit bytes text is read same = absurd read
+got_at (Some (Some whole)) limit bytes text is read same = (whole, refl, same ∙ ap file_statements read ∙ cut-statements limit whole is)
+
+-- what fetching gave of a name may be met
+pub may_meet : (dir : List ℕ) (before after : Seen) (name : List ℕ) (limit : ℕ) (fetch : Fetch) (script : Script) → limit ≡ SCRIPT_LIMIT → MayGive limit port.Script (path_of dir name) before after (given_of fetch)
+    → IsScriptOf fetch script → MayMeet dir before after name script
+may_meet dir before after name limit (fetches.Got bytes) (Text text) is may same =
+    let there = got_at (file_at before (path_of dir name)) limit bytes.items (chars (string_bytes text)) is may same in (got there.0, there.1, there.2)
+may_meet dir before after name limit fetches.Missing Missing is may same = (missing, absent_at (file_at before (path_of dir name)) (AbsencesRose port.Script before after) may.0 may.1, tt)
+may_meet dir before after name limit fetches.Faulted Faulted is may same = (faulted, may, tt)
+may_meet dir before after name limit (fetches.Got bytes) Missing is may same = absurd same
+may_meet dir before after name limit (fetches.Got bytes) Faulted is may same = absurd same
+may_meet dir before after name limit fetches.Missing (Text text) is may same = absurd same
+may_meet dir before after name limit fetches.Missing Faulted is may same = absurd same
+may_meet dir before after name limit fetches.Faulted (Text text) is may same = absurd same
+may_meet dir before after name limit fetches.Faulted Missing is may same = absurd same
+
+-- ---- what was met, over calls
+
+-- nothing is met anew
+pub fetches_none : (before after : Seen) (s : ScriptFiles) → ReadScriptsTo SCRIPT_LIMIT (string_bytes s.dir) before after → Fetches before after s s
+fetches_none before after s reads = record {
+  dir = refl;
+  kept = λ name script is. is;
+  fresh = λ name script is. inl is;
+  no_further = reads;
+}
+
+pub fetches_same : (before : Seen) (s : ScriptFiles) → Fetches before before s s
+fetches_same before s = fetches_none before before s (none_begun refl)
+
+bytes-same : (a b : List ℕ) → bytes_eq a b ≡ true → a ≡ b
+bytes-same a b e = (bytes_eq-Decides a b).0 e
+
+bytes-refl : (a : List ℕ) → bytes_eq a a ≡ true
+bytes-refl a = (bytes_eq-Decides a a).1 refl
+
+-- a script whose name is there
+pub met-there : (files : ScriptFiles) (bs : List ℕ) (there : Bool) → IsUtf8 bs → is_lawful (chars bs) ≡ true → there ≡ is_some (met_of files bs) → there ≡ true → IsSome (met_of files (chars bs))
+met-there files bs there utf8 lawful is e = subst (λ q. IsSome (met_of files q)) (sym (lawful-bytes bs utf8 lawful)) (by_some (met_of files bs) (sym is ∙ e))
+  where
+    by_some : (o : Option Script) → is_some o ≡ true → IsSome o
+    by_some None e = absurd (cc e)
+    by_some (Some s) e = e
+
+-- ---- a file was begun
+
+module _ (before after : Seen) (dir path bs : List ℕ) (utf8 : IsUtf8 bs) (lawful : is_lawful (chars bs) ≡ true) (is : path ≡ dir ++ 47 ∷ bs) where
+  path_is : path ≡ path_of dir (chars bs)
+  path_is = is ∙ ap (path_of dir) (sym (lawful-bytes bs utf8 lawful))
+
+  read_scripts_to : ReadTo SCRIPT_LIMIT port.Script path before after → ReadScriptsTo SCRIPT_LIMIT dir before after
+  read_scripts_to reads = last (chars bs) lawful (subst (λ p. ReadTo SCRIPT_LIMIT port.Script p before after) path_is reads)
+
+  -- and nothing is met anew
+  pub fetches_read : (s : ScriptFiles) → dir ≡ string_bytes s.dir → ReadTo SCRIPT_LIMIT port.Script path before after → Fetches before after s s
+  fetches_read s same reads = fetches_none before after s (subst (λ d. ReadScriptsTo SCRIPT_LIMIT d before after) same (read_scripts_to reads))
+
+  -- and it is met
+  module _ (old new : ScriptFiles) (script : Script) (key : List ℕ) (key_is : key ≡ bs) (updates : (cs : List ℕ) → met_of new cs ≡ update bytes_eq (met_of old) key (Some script) cs) where
+    updates_there : (cs : List ℕ) → met_of new cs ≡ update bytes_eq (met_of old) (chars bs) (Some script) cs
+    updates_there = subst (λ k. (cs : List ℕ) → met_of new cs ≡ update bytes_eq (met_of old) k (Some script) cs) (key_is ∙ sym (lawful-bytes bs utf8 lawful)) updates
+
+    pub is_met : IsSome (met_of new (chars bs))
+    is_met = subst IsSome (sym (updates_there (chars bs) ∙ ap (λ b. cond b (Some script) (met_of old (chars bs))) (bytes-refl (chars bs)))) refl
+
+    module _ (same : dir ≡ string_bytes old.dir) (stays : new.dir ≡ old.dir) (there : Bool) (looked : there ≡ is_some (met_of old bs)) (not_there : there ≡ false) (fetch : Fetch) (may : MayGive SCRIPT_LIMIT port.Script path before after (given_of fetch)) (script_is : IsScriptOf fetch script) (reads : ReadTo SCRIPT_LIMIT port.Script path before after) where
+      none_before : met_of old (chars bs) ≡ None
+      none_before = subst (λ q. met_of old q ≡ None) (sym (lawful-bytes bs utf8 lawful)) (by_none (met_of old bs) (sym looked ∙ not_there))
+        where
+          by_none : (o : Option Script) → is_some o ≡ false → o ≡ None
+          by_none None e = refl
+          by_none (Some s) e = absurd (cc e)
+
+      may_here : MayMeet (string_bytes old.dir) before after (chars bs) script
+      may_here =
+          let given : MayGive SCRIPT_LIMIT port.Script (path_of dir (chars bs)) before after (given_of fetch) = subst (λ p. MayGive SCRIPT_LIMIT port.Script p before after (given_of fetch)) path_is may in
+          subst (λ d. MayMeet d before after (chars bs) script) same (may_meet dir before after (chars bs) SCRIPT_LIMIT fetch script refl given script_is)
+
+      kept_by : (q : List ℕ) (s : Script) → met_of old q ≡ Some s → (b : Bool) → bytes_eq (chars bs) q ≡ b → cond b (Some script) (met_of old q) ≡ Some s
+      kept_by q s is true e = let none : met_of old q ≡ None = subst (λ n. met_of old n ≡ None) (bytes-same (chars bs) q e) none_before in absurd (cc (sym none ∙ is))
+      kept_by q s is false e = is
+
+      fresh_by : (q : List ℕ) (s : Script) (b : Bool) → bytes_eq (chars bs) q ≡ b → cond b (Some script) (met_of old q) ≡ Some s → (met_of old q ≡ Some s) ⊎ MayMeet (string_bytes old.dir) before after q s
+      fresh_by q s true e is =
+          let one : script ≡ s = cc in
+          inr (subst (λ k. MayMeet (string_bytes old.dir) before after q k) one (subst (λ n. MayMeet (string_bytes old.dir) before after n script) (bytes-same (chars bs) q e) may_here))
+      fresh_by q s false e is = inl is
+
+      pub fetches_one : Fetches before after old new
+      fetches_one = record {
+        dir = stays;
+        kept = λ q s is. updates_there q ∙ kept_by q s is (bytes_eq (chars bs) q) refl;
+        fresh = λ q s is. fresh_by q s (bytes_eq (chars bs) q) refl (sym (updates_there q) ∙ is);
+        no_further = subst (λ d. ReadScriptsTo SCRIPT_LIMIT d before after) same (read_scripts_to reads);
+      }
+
+-- ---- a script is looked up
+
+pub found-there : (files : ScriptFiles) (bs : List ℕ) (o : Option (Bor Script)) → IsUtf8 bs → is_lawful (chars bs) ≡ true → option_map (λ r. r.now) o ≡ met_of files bs
+    → IfSome o (λ script. (is_lawful (chars bs) ≡ true) × (met_of files (chars bs) ≡ Some script.now))
+found-there files bs None utf8 lawful is = tt
+found-there files bs (Some script) utf8 lawful is = (lawful, subst (λ q. met_of files q ≡ Some script.now) (sym (lawful-bytes bs utf8 lawful)) (sym is))
+
+pub found-none : (files : ScriptFiles) (bs : List ℕ) (o : Option (Bor Script)) → IsUtf8 bs → is_lawful (chars bs) ≡ true → option_map (λ r. r.now) o ≡ met_of files bs
+    → IfNone o (is_lawful (chars bs) ≡ true → met_of files (chars bs) ≡ None)
+found-none files bs None utf8 lawful is = λ _. subst (λ q. met_of files q ≡ None) (sym (lawful-bytes bs utf8 lawful)) (sym is)
+found-none files bs (Some script) utf8 lawful is = tt
