@@ -8,3 +8,6 @@ pub mod MeetLemmas
 pub mod PageTakenLemmas
 pub mod WayLemmas
 pub mod RunReads
+pub mod WorldLemmas
+pub mod PageLemmas
+pub mod PagePieces
