@@ -11,3 +11,5 @@ pub mod RunReads
 pub mod WorldLemmas
 pub mod PageLemmas
 pub mod PagePieces
+pub mod PageEnds
+pub mod PageFaults

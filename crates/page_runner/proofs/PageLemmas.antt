@@ -46,6 +46,9 @@ stands_first es d t first = record {
   took = took_nothing t;
 }
 
+pub ready_first : (v : View) → v ≡ first_view 0 → IsReady v
+ready_first v first = record { lines = ap (λ v. v.lines) first; rest = ap (λ v. v.rest) first; pending = ap (λ v. v.pending) first; halted = ap (λ v. v.halted) first }
+
 -- the moment on the way through a page that begins with the bytes
 stands_in : (es : Entities) (read : List ℕ) (d : Driver) (t t' : Option (List ℕ)) (at : StandsAt es read d t t') (w : World) → Suits es d.scripts w → (more : List ℕ) (fault : Bool)
     → (rest : List ℕ) × Passes (page_at (going_on read more fault)) w (reading (serial_of d.writer at.lines rest))

@@ -109,26 +109,42 @@ fetches_elsewhere p before after s other keeps = record {
   no_further = none_begun (keeps.left port.Script other);
 }
 
--- ---- a page with its scripts
-
-pub keeps_then : (before now after : Seen) → KeepsEntities before now → KeepsEntities now after → KeepsEntities before after
-keeps_then before now after a b = record {
-  files = b.files ∙ a.files;
-  left = b.left ∙ a.left;
-  faults = λ p. let first = a.faults p in let second = b.faults p in omega arith;
-  absences = λ p. let first = a.absences p in let second = b.absences p in omega arith;
-}
+-- ---- a page and its scripts
 
 pub keeps_all : (s : Seen) → KeepsEntities s s
 keeps_all s = record { files = refl; left = refl; faults = λ p. omega arith; absences = λ p. omega arith }
 
-pub keeps_at : (p : Port) (before after : Seen) → port.Entities ≢ p → KeepsOthers p before after → KeepsEntities before after
-keeps_at p before after other keeps = record { files = keeps.files; left = keeps.left port.Entities other; faults = keeps.faults; absences = keeps.absences }
+keeps_at : (p : Port) (before now after : Seen) → port.Entities ≢ p → KeepsEntities before now → KeepsOthers p now after → KeepsEntities before after
+keeps_at p before now after other a b = record {
+  files = b.files ∙ a.files;
+  left = b.left port.Entities other ∙ a.left;
+  faults = λ q. let first = a.faults q in let second = b.faults q in omega arith;
+  absences = λ q. let first = a.absences q in let second = b.absences q in omega arith;
+}
+
+-- Behind a read of the page.
+module _ (before now after : Seen) (keeps : KeepsEntities before now) (read : KeepsOthers port.Page now after) where
+  pub keeps_read : KeepsEntities before after
+  keeps_read = keeps_at port.Page before now after (λ e. cc e) keeps read
+
+  pub fetches_read_on : (old mid new : ScriptFiles) → Fetches before now old mid → new ≡ mid → Fetches before after old new
+  fetches_read_on old mid new fetches same =
+      subst (λ s. Fetches before after old s) (sym same)
+      (fetches_then before now after old mid mid (stays_entities port.Script before now keeps) (stays_others port.Script port.Page now after read) fetches (fetches_elsewhere port.Page now after mid (λ e. cc e) read))
+
+  -- And behind the piece.
+  module _ (behind : Seen) (piece : KeepsOthers port.Script after behind) where
+    pub keeps_piece : KeepsEntities before behind
+    keeps_piece = keeps_at port.Script before after behind (λ e. cc e) keeps_read piece
+
+    pub fetches_piece : (old mid new : ScriptFiles) → Fetches before now old mid → Fetches after behind mid new → Fetches before behind old new
+    fetches_piece old mid new fetches more =
+        fetches_then before after behind old mid new (stays_entities port.Script before after keeps_read) (stays_others port.Script port.Script after behind piece) (fetches_read_on old mid mid fetches refl) more
 
 -- ---- a world with all that was met
 
 -- what may come of a name that wasn't met
-file_of : Option (Option (List ℕ)) → Fetched
+abbrev file_of : Option (Option (List ℕ)) → Fetched
 file_of None = got []
 file_of (Some None) = missing
 file_of (Some (Some bytes)) = got bytes

@@ -38,4 +38,4 @@ returns-clause-ok g c =
     piece_ends c.args.table.now c.args.decoder.now c.feed.new.self c.args.driver.now c.take.new.self _ _ c.take.ensures.fetches c.args.piece.now _ c.in_ok-fed.fed.text (g.K.Sink.taken c.args.out.now) (g.K.Sink.taken c.take.new.out)
     c.as_str.ensures c.in_ok-fed.ensures.text
     (subst (Takes c.args.table.now c.take.new.self.scripts c.args.driver.now.writer c.take.new.self.writer _ (g.K.Sink.taken c.args.out.now) (g.K.Sink.taken c.take.new.out)) c.in-On.is c.in_ok-why.ensures.takes)
-    _ c.in_ok-fed.ensures.ending _ c.in-Some.ending c.in_ok-outcome-in-Some.outcome c.end.ensures.scripts c.in-Some.is c.in_ok-outcome-in-Some.ensures
+    _ c.in_ok-fed.ensures.ending _ c.in-Some.ending c.in_ok-outcome-in-Some.outcome c.end.ensures.scripts c.in-Some.is c.in_ok-outcome-in-Some.ensures.ends
