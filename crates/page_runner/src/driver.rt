@@ -93,8 +93,8 @@ impl Driver {
     ) -> Result<Left, Failure>
         ensures scripts { self.new.scripts ≡ self.old.scripts }
         ensures left { IfOk result (λ left. IsLeft left self.new.writer) }
-        ensures reaches { OnOk result (Reaches table.now self.old.scripts (Stands self.old.writer) (Stands self.new.writer) (K.taken out.old) (K.taken out.new)) }
-        ensures part { OnErr result (ReachesInPart table.now self.old.scripts (Stands self.old.writer) (K.taken out.old) (K.taken out.new)) }
+        ensures reaches { OnOk result (Reaches table.now self.new.scripts (Stands self.old.writer) (Stands self.new.writer) (K.taken out.old) (K.taken out.new)) }
+        ensures part { OnErr result (ReachesInPart table.now self.new.scripts (Stands self.old.writer) (K.taken out.old) (K.taken out.new)) }
         ensures write { IsErrOf result Failure.Write → Rose (K.faults out.old) (K.faults out.new) }
         ensures faults { K.faults out.old ≤ K.faults out.new }
     {
@@ -120,11 +120,20 @@ impl Driver {
         self.scripts.fetch(alloc, files, name)?;
         match self.scripts.find(name) {
             // A name that isn't lawful is missing.
-            None | Some(Script::Missing) => self.writer.miss()?,
-            Some(Script::Faulted) => return Ok(Went::Refused(Why::Fault)),
-            Some(Script::Text(text)) => self.writer.run_script(table, text.as_str())?,
+            None => {
+                self.writer.miss()?;
+                Ok(Went::On)
+            }
+            Some(Script::Missing) => {
+                self.writer.miss()?;
+                Ok(Went::On)
+            }
+            Some(Script::Faulted) => Ok(Went::Refused(Why::Fault)),
+            Some(Script::Text(text)) => {
+                self.writer.run_script(table, text.as_str())?;
+                Ok(Went::On)
+            }
         }
-        Ok(Went::On)
     }
 
     // The same, and its lines are written.
