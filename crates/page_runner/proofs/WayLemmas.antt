@@ -43,6 +43,10 @@ pub on_err : {T E : Type 0} (r : Result T E) (p : Type 0) → p → OnErr r p
 on_err (Ok x) p h = tt
 on_err (Err e) p h = h
 
+pub err_weaker : {T E : Type 0} (r : Result T E) (p q : Type 0) → (p → q) → OnErr r p → OnErr r q
+err_weaker (Ok x) p q h part = tt
+err_weaker (Err e) p q h part = h part
+
 -- ---- worlds
 
 -- what suits all that was met suits what was met before
