@@ -416,37 +416,36 @@ way-parses es files old new bytes ran ready parses =
 pub ready-parses : (es : Entities) (old new : View) (bytes : List ℕ) (ran : Ran) → IsReady old → Parses es old new bytes ran → IsReady new
 ready-parses es old new bytes ran ready parses = subst IsReady (sym parses.others) (record { lines = ready.lines; rest = ready.rest; pending = ready.pending; halted = ready.halted })
 
-module _ (es : Entities) (files : ScriptFiles) (From : List Line → List ℕ → Moment → Type 0) (v new : View) (bytes : List ℕ) (ran : Ran) (t t' : Option (List ℕ)) (ready : IsReady v) (reaches : Reaches es files From (AtText v (chars bytes)) t t') where
-  -- memory ran out in front of it
-  pub text-unparsed : ReachesInPart es files From t t'
-  text-unparsed = part-then es files files From (AtText v (chars bytes)) t t' t' (λ w s. s) reaches
-      (part-with es files (AtText v (chars bytes)) v.lines t' (λ before page m at. ap lines_of at))
+-- memory ran out in front of a text
+pub text-unparsed : (es : Entities) (files : ScriptFiles) (From : List Line → List ℕ → Moment → Type 0) (v : View) (text : List ℕ) (t t' : Option (List ℕ)) → Reaches es files From (AtText v text) t t' → ReachesInPart es files From t t'
+text-unparsed es files From v text t t' reaches = part-then es files files From (AtText v text) t t' t' (λ w s. s) reaches (part-with es files (AtText v text) v.lines t' (λ before page m at. ap lines_of at))
 
-  module _ (parses : Parses es v new bytes ran) where
-    pub text-stops : Reaches es files From (AtStopIn new ran.stop (chars (drop ran.used bytes))) t t'
-    text-stops = reaches-then es files files From (AtText v (chars bytes)) (AtStopIn new ran.stop (chars (drop ran.used bytes))) t t' t' (λ w s. s) reaches
-        (reaches-way es files (AtText v (chars bytes)) (AtStopIn new ran.stop (chars (drop ran.used bytes))) t' (way-parses es files v new bytes ran ready parses))
+module _ (es : Entities) (files : ScriptFiles) (From : List Line → List ℕ → Moment → Type 0) (v new : View) (bytes : List ℕ) (ran : Ran) (t t' : Option (List ℕ)) (ready : IsReady v) (reaches : Reaches es files From (AtText v (chars bytes)) t t')
+    (parses : Parses es v new bytes ran) where
+  pub text-stops : Reaches es files From (AtStopIn new ran.stop (chars (drop ran.used bytes))) t t'
+  text-stops = reaches-then es files files From (AtText v (chars bytes)) (AtStopIn new ran.stop (chars (drop ran.used bytes))) t t' t' (λ w s. s) reaches
+      (reaches-way es files (AtText v (chars bytes)) (AtStopIn new ran.stop (chars (drop ran.used bytes))) t' (way-parses es files v new bytes ran ready parses))
 
-    -- all of it is used
-    pub text-ends : ran.stop ≡ stop.InputEnd → Reaches es files From (Arrives new On) t t'
-    text-ends ended =
+  -- all of it is used
+  pub text-ends : ran.stop ≡ stop.InputEnd → Reaches es files From (Arrives new On) t t'
+  text-ends ended =
+      let left : List ℕ = chars (drop ran.used bytes) in
+      let none : left ≡ [] = parse-left es v.parser new.parser v.doc new.doc (chars bytes) left (subst (λ k. HasParsed es v.parser v.doc (chars bytes) new.parser new.doc left k) ended parses.parsed) in
+      subst (λ l. Reaches es files From (AtStopIn new stop.InputEnd l) t t') none (subst (λ k. Reaches es files From (AtStopIn new k left) t t') ended text-stops)
+
+  -- its stop was passed
+  module _ (files' : ScriptFiles) (t'' : Option (List ℕ)) (agrees : Agrees es files files') where
+    pub text-passes : (new' : View) (went : Went) → Reaches es files' (AtStop new ran.stop) (Arrives new' went) t' t''
+        → Reaches es files' From (λ before page m. Arrives new' went before (chars (drop ran.used bytes) ++ page) m) t t''
+    text-passes new' went passes =
         let left : List ℕ = chars (drop ran.used bytes) in
-        let none : left ≡ [] = parse-left es v.parser new.parser v.doc new.doc (chars bytes) left (subst (λ k. HasParsed es v.parser v.doc (chars bytes) new.parser new.doc left k) ended parses.parsed) in
-        subst (λ l. Reaches es files From (AtStopIn new stop.InputEnd l) t t') none (subst (λ k. Reaches es files From (AtStopIn new k left) t t') ended text-stops)
+        reaches-then es files files' From (AtStopIn new ran.stop left) (λ before page m. Arrives new' went before (left ++ page) m) t t' t'' agrees text-stops
+        (reaches-shift es files' (AtStop new ran.stop) (Arrives new' went) t' t'' left passes)
 
-    -- its stop was passed
-    module _ (files' : ScriptFiles) (t'' : Option (List ℕ)) (agrees : Agrees es files files') where
-      pub text-passes : (new' : View) (went : Went) → Reaches es files' (AtStop new ran.stop) (Arrives new' went) t' t''
-          → Reaches es files' From (λ before page m. Arrives new' went before (chars (drop ran.used bytes) ++ page) m) t t''
-      text-passes new' went passes =
-          let left : List ℕ = chars (drop ran.used bytes) in
-          reaches-then es files files' From (AtStopIn new ran.stop left) (λ before page m. Arrives new' went before (left ++ page) m) t t' t'' agrees text-stops
-          (reaches-shift es files' (AtStop new ran.stop) (Arrives new' went) t' t'' left passes)
-
-      pub text-gives_up : ReachesInPart es files' (AtStop new ran.stop) t' t'' → ReachesInPart es files' From t t''
-      text-gives_up part =
-          let left : List ℕ = chars (drop ran.used bytes) in
-          part-then es files files' From (AtStopIn new ran.stop left) t t' t'' agrees text-stops (part-shift es files' (AtStop new ran.stop) t' t'' left part)
+    pub text-gives_up : ReachesInPart es files' (AtStop new ran.stop) t' t'' → ReachesInPart es files' From t t''
+    text-gives_up part =
+        let left : List ℕ = chars (drop ran.used bytes) in
+        part-then es files files' From (AtStopIn new ran.stop left) t t' t'' agrees text-stops (part-shift es files' (AtStop new ran.stop) t' t'' left part)
 
 -- the written lines and the text of a script's line come in order
 pub line-front : (t now t' : Option (List ℕ)) (lines : List Line) (i : ℕ) (a : Line) → i < length lines → a ≡ get_or lines i a → Took t now (flat_map line_text (take i lines)) → TookFront now t' (line_text a)
