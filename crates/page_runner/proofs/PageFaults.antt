@@ -93,9 +93,9 @@ text-meets_none n w text s = then-meets_none (execute n w text (inside s)) (λ t
 
 -- ---- the moments
 
--- the page ends with a fault, or a script of a lawful name is faulted
-abbrev pub HasFault : Ending → World → Type 0
-HasFault e w = (e ≡ ending.Fault) ⊎ ((name : List ℕ) × (is_lawful name ≡ true) × (w.scripts name ≡ faulted))
+-- the page ends with a fault, or a script is faulted
+abbrev HasFault : Ending → World → Type 0
+HasFault e w = (e ≡ ending.Fault) ⊎ ((name : List ℕ) × (w.scripts name ≡ faulted))
 
 -- where the parse is over with a fault, there is one
 abbrev MeetsOnly : Ending → World → Option Moment → Type 0
@@ -130,18 +130,15 @@ script-meets e w starved k = tt
 script-meets e w (goes t) k = behind-meets e w t.side.pending t
 script-meets e w (refuses r t) k = λ h. let is : r ≡ why.Fault = cc in absurd (k is)
 
--- only a lawful name is faulted
-faulted-lawful : (w : World) (name : List ℕ) → fetched w name ≡ faulted → (is_lawful name ≡ true) × (w.scripts name ≡ faulted)
-faulted-lawful w name = by_test (is_lawful name) refl
-  where
-    by_test : (b : Bool) → is_lawful name ≡ b → fetched_if b w name ≡ faulted → (is_lawful name ≡ true) × (w.scripts name ≡ faulted)
-    by_test false e h = absurd (cc h)
-    by_test true e h = (e, h)
+-- a name that isn't lawful is missing
+faulted-there : (w : World) (name : List ℕ) (lawful : Bool) → fetched_if lawful w name ≡ faulted → w.scripts name ≡ faulted
+faulted-there w name true is = is
+faulted-there w name false is = absurd (cc is)
 
 fetch-meets : (n : ℕ) (e : Ending) (w : World) (name : List ℕ) (s : Serial) (f : Fetched) → fetched w name ≡ f → MeetsOnly e w (after_fetch n w name s f)
 fetch-meets n e w name s (got bytes) is = script-meets e w (run_text n w (file_statements bytes) s) (text-meets_none n w (file_statements bytes) s)
 fetch-meets n e w name s missing is = tt
-fetch-meets n e w name s faulted is = λ h. inr (name, faulted-lawful w name is)
+fetch-meets n e w name s faulted is = λ h. inr (name, faulted-there w name (is_lawful name) is)
 
 moment-meets : (n : ℕ) (e : Ending) (w : World) (m : Moment) → MeetsOnly e w (Some m) → MeetsOnly e w (moment_after n e w m)
 unfolding moment_after
@@ -173,7 +170,7 @@ fault-ends : (limit : ℕ) (bytes : List ℕ) (fault : Bool) → ending_of limit
 fault-ends limit bytes fault e = by_ending _ _ _ fault e
 
 pub fault_met : (w : World) (page : PageRead) (o : Outcome) → ComesTo w page o → o.result ≡ refused why.Fault
-    → (page.fault ≡ true) ⊎ ((name : List ℕ) × (is_lawful name ≡ true) × (w.scripts name ≡ faulted))
+    → (page.fault ≡ true) ⊎ ((name : List ℕ) × (w.scripts name ≡ faulted))
 fault_met w page o (n, comes) is =
     let e = (page_at page).ending in
     let meets : MeetsOnly e w (moments_on n n e w (reading (first (page_at page)))) = moments-meet n n e w (reading (first (page_at page))) tt in
@@ -181,6 +178,6 @@ fault_met w page o (n, comes) is =
     let there : MeetsOnly e w (Some (over o)) = subst (MeetsOnly e w) over_there meets in
     by_fault (there is)
   where
-    by_fault : HasFault (page_at page).ending w → (page.fault ≡ true) ⊎ ((name : List ℕ) × (is_lawful name ≡ true) × (w.scripts name ≡ faulted))
+    by_fault : HasFault (page_at page).ending w → (page.fault ≡ true) ⊎ ((name : List ℕ) × (w.scripts name ≡ faulted))
     by_fault (inl ends) = inl (fault-ends PAGE_LIMIT page.bytes page.fault ends)
     by_fault (inr script) = inr script
