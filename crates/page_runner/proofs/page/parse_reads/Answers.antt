@@ -1,4 +1,4 @@
-use Rattle.std.proofs.Common.{◌<◌, ◌≡◌, ◌≤◌, length, take, drop, length-take, arith, refl, subst}
+use Rattle.std.proofs.Common.{◌<◌, ◌≤◌, length, drop, length-take, arith, refl, subst}
 use Rattle.outside.specs.declared.traits.Port.TheVariants as port
 use Rattle.page_runner.specs.Pages.{TakesPiece}
 use Rattle.page_runner.proofs.KeepsLemmas.{entities-same, rose-on}
