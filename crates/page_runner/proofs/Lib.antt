@@ -7,4 +7,7 @@ pub mod FetchLemmas
 pub mod MeetLemmas
 pub mod PageTakenLemmas
 pub mod WayLemmas
+pub mod PageLemmas
+pub mod PagePieces
+pub mod PageEnds
 pub mod RunReads
