@@ -2,7 +2,7 @@
 use Rattle.std.proofs.Common.{◌≡◌, ℕ, ◌≤◌, refl, ◌∙◌, arith, inl, inr}
 use Rattle.outside.specs.Outside.{Rose, Seen, NeverFall, KeepsOthers}
 use Rattle.outside.specs.declared.traits.Port.{Port}
-use Rattle.outside.specs.declared.traits.Port.TheVariants.{Entities}
+use Rattle.outside.specs.declared.traits.Port.TheVariants.{Entities, Page, Script}
 use Rattle.page_runner.specs.Given.{KeepsEntities}
 
 pub keeps-same : (port : Port) (s : Seen) → KeepsOthers port s s
@@ -49,6 +49,13 @@ later-others port before after keeps = record { files = keeps.files; faults = ke
 pub later-entities : (before after : Seen) → KeepsEntities before after → Later before after
 later-entities before after keeps = record { files = keeps.files; faults = keeps.faults; absences = keeps.absences }
 
+pub later-then : (before now after : Seen) → Later before now → Later now after → Later before after
+later-then before now after a b = record {
+  files = b.files ∙ a.files;
+  faults = λ p. let first = a.faults p in let second = b.faults p in omega arith;
+  absences = λ p. let first = a.absences p in let second = b.absences p in omega arith;
+}
+
 -- ---- the port of the entities
 
 pub entities-same : (s : Seen) → KeepsEntities s s
@@ -64,3 +71,11 @@ entities-then before now after a b = record {
 
 pub entities-others : (port : Port) (before after : Seen) → (Entities ≡ port → ⊥) → KeepsOthers port before after → KeepsEntities before after
 entities-others port before after other keeps = record { files = keeps.files; left = keeps.left Entities other; faults = keeps.faults; absences = keeps.absences }
+
+-- a piece of the page was read
+pub entities-read : (before now mid : Seen) → KeepsEntities before now → KeepsOthers Page now mid → KeepsEntities before mid
+entities-read before now mid keeps others = entities-then before now mid keeps (entities-others Page now mid (λ e. cc e) others)
+
+-- and then its scripts
+pub entities-piece : (before now mid after : Seen) → KeepsEntities before now → KeepsOthers Page now mid → KeepsOthers Script mid after → KeepsEntities before after
+entities-piece before now mid after keeps others others' = entities-then before mid after (entities-read before now mid keeps others) (entities-others Script mid after (λ e. cc e) others')

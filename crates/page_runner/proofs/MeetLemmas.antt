@@ -21,9 +21,9 @@ use Rattle.page_runner.specs.declared.scripts.TheConstants.{SCRIPT_LIMIT}
 use Rattle.page_runner.specs.declared.scripts.Script.{Script}
 use Rattle.page_runner.specs.declared.scripts.Script.TheVariants.{Text, Missing, Faulted}
 use Rattle.page_runner.specs.declared.scripts.ScriptFiles.{ScriptFiles}
-use Rattle.page_runner.specs.Given.{given_of, FaultsRose, AbsencesRose, file_at, MayGive, AreRead, ReadTo, untouched, unbegun, begun}
+use Rattle.page_runner.specs.Given.{KeepsEntities, given_of, FaultsRose, AbsencesRose, file_at, MayGive, AreRead, ReadTo, untouched, unbegun, begun}
 use Rattle.page_runner.specs.Scripts.{path_of, IsAbsent, MayFetch, ReadScriptsTo, none_begun, last, met_of, StandsFor, IsScriptOf, Knows, Suits, MayMeet, Fetches}
-use Rattle.page_runner.proofs.KeepsLemmas.{rose-on, rose-stays, Later, later-others}
+use Rattle.page_runner.proofs.KeepsLemmas.{rose-on, rose-stays, Later, later-others, later-entities, later-then}
 use Rattle.page_runner.proofs.FetchLemmas.{cut-statements, lawful-bytes}
 
 -- ---- one fetch
@@ -226,3 +226,14 @@ fetches-past p before after s other keeps = fetches_none before after s (none_be
 pub fetches-on : (before now after : Seen) (old mid mid' new : ScriptFiles) → KeepsOthers port.Script before now → KeepsOthers port.Script now after → mid' ≡ mid → Fetches before now old mid → Fetches now after mid' new → Fetches before after old new
 fetches-on before now after old mid mid' new first second same a b =
     fetches-then before now after (later-others port.Script before now first) (later-others port.Script now after second) old mid new a (subst (λ s. Fetches now after s new) same b)
+
+-- a piece of the page was read
+pub fetches-read : (before now mid : Seen) (old s : ScriptFiles) → KeepsEntities before now → KeepsOthers port.Page now mid → Fetches before now old s → Fetches before mid old s
+fetches-read before now mid old s keeps others fetches =
+    fetches-then before now mid (later-entities before now keeps) (later-others port.Page now mid others) old s s fetches (fetches-past port.Page now mid s (λ e. cc e) others)
+
+-- and then its scripts
+pub fetches-piece : (before now mid after : Seen) (old s new : ScriptFiles) → KeepsEntities before now → KeepsOthers port.Page now mid → KeepsOthers port.Script mid after → Fetches before now old s → Fetches mid after s new → Fetches before after old new
+fetches-piece before now mid after old s new keeps others others' fetches fetches' =
+    fetches-then before mid after (later-then before now mid (later-entities before now keeps) (later-others port.Page now mid others)) (later-others port.Script mid after others') old s new
+    (fetches-read before now mid old s keeps others fetches) fetches'

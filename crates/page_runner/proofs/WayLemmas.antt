@@ -27,7 +27,7 @@ use Rattle.standard.proofs.Scripts.{awaits-missing, awaits-fault, awaits-got, aw
 use Rattle.parse_machine.specs.declared.machine.Ran.{Ran}
 use Rattle.write_parser.specs.declared.left.Left.{Left}
 use Rattle.write_parser.specs.declared.left.Left.TheVariants as left
-use Rattle.write_parser.specs.Writing.{View, serial_of, moment_by, moment_of, StandsBy, Stands, IsOver, AtTag, LeadsTo, Parses, IsRefusal, ComesBy, Comes, Runs, HasRun, HasMissed, LeftIs}
+use Rattle.write_parser.specs.Writing.{View, first_view, serial_of, moment_by, moment_of, StandsBy, Stands, IsOver, AtTag, LeadsTo, Parses, IsRefusal, ComesBy, Comes, Runs, HasRun, HasMissed, LeftIs}
 use Rattle.page_runner.specs.declared.driver.Went.{Went}
 use Rattle.page_runner.specs.declared.driver.Went.TheVariants.{On, Refused}
 use Rattle.page_runner.specs.declared.scripts.Script.{Script}
@@ -46,6 +46,10 @@ on_err (Err e) p h = h
 pub err_weaker : {T E : Type 0} (r : Result T E) (p q : Type 0) → (p → q) → OnErr r p → OnErr r q
 err_weaker (Ok x) p q h part = tt
 err_weaker (Err e) p q h part = h part
+
+-- at the beginning of a page the writer is ready
+pub ready-first : (v : View) → v ≡ first_view 0 → IsReady v
+ready-first v first = subst IsReady (sym first) (record { lines = refl; rest = refl; pending = refl; halted = refl })
 
 -- ---- worlds
 
