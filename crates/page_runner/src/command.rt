@@ -2,22 +2,27 @@
 ghost use Rattle.std.specs.Prelude.{◌≡◌, ◌≤◌, ◌<◌, ◌⊎◌, [], map, Some, None, Ok, Err, IfOk, OnOk, OnErr, IsErrOf, IsTrue};
 ghost use Rattle.std.specs.String.{string_bytes};
 ghost use Rattle.standard.specs.Output.{result_with};
-ghost use Rattle.outside.specs.Outside.{Rose, seen, KeepsOthers};
+ghost use Rattle.outside.specs.Outside.{Rose, seen};
 ghost use Rattle.page_runner.specs.Words.{asked, shown};
-ghost use Rattle.page_runner.specs.Given.{ReadTo};
+ghost use Rattle.page_runner.specs.Given.{ReadTo, KeepsEntities};
+ghost use Rattle.write_parser.specs.Writing.{first_view};
+ghost use Rattle.page_runner.specs.Scripts.{met_of, ReadScriptsTo};
 ghost use Rattle.page_runner.specs.Taken.{Took, TookFront};
 ghost use Rattle.page_runner.specs.Shown.{result_of};
-ghost use Rattle.page_runner.specs.Answers.{status_for, table_of, is_finished, PageAnswers, Answers, RunsTo, StopsAtLimits, CompletesRun, Exactly, AbsenceRose, FaultRose};
+ghost use Rattle.page_runner.specs.Answers.{status_for, table_of, is_finished, IsBegun, PageAnswers, Answers, RunsTo, StopsAtLimits, CompletesRun, Exactly, AbsenceRose, FaultRose};
 
+use crate::driver::Driver;
 use crate::fetch::{Fetch, read_whole};
-use crate::outcome::status_at;
+use crate::outcome::{Outcome, status_at};
 use crate::output::show_outcome;
-use crate::page::{Failure, PAGE_LIMIT, Parsed, parse_page};
+use crate::page::{Failure, PAGE_LIMIT, parse_page};
+use crate::scripts::SCRIPT_LIMIT;
 use crate::status::Status;
 use crate::words::{PageWords, Refused, read_words};
 use crate::write::write_all;
 use entity_table::{Table, TableFault};
 use html_types::NoMemory;
+use op_exec::Doc;
 use outside::{Failed, Gate, Outside, Port, Sink};
 use std::alloc::Global;
 use std::sync::{Arc, Wait};
@@ -36,14 +41,20 @@ fn status_for(failure: Failure) -> Status
 }
 
 // Writes what came of the page, and finishes the sink.
-fn end_page<K: Sink>(alloc: Global, out: &mut K, parsed: &Parsed, dump: bool) -> Result<(), Failure>
-    ensures ok { OnOk result (Took (K.taken out.old) (K.taken out.new) (result_with dump (result_of parsed.now.outcome) parsed.now.driver.doc.tree)) }
-    ensures err { OnErr result (TookFront (K.taken out.old) (K.taken out.new) (result_with dump (result_of parsed.now.outcome) parsed.now.driver.doc.tree)) }
+fn end_page<K: Sink>(
+    alloc: Global,
+    out: &mut K,
+    doc: &Doc,
+    outcome: Outcome,
+    dump: bool,
+) -> Result<(), Failure>
+    ensures ok { OnOk result (Took (K.taken out.old) (K.taken out.new) (result_with dump (result_of outcome) doc.now.tree)) }
+    ensures err { OnErr result (TookFront (K.taken out.old) (K.taken out.new) (result_with dump (result_of outcome) doc.now.tree)) }
     ensures clean { OnOk result (IsTrue (K.clean out.new)) }
     ensures write { IsErrOf result Failure.Write → Rose (K.faults out.old) (K.faults out.new) }
     ensures faults { K.faults out.old ≤ K.faults out.new }
 {
-    let line = show_outcome(alloc, parsed.driver.doc(), parsed.outcome, dump)?;
+    let line = show_outcome(alloc, doc, outcome, dump)?;
     write_all(out, line.as_bytes())?;
     out.finish()?;
     Ok(())
@@ -63,6 +74,41 @@ fn end_at_fault<K: Sink>(out: &mut K) -> Status
     }
 }
 
+// Parses the page that was begun, and writes what comes of it.
+fn run_begun<F: Outside, K: Sink>(
+    alloc: Global,
+    table: &Table,
+    files: &mut F,
+    out: &mut K,
+    driver: &mut Driver,
+    words: &PageWords,
+) -> Status
+    requires first { driver.old.writer ≡ first_view 0 }
+    requires dir { string_bytes driver.old.scripts.dir ≡ string_bytes words.now.dir }
+    requires none { (name : _) → met_of driver.old.scripts name ≡ None }
+    requires begun { IsBegun (string_bytes words.now.page) (seen F.files F.left F.faults F.absences files.old) }
+    requires piece { 0 < words.now.piece }
+    ensures answer { PageAnswers table.now words.now.dump (string_bytes words.now.page) (string_bytes words.now.dir)
+        (seen F.files F.left F.faults F.absences files.old) (seen F.files F.left F.faults F.absences files.new)
+        (K.taken out.old) (K.taken out.new) result }
+    ensures no_further { ReadTo PAGE_LIMIT Port.Page (string_bytes words.now.page)
+        (seen F.files F.left F.faults F.absences files.old) (seen F.files F.left F.faults F.absences files.new) }
+    ensures scripts_no_further { ReadScriptsTo SCRIPT_LIMIT (string_bytes words.now.dir)
+        (seen F.files F.left F.faults F.absences files.old) (seen F.files F.left F.faults F.absences files.new) }
+    ensures others { KeepsEntities (seen F.files F.left F.faults F.absences files.old) (seen F.files F.left F.faults F.absences files.new) }
+    ensures write_fault { result ≡ Status.WriteFault → Rose (K.faults out.old) (K.faults out.new) }
+    ensures clean { IsTrue (is_finished result) → IsTrue (K.clean out.new) }
+{
+    let outcome = match parse_page(alloc, table, files, out, driver, words.piece) {
+        Err(failure) => return status_for(failure),
+        Ok(outcome) => outcome,
+    };
+    match end_page(alloc, out, driver.doc(), outcome, words.dump) {
+        Err(failure) => status_for(failure),
+        Ok(()) => status_at(outcome),
+    }
+}
+
 // Begins the page, parses it and writes what comes of it.
 fn run_page<F: Outside, K: Sink>(
     alloc: Global,
@@ -72,12 +118,14 @@ fn run_page<F: Outside, K: Sink>(
     words: &PageWords,
 ) -> Status
     requires { 0 < words.now.piece }
-    ensures answer { PageAnswers table.now words.now.dump (string_bytes words.now.page)
+    ensures answer { PageAnswers table.now words.now.dump (string_bytes words.now.page) (string_bytes words.now.dir)
         (seen F.files F.left F.faults F.absences files.old) (seen F.files F.left F.faults F.absences files.new)
         (K.taken out.old) (K.taken out.new) result }
     ensures no_further { ReadTo PAGE_LIMIT Port.Page (string_bytes words.now.page)
         (seen F.files F.left F.faults F.absences files.old) (seen F.files F.left F.faults F.absences files.new) }
-    ensures others { KeepsOthers Port.Page (seen F.files F.left F.faults F.absences files.old) (seen F.files F.left F.faults F.absences files.new) }
+    ensures scripts_no_further { ReadScriptsTo SCRIPT_LIMIT (string_bytes words.now.dir)
+        (seen F.files F.left F.faults F.absences files.old) (seen F.files F.left F.faults F.absences files.new) }
+    ensures others { KeepsEntities (seen F.files F.left F.faults F.absences files.old) (seen F.files F.left F.faults F.absences files.new) }
     ensures write_fault { result ≡ Status.WriteFault → Rose (K.faults out.old) (K.faults out.new) }
     ensures clean { IsTrue (is_finished result) → IsTrue (K.clean out.new) }
 {
@@ -86,13 +134,9 @@ fn run_page<F: Outside, K: Sink>(
         Ok(false) => return Status::Absent,
         Ok(true) => {}
     }
-    let parsed = match parse_page(alloc, table, files, out, words.piece) {
-        Err(failure) => return status_for(failure),
-        Ok(parsed) => parsed,
-    };
-    match end_page(alloc, out, &parsed, words.dump) {
-        Err(failure) => status_for(failure),
-        Ok(()) => status_at(parsed.outcome),
+    match Driver::new(alloc, words.dir.as_str()) {
+        Err(NoMemory) => Status::NoMemory,
+        Ok(mut driver) => run_begun(alloc, table, files, out, &mut driver, words),
     }
 }
 
