@@ -3,7 +3,10 @@ use Rattle.std.proofs.Common.{◌≡◌, ℕ, Bool, true, false, List, ◌∷◌
 use Rattle.std.specs.Prelude.{◌⊎◌, ◌≤◌, IsSome, IsSomeAnd, IfNone, is_some}
 use denote.Bor.{Bor}
 use Rattle.std.specs.Option.{option_map}
-use Rattle.std.specs.Map.{update}
+use Rattle.std.specs.Map.{update, lookup}
+use Rattle.std.specs.BTreeMap.{is_at}
+use Rattle.std.specs.Ordering.{nat_cmp}
+use Rattle.std.specs.Cmp.Lexicographic.{slice_cmp}
 use Rattle.std.specs.Str.{chars, bytes_eq, IsUtf8}
 use Rattle.std.specs.String.{string_bytes}
 use Rattle.std.proofs.lemmas.Slice.Eq.{bytes_eq-Decides}
@@ -140,3 +143,15 @@ pub found-none : (files : ScriptFiles) (bs : List ℕ) (o : Option (Bor Script))
     → IfNone o (is_lawful (chars bs) ≡ true → met_of files (chars bs) ≡ None)
 found-none files bs None utf8 lawful is = λ _. subst (λ q. met_of files q ≡ None) (sym (lawful-bytes bs utf8 lawful)) (sym is)
 found-none files bs (Some script) utf8 lawful is = tt
+
+-- what is met stays as it was
+pub fetches_stay : (before after : Seen) (old new : ScriptFiles) → new.dir ≡ old.dir → new.met.entries ≡ old.met.entries → Fetches before after old old → Fetches before after old new
+fetches_stay before after old new stays same fetches = record {
+  dir = stays;
+  kept = λ name script is. here name ∙ is;
+  fresh = λ name script is. fetches.fresh name script (sym (here name) ∙ is);
+  no_further = fetches.no_further;
+}
+  where
+    here : (name : List ℕ) → met_of new name ≡ met_of old name
+    here name = ap (lookup (is_at (λ k. slice_cmp nat_cmp name (string_bytes k)))) same

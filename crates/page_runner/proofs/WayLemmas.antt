@@ -1,5 +1,5 @@
 -- Ways from one moment of the serial parse to another, what the sink took on them, and the ways that the driver's calls go.
-use Rattle.std.proofs.Common.{String, Global, ◌≡◌, ℕ, Bool, true, false, List, [], ◌∷◌, ◌++◌, drop, flat_map, Option, Some, None, Ok, Err, OnErr, refl, sym, ap, ◌∙◌, subst, append_assoc, append-nil}
+use Rattle.std.proofs.Common.{String, Global, ◌≡◌, ℕ, Bool, true, false, List, [], ◌∷◌, ◌++◌, drop, ◌<◌, ◌+◌, length, take, get_or, drop-cons, add-one, take-append-drop, flat_map, Option, Some, None, Ok, Err, OnErr, refl, sym, ap, ◌∙◌, subst, append_assoc, append-nil}
 use Rattle.std.specs.Prelude.{Result}
 use Rattle.std.proofs.lemmas.Grind.{flat_map-append}
 use Rattle.std.specs.Str.{chars}
@@ -36,7 +36,7 @@ use Rattle.page_runner.specs.declared.scripts.ScriptFiles.{ScriptFiles}
 use Rattle.page_runner.specs.Taken.{Took, TookFront}
 use Rattle.page_runner.specs.Scripts.{met_of, StandsFor, Suits, Fetches}
 use Rattle.page_runner.specs.Moments.{IsReady, IsLeft, AtText, IsRefused, AtStop, Arrives, Resumes, HasLines, Way, Reaches, ReachesInPart, Takes}
-use Rattle.page_runner.proofs.PageTakenLemmas.{took_nothing, front_nothing, took_then, front_then, front_of_all}
+use Rattle.page_runner.proofs.PageTakenLemmas.{took_nothing, front_nothing, took_then, front_then, front_longer}
 
 -- what a failed call owes
 pub on_err : {T E : Type 0} (r : Result T E) (p : Type 0) → p → OnErr r p
@@ -124,10 +124,6 @@ pub part-shift : (es : Entities) (files : ScriptFiles) (From : List Line → Lis
     → ReachesInPart es files (λ before page m. From before (text ++ page) m) t t'
 part-shift es files From t t' text part = record { more = part.more; took = part.took; way = record { leads = λ e w m from before page suits is at. part.way.leads e w m from before (text ++ page) suits is at } }
 
--- nothing was written of what stands before these moments
-pub part-at : (es : Entities) (files : ScriptFiles) (From : List Line → List ℕ → Moment → Type 0) (t : Option (List ℕ)) → ((before : List Line) (page : List ℕ) (m : Moment) → From before page m → lines_of m ≡ before) → ReachesInPart es files From t t
-part-at es files From t has = record { more = []; took = front_nothing t []; way = way-same es files From HasLines has }
-
 -- ---- moments for which a writer stands
 
 by_pending : (pending : Option (List ℕ)) (s : Serial) → lines_of (moment_by pending s) ≡ s.side.lines
@@ -176,6 +172,18 @@ module _ (es : Entities) (files : ScriptFiles) (From : List Line → List ℕ �
           (there.0, stands-lines mid before page there.0 stands, there.2);
     };
   }
+
+-- nothing was written of what stands before these moments
+pub part-with : (es : Entities) (files : ScriptFiles) (From : List Line → List ℕ → Moment → Type 0) (more : List Line) (t : Option (List ℕ)) → ((before : List Line) (page : List ℕ) (m : Moment) → From before page m → lines_of m ≡ before ++ more)
+    → ReachesInPart es files From t t
+part-with es files From more t has = record {
+  more = more;
+  took = front_nothing t (flat_map line_text more);
+  way = record { leads = λ e w m from before page suits is at. (from, has before page from is, at) };
+}
+
+pub part-stands : (es : Entities) (files : ScriptFiles) (v : View) (t : Option (List ℕ)) → ReachesInPart es files (Stands v) t t
+part-stands es files v t = part-with es files (Stands v) v.lines t (stands-lines v)
 
 -- ---- a script that is awaited
 
@@ -324,10 +332,10 @@ module _ (es : Entities) (files : ScriptFiles) (From : List Line → List ℕ �
 
 reaches-as : (es : Entities) (files : ScriptFiles) (From To To' : List Line → List ℕ → Moment → Type 0) (t t' : Option (List ℕ)) → ((before : List Line) (page : List ℕ) (m : Moment) → To before page m → To' before page m)
     → Reaches es files From To t t' → Reaches es files From To' t t'
-reaches-as es files From To To' t t' as reaches = record {
+reaches-as es files From To To' t t' turn reaches = record {
   more = reaches.more;
   took = reaches.took;
-  way = record { leads = λ e w m from before page suits is at. let there = reaches.way.leads e w m from before page suits is at in (there.0, as (before ++ reaches.more) page there.0 there.1, there.2) };
+  way = record { leads = λ e w m from before page suits is at. let there = reaches.way.leads e w m from before page suits is at in (there.0, turn (before ++ reaches.more) page there.0 there.1, there.2) };
 }
 
 module _ (es : Entities) (files : ScriptFiles) (From : List Line → List ℕ → Moment → Type 0) (v : View) (t t' : Option (List ℕ)) (reaches : Reaches es files From (Stands v) t t') where
@@ -352,10 +360,6 @@ pub fed-over : (es : Entities) (files : ScriptFiles) (From : List Line → List 
     → Reaches es files From (Arrives v (Refused r)) t t'
 fed-over es files From v r t t' none reaches = reaches-as es files From (Resumes v (Refused r)) (Arrives v (Refused r)) t t'
     (λ before page m at. record { last = at.last; is = at.is; lines_are = at.lines_are ∙ ap (λ l. before ++ l) none ∙ append-nil before }) reaches
-
--- nothing of what a writer without lines stands for is written
-pub stands-quiet : (v : View) → v.lines ≡ [] → (before : List Line) (page : List ℕ) (m : Moment) → Stands v before page m → lines_of m ≡ before
-stands-quiet v none before page m at = stands-lines v before page m at ∙ ap (λ l. before ++ l) none ∙ append-nil before
 
 -- ---- a text of the page
 
@@ -404,7 +408,7 @@ module _ (es : Entities) (files : ScriptFiles) (From : List Line → List ℕ �
   -- memory ran out in front of it
   pub text-unparsed : ReachesInPart es files From t t'
   text-unparsed = part-then es files files From (AtText v (chars bytes)) t t' t' (λ w s. s) reaches
-      (part-at es files (AtText v (chars bytes)) t' (λ before page m at. ap lines_of at ∙ (ap (λ l. before ++ l) ready.lines ∙ append-nil before)))
+      (part-with es files (AtText v (chars bytes)) v.lines t' (λ before page m at. ap lines_of at))
 
   module _ (parses : Parses es v new bytes ran) where
     pub text-stops : Reaches es files From (AtStopIn new ran.stop (chars (drop ran.used bytes))) t t'
@@ -432,6 +436,14 @@ module _ (es : Entities) (files : ScriptFiles) (From : List Line → List ℕ �
           let left : List ℕ = chars (drop ran.used bytes) in
           part-then es files files' From (AtStopIn new ran.stop left) t t' t'' agrees text-stops (part-shift es files' (AtStop new ran.stop) t' t'' left part)
 
+-- the written lines and the text of a script's line come in order
+pub line-front : (t now t' : Option (List ℕ)) (lines : List Line) (i : ℕ) (a : Line) → i < length lines → a ≡ get_or lines i a → Took t now (flat_map line_text (take i lines)) → TookFront now t' (line_text a)
+    → TookFront t t' (flat_map line_text lines)
+line-front t now t' lines i a within is took front =
+    let whole : lines ≡ take i lines ++ (a ∷ drop (i + 1) lines) = sym (take-append-drop i lines) ∙ ap (λ l. take i lines ++ l) (rw (add-one) (drop-cons lines i a within) ∙ ap (λ x. x ∷ drop (i + 1) lines) (sym is)) in
+    let text : flat_map line_text lines ≡ flat_map line_text (take i lines) ++ (line_text a ++ flat_map line_text (drop (i + 1) lines)) = ap (flat_map line_text) whole ∙ flat_map-append line_text (take i lines) (a ∷ drop (i + 1) lines) in
+    subst (λ x. TookFront t t' x) (sym text) (front_then t now t' (flat_map line_text (take i lines)) (line_text a ++ flat_map line_text (drop (i + 1) lines)) took (front_longer now t' (line_text a) (flat_map line_text (drop (i + 1) lines)) front))
+
 -- at the beginning of the text
 pub text-begins : (es : Entities) (files : ScriptFiles) (v : View) (text : List ℕ) (t : Option (List ℕ)) → Reaches es files (AtText v text) (AtText v text) t t
 text-begins es files v text t = reaches-way es files (AtText v text) (AtText v text) t (way-same es files (AtText v text) (AtText v text) (λ before page m at. at))
@@ -445,5 +457,5 @@ pub passes-deep : (es : Entities) (files : ScriptFiles) (v : View) (t : Option (
 passes-deep es files v t none = reaches-way es files (AtStop v stop.Deep) (Arrives v (Refused why.Depth)) t (way-same es files (AtStop v stop.Deep) (Arrives v (Refused why.Depth))
     (λ before page m at. record { last = at.last; is = at.is; lines_are = at.lines_are ∙ ap (λ l. before ++ l) none ∙ append-nil before }))
 
-pub tag-quiet : (v : View) (id : NodeId) → v.lines ≡ [] → (before : List Line) (page : List ℕ) (m : Moment) → AtTag id v before page m → lines_of m ≡ before
-tag-quiet v id none before page m at = ap lines_of at ∙ (ap (λ l. before ++ l) none ∙ append-nil before)
+pub part-tag : (es : Entities) (files : ScriptFiles) (v : View) (id : NodeId) (t : Option (List ℕ)) → ReachesInPart es files (AtTag id v) t t
+part-tag es files v id t = part-with es files (AtTag id v) v.lines t (λ before page m at. ap lines_of at)

@@ -120,11 +120,20 @@ impl Driver {
         self.scripts.fetch(alloc, files, name)?;
         match self.scripts.find(name) {
             // A name that isn't lawful is missing.
-            None | Some(Script::Missing) => self.writer.miss()?,
-            Some(Script::Faulted) => return Ok(Went::Refused(Why::Fault)),
-            Some(Script::Text(text)) => self.writer.run_script(table, text.as_str())?,
+            None => {
+                self.writer.miss()?;
+                Ok(Went::On)
+            }
+            Some(Script::Missing) => {
+                self.writer.miss()?;
+                Ok(Went::On)
+            }
+            Some(Script::Faulted) => Ok(Went::Refused(Why::Fault)),
+            Some(Script::Text(text)) => {
+                self.writer.run_script(table, text.as_str())?;
+                Ok(Went::On)
+            }
         }
-        Ok(Went::On)
     }
 
     // The same, and its lines are written.

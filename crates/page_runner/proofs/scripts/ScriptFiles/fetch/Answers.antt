@@ -1,12 +1,11 @@
-use Rattle.page_runner.specs.Scripts.{Fetches}
-use Rattle.std.proofs.Common.{rules, subst, ◌≡◌, ◌∙◌, sym, ap, refl, true}
+use Rattle.std.proofs.Common.{◌≡◌, ◌∙◌, sym, ap, refl, true}
 use Rattle.std.specs.Str.{chars}
 use Rattle.std.specs.String.{string_bytes}
 use Rattle.std.proofs.lemmas.Map.Text.{btree_map_updates_text}
 use Rattle.outside.specs.Outside.{seen}
 use Rattle.standard.specs.Scripts.{is_lawful}
 use Rattle.page_runner.specs.declared.scripts.ScriptFiles.{ScriptFiles}
-use Rattle.page_runner.proofs.MeetLemmas.{met-there, fetches_read, is_met, fetches_one}
+use Rattle.page_runner.proofs.MeetLemmas.{met-there, fetches_read, fetches_stay, is_met, fetches_one}
 use Rattle.page_runner.proofs.scripts.ScriptFiles.fetch.Goals as goal
 use Rattle.page_runner.proofs.scripts.ScriptFiles.fetch.Goals.{then-not-is_lawful-via-then-not-is_lawful, then-not-is_lawful-via-else-not-is_lawful+then-contains_key}
 
@@ -41,8 +40,7 @@ pub returns-in_err-insert-clause-fetches : goal.returns-in_err-insert-clause-fet
 returns-in_err-insert-clause-fetches g c =
     let at = seen g.F.Outside.files g.F.Outside.left g.F.Outside.faults g.F.Outside.absences in
     let lawful : is_lawful (chars c.args.name.now) ≡ true = sym c.is_lawful.ensures ∙ c.if-not-is_lawful.false in
-    let same : c.insert.new.self ≡ c.args.self.now.met = c.in_err-insert.ensures.err in
-    subst (λ m. Fetches (at c.args.files.now) (at c.read_whole.new.files) c.args.self.now (record { dir = c.args.self.now.dir; met = m })) (sym same)
+    fetches_stay (at c.args.files.now) (at c.read_whole.new.files) c.args.self.now (record { dir = c.args.self.now.dir; met = c.insert.new.self }) refl c.in_err-insert.ensures.err
     (fetches_read (at c.args.files.now) (at c.read_whole.new.files) (string_bytes c.args.self.now.dir) c.as_str.result.now c.args.name.now c.utf8.name lawful (c.as_str.ensures.value ∙ c.in_ok-path.ensures.ok)
     c.args.self.now refl c.read_whole.ensures.no_further)
 
