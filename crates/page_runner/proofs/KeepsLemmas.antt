@@ -2,6 +2,8 @@
 use Rattle.std.proofs.Common.{ℕ, ◌≤◌, refl, ◌∙◌, arith, inl, inr}
 use Rattle.outside.specs.Outside.{Rose, Seen, KeepsOthers}
 use Rattle.outside.specs.declared.traits.Port.{Port}
+use Rattle.outside.specs.declared.traits.Port.TheVariants.{Entities, Page}
+use Rattle.page_runner.specs.Given.{KeepsEntities}
 
 pub keeps-same : (port : Port) (s : Seen) → KeepsOthers port s s
 keeps-same port s = record {
@@ -19,6 +21,18 @@ keeps-then port before now after a b = record {
   left = λ other ne. b.left other ne ∙ a.left other ne;
   other_faults = λ other ne. b.other_faults other ne ∙ a.other_faults other ne;
   other_absences = λ other ne. b.other_absences other ne ∙ a.other_absences other ne;
+  faults = λ p. let first = a.faults p in let second = b.faults p in omega arith;
+  absences = λ p. let first = a.absences p in let second = b.absences p in omega arith;
+}
+
+-- a call at the port of the page leaves the entities alone
+pub keeps-entities : (before after : Seen) → KeepsOthers Page before after → KeepsEntities before after
+keeps-entities before after keeps = record { files = keeps.files; left = keeps.left Entities (λ e. cc e); faults = keeps.faults; absences = keeps.absences }
+
+pub entities-then : (before now after : Seen) → KeepsEntities before now → KeepsEntities now after → KeepsEntities before after
+entities-then before now after a b = record {
+  files = b.files ∙ a.files;
+  left = b.left ∙ a.left;
   faults = λ p. let first = a.faults p in let second = b.faults p in omega arith;
   absences = λ p. let first = a.absences p in let second = b.absences p in omega arith;
 }

@@ -8,3 +8,4 @@ pub mod MeetLemmas
 pub mod PageTakenLemmas
 pub mod WayLemmas
 pub mod RunReads
+pub mod RunLemmas
