@@ -8,4 +8,11 @@ pub mod MeetLemmas
 pub mod PageTakenLemmas
 pub mod WayLemmas
 pub mod RunReads
+pub mod WorldLemmas
+pub mod PageLemmas
+pub mod PagePieces
+pub mod PageEnds
+pub mod PageFaults
 pub mod RunLemmas
+pub mod Complete
+pub mod Causes

@@ -1,5 +1,5 @@
 -- What fetching does to the scripts that were met.
-use Rattle.std.proofs.Common.{◌≡◌, ℕ, Bool, true, false, List, ◌∷◌, ◌++◌, Option, Some, None, IfSome, refl, sym, ap, ◌∙◌, subst, inl, inr, cond, take, ◌+◌}
+use Rattle.std.proofs.Common.{◌≡◌, ℕ, Bool, true, false, List, [], ◌∷◌, ◌++◌, Option, Some, None, IfSome, refl, sym, ap, ◌∙◌, subst, inl, inr, cond, take, ◌+◌}
 use Rattle.std.specs.Prelude.{◌⊎◌, ◌≤◌, IsSome, IsSomeAnd, IfNone, is_some}
 use denote.Bor.{Bor}
 use Rattle.std.specs.Option.{option_map}
@@ -23,7 +23,7 @@ use Rattle.page_runner.specs.declared.scripts.Script.TheVariants.{Text, Missing,
 use Rattle.page_runner.specs.declared.scripts.ScriptFiles.{ScriptFiles}
 use Rattle.page_runner.specs.Given.{given_of, FaultsRose, AbsencesRose, file_at, MayGive, AreRead, ReadTo, untouched, unbegun, begun}
 use Rattle.page_runner.specs.Scripts.{path_of, IsAbsent, MayFetch, ReadScriptsTo, none_begun, last, met_of, StandsFor, IsScriptOf, Knows, Suits, MayMeet, Fetches}
-use Rattle.page_runner.proofs.KeepsLemmas.{rose-on, rose-stays}
+use Rattle.page_runner.proofs.KeepsLemmas.{rose-on, rose-stays, Later, later-others}
 use Rattle.page_runner.proofs.FetchLemmas.{cut-statements, lawful-bytes}
 
 -- ---- one fetch
@@ -155,3 +155,74 @@ fetches_stay before after old new stays same fetches = record {
   where
     here : (name : List ℕ) → met_of new name ≡ met_of old name
     here name = ap (lookup (is_at (λ k. slice_cmp nat_cmp name (string_bytes k)))) same
+
+-- ---- over two calls
+
+module _ (before now after : Seen) (first : Later before now) (second : Later now after) where
+  absent-stays : (file : Option (Option (List ℕ))) → IsAbsent file (AbsencesRose port.Script before now) → IsAbsent file (AbsencesRose port.Script before after)
+  absent-stays None rose = rose-stays _ _ _ rose (second.absences port.Script)
+  absent-stays (Some f) none = none
+
+  absent-since : (file : Option (Option (List ℕ))) → IsAbsent file (AbsencesRose port.Script now after) → IsAbsent file (AbsencesRose port.Script before after)
+  absent-since None rose = rose-on _ _ _ (first.absences port.Script) rose
+  absent-since (Some f) none = none
+
+  -- what could be fetched before still can
+  fetch-stays : (dir name : List ℕ) (f : Fetched) → MayFetch dir before now name f → MayFetch dir before after name f
+  fetch-stays dir name (got bytes) may = may
+  fetch-stays dir name missing may = absent-stays (file_at before (path_of dir name)) may
+  fetch-stays dir name faulted may = rose-stays _ _ _ may (second.faults port.Script)
+
+  -- and what can be fetched later
+  pub fetch-since : (dir name : List ℕ) (f : Fetched) → MayFetch dir now after name f → MayFetch dir before after name f
+  fetch-since dir name (got bytes) may = subst (λ files. IfSome (option_map (λ map. map (path_of dir name)) files) (λ file. file ≡ Some bytes)) first.files may
+  fetch-since dir name missing may = absent-since (file_at before (path_of dir name)) (subst (λ files. IsAbsent (option_map (λ map. map (path_of dir name)) files) (AbsencesRose port.Script now after)) first.files may)
+  fetch-since dir name faulted may = rose-on _ _ _ (first.faults port.Script) may
+
+  -- how far scripts were read
+  read-stays : (path : List ℕ) → after.left port.Script ≡ now.left port.Script → ReadTo SCRIPT_LIMIT port.Script path before now → ReadTo SCRIPT_LIMIT port.Script path before after
+  read-stays path same (untouched e) = untouched (same ∙ e)
+  read-stays path same (unbegun nothing (inl absence)) = unbegun (subst (λ l. IfSome l (λ rest. rest ≡ [])) (sym same) nothing) (inl (rose-stays _ _ _ absence (second.absences port.Script)))
+  read-stays path same (unbegun nothing (inr fault)) = unbegun (subst (λ l. IfSome l (λ rest. rest ≡ [])) (sym same) nothing) (inr (rose-stays _ _ _ fault (second.faults port.Script)))
+  read-stays path same (begun read are most) = begun read (subst (λ l. AreRead (file_at before path) l read) (sym same) are) most
+
+  scripts-stay : (dir : List ℕ) → after.left port.Script ≡ now.left port.Script → ReadScriptsTo SCRIPT_LIMIT dir before now → ReadScriptsTo SCRIPT_LIMIT dir before after
+  scripts-stay dir same (none_begun e) = none_begun (same ∙ e)
+  scripts-stay dir same (last name lawful reads) = last name lawful (read-stays (path_of dir name) same reads)
+
+  scripts-since : (dir name : List ℕ) → is_lawful name ≡ true → ReadScriptsTo SCRIPT_LIMIT dir before now → ReadTo SCRIPT_LIMIT port.Script (path_of dir name) now after → ReadScriptsTo SCRIPT_LIMIT dir before after
+  scripts-since dir name lawful reads (untouched e) = scripts-stay dir e reads
+  scripts-since dir name lawful reads (unbegun nothing (inl absence)) = last name lawful (unbegun nothing (inl (rose-on _ _ _ (first.absences port.Script) absence)))
+  scripts-since dir name lawful reads (unbegun nothing (inr fault)) = last name lawful (unbegun nothing (inr (rose-on _ _ _ (first.faults port.Script) fault)))
+  scripts-since dir name lawful reads (begun read are most) = last name lawful (begun read (subst (λ files. AreRead (option_map (λ map. map (path_of dir name)) files) (after.left port.Script) read) first.files are) most)
+
+  pub scripts-then : (dir : List ℕ) → ReadScriptsTo SCRIPT_LIMIT dir before now → ReadScriptsTo SCRIPT_LIMIT dir now after → ReadScriptsTo SCRIPT_LIMIT dir before after
+  scripts-then dir reads (none_begun e) = scripts-stay dir e reads
+  scripts-then dir reads (last name lawful reads') = scripts-since dir name lawful reads reads'
+
+  pub fetches-then : (old mid new : ScriptFiles) → Fetches before now old mid → Fetches now after mid new → Fetches before after old new
+  fetches-then old mid new a b = record {
+    dir = b.dir ∙ a.dir;
+    kept = λ name script is. b.kept name script (a.kept name script is);
+    fresh = λ name script is. fresh_of name script (b.fresh name script is);
+    no_further = scripts-then (string_bytes old.dir) a.no_further (subst (λ d. ReadScriptsTo SCRIPT_LIMIT d now after) (ap string_bytes a.dir) b.no_further);
+  }
+    where
+      stay_of : (name : List ℕ) (script : Script) → (met_of old name ≡ Some script) ⊎ MayMeet (string_bytes old.dir) before now name script → (met_of old name ≡ Some script) ⊎ MayMeet (string_bytes old.dir) before after name script
+      stay_of name script (inl is) = inl is
+      stay_of name script (inr may) = inr (may.0, fetch-stays (string_bytes old.dir) name may.0 may.1, may.2)
+
+      fresh_of : (name : List ℕ) (script : Script) → (met_of mid name ≡ Some script) ⊎ MayMeet (string_bytes mid.dir) now after name script → (met_of old name ≡ Some script) ⊎ MayMeet (string_bytes old.dir) before after name script
+      fresh_of name script (inl is) = stay_of name script (a.fresh name script is)
+      fresh_of name script (inr may) =
+          let there : MayMeet (string_bytes old.dir) now after name script = subst (λ d. MayMeet d now after name script) (ap string_bytes a.dir) may in
+          inr (there.0, fetch-since (string_bytes old.dir) name there.0 there.1, there.2)
+
+-- other ports were read
+pub fetches-past : (p : Port) (before after : Seen) (s : ScriptFiles) → (port.Script ≡ p → ⊥) → KeepsOthers p before after → Fetches before after s s
+fetches-past p before after s other keeps = fetches_none before after s (none_begun (keeps.left port.Script other))
+
+-- the scripts between two calls are the same
+pub fetches-on : (before now after : Seen) (old mid mid' new : ScriptFiles) → KeepsOthers port.Script before now → KeepsOthers port.Script now after → mid' ≡ mid → Fetches before now old mid → Fetches now after mid' new → Fetches before after old new
+fetches-on before now after old mid mid' new first second same a b =
+    fetches-then before now after (later-others port.Script before now first) (later-others port.Script now after second) old mid new a (subst (λ s. Fetches now after s new) same b)

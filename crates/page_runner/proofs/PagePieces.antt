@@ -1,55 +1,58 @@
 -- What comes of a piece of a page.
-use Rattle.std.proofs.Common.{◌≡◌, ℕ, List, ◌++◌, Option, Some, None, sym, ap, ◌∙◌}
-use Rattle.std.specs.Prelude.{Result, Ok, Err, OnErr}
+use Rattle.std.proofs.Common.{◌≡◌, ℕ, List, ◌++◌, Option, Some, None, refl, sym, ap, ◌∙◌, subst}
 use Rattle.html_types.specs.declared.script.Ending.{Ending}
 use Rattle.html_types.specs.declared.script.Why.{Why}
+use Rattle.outside.specs.Outside.{Seen}
 use Rattle.standard.specs.Entities.{Entities}
 use Rattle.standard.specs.Page.{text_of, shown}
 use Rattle.utf8_pieces.specs.declared.decoder.Decoder.{Decoder}
 use Rattle.utf8_pieces.specs.Decoder.{HasRead}
 use Rattle.page_runner.specs.declared.page.TheConstants.{PAGE_LIMIT}
+use Rattle.page_runner.specs.declared.driver.Driver.{Driver}
 use Rattle.page_runner.specs.declared.driver.Went.TheVariants as went
 use Rattle.page_runner.specs.declared.outcome.Outcome.{Outcome as Told}
 use Rattle.page_runner.specs.declared.outcome.Outcome.TheVariants as told
-use Rattle.page_runner.specs.Driving.{View}
+use Rattle.page_runner.specs.declared.scripts.ScriptFiles.{ScriptFiles}
+use Rattle.page_runner.specs.Scripts.{Fetches}
 use Rattle.page_runner.specs.Moments.{Takes, TakesFront}
-use Rattle.page_runner.specs.Pages.{StandsAt, EndsAs, TakesPiece, TakesPieceInPart}
+use Rattle.page_runner.specs.Pages.{StandsAt, TookOf, EndsAs, TakesPiece, TakesPieceInPart}
+use Rattle.page_runner.proofs.WayLemmas.{Agrees, suits-before}
 use Rattle.page_runner.proofs.PageLemmas.{stands_on, past_stop, past_ending, took_of_part, took_of_lines, took_of_less}
 
-pub on_err : {T E : Type 0} (r : Result T E) (P : Type 0) → P → OnErr r P
-on_err (Ok x) P p = tt
-on_err (Err e) P p = p
-
 -- no text of it was parsed
-pub piece_unread : (es : Entities) (d : Decoder) (v : View) (piece : List ℕ) (now : Option (List ℕ)) → TakesPieceInPart es d v piece now now
-piece_unread es d v piece now = record { front = λ read t has at. took_of_less es read piece t now (took_of_lines es read v t now at) }
+pub piece_unread : (es : Entities) (u : Decoder) (d : Driver) (piece : List ℕ) (now : Option (List ℕ)) → TakesPieceInPart es d.scripts u d piece now now
+piece_unread es u d piece now = record { front = λ read t has at. took_of_less es d.scripts read piece t now (took_of_lines es read d t now at) }
 
 -- Its text, as it was parsed, is that which the decoder gave.
-module _ (es : Entities) (d d' : Decoder) (v v' : View) (piece text fed : List ℕ) (now t' : Option (List ℕ)) (same : text ≡ fed)
-    (gives : (limit : ℕ) (read : List ℕ) → HasRead limit d read → text_of limit (read ++ piece) ≡ text_of limit read ++ fed) where
-  text_is : (read : List ℕ) → HasRead PAGE_LIMIT d read → text_of PAGE_LIMIT (read ++ piece) ≡ text_of PAGE_LIMIT read ++ text
+module _ (es : Entities) (u u' : Decoder) (d d' : Driver) (before after : Seen) (fetches : Fetches before after d.scripts d'.scripts) (piece text fed : List ℕ) (now t' : Option (List ℕ)) (same : text ≡ fed)
+    (gives : (limit : ℕ) (read : List ℕ) → HasRead limit u read → text_of limit (read ++ piece) ≡ text_of limit read ++ fed) where
+  text_is : (read : List ℕ) → HasRead PAGE_LIMIT u read → text_of PAGE_LIMIT (read ++ piece) ≡ text_of PAGE_LIMIT read ++ text
   text_is read has = gives PAGE_LIMIT read has ∙ ap (λ t. text_of PAGE_LIMIT read ++ t) (sym same)
 
-  pub piece_in_part : TakesFront es v text now t' → TakesPieceInPart es d v piece now t'
-  piece_in_part part = record { front = λ read t has at. took_of_part es read piece text v t now t' (text_is read has) at part }
+  agrees : Agrees es d.scripts d'.scripts
+  agrees w suits = suits-before es before after d.scripts d'.scripts w fetches suits
 
-  pub piece_stops : (why : Why) → Takes es v v' text now t' (went.Refused why) → TakesPiece es d d' v v' piece now t' (Some (told.Refused why))
-  piece_stops why takes = record { comes = λ read t has at. past_stop es read piece text v t now t' (text_is read has) at v' takes.more why takes.went takes.took }
+  pub piece_in_part : TakesFront es d'.scripts d.writer text now t' → TakesPieceInPart es d'.scripts u d piece now t'
+  piece_in_part part = record { front = λ read t has at. took_of_part es read piece text d d'.scripts agrees t now t' (text_is read has) at part }
 
-  stands_behind : Takes es v v' text now t' went.On → (read : List ℕ) (t : Option (List ℕ)) → HasRead PAGE_LIMIT d read → StandsAt es read v t now → StandsAt es (read ++ piece) v' t t'
-  stands_behind takes read t has at = stands_on es read piece text v t now t' (text_is read has) at v' takes.more takes.went takes.took
+  pub piece_stops : (reason : Why) → Takes es d'.scripts d.writer d'.writer text now t' (went.Refused reason) → TakesPiece es u u' d d' piece now t' (Some (told.Refused reason))
+  piece_stops reason takes = record { comes = λ read t has at. past_stop es read piece text d d'.scripts agrees t now t' (text_is read has) at d' refl reason takes }
 
-  -- memory ran out at the end of the page
-  pub piece_end_in_part : Takes es v v' text now t' went.On → TakesPieceInPart es d v piece now t'
-  piece_end_in_part takes = record { front = λ read t has at. took_of_lines es (read ++ piece) v' t t' (stands_behind takes read t has at) }
+  module _ (takes : Takes es d'.scripts d.writer d'.writer text now t' went.On) where
+    stands_behind : (read : List ℕ) (t : Option (List ℕ)) → HasRead PAGE_LIMIT u read → StandsAt es read d t now → StandsAt es (read ++ piece) d' t t'
+    stands_behind read t has at = stands_on es read piece text d d'.scripts agrees t now t' (text_is read has) at d' refl takes
 
-  module _ (e : Option Ending) (shows : (limit : ℕ) (read : List ℕ) → HasRead limit d read → e ≡ shown limit (read ++ piece)) where
-    pub piece_goes_on : Takes es v v' text now t' went.On → e ≡ None → ((limit : ℕ) (read : List ℕ) → HasRead limit d read → HasRead limit d' (read ++ piece)) → TakesPiece es d d' v v' piece now t' None
-    piece_goes_on takes none has_read = record {
-      comes = λ read t has at. (has_read PAGE_LIMIT read has, sym (shows PAGE_LIMIT read has) ∙ none, stands_behind takes read t has at);
-    }
+    -- memory ran out at the end of the page
+    pub piece_end_in_part : (files : ScriptFiles) → files ≡ d'.scripts → TakesPieceInPart es files u d piece now t'
+    piece_end_in_part files is = record { front = λ read t has at. subst (λ s. TookOf es s (read ++ piece) t t') (sym is) (took_of_lines es (read ++ piece) d' t t' (stands_behind read t has at)) }
 
-    pub piece_ends : (v'' : View) (ending : Ending) (o : Told) → Takes es v v' text now t' went.On → e ≡ Some ending → EndsAs es v' v'' ending o → TakesPiece es d d' v v'' piece now t' (Some o)
-    piece_ends v'' ending o takes some ends = record {
-      comes = λ read t has at. past_ending es (read ++ piece) v' v'' t t' ending o (stands_behind takes read t has at) (sym (shows PAGE_LIMIT read has) ∙ some) ends;
-    }
+    module _ (e : Option Ending) (shows : (limit : ℕ) (read : List ℕ) → HasRead limit u read → e ≡ shown limit (read ++ piece)) where
+      pub piece_goes_on : e ≡ None → ((limit : ℕ) (read : List ℕ) → HasRead limit u read → HasRead limit u' (read ++ piece)) → TakesPiece es u u' d d' piece now t' None
+      piece_goes_on none has_read = record {
+        comes = λ read t has at. (has_read PAGE_LIMIT read has, sym (shows PAGE_LIMIT read has) ∙ none, stands_behind read t has at);
+      }
+
+      pub piece_ends : (d'' : Driver) (ending : Ending) (o : Told) → d''.scripts ≡ d'.scripts → e ≡ Some ending → EndsAs es d'.writer d''.writer ending o → TakesPiece es u u' d d'' piece now t' (Some o)
+      piece_ends d'' ending o is some ends = record {
+        comes = λ read t has at. past_ending es (read ++ piece) d' d'' t t' ending o is (stands_behind read t has at) (sym (shows PAGE_LIMIT read has) ∙ some) ends;
+      }

@@ -43,6 +43,10 @@ pub on_err : {T E : Type 0} (r : Result T E) (p : Type 0) → p → OnErr r p
 on_err (Ok x) p h = tt
 on_err (Err e) p h = h
 
+pub err_weaker : {T E : Type 0} (r : Result T E) (p q : Type 0) → (p → q) → OnErr r p → OnErr r q
+err_weaker (Ok x) p q h part = tt
+err_weaker (Err e) p q h part = h part
+
 -- ---- worlds
 
 -- what suits all that was met suits what was met before
@@ -51,6 +55,9 @@ suits-before es before after old new w fetches suits = record {
   entities = suits.entities;
   knows = record { each = λ name script is. suits.knows.each name script (fetches.kept name script is) };
 }
+
+pub agrees-same : (es : Entities) (old new : ScriptFiles) → new ≡ old → (w : World) → Suits es new w → Suits es old w
+agrees-same es old new same w suits = subst (λ s. Suits es s w) same suits
 
 abbrev pub Agrees : Entities → ScriptFiles → ScriptFiles → Type 0
 Agrees es old new = (w : World) → Suits es new w → Suits es old w
@@ -229,11 +236,11 @@ moment_again v before page = ap (λ l. moment_of v l page) (sym (append-nil befo
 
 module _ (es : Entities) (files : ScriptFiles) (old : View) (name : List ℕ) (pending : old.pending ≡ Some name) (halted : old.halted ≡ None) where
   -- the script is missing
-  pub resumes_missing : (new : View) → ((w : World) → fetched w name ≡ missing) → HasMissed old.halted old.pending old new → Way es files (Stands old) (Resumes new On) []
+  pub resumes_missing : (new : View) → ((w : World) → Suits es files w → fetched w name ≡ missing) → HasMissed old.halted old.pending old new → Way es files (Stands old) (Resumes new On) []
   resumes_missing new none missed = record {
     leads = λ e w m from before page suits is at.
         let await = stands_awaits old name before page from pending halted is in
-        let leads = awaits-missing e w m name (serial_of old before page) (subst (λ k. Leads e w m k) await at) (none w) in
+        let leads = awaits-missing e w m name (serial_of old before page) (subst (λ k. Leads e w m k) await at) (none w suits) in
         let there : new ≡ record old { lines = old.lines ++ line.Miss name ∷ []; pending = None } =
         subst (λ h. HasMissed h (Some name) old new) halted (subst (λ p. HasMissed old.halted p old new) pending missed) in
         (reading (serial_with old page ((before ++ old.lines) ++ line.Miss name ∷ [])),
@@ -355,6 +362,11 @@ module _ (es : Entities) (files : ScriptFiles) (From : List Line → List ℕ �
           let there : StandsBy (Some r) v before page m = subst (λ h. StandsBy h v before page m) halted at in
           record { last = there.last; is = there.is; lines_are = there.lines ∙ ap (λ l. before ++ l) none ∙ append-nil before }
 
+-- one turn more
+pub turn-fed : (es : Entities) (s s' : ScriptFiles) (From : List Line → List ℕ → Moment → Type 0) (mid v : View) (t t' t'' : Option (List ℕ)) → s' ≡ s → Reaches es s From (Stands mid) t t' → Reaches es s' (Stands mid) (Stands v) t' t''
+    → Reaches es s' From (Stands v) t t''
+turn-fed es s s' From mid v t t' t'' same first second = reaches-then es s s' From (Stands mid) (Stands v) t t' t'' (agrees-same es s s' same) first second
+
 -- the awaited script ended the parse
 pub fed-over : (es : Entities) (files : ScriptFiles) (From : List Line → List ℕ → Moment → Type 0) (v : View) (r : Why) (t t' : Option (List ℕ)) → v.lines ≡ [] → Reaches es files From (Resumes v (Refused r)) t t'
     → Reaches es files From (Arrives v (Refused r)) t t'
@@ -404,37 +416,36 @@ way-parses es files old new bytes ran ready parses =
 pub ready-parses : (es : Entities) (old new : View) (bytes : List ℕ) (ran : Ran) → IsReady old → Parses es old new bytes ran → IsReady new
 ready-parses es old new bytes ran ready parses = subst IsReady (sym parses.others) (record { lines = ready.lines; rest = ready.rest; pending = ready.pending; halted = ready.halted })
 
-module _ (es : Entities) (files : ScriptFiles) (From : List Line → List ℕ → Moment → Type 0) (v new : View) (bytes : List ℕ) (ran : Ran) (t t' : Option (List ℕ)) (ready : IsReady v) (reaches : Reaches es files From (AtText v (chars bytes)) t t') where
-  -- memory ran out in front of it
-  pub text-unparsed : ReachesInPart es files From t t'
-  text-unparsed = part-then es files files From (AtText v (chars bytes)) t t' t' (λ w s. s) reaches
-      (part-with es files (AtText v (chars bytes)) v.lines t' (λ before page m at. ap lines_of at))
+-- memory ran out in front of a text
+pub text-unparsed : (es : Entities) (files : ScriptFiles) (From : List Line → List ℕ → Moment → Type 0) (v : View) (text : List ℕ) (t t' : Option (List ℕ)) → Reaches es files From (AtText v text) t t' → ReachesInPart es files From t t'
+text-unparsed es files From v text t t' reaches = part-then es files files From (AtText v text) t t' t' (λ w s. s) reaches (part-with es files (AtText v text) v.lines t' (λ before page m at. ap lines_of at))
 
-  module _ (parses : Parses es v new bytes ran) where
-    pub text-stops : Reaches es files From (AtStopIn new ran.stop (chars (drop ran.used bytes))) t t'
-    text-stops = reaches-then es files files From (AtText v (chars bytes)) (AtStopIn new ran.stop (chars (drop ran.used bytes))) t t' t' (λ w s. s) reaches
-        (reaches-way es files (AtText v (chars bytes)) (AtStopIn new ran.stop (chars (drop ran.used bytes))) t' (way-parses es files v new bytes ran ready parses))
+module _ (es : Entities) (files : ScriptFiles) (From : List Line → List ℕ → Moment → Type 0) (v new : View) (bytes : List ℕ) (ran : Ran) (t t' : Option (List ℕ)) (ready : IsReady v) (reaches : Reaches es files From (AtText v (chars bytes)) t t')
+    (parses : Parses es v new bytes ran) where
+  pub text-stops : Reaches es files From (AtStopIn new ran.stop (chars (drop ran.used bytes))) t t'
+  text-stops = reaches-then es files files From (AtText v (chars bytes)) (AtStopIn new ran.stop (chars (drop ran.used bytes))) t t' t' (λ w s. s) reaches
+      (reaches-way es files (AtText v (chars bytes)) (AtStopIn new ran.stop (chars (drop ran.used bytes))) t' (way-parses es files v new bytes ran ready parses))
 
-    -- all of it is used
-    pub text-ends : ran.stop ≡ stop.InputEnd → Reaches es files From (Arrives new On) t t'
-    text-ends ended =
+  -- all of it is used
+  pub text-ends : ran.stop ≡ stop.InputEnd → Reaches es files From (Arrives new On) t t'
+  text-ends ended =
+      let left : List ℕ = chars (drop ran.used bytes) in
+      let none : left ≡ [] = parse-left es v.parser new.parser v.doc new.doc (chars bytes) left (subst (λ k. HasParsed es v.parser v.doc (chars bytes) new.parser new.doc left k) ended parses.parsed) in
+      subst (λ l. Reaches es files From (AtStopIn new stop.InputEnd l) t t') none (subst (λ k. Reaches es files From (AtStopIn new k left) t t') ended text-stops)
+
+  -- its stop was passed
+  module _ (files' : ScriptFiles) (t'' : Option (List ℕ)) (agrees : Agrees es files files') where
+    pub text-passes : (new' : View) (went : Went) → Reaches es files' (AtStop new ran.stop) (Arrives new' went) t' t''
+        → Reaches es files' From (λ before page m. Arrives new' went before (chars (drop ran.used bytes) ++ page) m) t t''
+    text-passes new' went passes =
         let left : List ℕ = chars (drop ran.used bytes) in
-        let none : left ≡ [] = parse-left es v.parser new.parser v.doc new.doc (chars bytes) left (subst (λ k. HasParsed es v.parser v.doc (chars bytes) new.parser new.doc left k) ended parses.parsed) in
-        subst (λ l. Reaches es files From (AtStopIn new stop.InputEnd l) t t') none (subst (λ k. Reaches es files From (AtStopIn new k left) t t') ended text-stops)
+        reaches-then es files files' From (AtStopIn new ran.stop left) (λ before page m. Arrives new' went before (left ++ page) m) t t' t'' agrees text-stops
+        (reaches-shift es files' (AtStop new ran.stop) (Arrives new' went) t' t'' left passes)
 
-    -- its stop was passed
-    module _ (files' : ScriptFiles) (t'' : Option (List ℕ)) (agrees : Agrees es files files') where
-      pub text-passes : (new' : View) (went : Went) → Reaches es files' (AtStop new ran.stop) (Arrives new' went) t' t''
-          → Reaches es files' From (λ before page m. Arrives new' went before (chars (drop ran.used bytes) ++ page) m) t t''
-      text-passes new' went passes =
-          let left : List ℕ = chars (drop ran.used bytes) in
-          reaches-then es files files' From (AtStopIn new ran.stop left) (λ before page m. Arrives new' went before (left ++ page) m) t t' t'' agrees text-stops
-          (reaches-shift es files' (AtStop new ran.stop) (Arrives new' went) t' t'' left passes)
-
-      pub text-gives_up : ReachesInPart es files' (AtStop new ran.stop) t' t'' → ReachesInPart es files' From t t''
-      text-gives_up part =
-          let left : List ℕ = chars (drop ran.used bytes) in
-          part-then es files files' From (AtStopIn new ran.stop left) t t' t'' agrees text-stops (part-shift es files' (AtStop new ran.stop) t' t'' left part)
+    pub text-gives_up : ReachesInPart es files' (AtStop new ran.stop) t' t'' → ReachesInPart es files' From t t''
+    text-gives_up part =
+        let left : List ℕ = chars (drop ran.used bytes) in
+        part-then es files files' From (AtStopIn new ran.stop left) t t' t'' agrees text-stops (part-shift es files' (AtStop new ran.stop) t' t'' left part)
 
 -- the written lines and the text of a script's line come in order
 pub line-front : (t now t' : Option (List ℕ)) (lines : List Line) (i : ℕ) (a : Line) → i < length lines → a ≡ get_or lines i a → Took t now (flat_map line_text (take i lines)) → TookFront now t' (line_text a)

@@ -93,8 +93,8 @@ impl Driver {
     ) -> Result<Left, Failure>
         ensures scripts { self.new.scripts ≡ self.old.scripts }
         ensures left { IfOk result (λ left. IsLeft left self.new.writer) }
-        ensures reaches { OnOk result (Reaches table.now self.old.scripts (Stands self.old.writer) (Stands self.new.writer) (K.taken out.old) (K.taken out.new)) }
-        ensures part { OnErr result (ReachesInPart table.now self.old.scripts (Stands self.old.writer) (K.taken out.old) (K.taken out.new)) }
+        ensures reaches { OnOk result (Reaches table.now self.new.scripts (Stands self.old.writer) (Stands self.new.writer) (K.taken out.old) (K.taken out.new)) }
+        ensures part { OnErr result (ReachesInPart table.now self.new.scripts (Stands self.old.writer) (K.taken out.old) (K.taken out.new)) }
         ensures write { IsErrOf result Failure.Write → Rose (K.faults out.old) (K.faults out.new) }
         ensures faults { K.faults out.old ≤ K.faults out.new }
     {

@@ -1,16 +1,15 @@
-use Rattle.html_types.specs.declared.script.Ending.TheVariants as ending
-use Rattle.page_runner.proofs.PageLemmas.{ends_refused, ends_finished}
+use Rattle.page_runner.proofs.PageLemmas.{ends_bad, ends_long, ends_fault, ends_finished}
 use Rattle.page_runner.proofs.page.end.Goals as goal
 
-pub returns-in_ok-finish-in-End : goal.returns-in_ok-finish-in-End
-returns-in_ok-finish-in-End c =
-    rw (c.in-End.is, c.outcome_at.ensures) (ends_finished c.args.table.now c.args.driver.now c.finish.new.self c.in_ok-finish-in-End.finish c.in_ok-finish-in-End.ensures)
+pub returns-in_ok-finish-in-End-clause-ends : goal.returns-in_ok-finish-in-End-clause-ends
+returns-in_ok-finish-in-End-clause-ends c =
+    rw (c.in-End.is, c.outcome_at.ensures) (ends_finished c.args.table.now c.args.driver.now.writer c.requires c.finish.new.self.writer c.in_ok-finish-in-End.finish c.in_ok-finish-in-End.ensures.finished)
 
-pub returns-in-Bad : goal.returns-in-Bad
-returns-in-Bad c = rw c.in-Bad.is (ends_refused c.args.table.now c.args.driver.now ending.Bad (λ e. cc e))
+pub returns-in-Bad-clause-ends : goal.returns-in-Bad-clause-ends
+returns-in-Bad-clause-ends c = rw c.in-Bad.is (ends_bad c.args.table.now c.args.driver.now.writer c.requires)
 
-pub returns-in-Long : goal.returns-in-Long
-returns-in-Long c = rw c.in-Long.is (ends_refused c.args.table.now c.args.driver.now ending.Long (λ e. cc e))
+pub returns-in-Long-clause-ends : goal.returns-in-Long-clause-ends
+returns-in-Long-clause-ends c = rw c.in-Long.is (ends_long c.args.table.now c.args.driver.now.writer c.requires)
 
-pub returns-in-Fault : goal.returns-in-Fault
-returns-in-Fault c = rw c.in-Fault.is (ends_refused c.args.table.now c.args.driver.now ending.Fault (λ e. cc e))
+pub returns-in-Fault-clause-ends : goal.returns-in-Fault-clause-ends
+returns-in-Fault-clause-ends c = rw c.in-Fault.is (ends_fault c.args.table.now c.args.driver.now.writer c.requires)

@@ -1,0 +1,99 @@
+use Rattle.std.proofs.Common.{◌≡◌, Some, None, [], sym, subst, ap, ◌∙◌, arith}
+use Rattle.outside.specs.Outside.{seen}
+use Rattle.outside.specs.declared.traits.Port.TheVariants.{Script}
+use Rattle.write_parser.specs.Writing.{Stands, why_of}
+use Rattle.write_parser.specs.declared.left.Left.TheVariants as left
+use Rattle.page_runner.specs.declared.driver.Went.TheVariants.{On, Refused}
+use Rattle.page_runner.specs.declared.scripts.ScriptFiles.{ScriptFiles}
+use Rattle.page_runner.specs.Scripts.{Fetches}
+use Rattle.page_runner.specs.Moments.{IsLeft, IsReady, Arrives, Resumes, Reaches, ReachesInPart}
+use Rattle.page_runner.proofs.KeepsLemmas.{keeps-same, keeps-then}
+use Rattle.page_runner.proofs.MeetLemmas.{fetches_same, fetches-on}
+use Rattle.page_runner.proofs.WayLemmas.{on_err, part-stands, part-then, reaches-then, way-same, reaches-way, fed-empty, fed-refused, fed-over, suits-before, agrees-same, turn-fed}
+use Rattle.page_runner.proofs.driver.Driver.feed.Goals as goal
+
+pub turns-init : goal.turns-init
+turns-init g c = record {
+  reaches = reaches-way c.args.table.now c.args.self.now.scripts (Stands c.args.self.now.writer) (Stands c.args.self.now.writer) (g.K.Sink.taken c.args.out.now)
+      (way-same c.args.table.now c.args.self.now.scripts (Stands c.args.self.now.writer) (Stands c.args.self.now.writer) (λ before page m at. at));
+  fetches = fetches_same _ c.args.self.now.scripts;
+  others = keeps-same _ _;
+  faults = omega arith;
+}
+
+pub returns-in_err-feed_left-clause-part : goal.returns-in_err-feed_left-clause-part
+returns-in_err-feed_left-clause-part g c =
+    on_err _ _ (part-then c.args.table.now c.turns.self.scripts c.feed_left.new.self.scripts (Stands c.args.self.now.writer) (Stands c.turns.self.writer) (g.K.Sink.taken c.args.out.now) (g.K.Sink.taken c.turns.out) (g.K.Sink.taken c.feed_left.new.out)
+    (agrees-same c.args.table.now c.turns.self.scripts c.feed_left.new.self.scripts c.feed_left.ensures.scripts) c.turns.invariant.reaches c.in_err-feed_left.ensures.part)
+
+pub returns-in-Empty-clause-reaches : goal.returns-in-Empty-clause-reaches
+returns-in-Empty-clause-reaches g c =
+    let left : IsReady c.feed_left.new.self.writer = subst (λ k. IsLeft k c.feed_left.new.self.writer) c.in-Empty.is c.in_ok-feed_left.ensures.left in
+    fed-empty c.args.table.now c.feed_left.new.self.scripts (Stands c.args.self.now.writer) c.feed_left.new.self.writer (g.K.Sink.taken c.args.out.now) (g.K.Sink.taken c.feed_left.new.out)
+    (turn-fed c.args.table.now c.turns.self.scripts c.feed_left.new.self.scripts (Stands c.args.self.now.writer) c.turns.self.writer c.feed_left.new.self.writer (g.K.Sink.taken c.args.out.now) (g.K.Sink.taken c.turns.out)
+    (g.K.Sink.taken c.feed_left.new.out) c.feed_left.ensures.scripts c.turns.invariant.reaches c.in_ok-feed_left.ensures.reaches) left
+
+pub returns-in-Limit-clause-reaches : goal.returns-in-Limit-clause-reaches
+returns-in-Limit-clause-reaches g c =
+    let left : IsLeft (left.Limit c.in-Limit.limit) c.feed_left.new.self.writer = subst (λ k. IsLeft k c.feed_left.new.self.writer) c.in-Limit.is c.in_ok-feed_left.ensures.left in
+    rw c.why_of.ensures
+    (fed-refused c.args.table.now c.feed_left.new.self.scripts (Stands c.args.self.now.writer) c.feed_left.new.self.writer (g.K.Sink.taken c.args.out.now) (g.K.Sink.taken c.feed_left.new.out)
+    (turn-fed c.args.table.now c.turns.self.scripts c.feed_left.new.self.scripts (Stands c.args.self.now.writer) c.turns.self.writer c.feed_left.new.self.writer (g.K.Sink.taken c.args.out.now) (g.K.Sink.taken c.turns.out)
+    (g.K.Sink.taken c.feed_left.new.out) c.feed_left.ensures.scripts c.turns.invariant.reaches c.in_ok-feed_left.ensures.reaches)
+    (why_of c.in-Limit.limit) left.0 left.1)
+
+pub returns-in_err-run_awaited-in-Awaits-clause-part : goal.returns-in_err-run_awaited-in-Awaits-clause-part
+returns-in_err-run_awaited-in-Awaits-clause-part g c =
+    let at = seen g.F.Outside.files g.F.Outside.left g.F.Outside.faults g.F.Outside.absences in
+    on_err _ _ (part-then c.args.table.now c.feed_left.new.self.scripts c.run_awaited.new.self.scripts (Stands c.args.self.now.writer) (Stands c.feed_left.new.self.writer) (g.K.Sink.taken c.args.out.now) (g.K.Sink.taken c.feed_left.new.out)
+    (g.K.Sink.taken c.run_awaited.new.out) (λ w. suits-before c.args.table.now (at c.turns.files) (at c.run_awaited.new.files) c.feed_left.new.self.scripts c.run_awaited.new.self.scripts w c.run_awaited.ensures.fetches)
+    (turn-fed c.args.table.now c.turns.self.scripts c.feed_left.new.self.scripts (Stands c.args.self.now.writer) c.turns.self.writer c.feed_left.new.self.writer (g.K.Sink.taken c.args.out.now) (g.K.Sink.taken c.turns.out)
+    (g.K.Sink.taken c.feed_left.new.out) c.feed_left.ensures.scripts c.turns.invariant.reaches c.in_ok-feed_left.ensures.reaches)
+    c.in_err-run_awaited-in-Awaits.ensures.part)
+
+pub returns-in_err-run_awaited-in-Awaits-clause-fetches : goal.returns-in_err-run_awaited-in-Awaits-clause-fetches
+returns-in_err-run_awaited-in-Awaits-clause-fetches g c =
+    let at = seen g.F.Outside.files g.F.Outside.left g.F.Outside.faults g.F.Outside.absences in
+    fetches-on (at c.args.files.now) (at c.turns.files) (at c.run_awaited.new.files) c.args.self.now.scripts c.turns.self.scripts c.feed_left.new.self.scripts c.run_awaited.new.self.scripts c.turns.invariant.others c.run_awaited.ensures.others
+    c.feed_left.ensures.scripts c.turns.invariant.fetches c.run_awaited.ensures.fetches
+
+pub returns-in-Refused-clause-reaches : goal.returns-in-Refused-clause-reaches
+returns-in-Refused-clause-reaches g c =
+    let at = seen g.F.Outside.files g.F.Outside.left g.F.Outside.faults g.F.Outside.absences in
+    fed-over c.args.table.now c.run_awaited.new.self.scripts (Stands c.args.self.now.writer) c.run_awaited.new.self.writer c.in-Refused.why (g.K.Sink.taken c.args.out.now) (g.K.Sink.taken c.run_awaited.new.out)
+    c.in_ok-run_awaited-in-Awaits.ensures.lines
+    (reaches-then c.args.table.now c.feed_left.new.self.scripts c.run_awaited.new.self.scripts (Stands c.args.self.now.writer) (Stands c.feed_left.new.self.writer) (Resumes c.run_awaited.new.self.writer (Refused c.in-Refused.why))
+    (g.K.Sink.taken c.args.out.now) (g.K.Sink.taken c.feed_left.new.out) (g.K.Sink.taken c.run_awaited.new.out)
+    (λ w. suits-before c.args.table.now (at c.turns.files) (at c.run_awaited.new.files) c.feed_left.new.self.scripts c.run_awaited.new.self.scripts w c.run_awaited.ensures.fetches)
+    (turn-fed c.args.table.now c.turns.self.scripts c.feed_left.new.self.scripts (Stands c.args.self.now.writer) c.turns.self.writer c.feed_left.new.self.writer (g.K.Sink.taken c.args.out.now) (g.K.Sink.taken c.turns.out)
+    (g.K.Sink.taken c.feed_left.new.out) c.feed_left.ensures.scripts c.turns.invariant.reaches c.in_ok-feed_left.ensures.reaches)
+    (subst (λ w. Reaches c.args.table.now c.run_awaited.new.self.scripts (Stands c.feed_left.new.self.writer) (Resumes c.run_awaited.new.self.writer w) (g.K.Sink.taken c.feed_left.new.out) (g.K.Sink.taken c.run_awaited.new.out)) c.in-Refused.is
+    c.in_ok-run_awaited-in-Awaits.ensures.reaches))
+
+pub returns-in-Refused-clause-fetches : goal.returns-in-Refused-clause-fetches
+returns-in-Refused-clause-fetches g c =
+    let at = seen g.F.Outside.files g.F.Outside.left g.F.Outside.faults g.F.Outside.absences in
+    fetches-on (at c.args.files.now) (at c.turns.files) (at c.run_awaited.new.files) c.args.self.now.scripts c.turns.self.scripts c.feed_left.new.self.scripts c.run_awaited.new.self.scripts c.turns.invariant.others c.run_awaited.ensures.others
+    c.feed_left.ensures.scripts c.turns.invariant.fetches c.run_awaited.ensures.fetches
+
+pub turns-preserved : goal.turns-preserved
+turns-preserved g c =
+    let at = seen g.F.Outside.files g.F.Outside.left g.F.Outside.faults g.F.Outside.absences in
+    record {
+      reaches = reaches-then c.args.table.now c.feed_left.new.self.scripts c.run_awaited.new.self.scripts (Stands c.args.self.now.writer) (Stands c.feed_left.new.self.writer) (Stands c.run_awaited.new.self.writer)
+          (g.K.Sink.taken c.args.out.now) (g.K.Sink.taken c.feed_left.new.out) (g.K.Sink.taken c.run_awaited.new.out)
+          (λ w. suits-before c.args.table.now (at c.turns.files) (at c.run_awaited.new.files) c.feed_left.new.self.scripts c.run_awaited.new.self.scripts w c.run_awaited.ensures.fetches)
+          (turn-fed c.args.table.now c.turns.self.scripts c.feed_left.new.self.scripts (Stands c.args.self.now.writer) c.turns.self.writer c.feed_left.new.self.writer (g.K.Sink.taken c.args.out.now) (g.K.Sink.taken c.turns.out)
+    (g.K.Sink.taken c.feed_left.new.out) c.feed_left.ensures.scripts c.turns.invariant.reaches c.in_ok-feed_left.ensures.reaches)
+          (subst (λ w. Reaches c.args.table.now c.run_awaited.new.self.scripts (Stands c.feed_left.new.self.writer) (Resumes c.run_awaited.new.self.writer w) (g.K.Sink.taken c.feed_left.new.out) (g.K.Sink.taken c.run_awaited.new.out)) c.in-On.is
+          c.in_ok-run_awaited-in-Awaits.ensures.reaches);
+      fetches = fetches-on (at c.args.files.now) (at c.turns.files) (at c.run_awaited.new.files) c.args.self.now.scripts c.turns.self.scripts c.feed_left.new.self.scripts c.run_awaited.new.self.scripts c.turns.invariant.others c.run_awaited.ensures.others
+    c.feed_left.ensures.scripts c.turns.invariant.fetches c.run_awaited.ensures.fetches;
+      others = keeps-then _ _ _ _ c.turns.invariant.others c.run_awaited.ensures.others;
+      faults = let a = c.turns.invariant.faults in let b = c.feed_left.ensures.faults in let d = c.run_awaited.ensures.faults in omega arith;
+    }
+
+pub returns-clause-part : goal.returns-clause-part
+returns-clause-part g c =
+    part-then c.args.table.now c.turns.self.scripts c.turns.self.scripts (Stands c.args.self.now.writer) (Stands c.turns.self.writer) (g.K.Sink.taken c.args.out.now) (g.K.Sink.taken c.turns.out) (g.K.Sink.taken c.turns.out)
+    (λ w s. s) c.turns.invariant.reaches (part-stands c.args.table.now c.turns.self.scripts c.turns.self.writer (g.K.Sink.taken c.turns.out))
