@@ -1,16 +1,20 @@
 -- The causes of single statuses.
 use Rattle.std.proofs.Common.{◌≡◌, ℕ, Bool, List, [], Option, Some, None, refl, subst, inl, inr}
-use Rattle.std.specs.Prelude.{◌⊎◌}
+use Rattle.std.specs.Prelude.{◌⊎◌, true}
 use Rattle.html_types.specs.declared.script.Why.TheVariants as why
 use Rattle.outside.specs.Outside.{Seen}
-use Rattle.outside.specs.declared.traits.Port.TheVariants.{Entities}
+use Rattle.outside.specs.declared.traits.Port.TheVariants.{Entities, Page, Script}
 use Rattle.standard.specs.Entities.{Entities as Table}
+use Rattle.standard.specs.Scripts.{Fetched}
+use Rattle.standard.specs.Scripts as fetched
 use Rattle.standard.specs.Serial.{Result, finished, refused}
 use Rattle.page_runner.specs.declared.command.TheConstants.{ENTITIES_LIMIT}
 use Rattle.page_runner.specs.declared.status.Status.{Status}
 use Rattle.page_runner.specs.declared.status.Status.TheVariants as status
 use Rattle.page_runner.specs.Words.{Asked}
-use Rattle.page_runner.specs.Given.{Given, unmet, missing, faulted, got, MayGive}
+use Rattle.page_runner.specs.Given.{Given, unmet, missing, faulted, got, FaultsRose, MayGive}
+use Rattle.page_runner.specs.Scripts.{MayFetch, AreScriptsOf}
+use Rattle.page_runner.specs.Pages.{world_of}
 use Rattle.page_runner.specs.Answers.{PageMet, MayGivePage, IsParsed, status_with, answer_to_page, answer_over, answer_to, table_of, Gives, RunsTo, Exactly, AbsenceRose, FaultRose}
 use Rattle.page_runner.proofs.PageFaults.{fault_met}
 
@@ -23,7 +27,6 @@ absent_result (refused why.Depth) e = cc
 absent_result (refused why.Writes) e = cc
 absent_result (refused why.Page) e = cc
 absent_result (refused why.Fault) e = cc
-absent_result (refused why.Unready) e = cc
 
 usage_result : (r : Result) → status.Usage ≡ status_with r → ⊥
 usage_result finished e = cc
@@ -32,7 +35,6 @@ usage_result (refused why.Depth) e = cc
 usage_result (refused why.Writes) e = cc
 usage_result (refused why.Page) e = cc
 usage_result (refused why.Fault) e = cc
-usage_result (refused why.Unready) e = cc
 
 fault_result : (r : Result) → status.ReadFault ≡ status_with r → r ≡ refused why.Fault
 fault_result finished e = absurd (cc e)
@@ -41,7 +43,6 @@ fault_result (refused why.Depth) e = absurd (cc e)
 fault_result (refused why.Writes) e = absurd (cc e)
 fault_result (refused why.Page) e = absurd (cc e)
 fault_result (refused why.Fault) e = refl
-fault_result (refused why.Unready) e = absurd (cc e)
 
 never_usage_page : (dump : Bool) (page : Given PageMet) → status.Usage ≡ (answer_to_page dump page).0 → ⊥
 never_usage_page dump unmet e = cc
@@ -60,35 +61,39 @@ never_usage dump faulted page e = cc
 never_usage dump (got bytes) page e = never_usage_over dump (table_of bytes) page e
 
 module _ (asked : Asked) (before after' : Seen) where
-  absent_page : (page : Given PageMet) → MayGivePage asked.page before after' page → status.Absent ≡ (answer_to_page asked.dump page).0 → AbsenceRose before after'
+  absent_page : (page : Given PageMet) → MayGivePage asked.page asked.dir before after' page → status.Absent ≡ (answer_to_page asked.dump page).0 → AbsenceRose before after'
   absent_page unmet may e = absurd (cc e)
   absent_page missing may e = inr may.0
   absent_page faulted may e = absurd (cc e)
   absent_page (got page) may e = absurd (absent_result _ e)
 
-  absent_over : (table : Option Table) (page : Given PageMet) → MayGivePage asked.page before after' page → status.Absent ≡ (answer_over asked.dump table page).0 → AbsenceRose before after'
+  absent_over : (table : Option Table) (page : Given PageMet) → MayGivePage asked.page asked.dir before after' page → status.Absent ≡ (answer_over asked.dump table page).0 → AbsenceRose before after'
   absent_over None page may e = absurd (cc e)
   absent_over (Some es) page may e = absent_page page may e
 
-  absent_of : (entities : Given (List ℕ)) (page : Given PageMet) → MayGive ENTITIES_LIMIT Entities asked.entities before after' entities → MayGivePage asked.page before after' page
+  absent_of : (entities : Given (List ℕ)) (page : Given PageMet) → MayGive ENTITIES_LIMIT Entities asked.entities before after' entities → MayGivePage asked.page asked.dir before after' page
       → status.Absent ≡ (answer_to asked.dump entities page).0 → AbsenceRose before after'
   absent_of unmet page may may' e = absurd (cc e)
   absent_of missing page may may' e = inl may.0
   absent_of faulted page may may' e = absurd (cc e)
   absent_of (got bytes) page may may' e = absent_over (table_of bytes) page may' e
 
-  fault_page : (es : Table) (page : Given PageMet) → MayGivePage asked.page before after' page → IsParsed es page → status.ReadFault ≡ (answer_to_page asked.dump page).0 → FaultRose before after'
+  fault_page : (es : Table) (page : Given PageMet) → MayGivePage asked.page asked.dir before after' page → IsParsed es page → status.ReadFault ≡ (answer_to_page asked.dump page).0 → FaultRose before after'
   fault_page es unmet may parsed e = absurd (cc e)
   fault_page es missing may parsed e = absurd (cc e)
-  fault_page es faulted may parsed e = inr may.0
-  fault_page es (got page) may parsed e = inr (may.cause (fault_met es page.read page.outcome parsed (fault_result _ e)))
+  fault_page es faulted may parsed e = inr (inl may.0)
+  fault_page es (got page) may parsed e = by_cause page may (fault_met (world_of es page.scripts) page.read page.outcome parsed (fault_result _ e))
+    where
+      by_cause : (page : PageMet) → MayGivePage asked.page asked.dir before after' (got page) → (page.read.fault ≡ true) ⊎ ((name : List ℕ) × (page.scripts name ≡ fetched.faulted)) → FaultRose before after'
+      by_cause page may (inl fault) = inr (inl (may.read.cause fault))
+      by_cause page may (inr met) = inr (inr (subst (λ f. MayFetch asked.dir before after' met.0 f) met.1 (may.scripts.each met.0)))
 
-  fault_over : (table : Option Table) (page : Given PageMet) → MayGivePage asked.page before after' page → ((es : Table) → table ≡ Some es → IsParsed es page)
+  fault_over : (table : Option Table) (page : Given PageMet) → MayGivePage asked.page asked.dir before after' page → ((es : Table) → table ≡ Some es → IsParsed es page)
       → status.ReadFault ≡ (answer_over asked.dump table page).0 → FaultRose before after'
   fault_over None page may parsed e = absurd (cc e)
   fault_over (Some es) page may parsed e = fault_page es page may (parsed es refl) e
 
-  fault_of : (entities : Given (List ℕ)) (page : Given PageMet) → MayGive ENTITIES_LIMIT Entities asked.entities before after' entities → MayGivePage asked.page before after' page
+  fault_of : (entities : Given (List ℕ)) (page : Given PageMet) → MayGive ENTITIES_LIMIT Entities asked.entities before after' entities → MayGivePage asked.page asked.dir before after' page
       → ((bytes : List ℕ) (es : Table) → entities ≡ got bytes → table_of bytes ≡ Some es → IsParsed es page)
       → status.ReadFault ≡ (answer_to asked.dump entities page).0 → FaultRose before after'
   fault_of unmet page may may' parsed e = absurd (cc e)
@@ -118,7 +123,6 @@ in_place t t' status.BadUtf8 gives = inl gives.0
 in_place t t' (status.Limit which) gives = inl gives.0
 in_place t t' status.ReadFault gives = inl gives.0
 in_place t t' status.Absent gives = inl gives.0
-in_place t t' status.Unready gives = inl gives.0
 
 pub usage : (asked : Option Asked) (before after' : Seen) (t t' : Option (List ℕ)) (r : Status) → RunsTo asked before after' t t' r → Exactly status.Usage r (asked ≡ None)
 usage None before after' t t' r runs = record { nowhere_else = λ _. refl; there = λ _. in_place t t' r runs }

@@ -1,12 +1,15 @@
 -- A run completes where nothing stands in its way.
-use Rattle.std.proofs.Common.{◌≡◌, ℕ, ◌+◌, List, [], Bool, true, false, Option, Some, None, IfSome, refl, ap, subst, ◌∙◌, inl, inr, arith, length, take}
+use Rattle.std.proofs.Common.{◌≡◌, ℕ, ◌+◌, List, [], Bool, true, false, Option, Some, None, IfSome, refl, sym, ap, subst, ◌∙◌, inl, inr, arith, length, take}
 use Rattle.std.specs.Prelude.{◌⊎◌, IsSomeAnd, nat_le, if◌then◌else◌}
+use Rattle.std.proofs.Math.Path.{fun_ext}
 use Rattle.std.proofs.lemmas.List.{take_all}
 use Rattle.std.proofs.lemmas.Bool.{leb-true}
 use Rattle.std.specs.Option.{option_map}
-use Rattle.outside.specs.Outside.{Rose, Seen}
-use Rattle.outside.specs.declared.traits.Port.TheVariants.{Entities, Page}
+use Rattle.outside.specs.Outside.{Rose, Files, Seen}
+use Rattle.outside.specs.declared.traits.Port.TheVariants.{Entities, Page, Script}
 use Rattle.standard.specs.Entities.{Entities as Table, entities_of}
+use Rattle.standard.specs.Scripts.{Fetched}
+use Rattle.standard.specs.Scripts as fetched
 use Rattle.standard.specs.Serial.{Outcome, finished}
 use Rattle.standard.specs.Output.{output_with}
 use Rattle.standard.proofs.Fuel.{one_outcome}
@@ -14,10 +17,10 @@ use Rattle.page_runner.specs.declared.command.TheConstants.{ENTITIES_LIMIT}
 use Rattle.page_runner.specs.declared.status.Status.{Status}
 use Rattle.page_runner.specs.declared.status.Status.TheVariants as status
 use Rattle.page_runner.specs.Words.{Asked}
-use Rattle.page_runner.specs.Given.{Given, unmet, missing, faulted, got, FaultsRose, file_at, MayGive}
+use Rattle.page_runner.specs.Given.{Given, unmet, missing, faulted, got, FaultsRose, AbsencesRose, file_at, MayGive}
 use Rattle.page_runner.specs.Taken.{Took}
-use Rattle.page_runner.specs.Moments.{world_of}
-use Rattle.page_runner.specs.Pages.{page_at, ComesTo}
+use Rattle.page_runner.specs.Scripts.{path_of, IsAbsent, MayFetch, AreScriptsOf, fetched_of, world_in}
+use Rattle.page_runner.specs.Pages.{page_at, world_of, ComesTo}
 use Rattle.page_runner.specs.Answers.{IsPageOf, PageMet, MayGivePage, IsParsed, Answer, status_with, answer_to_page, answer_over, answer_to, table_of, Gives, RunsTo, CompletesRun}
 
 abbrev Only : Option (List ℕ) → Option (List ℕ) → Answer → Status → Type 0
@@ -33,7 +36,6 @@ gives_only t t' answer status.BadUtf8 gives unless = inr gives
 gives_only t t' answer (status.Limit which) gives unless = inr gives
 gives_only t t' answer status.ReadFault gives unless = inr gives
 gives_only t t' answer status.Absent gives unless = inr gives
-gives_only t t' answer status.Unready gives unless = inr gives
 
 -- nothing but want of memory
 memory_only : {P : Type 0} (t t' : Option (List ℕ)) (r : Status) → Gives t t' (status.NoMemory, []) r → (r ≡ status.WriteFault → ⊥) → (r ≡ status.NoMemory) ⊎ P
@@ -57,47 +59,72 @@ if_some (Some x) P h = h x refl
 some_at : {A : Type 0} (o : Option A) (P : A → Type 0) (x : A) → o ≡ Some x → IfSome o P → P x
 some_at o P x is h = let there = subst (λ q. IfSome q P) is h in there
 
+-- where the files are told and no read of a script failed, this came of each script
+absent_told : (file : Option (Option (List ℕ))) (rose : Type 0) (told : Option (List ℕ)) → file ≡ Some told → IsAbsent file rose → told ≡ None
+absent_told file rose told is none = let there = subst (λ f. IsAbsent f rose) is none in there
+
+fetch_told : (dir : List ℕ) (before after : Seen) (map : Files) (name : List ℕ) (f : Fetched) → before.files ≡ Some map → ¬ (FaultsRose Script before after) → MayFetch dir before after name f
+    → f ≡ fetched_of (map (path_of dir name))
+fetch_told dir before after map name (fetched.got bytes) told none may =
+    let at : file_at before (path_of dir name) ≡ Some (map (path_of dir name)) = ap (option_map (λ m. m (path_of dir name))) told in
+    let is : map (path_of dir name) ≡ Some bytes = some_at (file_at before (path_of dir name)) (λ f. f ≡ Some bytes) (map (path_of dir name)) at may in
+    sym (ap fetched_of is)
+fetch_told dir before after map name fetched.missing told none may =
+    let at : file_at before (path_of dir name) ≡ Some (map (path_of dir name)) = ap (option_map (λ m. m (path_of dir name))) told in
+    let is : map (path_of dir name) ≡ None = absent_told (file_at before (path_of dir name)) (AbsencesRose Script before after) (map (path_of dir name)) at may in
+    sym (ap fetched_of is)
+fetch_told dir before after map name fetched.faulted told none may = absurd (none may)
+
+-- so the scripts are those of the folder
+scripts_told : (dir : List ℕ) (before after : Seen) (map : Files) (scripts : List ℕ → Fetched) → before.files ≡ Some map → ¬ (FaultsRose Script before after) → AreScriptsOf dir before after scripts
+    → scripts ≡ (λ name. fetched_of (map (path_of dir name)))
+scripts_told dir before after map scripts told none are = fun_ext (λ name. fetch_told dir before after map name (scripts name) told none (are.each name))
+
 abbrev Finishes : Bool → Option (List ℕ) → Option (List ℕ) → Status → Outcome → Type 0
 Finishes dump t t' r o = (r ≡ status.NoMemory) ⊎ ((r ≡ status.Done) × Took t t' (output_with dump o))
 
-module _ (dump : Bool) (t t' : Option (List ℕ)) (r : Status) (unless : r ≡ status.WriteFault → ⊥) (es : Table) (page : List ℕ) (o : Outcome) (comes : ComesTo es (record { bytes = page; fault = false }) o) (done : o.result ≡ finished) where
-  read_page : (file : Option (Option (List ℕ))) (left : Option (List ℕ)) (rose : Type 0) (bytes : List ℕ) (fault : Bool) (end : Outcome) → file ≡ Some (Some page) → ¬ rose
-      → IsPageOf file left rose (record { bytes = bytes; fault = fault }) → ComesTo es (record { bytes = bytes; fault = fault }) end
-      → Gives t t' (status_with end.result, output_with dump end) r → Finishes dump t t' r o
-  read_page file left rose bytes true end there none may parsed gives = absurd (none (may.cause refl))
-  read_page file left rose bytes false end there none may parsed gives =
-      let same : Some page ≡ Some bytes = some_at file (λ f. f ≡ Some bytes) (Some page) there (may.whole refl) in
+module _ (asked : Asked) (before after : Seen) (map : Files) (told : before.files ≡ Some map) (t t' : Option (List ℕ)) (r : Status) (unless : r ≡ status.WriteFault → ⊥)
+    (none : ¬ (FaultsRose Entities before after)) (none' : ¬ (FaultsRose Page before after)) (none'' : ¬ (FaultsRose Script before after))
+    (es : Table) (page : List ℕ) (there : map asked.page ≡ Some page) (o : Outcome) (comes : ComesTo (world_in es map asked.dir) (record { bytes = page; fault = false }) o) (done : o.result ≡ finished) where
+  file_told : (path : List ℕ) → file_at before path ≡ Some (map path)
+  file_told path = ap (option_map (λ m. m path)) told
+
+  read_page : (bytes : List ℕ) (fault : Bool) (scripts : List ℕ → Fetched) (end : Outcome) → IsPageOf (file_at before asked.page) (after.left Page) (FaultsRose Page before after) (record { bytes = bytes; fault = fault })
+      → AreScriptsOf asked.dir before after scripts → ComesTo (world_of es scripts) (record { bytes = bytes; fault = fault }) end
+      → Gives t t' (status_with end.result, output_with asked.dump end) r → Finishes asked.dump t t' r o
+  read_page bytes true scripts end may are parsed gives = absurd (none' (may.cause refl))
+  read_page bytes false scripts end may are parsed gives =
+      let same : Some page ≡ Some bytes = some_at (file_at before asked.page) (λ f. f ≡ Some bytes) (Some page) (file_told asked.page ∙ ap Some there) (may.whole refl) in
       let is : bytes ≡ page = cc in
-      let here = subst (λ b. ComesTo es (record { bytes = b; fault = false }) end) is parsed in
-      let one : end ≡ o = one_outcome (page_at (record { bytes = page; fault = false })) (world_of es) end o here comes in
-      let there' = subst (λ e. Gives t t' (status_with e.result, output_with dump e) r) one gives in
-      gives_only t t' (status.Done, output_with dump o) r (subst (λ k. Gives t t' (status_with k, output_with dump o) r) done there') unless
+      let here = subst (λ b. ComesTo (world_of es scripts) (record { bytes = b; fault = false }) end) is parsed in
+      let here' = subst (λ f. ComesTo (world_of es f) (record { bytes = page; fault = false }) end) (scripts_told asked.dir before after map scripts told none'' are) here in
+      let one : end ≡ o = one_outcome (page_at (record { bytes = page; fault = false })) (world_in es map asked.dir) end o here' comes in
+      let there' = subst (λ e. Gives t t' (status_with e.result, output_with asked.dump e) r) one gives in
+      gives_only t t' (status.Done, output_with asked.dump o) r (subst (λ k. Gives t t' (status_with k, output_with asked.dump o) r) done there') unless
 
-  met_page : (before after : Seen) (path : List ℕ) (given : Given PageMet) → file_at before path ≡ Some (Some page) → ¬ (FaultsRose Page before after)
-      → MayGivePage path before after given → IsParsed es given → Gives t t' (answer_to_page dump given) r → Finishes dump t t' r o
-  met_page before after path unmet there none may parsed gives = memory_only t t' r gives unless
-  met_page before after path missing there none may parsed gives = absurd (cc (some_at (file_at before path) (λ f. f ≡ None) (Some page) there may.1))
-  met_page before after path faulted there none may parsed gives = absurd (none may.0)
-  met_page before after path (got p) there none may parsed gives = read_page (file_at before path) (after.left Page) _ p.read.bytes p.read.fault p.outcome there none may parsed gives
+  met_page : (given : Given PageMet) → MayGivePage asked.page asked.dir before after given → IsParsed es given → Gives t t' (answer_to_page asked.dump given) r → Finishes asked.dump t t' r o
+  met_page unmet may parsed gives = memory_only t t' r gives unless
+  met_page missing may parsed gives = absurd (cc (some_at (file_at before asked.page) (λ f. f ≡ None) (Some page) (file_told asked.page ∙ ap Some there) may.1))
+  met_page faulted may parsed gives = absurd (none' may.0)
+  met_page (got p) may parsed gives = read_page p.read.bytes p.read.fault p.scripts p.outcome may.read may.scripts parsed gives
 
-  met_entities : (before after : Seen) (asked : Asked) (entities : List ℕ) (given : Given (List ℕ)) (given' : Given PageMet) → file_at before asked.entities ≡ Some (Some entities) → table_of entities ≡ Some es
-      → file_at before asked.page ≡ Some (Some page) → ¬ (FaultsRose Entities before after) → ¬ (FaultsRose Page before after)
-      → MayGive ENTITIES_LIMIT Entities asked.entities before after given → MayGivePage asked.page before after given'
+  met_entities : (entities : List ℕ) (given : Given (List ℕ)) (given' : Given PageMet) → map asked.entities ≡ Some entities → table_of entities ≡ Some es
+      → MayGive ENTITIES_LIMIT Entities asked.entities before after given → MayGivePage asked.page asked.dir before after given'
       → ((bytes : List ℕ) (es : Table) → given ≡ got bytes → table_of bytes ≡ Some es → IsParsed es given')
-      → Gives t t' (answer_to dump given given') r → Finishes dump t t' r o
-  met_entities before after asked entities unmet given' there table there' none none' may may' parsed gives = memory_only t t' r gives unless
-  met_entities before after asked entities missing given' there table there' none none' may may' parsed gives = absurd (cc (some_at (file_at before asked.entities) (λ f. f ≡ None) (Some entities) there may.1))
-  met_entities before after asked entities faulted given' there table there' none none' may may' parsed gives = absurd (none may)
-  met_entities before after asked entities (got bytes) given' there table there' none none' may may' parsed gives =
-      let read = some_at (file_at before asked.entities) (λ f. IsSomeAnd f (λ whole. bytes ≡ take (ENTITIES_LIMIT + 1) whole)) (Some entities) there may in
+      → Gives t t' (answer_to asked.dump given given') r → Finishes asked.dump t t' r o
+  met_entities entities unmet given' at table may may' parsed gives = memory_only t t' r gives unless
+  met_entities entities missing given' at table may may' parsed gives = absurd (cc (some_at (file_at before asked.entities) (λ f. f ≡ None) (Some entities) (file_told asked.entities ∙ ap Some at) may.1))
+  met_entities entities faulted given' at table may may' parsed gives = absurd (none may)
+  met_entities entities (got bytes) given' at table may may' parsed gives =
+      let read = some_at (file_at before asked.entities) (λ f. IsSomeAnd f (λ whole. bytes ≡ take (ENTITIES_LIMIT + 1) whole)) (Some entities) (file_told asked.entities ∙ ap Some at) may in
       let all : bytes ≡ entities = read ∙ all_taken ENTITIES_LIMIT entities (table_fits entities es table) in
       let here : table_of bytes ≡ Some es = ap table_of all ∙ table in
-      met_page before after asked.page given' there' none' may' (parsed bytes es refl here) (subst (λ k. Gives t t' (answer_over dump k given') r) here gives)
+      met_page given' may' (parsed bytes es refl here) (subst (λ k. Gives t t' (answer_over asked.dump k given') r) here gives)
 
 -- the whole
 pub completes : (asked : Option Asked) (before after : Seen) (sink sink' : ℕ) (t t' : Option (List ℕ)) (r : Status) → RunsTo asked before after t t' r → (r ≡ status.WriteFault → Rose sink sink')
     → CompletesRun asked before after sink sink' t t' r
 completes None before after sink sink' t t' r runs cause = tt
 completes (Some asked) before after sink sink' t t' r runs cause = if_some before.files _ (λ map told entities page es o there table there' comes done none.
-    met_entities asked.dump t t' r (λ e. none.at_sink (cause e)) es page o comes done before after asked entities runs.entities runs.page
-    (ap (option_map (λ m. m asked.entities)) told ∙ ap Some there) table (ap (option_map (λ m. m asked.page)) told ∙ ap Some there') none.entities none.page runs.may_entities runs.may_page runs.parsed runs.gives)
+    met_entities asked before after map told t t' r (λ e. none.at_sink (cause e)) none.entities none.page none.script es page there' o comes done
+    entities runs.entities runs.page there table runs.may_entities runs.may_page runs.parsed runs.gives)

@@ -13,3 +13,6 @@ pub mod PageLemmas
 pub mod PagePieces
 pub mod PageEnds
 pub mod PageFaults
+pub mod RunLemmas
+pub mod Complete
+pub mod Causes
