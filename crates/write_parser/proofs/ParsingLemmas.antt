@@ -1,0 +1,117 @@
+-- What the machine and the document do together.
+use Rattle.std.proofs.Common.{◌≡◌, ◌<◌, ◌≢◌, ℕ, zero, suc, List, [], ◌∷◌, ◌++◌, length, refl, sym, ap, ◌∙◌, subst, take, drop, take-append-drop, length-drop, ◌+◌, arith}
+use Rattle.std.specs.Str.{chars, IsCharBoundary, IsUtf8}
+use Rattle.std.proofs.lemmas.Str.{IsUtf8-take, chars-append, chars-nil}
+use Rattle.std.proofs.lemmas.List.{append_cancel_left, drop-drop}
+use Rattle.html_types.specs.declared.operation.Op.{Op}
+use Rattle.html_types.specs.declared.instruction.Stop.{Stop}
+use Rattle.html_types.specs.declared.instruction.Stop.TheVariants as stop
+use Rattle.html_types.specs.declared.instruction.Finish.{Finish}
+use Rattle.standard.specs.Entities.{Entities}
+use Rattle.standard.specs.Act.{Doc, is_bound, acts, AreOpsBound}
+use Rattle.standard.specs.Laws.{HasParsed}
+use Rattle.standard.specs.Parser.{Parser, Took, took, take_character, Parsed, and_rest, parse, Finished, finish, after_all}
+use Rattle.standard.specs.Naming.{AreFresh}
+use Rattle.standard.proofs.FreshnessTexts.{fresh-follows}
+use Rattle.standard.proofs.FreshnessDocs.{texts-served, ends-served}
+use Rattle.parse_machine.specs.declared.machine.Ran.{Ran}
+use Rattle.parse_machine.specs.Machine.{RanAs}
+use Rattle.write_parser.specs.Parsing.{IsServed, TextParsed, RestParsed, EndParsed}
+
+-- the rest of a text, in characters
+pub rest-chars : (bs : List ℕ) (used k : ℕ) → IsUtf8 bs → IsCharBoundary bs used → chars (take used bs) ≡ take k (chars bs) → chars (drop used bs) ≡ drop k (chars bs)
+rest-chars bs used k text boundary front =
+    append_cancel_left (chars (take used bs)) (chars (drop used bs)) (drop k (chars bs))
+    (sym (chars-append (take used bs) (drop used bs) (IsUtf8-take bs used text boundary))
+    ∙ (ap chars (take-append-drop used bs)
+    ∙ (sym (take-append-drop k (chars bs)) ∙ ap (λ xs. xs ++ drop k (chars bs)) (sym front))))
+
+-- a stop is behind a character
+some-used : (k : Took) (f : Parser → Parsed) → 0 < (and_rest k f).used
+some-used (took ops p stop.InputEnd) f = omega arith
+some-used (took ops p (stop.Script i)) f = omega arith
+some-used (took ops p stop.Deep) f = omega arith
+
+none-used : (es : Entities) (p : Parser) (x : List ℕ) → [] ≡ take (parse es p x).used x → (parse es p x).stop ≡ stop.InputEnd
+unfolding parse
+none-used es p [] h = refl
+none-used es p (c ∷ cs) h = absurd (no_front _ (some-used (take_character es p c) (λ p'. parse es p' cs)) h)
+  where
+    no_front : (n : ℕ) → 0 < n → [] ≡ take n (c ∷ cs) → ⊥
+    no_front zero lt e = omega arith
+    no_front (suc n) lt e = absurd (cc e)
+
+-- the operations are bound, where those before were none
+pub ops-bound : (es : Entities) (p : Parser) (d : Doc) (now : Parser) (before ops : List Op) (ran : Ran) (text : List ℕ) → IsServed p d → before ≡ [] →
+    RanAs (parse es p (chars text)) before now ops ran text → AreOpsBound (is_bound d.bound) ops
+ops-bound es p d now before ops ran text served none run =
+    subst (AreOpsBound (is_bound d.bound)) (sym (run.ops ∙ ap (λ l. l ++ (parse es p (chars text)).ops) none)) (texts-served AreFresh fresh-follows d es p (chars text) served).0.0
+
+ops-are : (before ops more : List Op) → before ≡ [] → ops ≡ before ++ more → ops ≡ more
+ops-are before ops more none is = is ∙ ap (λ l. l ++ more) none
+
+pub text-parsed : (es : Entities) (p p' : Parser) (d d' : Doc) (before ops : List Op) (ran : Ran) (text : List ℕ) → IsUtf8 text → IsServed p d → before ≡ [] →
+    RanAs (parse es p (chars text)) before p' ops ran text → d' ≡ acts d ops → IsCharBoundary text ran.used → TextParsed es p d text p' d' ran
+text-parsed es p p' d d' before ops ran text utf8 served none run done boundary =
+    let r : Parsed = parse es p (chars text) in
+    let stays = texts-served AreFresh fresh-follows d es p (chars text) served in
+    let doc : d' ≡ acts d r.ops = done ∙ ap (acts d) (ops-are before ops r.ops none run.ops) in
+    record {
+      boundary = boundary;
+      onward = λ stops. by_used ran.used run.used (λ h. stops (run.stop ∙ none-used es p (chars text) h));
+      parsed = record {
+        parser = run.state;
+        doc = doc;
+        left = rest-chars text ran.used r.used utf8 boundary run.used;
+        stop = run.stop;
+      };
+      served = rw (doc, run.state) stays.0.1;
+      bound = rw (doc, run.stop) stays.1;
+    }
+  where
+    by_used : (n : ℕ) → chars (take n text) ≡ take (parse es p (chars text)).used (chars text) → ([] ≡ take (parse es p (chars text)).used (chars text) → ⊥) → 0 < n
+    by_used zero q h = absurd (h (sym chars-nil ∙ q))
+    by_used (suc n) q h = omega arith
+
+shorter : (n : ℕ) (c : ℕ) (cs : List ℕ) → 0 < n → length (drop n (c ∷ cs)) < length (c ∷ cs)
+shorter n c cs lt = omega (arith, length-drop n (c ∷ cs))
+
+used-less : (es : Entities) (p : Parser) (x : List ℕ) → ((parse es p x).stop ≢ stop.InputEnd) → length (drop (parse es p x).used x) < length x
+unfolding parse
+used-less es p [] h = absurd (h refl)
+used-less es p (c ∷ cs) h = shorter (parse es p (c ∷ cs)).used c cs (some-used (take_character es p c) (λ p'. parse es p' cs))
+
+-- a stop leaves less of a text than there was
+pub stop-shortens : (es : Entities) (p p' : Parser) (d d' : Doc) (text left : List ℕ) (s : Stop) → HasParsed es p d text p' d' left s → s ≢ stop.InputEnd → length left < length text
+stop-shortens es p p' d d' text left s parsed stops = subst (λ l. length l < length text) (sym parsed.left) (used-less es p text (λ h. stops (parsed.stop ∙ h)))
+
+-- of a text whose front is used already
+pub rest-parsed : (es : Entities) (p p' : Parser) (d d' : Doc) (bytes : List ℕ) (used : ℕ) (ran : Ran) → TextParsed es p d (drop used bytes) p' d' ran →
+    RestParsed es p d (chars (drop used bytes)) p' d' (chars (drop (used + ran.used) bytes)) ran.stop
+rest-parsed es p p' d d' bytes used ran parsed = by (subst (λ b. HasParsed es p d (chars (drop used bytes)) p' d' (chars b) ran.stop) (drop-drop ran.used used bytes) parsed.parsed)
+  where
+    by : HasParsed es p d (chars (drop used bytes)) p' d' (chars (drop (used + ran.used) bytes)) ran.stop → RestParsed es p d (chars (drop used bytes)) p' d' (chars (drop (used + ran.used) bytes)) ran.stop
+    by here = record {
+      parsed = here;
+      served = parsed.served;
+      bound = parsed.bound;
+      shorter = λ stops. stop-shortens es p p' d d' (chars (drop used bytes)) (chars (drop (used + ran.used) bytes)) ran.stop here stops;
+    }
+
+-- the last operations are bound
+pub last-bound : (es : Entities) (p : Parser) (d : Doc) (now : Parser) (before ops : List Op) (f : Finish) → IsServed p d → before ≡ [] →
+    after_all before (finish es p) ≡ record { ops = ops; parser = now; finish = f } → AreOpsBound (is_bound d.bound) ops
+last-bound es p d now before ops f served none run =
+    let all : ops ≡ (finish es p).ops = sym (ap (λ (k : Finished). k.ops) run) ∙ ap (λ l. l ++ (finish es p).ops) none in
+    subst (AreOpsBound (is_bound d.bound)) (sym all) (ends-served AreFresh fresh-follows d es p served).0
+
+pub end-parsed : (es : Entities) (p p' : Parser) (d d' : Doc) (before ops : List Op) (f : Finish) → IsServed p d → before ≡ [] →
+    after_all before (finish es p) ≡ record { ops = ops; parser = p'; finish = f } → d' ≡ acts d ops → EndParsed es p d p' d' f
+end-parsed es p p' d d' before ops f served none run done =
+    let all : ops ≡ (finish es p).ops = sym (ap (λ (k : Finished). k.ops) run) ∙ ap (λ l. l ++ (finish es p).ops) none in
+    let doc : d' ≡ acts d (finish es p).ops = done ∙ ap (acts d) all in
+    let parser : p' ≡ (finish es p).parser = sym (ap (λ (k : Finished). k.parser) run) in
+    record {
+      finished = record { parser = parser; doc = doc; finish = sym (ap (λ (k : Finished). k.finish) run) };
+      served = rw (doc, parser) (ends-served AreFresh fresh-follows d es p served).1;
+    }

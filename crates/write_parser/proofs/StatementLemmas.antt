@@ -1,0 +1,193 @@
+-- Statements of the innermost script.
+use Rattle.std.proofs.Common.{◌≡◌, ◌<◌, ◌≤◌, ◌+◌, ◌*◌, ◌-◌, ℕ, suc, Result, Ok, Err, IfOk, List, [], ◌∷◌, ◌++◌, length, Option, Some, None, refl, sym, ap, ◌∙◌, subst, append_assoc, length-append, arith, ◌⊎◌, inl, inr}
+use Rattle.std.proofs.lemmas.Bool.{cases_lt}
+use Rattle.html_types.specs.declared.script.Line.{Line}
+use Rattle.html_types.specs.declared.script.Line.TheVariants as line
+use Rattle.html_types.specs.declared.script.Statement.{Statement}
+use Rattle.html_types.specs.declared.script.Statement.TheVariants as statement
+use Rattle.html_types.specs.declared.script.Why.TheVariants as why
+use Rattle.standard.specs.Entities.{Entities}
+use Rattle.standard.specs.Act.{Doc}
+use Rattle.standard.specs.Outer.{outer_text}
+use Rattle.standard.specs.Tree.{find_id, first_element, detached}
+use Rattle.standard.specs.Serial.{World, Flow, refuses, write_limit}
+use Rattle.standard.specs.Frames.{Frame, state_of, NestComesTo, Waits, LacksElement}
+use Rattle.write_parser.specs.declared.left.Limit.{Limit}
+use Rattle.write_parser.specs.declared.left.Limit.TheVariants as limit
+use Rattle.write_parser.specs.declared.live.Live.{Live}
+use Rattle.write_parser.specs.declared.live.Did.{Did}
+use Rattle.write_parser.specs.declared.live.Did.TheVariants as did
+use Rattle.write_parser.specs.Parsing.{IsServed}
+use Rattle.write_parser.specs.Writing.{IsRefusal}
+use Rattle.write_parser.specs.Steps.{IsGoing, framed, nest_of, ThenBy, Then, Turns, HasWritten, HasRemoved, HasRead, left_by, DoneBy, IsLight, DoesMost, Does, view_of}
+use Rattle.write_parser.proofs.FrameLaws.{writes-fit, writes-refuse, removes, reads-by_id, reads-root, throws}
+
+-- ---- where the page isn't refused, and where it is
+
+pub then-on : (w : World) (Of : Flow → Type 0) (new : Live) (fs : List Frame) (before : List Line) (page : List ℕ) → new.halted ≡ None →
+    ((g : Flow) → NestComesTo w (nest_of new fs before page) g → Of g) → Then w Of new fs before page
+then-on w Of new fs before page on each = subst (λ h. ThenBy h w Of new fs before page) (sym on) each
+
+pub on-then : (w : World) (Of : Flow → Type 0) (new : Live) (fs : List Frame) (before : List Line) (page : List ℕ) → new.halted ≡ None → Then w Of new fs before page →
+    (g : Flow) → NestComesTo w (nest_of new fs before page) g → Of g
+on-then w Of new fs before page on each = subst (λ h. ThenBy h w Of new fs before page) on each
+
+-- ---- a write
+
+wrote-fits : (k : ℕ) (t : List ℕ) (old : Live) (rest : List ℕ) → IsGoing old → Waits old.pending rest → old.written + length t ≤ write_limit →
+    DoesMost k (statement.Write t) old rest (record old { written = old.written + length t }) (rest ++ t) did.All
+wrote-fits k t old rest going waits fits = record {
+  done = λ es list fs. record {
+    turns = λ w before page is.
+        then-on w (NestComesTo w (nest_of old (framed k (statement.Write t ∷ list) rest ∷ fs) before page)) (record old { written = old.written + length t })
+        (framed k list (rest ++ t) ∷ fs) before page going.halted
+        (λ g come. writes-fit w (nest_of old (framed k (statement.Write t ∷ list) rest ∷ fs) before page) (framed k (statement.Write t ∷ list) rest) fs t list g
+        refl refl waits fits come);
+  };
+  served = going.served;
+  light = record { light = omega (arith, length-append rest t); behind = refl };
+}
+
+wrote-long : (k : ℕ) (t : List ℕ) (old : Live) (rest : List ℕ) → IsGoing old → Waits old.pending rest → write_limit < old.written + length t →
+    DoesMost k (statement.Write t) old rest (record old { halted = Some limit.Writes }) rest did.All
+wrote-long k t old rest going waits long = record {
+  done = λ es list fs. record {
+    turns = λ w before page is. (
+      refuses why.Writes (state_of (nest_of old (framed k (statement.Write t ∷ list) rest ∷ fs) before page)),
+      record { last = state_of (nest_of old (framed k (statement.Write t ∷ list) rest ∷ fs) before page); is = refl; lines = refl; doc = refl },
+      writes-refuse w (nest_of old (framed k (statement.Write t ∷ list) rest ∷ fs) before page) (framed k (statement.Write t ∷ list) rest) fs t list refl refl waits long,
+    );
+  };
+  served = going.served;
+  light = record { light = omega arith; behind = refl };
+}
+
+pub does-write : (k : ℕ) (t : List ℕ) (old : Live) (rest : List ℕ) (new : Live) (rest' : List ℕ) (d : Did) → IsGoing old → Waits old.pending rest →
+    HasWritten old rest t new rest' d → DoesMost k (statement.Write t) old rest new rest' d
+does-write k t old rest new rest' d going waits wrote = subst (λ d'. DoesMost k (statement.Write t) old rest new rest' d') (sym wrote.did) (by_limit (cases_lt write_limit (old.written + length t)))
+  where
+    by_limit : (write_limit < old.written + length t) ⊎ (old.written + length t ≤ write_limit) → DoesMost k (statement.Write t) old rest new rest' did.All
+    by_limit (inr fits) =
+        let is = wrote.fits fits in
+        subst (λ n. DoesMost k (statement.Write t) old rest n rest' did.All) (sym is.0)
+        (subst (λ r. DoesMost k (statement.Write t) old rest (record old { written = old.written + length t }) r did.All) (sym is.1) (wrote-fits k t old rest going waits fits))
+    by_limit (inl long) =
+        let is = wrote.long long in
+        subst (λ n. DoesMost k (statement.Write t) old rest n rest' did.All) (sym is.0)
+        (subst (λ r. DoesMost k (statement.Write t) old rest (record old { halted = Some limit.Writes }) r did.All) (sym is.1) (wrote-long k t old rest going waits long))
+
+-- ---- an element that isn't there
+
+lacks : (k : ℕ) (a : Statement) (old : Live) (rest : List ℕ) (new : Live) (rest' : List ℕ) (d : Did) → IsGoing old → LacksElement old.doc.tree a → rest' ≡ rest →
+    (new ≡ old) × (d ≡ did.Nothing) → DoesMost k a old rest new rest' d
+lacks k a old rest new rest' d going lacking same (is, nothing) =
+    subst (λ d'. DoesMost k a old rest new rest' d') (sym nothing)
+    (subst (λ r. DoesMost k a old rest new r did.Nothing) (sym same)
+    (subst (λ n. DoesMost k a old rest n rest did.Nothing) (sym is)
+    (record { done = (refl, refl, lacking); served = going.served; light = record { light = omega arith; behind = refl } })))
+
+-- ---- a removal
+
+removed-there : (k : ℕ) (v : List ℕ) (old : Live) (rest : List ℕ) (e : ℕ) → IsGoing old → Waits old.pending rest → find_id old.doc.tree v ≡ Some e →
+    DoesMost k (statement.Remove v) old rest (record old { doc = record old.doc { tree = detached old.doc.tree e } }) rest did.All
+removed-there k v old rest e going waits there = record {
+  done = λ es list fs. record {
+    turns = λ w before page is.
+        then-on w (NestComesTo w (nest_of old (framed k (statement.Remove v ∷ list) rest ∷ fs) before page)) (record old { doc = record old.doc { tree = detached old.doc.tree e } })
+        (framed k list rest ∷ fs) before page going.halted
+        (λ g come. removes w (nest_of old (framed k (statement.Remove v ∷ list) rest ∷ fs) before page) (framed k (statement.Remove v ∷ list) rest) fs v list e g
+        refl refl waits there come);
+  };
+  served = going.served;
+  light = record { light = omega arith; behind = refl };
+}
+
+pub does-remove : (k : ℕ) (v : List ℕ) (old : Live) (rest : List ℕ) (new : Live) (rest' : List ℕ) (d : Did) → IsGoing old → Waits old.pending rest → rest' ≡ rest →
+    HasRemoved (find_id old.doc.tree v) old new d → DoesMost k (statement.Remove v) old rest new rest' d
+does-remove k v old rest new rest' d going waits same = by_found (find_id old.doc.tree v) refl
+  where
+    by_found : (found : Option ℕ) → find_id old.doc.tree v ≡ found → HasRemoved found old new d → DoesMost k (statement.Remove v) old rest new rest' d
+    by_found None none has = lacks k (statement.Remove v) old rest new rest' d going none same has
+    by_found (Some e) there (is, all) =
+        subst (λ d'. DoesMost k (statement.Remove v) old rest new rest' d') (sym all)
+        (subst (λ r. DoesMost k (statement.Remove v) old rest new r did.All) (sym same)
+        (subst (λ n. DoesMost k (statement.Remove v) old rest n rest did.All) (sym is) (removed-there k v old rest e going waits there)))
+
+-- ---- a reading
+
+-- a statement that reads an element
+abbrev Reads : Statement → Live → List ℕ → ℕ → Type 0
+Reads a old rest e =
+    (w : World) (k : ℕ) (list : List Statement) (fs : List Frame) (before : List Line) (page : List ℕ) (g : Flow) →
+    NestComesTo w (record (nest_of old (framed k list rest ∷ fs) before page) { lines = (before ++ old.lines) ++ line.Log k (outer_text old.doc.tree e) ∷ [] }) g →
+    NestComesTo w (nest_of old (framed k (a ∷ list) rest ∷ fs) before page) g
+
+reads-there : (k : ℕ) (a : Statement) (old : Live) (rest : List ℕ) (new : Live) (rest' : List ℕ) (d : Did) (e : ℕ) → IsGoing old → rest' ≡ rest → Reads a old rest e →
+    HasRead k (Some e) old new d → DoesMost k a old rest new rest' d
+reads-there k a old rest new rest' d e going same reads (is, all) =
+    subst (λ d'. DoesMost k a old rest new rest' d') (sym all)
+    (subst (λ r. DoesMost k a old rest new r did.All) (sym same)
+    (subst (λ n. DoesMost k a old rest n rest did.All) (sym is) (record {
+      done = λ es list fs. record {
+        turns = λ w before page world.
+            then-on w (NestComesTo w (nest_of old (framed k (a ∷ list) rest ∷ fs) before page)) (record old { lines = old.lines ++ line.Log k (outer_text old.doc.tree e) ∷ [] })
+            (framed k list rest ∷ fs) before page going.halted
+            (λ g come. reads w k list fs before page g
+            (subst (λ l. NestComesTo w (record (nest_of old (framed k list rest ∷ fs) before page) { lines = l }) g)
+            (sym (append_assoc before old.lines (line.Log k (outer_text old.doc.tree e) ∷ []))) come));
+      };
+      served = going.served;
+      light = record { light = omega arith; behind = refl };
+    })))
+
+pub does-read-by_id : (k : ℕ) (v : List ℕ) (old : Live) (rest : List ℕ) (new : Live) (rest' : List ℕ) (d : Did) → IsGoing old → Waits old.pending rest → rest' ≡ rest →
+    HasRead k (find_id old.doc.tree v) old new d → DoesMost k (statement.LogById v) old rest new rest' d
+does-read-by_id k v old rest new rest' d going waits same = by_found (find_id old.doc.tree v) refl
+  where
+    by_found : (found : Option ℕ) → find_id old.doc.tree v ≡ found → HasRead k found old new d → DoesMost k (statement.LogById v) old rest new rest' d
+    by_found None none has = lacks k (statement.LogById v) old rest new rest' d going none same has
+    by_found (Some e) there has =
+        reads-there k (statement.LogById v) old rest new rest' d e going same
+        (λ w j list fs before page g come. reads-by_id w (nest_of old (framed j (statement.LogById v ∷ list) rest ∷ fs) before page) (framed j (statement.LogById v ∷ list) rest) fs v list e g
+        refl refl waits there come) has
+
+pub does-read-root : (k : ℕ) (old : Live) (rest : List ℕ) (new : Live) (rest' : List ℕ) (d : Did) → IsGoing old → Waits old.pending rest → rest' ≡ rest →
+    HasRead k (first_element old.doc.tree) old new d → DoesMost k statement.LogRoot old rest new rest' d
+does-read-root k old rest new rest' d going waits same = by_found (first_element old.doc.tree) refl
+  where
+    by_found : (found : Option ℕ) → first_element old.doc.tree ≡ found → HasRead k found old new d → DoesMost k statement.LogRoot old rest new rest' d
+    by_found None none has = lacks k statement.LogRoot old rest new rest' d going none same has
+    by_found (Some e) there has =
+        reads-there k statement.LogRoot old rest new rest' d e going same
+        (λ w j list fs before page g come. reads-root w (nest_of old (framed j (statement.LogRoot ∷ list) rest ∷ fs) before page) (framed j (statement.LogRoot ∷ list) rest) fs list e g
+        refl refl waits there come) has
+
+-- ---- all of a statement
+
+pub does-all : (k : ℕ) (a : Statement) (old : Live) (rest : List ℕ) (new : Live) (rest' : List ℕ) (d : Did) → (d ≡ did.Nothing → ⊥) → DoesMost k a old rest new rest' d →
+    Does k a old rest new rest' d
+does-all k a old rest new rest' did.All there does = record { turns = does.done; served = does.served; light = does.light }
+does-all k a old rest new rest' did.Nothing there does = absurd (there refl)
+
+pub does-throw : (k : ℕ) (a : Statement) (old : Live) (rest : List ℕ) (mid new : Live) (rest' : List ℕ) (d : Did) → IsGoing old → Waits old.pending rest → d ≡ did.Nothing →
+    DoesMost k a old rest mid rest' d → new ≡ record mid { lines = mid.lines ++ line.Throw k ∷ [] } → Does k a old rest new rest' d
+does-throw k a old rest mid new rest' did.All going waits there does is = absurd (cc there)
+does-throw k a old rest mid new rest' did.Nothing going waits there does is =
+    subst (λ r. Does k a old rest new r did.Nothing) (sym does.done.1)
+    (subst (λ n. Does k a old rest n rest did.Nothing) (sym (is ∙ ap (λ (m : Live). record m { lines = m.lines ++ line.Throw k ∷ [] }) does.done.0)) (record {
+      turns = λ es list fs. record {
+        turns = λ w before page world.
+            then-on w (NestComesTo w (nest_of old (framed k (a ∷ list) rest ∷ fs) before page)) (record old { lines = old.lines ++ line.Throw k ∷ [] })
+            (framed k [] rest ∷ fs) before page going.halted
+            (λ g come. throws w (nest_of old (framed k (a ∷ list) rest ∷ fs) before page) (framed k (a ∷ list) rest) fs a list g refl refl waits does.done.2
+            (subst (λ l. NestComesTo w (record (nest_of old (framed k [] rest ∷ fs) before page) { lines = l }) g)
+            (sym (append_assoc before old.lines (line.Throw k ∷ []))) come));
+      };
+      served = going.served;
+      light = record { light = omega arith; behind = refl };
+    }))
+
+-- a call's answer says more than it owes
+pub if_ok : {T E : Type 0} (r : Result T E) (P Q : T → Type 0) → ((x : T) → P x → Q x) → IfOk r P → IfOk r Q
+if_ok (Ok x) P Q more has = more x has
+if_ok (Err e) P Q more has = tt

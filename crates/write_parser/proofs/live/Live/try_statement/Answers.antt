@@ -1,0 +1,37 @@
+use Rattle.std.proofs.Common.{refl, sym, subst, IfOk, ◌≡◌, ◌∙◌, ap}
+use Rattle.html_types.specs.declared.script.Statement.{Statement}
+use Rattle.standard.specs.Tree.{find_id, first_element}
+use Rattle.write_parser.specs.declared.live.Did.{Did}
+use Rattle.write_parser.specs.Steps.{DoesMost, HasRead}
+use Rattle.write_parser.proofs.StatementLemmas.{if_ok, does-write, does-remove, does-read-by_id, does-read-root}
+use Rattle.write_parser.proofs.live.Live.try_statement.Goals as goal
+
+pub returns-in-Write : goal.returns-in-Write
+returns-in-Write c =
+    subst (λ a. IfOk c.write.result (λ d. DoesMost c.args.number a c.args.self.now c.args.rest.now c.write.new.self c.write.new.rest d)) (sym c.in-Write.is)
+    (if_ok c.write.result _ _ (λ d has. does-write c.args.number c.in-Write.text c.args.self.now c.args.rest.now c.write.new.self c.write.new.rest d c.requires.going c.requires.waits has)
+    c.write.ensures)
+
+pub returns-in-Remove : goal.returns-in-Remove
+returns-in-Remove c =
+    subst (λ a. IfOk c.remove.result (λ d. DoesMost c.args.number a c.args.self.now c.args.rest.now c.remove.new.self c.args.rest.now d)) (sym c.in-Remove.is)
+    (if_ok c.remove.result _ _ (λ d has. does-remove c.args.number c.in-Remove.id c.args.self.now c.args.rest.now c.remove.new.self c.args.rest.now d c.requires.going c.requires.waits refl has)
+    c.remove.ensures)
+
+pub returns-in_ok-node-in-LogById : goal.returns-in_ok-node-in-LogById
+returns-in_ok-node-in-LogById c =
+    let found : c.in_ok-node-in-LogById.node ≡ find_id c.args.self.now.doc.tree c.in-LogById.id = c.in_ok-node-in-LogById.ensures.found ∙ (ap (λ t. find_id t _) c.tree.ensures ∙ ap (find_id c.args.self.now.doc.tree) c.as_str.ensures) in
+    subst (λ a. IfOk c.read.result (λ d. DoesMost c.args.number a c.args.self.now c.args.rest.now c.read.new.self c.args.rest.now d)) (sym c.in-LogById.is)
+    (if_ok c.read.result _ _
+    (λ d has. does-read-by_id c.args.number c.in-LogById.id c.args.self.now c.args.rest.now c.read.new.self c.args.rest.now d c.requires.going c.requires.waits refl
+    (subst (λ node. HasRead c.args.number node c.args.self.now c.read.new.self d) found has))
+    c.read.ensures)
+
+pub returns-in-LogRoot : goal.returns-in-LogRoot
+returns-in-LogRoot c =
+    let found : c.first_element-node.result ≡ first_element c.args.self.now.doc.tree = c.first_element-node.ensures.first ∙ ap first_element c.tree-in-LogRoot.ensures in
+    subst (λ a. IfOk c.read-in-LogRoot.result (λ d. DoesMost c.args.number a c.args.self.now c.args.rest.now c.read-in-LogRoot.new.self c.args.rest.now d)) (sym c.in-LogRoot.is)
+    (if_ok c.read-in-LogRoot.result _ _
+    (λ d has. does-read-root c.args.number c.args.self.now c.args.rest.now c.read-in-LogRoot.new.self c.args.rest.now d c.requires.going c.requires.waits refl
+    (subst (λ node. HasRead c.args.number node c.args.self.now c.read-in-LogRoot.new.self d) found has))
+    c.read-in-LogRoot.ensures)

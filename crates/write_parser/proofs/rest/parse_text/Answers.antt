@@ -1,0 +1,12 @@
+use Rattle.write_parser.proofs.ParsingLemmas.{ops-bound, text-parsed}
+use Rattle.write_parser.proofs.rest.parse_text.Goals as goal
+
+pub apply_all-requires : goal.apply_all-requires
+apply_all-requires c =
+    ops-bound c.args.table.now c.args.machine.now c.args.doc.now c.run.new.self c.new-ops.result c.run.new.ops c.in_ok-ran.ran c.args.text.now c.requires c.new-ops.ensures
+    c.in_ok-ran.ensures.parsed
+
+pub returns : goal.returns
+returns c =
+    text-parsed c.args.table.now c.args.machine.now c.run.new.self c.args.doc.now c.apply_all.new.self c.new-ops.result c.run.new.ops c.in_ok-ran.ran c.args.text.now c.utf8.text
+    c.requires c.new-ops.ensures c.in_ok-ran.ensures.parsed c.in_ok-apply_all.ensures.ok c.in_ok-ran.ensures.boundary

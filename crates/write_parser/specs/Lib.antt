@@ -1,0 +1,3 @@
+pub mod Parsing
+pub mod Writing
+pub mod Steps

@@ -1,0 +1,37 @@
+-- What the machine and the document do together.
+use Rattle.std.specs.Prelude.{◌≢◌, ◌<◌, ℕ, List, length, drop}
+use Rattle.std.specs.Str.{chars, IsCharBoundary}
+use Rattle.html_types.specs.declared.instruction.Stop.{Stop}
+use Rattle.html_types.specs.declared.instruction.Stop.TheVariants as stop
+use Rattle.html_types.specs.declared.instruction.Finish.{Finish}
+use Rattle.standard.specs.Entities.{Entities}
+use Rattle.standard.specs.Act.{Doc, is_bound}
+use Rattle.standard.specs.Parser.{Parser}
+use Rattle.standard.specs.Naming.{Serves, AreFresh, IsStopBound}
+use Rattle.standard.specs.Laws.{HasParsed, HasFinished}
+use Rattle.parse_machine.specs.declared.machine.Ran.{Ran}
+
+-- The ids that the parser holds are bound in the document, and those that it is to give aren't.
+abbrev pub IsServed : Parser → Doc → Type 0
+IsServed p d = Serves AreFresh (is_bound d.bound) p.open_state
+
+-- A text was parsed up to the first stop, and its operations were done.
+pub record TextParsed (es : Entities) (p : Parser) (d : Doc) (text : List ℕ) (p' : Parser) (d' : Doc) (ran : Ran) : Type 0 where
+  pub boundary : IsCharBoundary text ran.used
+  -- a stop is behind a character
+  pub onward : ran.stop ≢ stop.InputEnd → 0 < ran.used
+  pub parsed : HasParsed es p d (chars text) p' d' (chars (drop ran.used text)) ran.stop
+  pub served : IsServed p' d'
+  pub bound : IsStopBound (is_bound d'.bound) ran.stop
+
+-- The same of written text, of which that part is left.
+pub record RestParsed (es : Entities) (p : Parser) (d : Doc) (rest : List ℕ) (p' : Parser) (d' : Doc) (left : List ℕ) (s : Stop) : Type 0 where
+  pub parsed : HasParsed es p d rest p' d' left s
+  pub served : IsServed p' d'
+  pub bound : IsStopBound (is_bound d'.bound) s
+  pub shorter : s ≢ stop.InputEnd → length left < length rest
+
+-- The end of the page was parsed, and its operations were done.
+pub record EndParsed (es : Entities) (p : Parser) (d : Doc) (p' : Parser) (d' : Doc) (f : Finish) : Type 0 where
+  pub finished : HasFinished es p d p' d' f
+  pub served : IsServed p' d'

@@ -1,0 +1,255 @@
+-- The steps of a writer, while memory lasts: what it holds as the nested scripts of the definitions, and what each part of a
+-- call does to them.
+use Rattle.std.specs.Prelude.{◌≡◌, ◌≢◌, ◌<◌, ◌≤◌, ◌+◌, ◌*◌, ◌-◌, ⊤, ℕ, suc, Bool, false, List, [], ◌∷◌, ◌++◌, length, map, reverse, drop, Option, Some, None}
+use Rattle.html_types.specs.declared.operation.NodeId.{NodeId}
+use Rattle.html_types.specs.declared.script.Statement.{Statement}
+use Rattle.html_types.specs.declared.script.Why.{Why}
+use Rattle.html_types.specs.declared.script.Line.{Line}
+use Rattle.html_types.specs.declared.script.Line.TheVariants as line
+use Rattle.standard.specs.Entities.{Entities}
+use Rattle.standard.specs.Tree.{Nodes, detached, find_id}
+use Rattle.standard.specs.Outer.{outer_text}
+use Rattle.standard.specs.Act.{Doc}
+use Rattle.standard.specs.Parser.{Parser}
+use Rattle.standard.specs.Statements.{statements}
+use Rattle.standard.specs.Serial.{World, Flow, write_limit}
+use Rattle.standard.specs.Frames.{Frame, Nest, rests, NestComesTo, TagComesTo, TextComesTo, Waits, LacksElement}
+use Rattle.write_parser.specs.declared.left.Limit.{Limit}
+use Rattle.write_parser.specs.declared.left.Limit.TheVariants as limit
+use Rattle.write_parser.specs.declared.nesting.Begun.{Begun}
+use Rattle.write_parser.specs.declared.nesting.Nesting.{Nesting}
+use Rattle.write_parser.specs.declared.live.Live.{Live}
+use Rattle.write_parser.specs.declared.live.Did.{Did}
+use Rattle.write_parser.specs.declared.live.Did.TheVariants as did
+use Rattle.write_parser.specs.declared.live.Turn.{Turn}
+use Rattle.write_parser.specs.declared.live.Turn.TheVariants as turn
+use Rattle.write_parser.specs.Parsing.{IsServed}
+use Rattle.write_parser.specs.Writing.{View, first_view, why_of, IsRefusal, LeadsTo, Stands}
+
+-- ---- what it holds
+
+abbrev pub halted_of : Option Limit → Option Why
+halted_of None = None
+halted_of (Some l) = Some (why_of l)
+
+abbrev pub view_of : Live → Bool → View
+view_of l spent = record {
+  parser = l.machine;
+  doc = l.doc;
+  written = l.written;
+  executed = l.executed;
+  lines = l.lines;
+  rest = l.rest;
+  pending = l.pending;
+  halted = halted_of l.halted;
+  spent = spent;
+}
+
+-- the parser may go on
+pub record IsGoing (l : Live) : Type 0 where
+  pub served : IsServed l.machine l.doc
+  pub halted : l.halted ≡ None
+
+pub record IsFirst (realm : ℕ) (l : Live) : Type 0 where
+  pub view : view_of l false ≡ first_view realm
+  pub served : IsServed l.machine l.doc
+
+-- ---- as nested scripts
+
+abbrev pub framed : ℕ → List Statement → List ℕ → Frame
+framed k list rest = record { number = k; list = list; rest = rest }
+
+abbrev pub frame_of : Begun → Frame
+frame_of b = framed b.number (drop b.done b.script) b.rest
+
+abbrev pub frames_of : Nesting → List Frame
+frames_of n = frame_of n.top ∷ map frame_of (reverse n.below.items)
+
+-- a script more, if one was begun
+abbrev pub with_begun : Option Begun → List Frame → List Frame
+with_begun None fs = fs
+with_begun (Some b) fs = frame_of b ∷ fs
+
+-- nested scripts, with those lines before and that text of the page behind
+abbrev pub nest_of : Live → List Frame → List Line → List ℕ → Nest
+nest_of l fs before page = record {
+  parser = l.machine;
+  doc = l.doc;
+  pending = l.pending;
+  written = l.written;
+  executed = l.executed;
+  lines = before ++ l.lines;
+  frames = fs;
+  behind = l.rest ++ page;
+}
+
+-- ---- what comes of them
+
+-- What comes of the new state is `Of` the old; where the page is refused, that is.
+abbrev pub ThenBy : Option Limit → World → (Flow → Type 0) → Live → List Frame → List Line → List ℕ → Type 0
+ThenBy None w Of new fs before page = (g : Flow) → NestComesTo w (nest_of new fs before page) g → Of g
+ThenBy (Some l) w Of new fs before page = (g : Flow) × IsRefusal (why_of l) (view_of new false) before g × Of g
+
+abbrev pub Then : World → (Flow → Type 0) → Live → List Frame → List Line → List ℕ → Type 0
+Then w Of new fs before page = ThenBy new.halted w Of new fs before page
+
+-- from nested scripts to nested scripts, in each world with these entities
+pub record Turns (es : Entities) (old : Live) (fs : List Frame) (new : Live) (fs' : List Frame) : Type 0 where
+  pub turns : (w : World) (before : List Line) (page : List ℕ) → w.entities ≡ es → Then w (NestComesTo w (nest_of old fs before page)) new fs' before page
+
+-- what there is still to parse, and to write: each step of the parser makes it less
+abbrev pub weight : Live → List Frame → ℕ
+weight l fs = 2 * (write_limit - l.written) + length (rests fs) + length l.rest
+
+-- the statements that are left, and the ends of the scripts
+abbrev pub steps_of : List Frame → ℕ
+steps_of [] = 0
+steps_of (f ∷ fs) = suc (length f.list) + steps_of fs
+
+-- A part of a call went from nested scripts to nested scripts.
+pub record Moves (es : Entities) (old : Live) (fs : List Frame) (new : Live) (fs' : List Frame) : Type 0 where
+  pub turns : Turns es old fs new fs'
+  pub served : IsServed new.machine new.doc
+  pub weight : weight new fs' ≤ weight old fs
+
+-- no script is left, or the page is refused
+abbrev pub frames_at : Turn → Nesting → List Frame
+frames_at turn.On n = frames_of n
+frames_at turn.Over n = []
+
+-- ---- the end tag of a script, and its text
+
+-- A script was begun, with nothing written, or none was.
+abbrev pub WroteNothing : Option Begun → Type 0
+WroteNothing None = ⊤
+WroteNothing (Some b) = b.rest ≡ []
+
+-- but for the scripts executed, the lines and the script that is pending all is as before
+abbrev pub Keeps : Live → Live → Type 0
+Keeps old new = new ≡ record old { executed = new.executed; lines = new.lines; pending = new.pending }
+
+-- The text of a script was read: what comes of the script begun, comes of the text.
+pub record Begins (text : List ℕ) (old : Live) (begun : Option Begun) (new : Live) : Type 0 where
+  pub comes : (w : World) (fs : List Frame) (before : List Line) (page : List ℕ) (g : Flow) →
+      NestComesTo w (nest_of new (with_begun begun fs) before page) g → TextComesTo w (statements text) (nest_of old fs before page) g
+  pub keeps : Keeps old new
+  pub wrote : WroteNothing begun
+
+-- A script was prepared at its end tag.
+pub record Prepares (id : NodeId) (old : Live) (begun : Option Begun) (new : Live) : Type 0 where
+  pub comes : (w : World) (fs : List Frame) (before : List Line) (page : List ℕ) (g : Flow) →
+      NestComesTo w (nest_of new (with_begun begun fs) before page) g → TagComesTo w id (nest_of old fs before page) g
+  pub keeps : Keeps old new
+  pub wrote : WroteNothing begun
+
+-- ---- statements
+
+-- the parser goes on in a text
+pub record Continues (awaited : Option (List ℕ)) (text : List ℕ) : Type 0 where
+  pub pending : awaited ≡ None
+  pub rest : text ≢ []
+
+pub record HasWritten (old : Live) (rest text : List ℕ) (new : Live) (rest' : List ℕ) (d : Did) : Type 0 where
+  pub fits : old.written + length text ≤ write_limit → (new ≡ record old { written = old.written + length text }) × (rest' ≡ rest ++ text)
+  pub long : write_limit < old.written + length text → (new ≡ record old { halted = Some limit.Writes }) × (rest' ≡ rest)
+  pub did : d ≡ did.All
+
+-- the element, if it is there, was taken out of its parent
+abbrev pub HasRemoved : Option ℕ → Live → Live → Did → Type 0
+HasRemoved None old new d = (new ≡ old) × (d ≡ did.Nothing)
+HasRemoved (Some e) old new d = (new ≡ record old { doc = record old.doc { tree = detached old.doc.tree e } }) × (d ≡ did.All)
+
+-- the element, if it is there, was read
+abbrev pub HasRead : ℕ → Option ℕ → Live → Live → Did → Type 0
+HasRead k None old new d = (new ≡ old) × (d ≡ did.Nothing)
+HasRead k (Some e) old new d = (new ≡ record old { lines = old.lines ++ line.Log k (outer_text old.doc.tree e) ∷ [] }) × (d ≡ did.All)
+
+-- the statements left behind one
+abbrev pub left_by : Did → List Statement → List Statement
+left_by did.All list = list
+left_by did.Nothing list = []
+
+-- A statement, the first that the innermost script has left, was done, but for the line that says that its element isn't there.
+abbrev pub DoneBy : Did → ℕ → Statement → Live → List ℕ → Live → List ℕ → Type 0
+DoneBy did.All k a old rest new rest' =
+    (es : Entities) (list : List Statement) (fs : List Frame) → Turns es old (framed k (a ∷ list) rest ∷ fs) new (framed k list rest' ∷ fs)
+DoneBy did.Nothing k a old rest new rest' = (new ≡ old) × (rest' ≡ rest) × LacksElement old.doc.tree a
+
+-- what is left to parse and to write didn't grow
+pub record IsLight (old : Live) (rest : List ℕ) (new : Live) (rest' : List ℕ) : Type 0 where
+  pub light : 2 * (write_limit - new.written) + length rest' ≤ 2 * (write_limit - old.written) + length rest
+  pub behind : new.rest ≡ old.rest
+
+pub record DoesMost (k : ℕ) (a : Statement) (old : Live) (rest : List ℕ) (new : Live) (rest' : List ℕ) (d : Did) : Type 0 where
+  pub done : DoneBy d k a old rest new rest'
+  pub served : IsServed new.machine new.doc
+  pub light : IsLight old rest new rest'
+
+-- The same with that line, behind which the script has no statement left.
+pub record Does (k : ℕ) (a : Statement) (old : Live) (rest : List ℕ) (new : Live) (rest' : List ℕ) (d : Did) : Type 0 where
+  pub turns : (es : Entities) (list : List Statement) (fs : List Frame) → Turns es old (framed k (a ∷ list) rest ∷ fs) new (framed k (left_by d list) rest' ∷ fs)
+  pub served : IsServed new.machine new.doc
+  pub light : IsLight old rest new rest'
+
+-- One step of the innermost script.
+pub record Steps (old : Live) (n : Nesting) (new : Live) (n' : Nesting) (t : Turn) : Type 0 where
+  pub moves : (es : Entities) → Moves es old (frames_of n) new (frames_at t n')
+  pub on : t ≡ turn.On → (new.halted ≡ None) × (steps_of (frames_of n') < steps_of (frames_of n))
+
+-- Statements ran up to a text that is to be parsed, or to the end.
+pub record RunsOn (old : Live) (n : Nesting) (new : Live) (n' : Nesting) (t : Turn) : Type 0 where
+  pub moves : (es : Entities) → Moves es old (frames_of n) new (frames_at t n')
+  pub on : t ≡ turn.On → (new.halted ≡ None) × Continues new.pending n'.top.rest
+
+-- The text that the innermost script wrote was parsed up to a stop.
+pub record ParsesOn (es : Entities) (old : Live) (n : Nesting) (new : Live) (n' : Nesting) (t : Turn) : Type 0 where
+  pub moves : Moves es old (frames_of n) new (frames_at t n')
+  pub on : t ≡ turn.On → (new.halted ≡ None) × (weight new (frames_of n') < weight old (frames_of n))
+
+-- A script more was begun inside the others, if its end tag began one.
+pub record Nests (id : NodeId) (old : Live) (n : Nesting) (new : Live) (n' : Nesting) : Type 0 where
+  pub comes : (w : World) (before : List Line) (page : List ℕ) (g : Flow) →
+      NestComesTo w (nest_of new (frames_of n') before page) g → TagComesTo w id (nest_of old (frames_of n) before page) g
+  pub keeps : Keeps old new
+  pub rests : rests (frames_of n') ≡ rests (frames_of n)
+
+-- ---- whole scripts at level 0
+
+pub record EndsTag (es : Entities) (id : NodeId) (old new : Live) : Type 0 where
+  pub comes : (w : World) (before : List Line) (page : List ℕ) → w.entities ≡ es → Then w (TagComesTo w id (nest_of old [] before page)) new [] before page
+  pub served : IsServed new.machine new.doc
+  pub weight : weight new [] ≤ weight old []
+
+-- no script is awaited
+abbrev pub awaits_none : Live → Live
+awaits_none l = record l { pending = None }
+
+pub record RunsText (es : Entities) (text : List ℕ) (old new : Live) : Type 0 where
+  pub comes : (w : World) (before : List Line) (page : List ℕ) → w.entities ≡ es → Then w (TextComesTo w (statements text) (nest_of (awaits_none old) [] before page)) new [] before page
+  pub served : IsServed new.machine new.doc
+
+abbrev pub Misses : Option (List ℕ) → Live → Live → Type 0
+Misses None old new = new ≡ old
+Misses (Some name) old new = new ≡ record old { lines = old.lines ++ line.Miss name ∷ []; pending = None }
+
+-- Written text was parsed up to a stop, and the script there ran.
+pub record FeedsOn (es : Entities) (old new : Live) : Type 0 where
+  pub leads : LeadsTo es (Stands (view_of old false)) (view_of new false)
+  pub served : IsServed new.machine new.doc
+  pub weight : weight new [] < weight old []
+
+-- the parser doesn't go on
+abbrev pub IsFed : Live → Type 0
+IsFed l = l.halted ≡ None → Waits l.pending l.rest
+
+abbrev pub StaysAt : Option Limit → Option (List ℕ) → Live → Live → Type 0
+StaysAt None None old new = ⊤
+StaysAt None (Some name) old new = new ≡ old
+StaysAt (Some l) pending old new = new ≡ old
+
+-- Written text was parsed as far as it goes.
+pub record Fed (es : Entities) (old new : Live) : Type 0 where
+  pub leads : LeadsTo es (Stands (view_of old false)) (view_of new false)
+  pub served : IsServed new.machine new.doc
+  pub fed : IsFed new
+  pub stays : StaysAt old.halted old.pending old new

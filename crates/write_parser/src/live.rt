@@ -1,0 +1,442 @@
+//! The parser, the document and what scripts wrote, while memory lasts.
+
+ghost use Rattle.std.specs.Prelude.{◌≡◌, ◌++◌, ◌<◌, ◌≤◌, length, suc, false, [], None, Some, IfOk, OnOk, IsTrue, IsFalse};
+ghost use Rattle.std.specs.Option.{ForSome};
+ghost use Rattle.std.specs.Str.{chars};
+ghost use Rattle.standard.specs.Act.{is_bound};
+ghost use Rattle.standard.specs.Tree.{find_id};
+ghost use Rattle.standard.specs.Frames.{Waits};
+ghost use Rattle.write_parser.specs.Parsing.{IsServed, TextParsed, EndParsed};
+ghost use Rattle.write_parser.specs.Steps.{view_of, IsGoing, IsFirst, Begins, Prepares, Continues, HasWritten, HasRemoved, HasRead, DoesMost, Does, Steps, RunsOn, ParsesOn, Moves, frames_of, with_begun, Nests, EndsTag, RunsText, Misses, FeedsOn, IsFed, Fed};
+ghost use Rattle.write_parser.specs.Writing.{LeftIs};
+
+use crate::left::{Left, Limit};
+use crate::nesting::{Begun, Nesting};
+use crate::rest::{Rest, parse_text};
+use entity_table::Table;
+use html_types::{Finish, Line, Lines, NoMemory, NodeId, Ops, Statement, Stop, Text};
+use op_exec::{Doc, ScriptKind};
+use parse_machine::{Machine, Ran};
+use std::alloc::Global;
+use std::mem;
+
+/// The most characters that the scripts of a page write.
+const WRITE_LIMIT: usize = 1_048_576;
+
+/// How the scripts that were begun go on.
+#[derive(Clone, Copy, Debug, PartialEq, Eq)]
+pub(crate) enum Turn {
+    On,
+    /// No script is left, or the page is refused.
+    Over,
+}
+
+/// What a statement did.
+#[derive(Clone, Copy, Debug, PartialEq, Eq)]
+pub(crate) enum Did {
+    All,
+    /// The element that it names isn't there.
+    Nothing,
+}
+
+/// What a writer holds.
+#[derive(Drop)]
+pub(crate) struct Live {
+    pub alloc: Global,
+    pub machine: Machine,
+    pub doc: Doc,
+    pub written: usize,
+    pub executed: u64,
+    pub lines: Lines,
+    pub rest: Rest,
+    pub pending: Option<Text>,
+    pub halted: Option<Limit>,
+}
+
+// One script more. A page has fewer of them than it has characters, and those that are written.
+fn one_more(executed: u64) -> Result<u64, NoMemory>
+    ensures { IfOk result (λ n. n ≡ suc executed) }
+{
+    executed.checked_add(1).ok_or(NoMemory)
+}
+
+// The parser, and the text of a page.
+impl Live {
+    /// At the beginning of a page, with an empty document.
+    pub fn new(alloc: Global, realm: u64) -> Result<Live, NoMemory>
+        ensures { IfOk result (λ live. IsFirst realm live) }
+    {
+        let doc = Doc::new(alloc)?;
+        Ok(Live {
+            alloc,
+            machine: Machine::new(alloc, realm),
+            doc,
+            written: 0,
+            executed: 0,
+            lines: Lines::new(alloc),
+            rest: Rest::new(alloc),
+            pending: None,
+            halted: None,
+        })
+    }
+
+    /// Parses a text up to the first stop, and does the operations.
+    pub fn parse(&mut self, table: &Table, text: &str) -> Result<Ran, NoMemory>
+        requires { IsServed self.old.machine self.old.doc }
+        ensures parsed { IfOk result (λ ran. TextParsed table.now self.old.machine self.old.doc text.now self.new.machine self.new.doc ran) }
+        ensures others { OnOk result (self.new ≡ record self.old { machine = self.new.machine; doc = self.new.doc }) }
+    {
+        parse_text(self.alloc, table, &mut self.machine, &mut self.doc, text)
+    }
+
+    /// Takes the end of the page, and does the operations.
+    pub fn finish(&mut self, table: &Table) -> Result<Finish, NoMemory>
+        requires { IsServed self.old.machine self.old.doc }
+        ensures parsed { IfOk result (λ finish. EndParsed table.now self.old.machine self.old.doc self.new.machine self.new.doc finish) }
+        ensures others { OnOk result (self.new ≡ record self.old { machine = self.new.machine; doc = self.new.doc }) }
+    {
+        let mut ops = Ops::new(self.alloc);
+        let finish = self.machine.finish(self.alloc, table, &mut ops)?;
+        self.doc.apply_all(&ops)?;
+        Ok(finish)
+    }
+
+    // Whether the parser goes on in written text: it does unless a script is pending.
+    fn goes_on(&self, rest: &Rest) -> bool
+        ensures goes { IsTrue result → Continues self.now.pending rest.now }
+        ensures waits { IsFalse result → Waits self.now.pending rest.now }
+    {
+        self.pending.is_none() && !rest.is_empty()
+    }
+}
+
+// How a script begins.
+impl Live {
+    // The text of a script, one level up. A text that isn't in the language gives a line, and nothing runs.
+    fn begin(&mut self, text: &str) -> Result<Option<Begun>, NoMemory>
+        ensures { IfOk result (λ begun. Begins (chars text.now) self.old begun self.new) }
+    {
+        let script = script_lang::read(self.alloc, text)?;
+        self.executed = one_more(self.executed)?;
+        match script {
+            None => {
+                self.lines.push(Line::Syntax(self.executed))?;
+                Ok(None)
+            }
+            Some(script) => Ok(Some(Begun {
+                number: self.executed,
+                script,
+                done: 0,
+                rest: Rest::new(self.alloc),
+            })),
+        }
+    }
+
+    // Prepares the script whose end tag was met (4.12.1.1).
+    fn prepare(&mut self, id: NodeId) -> Result<Option<Begun>, NoMemory>
+        requires { IsTrue (is_bound self.old.doc.bound id) }
+        ensures { IfOk result (λ begun. Prepares id self.old begun self.new) }
+    {
+        match self.doc.script_kind(id) {
+            ScriptKind::Still => Ok(None),
+            ScriptKind::External => {
+                self.pending = self.doc.script_src(id)?;
+                Ok(None)
+            }
+            ScriptKind::Inline => {
+                let text = self.doc.script_text(id)?;
+                self.begin(text.as_str())
+            }
+        }
+    }
+}
+
+// Statements.
+impl Live {
+    // `document.write()` (8.4.3): the text stands just before the insertion point, unless it is too long.
+    fn write(&mut self, text: &Text, rest: &mut Rest) -> Result<Did, NoMemory>
+        ensures { IfOk result (λ did. HasWritten self.old rest.old text.now self.new rest.new did) }
+    {
+        let written = self.written.saturating_add(text.len());
+        if written > WRITE_LIMIT {
+            self.halted = Some(Limit::Writes);
+            return Ok(Did::All);
+        }
+        self.written = written;
+        rest.push_str(text.as_str())?;
+        Ok(Did::All)
+    }
+
+    // Takes the element with that id out of its parent.
+    fn remove(&mut self, id: &Text) -> Result<Did, NoMemory>
+        ensures { IfOk result (λ did. HasRemoved (find_id self.old.doc.tree id.now) self.old self.new did) }
+    {
+        match self.doc.tree().find_id(id.as_str())? {
+            None => Ok(Did::Nothing),
+            Some(node) => {
+                self.doc.remove(node);
+                Ok(Did::All)
+            }
+        }
+    }
+
+    // The script of that number reads the element.
+    fn read(&mut self, number: u64, node: Option<usize>) -> Result<Did, NoMemory>
+        requires { ForSome node (λ n. n < length self.old.doc.tree) }
+        ensures { IfOk result (λ did. HasRead number node self.old self.new did) }
+    {
+        match node {
+            None => Ok(Did::Nothing),
+            Some(node) => {
+                let text = serialiser::outer(self.alloc, self.doc.tree(), node)?;
+                self.lines.push(Line::Log(number, text))?;
+                Ok(Did::All)
+            }
+        }
+    }
+
+    // Does a statement of the script of that number, which wrote `rest`.
+    fn try_statement(
+        &mut self,
+        number: u64,
+        statement: &Statement,
+        rest: &mut Rest,
+    ) -> Result<Did, NoMemory>
+        requires going { IsGoing self.old }
+        requires waits { Waits self.old.pending rest.old }
+        ensures { IfOk result (λ did. DoesMost number statement.now self.old rest.old self.new rest.new did) }
+    {
+        match statement {
+            Statement::Write(text) => self.write(text, rest),
+            Statement::Remove(id) => self.remove(id),
+            Statement::LogById(id) => {
+                let node = self.doc.tree().find_id(id.as_str())?;
+                self.read(number, node)
+            }
+            Statement::LogRoot => {
+                let node = self.doc.tree().first_element();
+                self.read(number, node)
+            }
+        }
+    }
+
+    // The same. Where its element isn't there, that gives a line.
+    fn run_statement(
+        &mut self,
+        number: u64,
+        statement: &Statement,
+        rest: &mut Rest,
+    ) -> Result<Did, NoMemory>
+        requires going { IsGoing self.old }
+        requires waits { Waits self.old.pending rest.old }
+        ensures { IfOk result (λ did. Does number statement.now self.old rest.old self.new rest.new did) }
+    {
+        let did = self.try_statement(number, statement, rest)?;
+        if did == Did::Nothing {
+            self.lines.push(Line::Throw(number))?;
+        }
+        Ok(did)
+    }
+}
+
+// Nested scripts.
+impl Live {
+    // The innermost script ends: what it wrote and isn't parsed stands before what the script around it wrote, or at level 0.
+    fn end_script(&mut self, nesting: &mut Nesting) -> Result<Turn, NoMemory>
+        requires going { IsGoing self.old }
+        requires waits { Waits self.old.pending nesting.old.top.rest }
+        requires ended { length nesting.old.top.script ≤ nesting.old.top.done }
+        ensures { IfOk result (λ turn. Steps self.old nesting.old self.new nesting.new turn) }
+    {
+        let rest = mem::replace(&mut nesting.top.rest, Rest::new(self.alloc));
+        match nesting.below.pop() {
+            None => {
+                self.rest.put_front(rest)?;
+                Ok(Turn::Over)
+            }
+            Some(around) => {
+                nesting.top = around;
+                nesting.top.rest.put_front(rest)?;
+                Ok(Turn::On)
+            }
+        }
+    }
+
+    // The next statement of the innermost script, or its end.
+    fn step(&mut self, nesting: &mut Nesting) -> Result<Turn, NoMemory>
+        requires going { IsGoing self.old }
+        requires waits { Waits self.old.pending nesting.old.top.rest }
+        ensures { IfOk result (λ turn. Steps self.old nesting.old self.new nesting.new turn) }
+    {
+        let statements = nesting.top.script.as_slice();
+        let Some(statement) = statements.get(nesting.top.done) else {
+            return self.end_script(nesting);
+        };
+        match self.run_statement(nesting.top.number, statement, &mut nesting.top.rest)? {
+            Did::All => nesting.top.done += 1,
+            Did::Nothing => nesting.top.done = statements.len(),
+        }
+        if self.halted.is_some() {
+            return Ok(Turn::Over);
+        }
+        Ok(Turn::On)
+    }
+
+    // Runs statements up to a text that is to be parsed, or to the end.
+    fn run_statements(&mut self, nesting: &mut Nesting) -> Result<Turn, NoMemory>
+        requires { IsGoing self.old }
+        ensures { IfOk result (λ turn. RunsOn self.old nesting.old self.new nesting.new turn) }
+    {
+        'steps: while !self.goes_on(&nesting.top.rest) {
+            if self.step(nesting)? == Turn::Over {
+                return Ok(Turn::Over);
+            }
+        }
+        Ok(Turn::On)
+    }
+
+    // A script more inside those that were begun, if its end tag began it.
+    fn nest(&mut self, id: NodeId, nesting: &mut Nesting) -> Result<(), NoMemory>
+        requires { IsTrue (is_bound self.old.doc.bound id) }
+        ensures { OnOk result (Nests id self.old nesting.old self.new nesting.new) }
+    {
+        if let Some(begun) = self.prepare(id)? {
+            let around = mem::replace(&mut nesting.top, begun);
+            nesting.below.push(around)?;
+        }
+        Ok(())
+    }
+
+    // Parses what the innermost script wrote up to a stop.
+    fn parse_written(&mut self, table: &Table, nesting: &mut Nesting) -> Result<Turn, NoMemory>
+        requires going { IsGoing self.old }
+        requires goes { Continues self.old.pending nesting.old.top.rest }
+        ensures { IfOk result (λ turn. ParsesOn table.now self.old nesting.old self.new nesting.new turn) }
+    {
+        let rest = &mut nesting.top.rest;
+        match rest.parse(self.alloc, table, &mut self.machine, &mut self.doc)? {
+            Stop::InputEnd => Ok(Turn::On),
+            Stop::Script(id) => {
+                self.nest(id, nesting)?;
+                Ok(Turn::On)
+            }
+            Stop::Deep => {
+                self.halted = Some(Limit::Depth);
+                Ok(Turn::Over)
+            }
+        }
+    }
+
+    // Runs the scripts that were begun to their end, and those that they write.
+    fn run(&mut self, table: &Table, nesting: &mut Nesting) -> Result<(), NoMemory>
+        requires { IsGoing self.old }
+        ensures { OnOk result (Moves table.now self.old (frames_of nesting.old) self.new []) }
+    {
+        'texts: loop {
+            if self.run_statements(nesting)? == Turn::Over {
+                return Ok(());
+            }
+            if self.parse_written(table, nesting)? == Turn::Over {
+                return Ok(());
+            }
+        }
+    }
+
+    // Runs a script to its end, if one was begun.
+    fn run_begun(&mut self, table: &Table, begun: Option<Begun>) -> Result<(), NoMemory>
+        requires { IsGoing self.old }
+        ensures { OnOk result (Moves table.now self.old (with_begun begun []) self.new []) }
+    {
+        let Some(top) = begun else {
+            return Ok(());
+        };
+        let mut nesting = Nesting {
+            top,
+            below: Vec::new(self.alloc),
+        };
+        self.run(table, &mut nesting)
+    }
+}
+
+// Level 0.
+impl Live {
+    /// The script whose end tag was met.
+    pub fn end_tag(&mut self, table: &Table, id: NodeId) -> Result<(), NoMemory>
+        requires going { IsGoing self.old }
+        requires bound { IsTrue (is_bound self.old.doc.bound id) }
+        ensures { OnOk result (EndsTag table.now id self.old self.new) }
+    {
+        let begun = self.prepare(id)?;
+        self.run_begun(table, begun)
+    }
+
+    /// Runs a script's text; no script is awaited then.
+    pub fn run_text(&mut self, table: &Table, text: &str) -> Result<(), NoMemory>
+        requires { IsGoing self.old }
+        ensures { OnOk result (RunsText table.now (chars text.now) self.old self.new) }
+    {
+        self.pending = None;
+        let begun = self.begin(text)?;
+        self.run_begun(table, begun)
+    }
+
+    // Parses written text up to a stop, and runs the script whose end tag it stops at.
+    fn feed_once(&mut self, table: &Table) -> Result<(), NoMemory>
+        requires going { IsGoing self.old }
+        requires goes { Continues self.old.pending self.old.rest }
+        ensures { OnOk result (FeedsOn table.now self.old self.new) }
+    {
+        match self.rest.parse(self.alloc, table, &mut self.machine, &mut self.doc)? {
+            Stop::InputEnd => Ok(()),
+            Stop::Script(id) => self.end_tag(table, id),
+            Stop::Deep => {
+                self.halted = Some(Limit::Depth);
+                Ok(())
+            }
+        }
+    }
+
+    // Whether the parser goes on in written text at level 0.
+    fn feeds(&self) -> bool
+        ensures going { IsTrue result → self.now.halted ≡ None }
+        ensures goes { IsTrue result → Continues self.now.pending self.now.rest }
+        ensures fed { IsFalse result → IsFed self.now }
+    {
+        self.halted.is_none() && self.goes_on(&self.rest)
+    }
+
+    /// Parses written text and runs its scripts, until all is used, a script is awaited, or the page is refused.
+    pub fn feed(&mut self, table: &Table) -> Result<(), NoMemory>
+        requires { IsServed self.old.machine self.old.doc }
+        ensures { OnOk result (Fed table.now self.old self.new) }
+    {
+        'scripts: while self.feeds() {
+            self.feed_once(table)?;
+        }
+        Ok(())
+    }
+
+    /// The script that is awaited, if one is, is missing.
+    pub fn miss(&mut self) -> Result<(), NoMemory>
+        ensures { OnOk result (Misses self.old.pending self.old self.new) }
+    {
+        if let Some(name) = self.pending.take() {
+            self.lines.push(Line::Miss(name))?;
+        }
+        Ok(())
+    }
+
+    /// What is left.
+    pub fn left(&self) -> Result<Left, NoMemory>
+        requires { IsFed self.now }
+        ensures { IfOk result (λ left. LeftIs (view_of self.now false) left) }
+    {
+        if let Some(limit) = self.halted {
+            return Ok(Left::Limit(limit));
+        }
+        match &self.pending {
+            Some(name) => Ok(Left::Awaits(name.copy(self.alloc)?)),
+            None => Ok(Left::Empty),
+        }
+    }
+}

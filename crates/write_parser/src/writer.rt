@@ -1,0 +1,178 @@
+//! The writer.
+
+ghost use Rattle.std.specs.Prelude.{◌≡◌, true, false, [], None, IfOk, OnOk, OnErr, IsErr, IsTrue};
+ghost use Rattle.std.specs.Str.{chars};
+ghost use Rattle.standard.specs.Act.{is_bound};
+ghost use Rattle.standard.specs.Statements.{statements};
+ghost use Rattle.write_parser.specs.Writing.{first_view, Parses, Finishes, AtTag, LeadsTo, HasRun, HasMissed, Feeds};
+
+use crate::left::Left;
+use crate::live::Live;
+use entity_table::Table;
+use html_types::{Finish, Line, Lines, NoMemory, NodeId};
+use op_exec::Doc;
+use parse_machine::Ran;
+use std::alloc::Global;
+use std::marker::Model;
+use std::mem;
+
+/// A parser and its document, the scripts that run between the characters of a page, and the text that they wrote. A contract
+/// sees it as a view, which stands for a moment of the serial parse.
+///
+/// After want of memory it is spent: each call that takes memory then answers want of memory.
+#[derive(Drop)]
+pub struct Writer {
+    live: Live,
+    spent: bool,
+}
+
+impl Model for Writer {
+    ghost use Rattle.std.specs.Prelude.{◌≡◌, false};
+    ghost use Rattle.write_parser.specs.Writing.{View};
+
+    ghost Value = { View };
+
+    ghost use Rattle.write_parser.specs.Parsing.{IsServed};
+    ghost use Rattle.write_parser.specs.Steps.{view_of};
+
+    ghost view = { λ w. view_of w.live w.spent };
+
+    ghost invariant = { λ w. w.spent ≡ false → IsServed w.live.machine w.live.doc };
+}
+
+impl Writer {
+    /// At the beginning of a page, with an empty document. The elements that it makes have the ids of that realm.
+    pub fn new(alloc: Global, realm: u64) -> Result<Writer, NoMemory>
+        ensures { IfOk result (λ w. w ≡ first_view realm) }
+    {
+        let live = Live::new(alloc, realm)?;
+        Ok(Writer { live, spent: false })
+    }
+
+    /// The document.
+    pub fn doc(&self) -> &Doc
+        ensures { result.now ≡ self.now.doc }
+    {
+        &self.live.doc
+    }
+
+    /// The lines that scripts gave since lines were last taken.
+    pub fn take_lines(&mut self) -> Lines
+        ensures lines { result ≡ self.old.lines }
+        ensures others { self.new ≡ record self.old { lines = [] } }
+    {
+        let none = Lines::new(self.live.alloc);
+        mem::replace(&mut self.live.lines, none)
+    }
+
+    /// Parses a text of the page up to the first stop, and does the operations.
+    pub fn parse(&mut self, table: &Table, text: &str) -> Result<Ran, NoMemory>
+        ensures spent { self.old.spent ≡ true → IsErr result }
+        ensures kept { OnOk result (self.new.spent ≡ false) }
+        ensures err { OnErr result (self.new.spent ≡ true) }
+        ensures parsed { IfOk result (λ ran. Parses table.now self.old self.new text.now ran) }
+    {
+        if self.spent {
+            return Err(NoMemory);
+        }
+        self.spent = true;
+        let ran = self.live.parse(table, text)?;
+        self.spent = false;
+        Ok(ran)
+    }
+
+    /// Takes the end of the page, and does the operations.
+    pub fn finish(&mut self, table: &Table) -> Result<Finish, NoMemory>
+        ensures spent { self.old.spent ≡ true → IsErr result }
+        ensures kept { OnOk result (self.new.spent ≡ false) }
+        ensures err { OnErr result (self.new.spent ≡ true) }
+        ensures finished { IfOk result (λ finish. Finishes table.now self.old self.new finish) }
+    {
+        if self.spent {
+            return Err(NoMemory);
+        }
+        self.spent = true;
+        let finish = self.live.finish(table)?;
+        self.spent = false;
+        Ok(finish)
+    }
+
+    /// The script whose end tag the page's characters have just ended (13.2.6.4.8): it is prepared on the tree as it is, and then
+    /// runs, is awaited, or does nothing.
+    pub fn end_tag(&mut self, table: &Table, id: NodeId) -> Result<(), NoMemory>
+        requires bound { IsTrue (is_bound self.old.doc.bound id) }
+        requires none_awaited { self.old.pending ≡ None }
+        requires not_refused { self.old.halted ≡ None }
+        ensures spent { self.old.spent ≡ true → IsErr result }
+        ensures kept { OnOk result (self.new.spent ≡ false) }
+        ensures err { OnErr result (self.new.spent ≡ true) }
+        // From that end tag the parse leads to a moment for which the writer then stands.
+        ensures leads { OnOk result (LeadsTo table.now (AtTag id self.old) self.new) }
+    {
+        if self.spent {
+            return Err(NoMemory);
+        }
+        self.spent = true;
+        self.live.end_tag(table, id)?;
+        self.spent = false;
+        Ok(())
+    }
+
+    /// Runs the text of a script: of the script that is awaited, which is awaited no more, or of an inline script whose end tag
+    /// was met. Once the page is refused, nothing changes.
+    pub fn run_script(&mut self, table: &Table, text: &str) -> Result<(), NoMemory>
+        ensures spent { self.old.spent ≡ true → IsErr result }
+        ensures kept { OnOk result (self.new.spent ≡ false) }
+        ensures err { OnErr result (self.new.spent ≡ true) }
+        ensures run { OnOk result (HasRun table.now self.old.halted self.old self.new (statements (chars text.now))) }
+    {
+        if self.spent {
+            return Err(NoMemory);
+        }
+        if self.live.halted.is_some() {
+            return Ok(());
+        }
+        self.spent = true;
+        self.live.run_text(table, text)?;
+        self.spent = false;
+        Ok(())
+    }
+
+    /// The script that is awaited is missing: that gives a line, and it is awaited no more. Once the page is refused, nothing
+    /// changes.
+    pub fn miss(&mut self) -> Result<(), NoMemory>
+        ensures spent { self.old.spent ≡ true → IsErr result }
+        ensures kept { OnOk result (self.new.spent ≡ false) }
+        ensures err { OnErr result (self.new.spent ≡ true) }
+        ensures missed { OnOk result (HasMissed self.old.halted self.old.pending self.old self.new) }
+    {
+        if self.spent {
+            return Err(NoMemory);
+        }
+        if self.live.halted.is_some() {
+            return Ok(());
+        }
+        self.spent = true;
+        self.live.miss()?;
+        self.spent = false;
+        Ok(())
+    }
+
+    /// Parses what was written at level 0 and isn't used, and runs the scripts in it, until all is used, a script is awaited, or
+    /// the page is refused. Where a script is awaited, or the page is refused, it answers that, and nothing changes.
+    pub fn feed_left(&mut self, table: &Table) -> Result<Left, NoMemory>
+        ensures spent { self.old.spent ≡ true → IsErr result }
+        ensures kept { OnOk result (self.new.spent ≡ false) }
+        ensures err { OnErr result (self.new.spent ≡ true) }
+        ensures feeds { IfOk result (λ left. Feeds table.now self.old self.new left) }
+    {
+        if self.spent {
+            return Err(NoMemory);
+        }
+        self.spent = true;
+        self.live.feed(table)?;
+        let left = self.live.left()?;
+        self.spent = false;
+        Ok(left)
+    }
+}
