@@ -2,21 +2,24 @@
 use Rattle.std.specs.Prelude.{◌≡◌, ◌⊎◌, ℕ, Bool, true, false, List, [], ◌++◌, length, nat_le, if◌then◌else◌, Option, Some, None, IfSome}
 use Rattle.html_types.specs.declared.script.Why.TheVariants as why
 use Rattle.outside.specs.Outside.{Rose, Seen}
-use Rattle.outside.specs.declared.traits.Port.TheVariants.{Entities, Page}
+use Rattle.outside.specs.declared.traits.Port.TheVariants.{Entities, Page, Script}
 use Rattle.standard.specs.Entities.{Entities as Table, entities_of}
+use Rattle.standard.specs.Scripts.{Fetched}
 use Rattle.standard.specs.Serial.{Result, finished, refused, Outcome}
 use Rattle.standard.specs.Output.{output_with}
 use Rattle.page_runner.specs.declared.command.TheConstants.{ENTITIES_LIMIT}
 use Rattle.page_runner.specs.declared.page.TheConstants.{PAGE_LIMIT}
 use Rattle.page_runner.specs.declared.page.Failure.{Failure}
 use Rattle.page_runner.specs.declared.page.Failure.TheVariants as failures
+use Rattle.page_runner.specs.declared.scripts.TheConstants.{SCRIPT_LIMIT}
 use Rattle.page_runner.specs.declared.status.Limit.TheVariants as limits
 use Rattle.page_runner.specs.declared.status.Status.{Status}
 use Rattle.page_runner.specs.declared.status.Status.TheVariants as status
 use Rattle.page_runner.specs.Words.{Asked}
 use Rattle.page_runner.specs.Given.{Given, unmet, missing, faulted, got, FaultsRose, AbsencesRose, file_at, MayGive, ReadTo}
 use Rattle.page_runner.specs.Taken.{Took, TookFront}
-use Rattle.page_runner.specs.Pages.{PageRead, ComesTo}
+use Rattle.page_runner.specs.Scripts.{AreScriptsOf, ReadScriptsTo, world_in}
+use Rattle.page_runner.specs.Pages.{PageRead, world_of, ComesTo}
 
 -- ---- what the outside may give of the page
 
@@ -26,21 +29,27 @@ pub record IsPageOf (file : Option (Option (List ℕ))) (left : Option (List ℕ
   pub cut : page.fault ≡ true → IfSome file (λ f. (rest : List ℕ) × (f ≡ Some (page.bytes ++ rest)) × (left ≡ Some rest))
   pub cause : page.fault ≡ true → rose
 
--- a page that was begun and read, and what its serial parse comes to
+-- a page that was begun and read, what came of the scripts' names, and what its serial parse comes to
 pub record PageMet : Type 0 where
   pub read : PageRead
+  pub scripts : List ℕ → Fetched
   pub outcome : Outcome
 
+-- the page is the file's, and the scripts are the folder's
+pub record MayMeetPage (path dir : List ℕ) (before after : Seen) (page : PageMet) : Type 0 where
+  pub read : IsPageOf (file_at before path) (after.left Page) (FaultsRose Page before after) page.read
+  pub scripts : AreScriptsOf dir before after page.scripts
+
 -- Where the page can't be begun the port has nothing left.
-abbrev pub MayGivePage : List ℕ → Seen → Seen → Given PageMet → Type 0
-MayGivePage path before after unmet = Unit {0}
-MayGivePage path before after missing = AbsencesRose Page before after × IfSome (file_at before path) (λ file. file ≡ None)
-MayGivePage path before after faulted = FaultsRose Page before after × IfSome (after.left Page) (λ rest. rest ≡ [])
-MayGivePage path before after (got page) = IsPageOf (file_at before path) (after.left Page) (FaultsRose Page before after) page.read
+abbrev pub MayGivePage : List ℕ → List ℕ → Seen → Seen → Given PageMet → Type 0
+MayGivePage path dir before after unmet = Unit {0}
+MayGivePage path dir before after missing = AbsencesRose Page before after × IfSome (file_at before path) (λ file. file ≡ None)
+MayGivePage path dir before after faulted = FaultsRose Page before after × IfSome (after.left Page) (λ rest. rest ≡ [])
+MayGivePage path dir before after (got page) = MayMeetPage path dir before after page
 
 -- the outcome is that of the serial parse
 abbrev pub IsParsed : Table → Given PageMet → Type 0
-IsParsed es (got page) = ComesTo es page.read page.outcome
+IsParsed es (got page) = ComesTo (world_of es page.scripts) page.read page.outcome
 IsParsed es other = Unit {0}
 
 -- ---- the answer: the status, and all that is written
@@ -56,7 +65,6 @@ status_with (refused why.Depth) = status.Limit limits.Depth
 status_with (refused why.Writes) = status.Limit limits.Writes
 status_with (refused why.Page) = status.Limit limits.Page
 status_with (refused why.Fault) = status.ReadFault
-status_with (refused why.Unready) = status.Unready
 
 -- with the dump of the tree or with its text
 abbrev pub answer_to_page : Bool → Given PageMet → Answer
@@ -92,19 +100,19 @@ Gives before after answer given = (given ≡ answer.0) × Took before after answ
 -- ---- a run
 
 -- from where the page is begun
-pub record PageAnswers (es : Table) (dump : Bool) (path : List ℕ) (before after : Seen) (taken taken' : Option (List ℕ)) (result : Status) : Type 0 where
+pub record PageAnswers (es : Table) (dump : Bool) (path dir : List ℕ) (before after : Seen) (taken taken' : Option (List ℕ)) (result : Status) : Type 0 where
   pub page : Given PageMet
-  pub may : MayGivePage path before after page
+  pub may : MayGivePage path dir before after page
   pub parsed : IsParsed es page
   pub gives : Gives taken taken' (answer_to_page dump page) result
 
--- What was met at the two ports, each with its cause, and the answer to it. The entities come first, and what stands behind
+-- What was met at the ports, each with its cause, and the answer to it. The entities come first, and what stands behind
 -- that one which refuses counts for nothing.
 pub record Answers (asked : Asked) (before after : Seen) (taken taken' : Option (List ℕ)) (result : Status) : Type 0 where
   pub entities : Given (List ℕ)
   pub page : Given PageMet
   pub may_entities : MayGive ENTITIES_LIMIT Entities asked.entities before after entities
-  pub may_page : MayGivePage asked.page before after page
+  pub may_page : MayGivePage asked.page asked.dir before after page
   pub parsed : (bytes : List ℕ) (es : Table) → entities ≡ got bytes → table_of bytes ≡ Some es → IsParsed es page
   pub gives : Gives taken taken' (answer_to asked.dump entities page) result
 
@@ -119,14 +127,17 @@ is_finished status.Done = true
 is_finished status.BadUtf8 = true
 is_finished (status.Limit which) = true
 is_finished status.ReadFault = true
-is_finished status.Unready = true
 is_finished _ = false
 
--- Neither file is read further than one byte past its limit.
+-- No file is read further than one byte past its limit.
+pub record StopsAtEach (asked : Asked) (before after : Seen) : Type 0 where
+  pub entities : ReadTo ENTITIES_LIMIT Entities asked.entities before after
+  pub page : ReadTo PAGE_LIMIT Page asked.page before after
+  pub scripts : ReadScriptsTo SCRIPT_LIMIT asked.dir before after
+
 abbrev pub StopsAtLimits : Option Asked → Seen → Seen → Type 0
 StopsAtLimits None before after = after.left ≡ before.left
-StopsAtLimits (Some asked) before after =
-    ReadTo ENTITIES_LIMIT Entities asked.entities before after × ReadTo PAGE_LIMIT Page asked.page before after
+StopsAtLimits (Some asked) before after = StopsAtEach asked before after
 
 -- ---- what follows of it
 
@@ -134,13 +145,15 @@ StopsAtLimits (Some asked) before after =
 pub record NoFaultRose (before after : Seen) (sink sink' : ℕ) : Type 0 where
   pub entities : ¬ (FaultsRose Entities before after)
   pub page : ¬ (FaultsRose Page before after)
+  pub script : ¬ (FaultsRose Script before after)
   pub at_sink : ¬ (Rose sink sink')
 
--- Where the files are there and in order, the parse finishes, and nothing failed, all is written, or memory ran out.
+-- Where the files are there and in order, the parse with the folder's scripts finishes, and nothing failed, all is written, or
+-- memory ran out.
 abbrev pub Completes : Asked → Seen → Seen → ℕ → ℕ → Option (List ℕ) → Option (List ℕ) → Status → Type 0
 Completes asked before after sink sink' taken taken' result = IfSome before.files (λ map. (entities page : List ℕ) (es : Table) (o : Outcome)
     → map asked.entities ≡ Some entities → table_of entities ≡ Some es → map asked.page ≡ Some page
-    → ComesTo es (record { bytes = page; fault = false }) o → o.result ≡ finished
+    → ComesTo (world_in es map asked.dir) (record { bytes = page; fault = false }) o → o.result ≡ finished
     → NoFaultRose before after sink sink'
     → (result ≡ status.NoMemory) ⊎ ((result ≡ status.Done) × Took taken taken' (output_with asked.dump o)))
 
@@ -154,9 +167,9 @@ pub record Exactly (wanted result : Status) (fact : Type 0) : Type 0 where
   pub nowhere_else : result ≡ wanted → fact
   pub there : fact → (result ≡ wanted) ⊎ (result ≡ status.WriteFault) ⊎ (result ≡ status.NoMemory)
 
--- a count rose at one of the two ports
+-- a count rose at one of the ports
 abbrev pub AbsenceRose : Seen → Seen → Type 0
 AbsenceRose before after = AbsencesRose Entities before after ⊎ AbsencesRose Page before after
 
 abbrev pub FaultRose : Seen → Seen → Type 0
-FaultRose before after = FaultsRose Entities before after ⊎ FaultsRose Page before after
+FaultRose before after = FaultsRose Entities before after ⊎ FaultsRose Page before after ⊎ FaultsRose Script before after

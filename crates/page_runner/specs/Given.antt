@@ -1,8 +1,9 @@
 -- What the outside gave of a file.
 use Rattle.std.specs.Prelude.{◌≡◌, ◌+◌, ◌≤◌, ◌⊎◌, ℕ, List, [], ◌++◌, length, take, Option, Some, None, IfSome, IsSomeAnd}
 use Rattle.std.specs.Option.{option_map}
-use Rattle.outside.specs.Outside.{Rose, Seen}
+use Rattle.outside.specs.Outside.{Rose, NeverFall, Seen}
 use Rattle.outside.specs.declared.traits.Port.{Port}
+use Rattle.outside.specs.declared.traits.Port.TheVariants.{Entities}
 use Rattle.page_runner.specs.declared.fetch.Fetch.{Fetch}
 use Rattle.page_runner.specs.declared.fetch.Fetch.TheVariants as fetches
 
@@ -45,3 +46,10 @@ pub data ReadTo (limit : ℕ) (port : Port) (path : List ℕ) (before after : Se
   untouched : after.left port ≡ before.left port → ReadTo limit port path before after
   unbegun : IfSome (after.left port) (λ rest. rest ≡ []) → AbsencesRose port before after ⊎ FaultsRose port before after → ReadTo limit port path before after
   begun : (read : List ℕ) → AreRead (file_at before path) (after.left port) read → length read ≤ limit + 1 → ReadTo limit port path before after
+
+-- What reading a page and its scripts leaves alone: the files, what the port of the entities has left, and that no count falls.
+pub record KeepsEntities (before after : Seen) : Type 0 where
+  pub files : after.files ≡ before.files
+  pub left : after.left Entities ≡ before.left Entities
+  pub faults : NeverFall before.faults after.faults
+  pub absences : NeverFall before.absences after.absences

@@ -2,7 +2,7 @@ pub mod Status
 pub mod Taken
 pub mod Given
 pub mod Words
-pub mod Driving
+pub mod Scripts
 pub mod Moments
 pub mod Shown
 pub mod Pages

@@ -3,19 +3,21 @@ use Rattle.std.specs.Prelude.{◌≡◌, ◌≤◌, ℕ, Bool, true, false, List
 use Rattle.html_types.specs.declared.script.Ending.{Ending}
 use Rattle.html_types.specs.declared.script.Line.{Line}
 use Rattle.html_types.specs.declared.script.Ending.TheVariants as ending
+use Rattle.outside.specs.Outside.{Seen}
 use Rattle.standard.specs.Entities.{Entities}
-use Rattle.standard.specs.Act.{new_doc}
-use Rattle.standard.specs.Parser.{new_parser}
 use Rattle.standard.specs.Page.{Page, page_of, text_of, ending_of, shown}
-use Rattle.standard.specs.Serial.{Outcome, first, IsSerial, Moment, reading, over, Leads}
+use Rattle.standard.specs.Scripts.{Fetched}
+use Rattle.standard.specs.Serial.{World, Outcome, first, IsSerial, Moment, reading, over, Leads}
 use Rattle.standard.specs.Output.{line_text, result_with, output_with}
 use Rattle.utf8_pieces.specs.declared.decoder.Decoder.{Decoder}
 use Rattle.utf8_pieces.specs.Decoder.{HasRead}
+use Rattle.write_parser.specs.Writing.{View, serial_of}
 use Rattle.page_runner.specs.declared.page.TheConstants.{PAGE_LIMIT}
 use Rattle.page_runner.specs.declared.outcome.Outcome.{Outcome as Told}
+use Rattle.page_runner.specs.declared.driver.Driver.{Driver}
+use Rattle.page_runner.specs.declared.scripts.ScriptFiles.{ScriptFiles}
 use Rattle.page_runner.specs.Taken.{Took, TookFront}
-use Rattle.page_runner.specs.Driving.{View}
-use Rattle.page_runner.specs.Moments.{world_of, serial_of}
+use Rattle.page_runner.specs.Scripts.{AreScriptsOf, Suits}
 use Rattle.page_runner.specs.Shown.{result_of}
 
 -- what the reads of a page gave, and whether a read behind that failed
@@ -27,9 +29,12 @@ pub record PageRead : Type 0 where
 abbrev pub page_at : PageRead → Page
 page_at read = page_of PAGE_LIMIT read.bytes read.fault
 
+abbrev pub world_of : Entities → (List ℕ → Fetched) → World
+world_of es scripts = record { entities = es; scripts = scripts }
+
 -- The serial parse of the page comes to this outcome: of each page to one, and to no other.
-abbrev pub ComesTo : Entities → PageRead → Outcome → Type 0
-ComesTo es read o = IsSerial (page_at read) (world_of es) o
+abbrev pub ComesTo : World → PageRead → Outcome → Type 0
+ComesTo w read o = IsSerial (page_at read) w o
 
 -- ---- what is read at a port
 
@@ -52,47 +57,59 @@ pub record IsReadFrom (whole left : Option (List ℕ)) (rose : Type 0) (page : P
 -- ---- what a parse comes to
 
 -- The serial parse of the page ended so, with the tree of this view, and the sink took its lines.
-pub record Ended (es : Entities) (page : PageRead) (v : View) (taken taken' : Option (List ℕ)) (told : Told) : Type 0 where
+pub record Ended (w : World) (page : PageRead) (v : View) (taken taken' : Option (List ℕ)) (told : Told) : Type 0 where
   pub outcome : Outcome
-  pub comes : ComesTo es page outcome
+  pub comes : ComesTo w page outcome
   pub result : outcome.result ≡ result_of told
   pub text : (dump : Bool) → result_with dump outcome.result outcome.last.side.doc.tree ≡ result_with dump (result_of told) v.doc.tree
   pub took : Took taken taken' (flat_map line_text outcome.last.side.lines)
 
--- So ended the page that was read at the port.
-pub record ParsesPage (es : Entities) (whole left : Option (List ℕ)) (rose : Type 0) (v : View) (taken taken' : Option (List ℕ)) (told : Told) : Type 0 where
+-- So ended the page that was read at the port, whatever the scripts are that weren't fetched.
+pub record ParsesPage (es : Entities) (whole left : Option (List ℕ)) (rose : Type 0) (d : Driver) (taken taken' : Option (List ℕ)) (told : Told) : Type 0 where
   pub page : PageRead
   pub read_from : IsReadFrom whole left rose page
-  pub ended : Ended es page v taken taken' told
+  pub ended : (w : World) → Suits es d.scripts w → Ended w page d.writer taken taken' told
 
 -- The sink took a front of what is written of the page that was read at the port, with the dump of the tree and with its text.
-pub record ParsesFront (es : Entities) (whole left : Option (List ℕ)) (rose : Type 0) (taken taken' : Option (List ℕ)) : Type 0 where
+pub record ParsesFront (es : Entities) (files : ScriptFiles) (whole left : Option (List ℕ)) (rose : Type 0) (taken taken' : Option (List ℕ)) : Type 0 where
   pub page : PageRead
   pub read_from : IsReadFrom whole left rose page
-  pub front : (dump : Bool) (o : Outcome) → ComesTo es page o → TookFront taken taken' (output_with dump o)
+  pub front : (dump : Bool) (w : World) (o : Outcome) → Suits es files w → ComesTo w page o → TookFront taken taken' (output_with dump o)
+
+-- So ended the page with the scripts of the folder.
+pub record EndsWithScripts (es : Entities) (dir : List ℕ) (before after : Seen) (whole left : Option (List ℕ)) (rose : Type 0) (v : View) (taken taken' : Option (List ℕ)) (told : Told) : Type 0 where
+  pub scripts : List ℕ → Fetched
+  pub are_scripts : AreScriptsOf dir before after scripts
+  pub page : PageRead
+  pub read_from : IsReadFrom whole left rose page
+  pub ended : Ended (world_of es scripts) page v taken taken' told
+
+pub record FrontWithScripts (es : Entities) (dir : List ℕ) (before after : Seen) (whole left : Option (List ℕ)) (rose : Type 0) (taken taken' : Option (List ℕ)) : Type 0 where
+  pub scripts : List ℕ → Fetched
+  pub are_scripts : AreScriptsOf dir before after scripts
+  pub page : PageRead
+  pub read_from : IsReadFrom whole left rose page
+  pub front : (dump : Bool) (o : Outcome) → ComesTo (world_of es scripts) page o → TookFront taken taken' (output_with dump o)
 
 -- ---- where a parse stands
-
-abbrev pub first_view : View
-first_view = record { parser = new_parser 0; doc = new_doc; written = 0; executed = 0 }
 
 -- the moment before a text
 abbrev pub before_page : List ℕ → Moment
 before_page text = reading (first (record { text = text; ending = ending.End }))
 
 -- These bytes of a page were read and their text was parsed, whatever follows them, and the sink took the lines.
-pub record StandsAt (es : Entities) (read : List ℕ) (v : View) (taken taken' : Option (List ℕ)) : Type 0 where
+pub record StandsAt (es : Entities) (read : List ℕ) (d : Driver) (taken taken' : Option (List ℕ)) : Type 0 where
   pub lines : List Line
-  pub leads : (e : Ending) (rest : List ℕ) → Leads e (world_of es) (before_page (text_of PAGE_LIMIT read ++ rest)) (reading (serial_of v lines rest))
+  pub leads : (e : Ending) (w : World) (rest : List ℕ) → Suits es d.scripts w → Leads e w (before_page (text_of PAGE_LIMIT read ++ rest)) (reading (serial_of d.writer lines rest))
   pub took : Took taken taken' (flat_map line_text lines)
 
 -- The parse of every page that begins with these bytes has ended so.
-pub record IsPast (es : Entities) (read : List ℕ) (v : View) (taken taken' : Option (List ℕ)) (told : Told) : Type 0 where
-  pub ended : (more : List ℕ) → Ended es (record { bytes = read ++ more; fault = false }) v taken taken' told
+pub record IsPast (es : Entities) (read : List ℕ) (d : Driver) (taken taken' : Option (List ℕ)) (told : Told) : Type 0 where
+  pub ended : (w : World) (more : List ℕ) → Suits es d.scripts w → Ended w (record { bytes = read ++ more; fault = false }) d.writer taken taken' told
 
 -- The sink took a front of what is written of every page that begins with these bytes.
-pub record TookOf (es : Entities) (read : List ℕ) (taken taken' : Option (List ℕ)) : Type 0 where
-  pub front : (dump : Bool) (more : List ℕ) (fault : Bool) (o : Outcome) → ComesTo es (record { bytes = read ++ more; fault = fault }) o → TookFront taken taken' (output_with dump o)
+pub record TookOf (es : Entities) (files : ScriptFiles) (read : List ℕ) (taken taken' : Option (List ℕ)) : Type 0 where
+  pub front : (dump : Bool) (w : World) (more : List ℕ) (fault : Bool) (o : Outcome) → Suits es files w → ComesTo w (record { bytes = read ++ more; fault = fault }) o → TookFront taken taken' (output_with dump o)
 
 -- Behind these bytes the page ends so: by a fault, or since the port has no more.
 pub record ClosesAt (left left' : Option (List ℕ)) (rose : Type 0) (read : List ℕ) (e : Ending) : Type 0 where
@@ -104,19 +121,19 @@ pub record ClosesAt (left left' : Option (List ℕ)) (rose : Type 0) (read : Lis
 
 -- At the end of the input the page's ending is applied, and the parse comes to this.
 pub record EndsAs (es : Entities) (old new : View) (e : Ending) (told : Told) : Type 0 where
-  pub ends : (m : Moment) (lines : List Line) → Leads e (world_of es) m (reading (serial_of old lines []))
+  pub ends : (w : World) (m : Moment) (lines : List Line) → w.entities ≡ es → Leads e w m (reading (serial_of old lines []))
       → (o : Outcome) × (o.last.side.lines ≡ lines) × (o.result ≡ result_of told)
-      × ((dump : Bool) → result_with dump o.result o.last.side.doc.tree ≡ result_with dump (result_of told) new.doc.tree) × Leads e (world_of es) m (over o)
+      × ((dump : Bool) → result_with dump o.result o.last.side.doc.tree ≡ result_with dump (result_of told) new.doc.tree) × Leads e w m (over o)
 
 -- behind a piece the parse stands, and no ending is shown, or it is over
-abbrev pub Comes : Entities → Decoder → List ℕ → View → Option (List ℕ) → Option (List ℕ) → Option Told → Type 0
-Comes es d read v taken taken' None = HasRead PAGE_LIMIT d read × (shown PAGE_LIMIT read ≡ None) × StandsAt es read v taken taken'
-Comes es d read v taken taken' (Some told) = IsPast es read v taken taken' told
+abbrev pub Comes : Entities → Decoder → List ℕ → Driver → Option (List ℕ) → Option (List ℕ) → Option Told → Type 0
+Comes es u read d taken taken' None = HasRead PAGE_LIMIT u read × (shown PAGE_LIMIT read ≡ None) × StandsAt es read d taken taken'
+Comes es u read d taken taken' (Some told) = IsPast es read d taken taken' told
 
 -- A piece was parsed, wherever the parse stood.
-pub record TakesPiece (es : Entities) (d d' : Decoder) (old new : View) (piece : List ℕ) (now taken' : Option (List ℕ)) (told : Option Told) : Type 0 where
-  pub comes : (read : List ℕ) (taken : Option (List ℕ)) → HasRead PAGE_LIMIT d read → StandsAt es read old taken now → Comes es d' (read ++ piece) new taken taken' told
+pub record TakesPiece (es : Entities) (u u' : Decoder) (old new : Driver) (piece : List ℕ) (now taken' : Option (List ℕ)) (told : Option Told) : Type 0 where
+  pub comes : (read : List ℕ) (taken : Option (List ℕ)) → HasRead PAGE_LIMIT u read → StandsAt es read old taken now → Comes es u' (read ++ piece) new taken taken' told
 
 -- Memory ran out or the sink failed, wherever the parse stood.
-pub record TakesPieceInPart (es : Entities) (d : Decoder) (old : View) (piece : List ℕ) (now taken' : Option (List ℕ)) : Type 0 where
-  pub front : (read : List ℕ) (taken : Option (List ℕ)) → HasRead PAGE_LIMIT d read → StandsAt es read old taken now → TookOf es (read ++ piece) taken taken'
+pub record TakesPieceInPart (es : Entities) (files : ScriptFiles) (u : Decoder) (old : Driver) (piece : List ℕ) (now taken' : Option (List ℕ)) : Type 0 where
+  pub front : (read : List ℕ) (taken : Option (List ℕ)) → HasRead PAGE_LIMIT u read → StandsAt es read old taken now → TookOf es files (read ++ piece) taken taken'

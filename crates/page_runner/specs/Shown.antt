@@ -18,7 +18,6 @@ result_of (Refused reason) = refused reason
 abbrev pub outcome_of : Finish → Outcome
 outcome_of finale.Finished = Finished
 outcome_of finale.Deep = Refused why.Depth
-outcome_of finale.Missing = Refused why.Unready
 
 -- the status with which a run of that outcome ends
 abbrev pub status_of : Outcome → Status
@@ -28,4 +27,3 @@ status_of (Refused why.Depth) = status.Limit limits.Depth
 status_of (Refused why.Writes) = status.Limit limits.Writes
 status_of (Refused why.Page) = status.Limit limits.Page
 status_of (Refused why.Fault) = status.ReadFault
-status_of (Refused why.Unready) = status.Unready

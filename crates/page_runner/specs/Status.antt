@@ -12,5 +12,4 @@ exit_of (status.Limit which) = 5
 exit_of status.ReadFault = 7
 exit_of status.WriteFault = 8
 exit_of status.Absent = 9
-exit_of status.Unready = 10
 exit_of status.NoMemory = 12

@@ -2,9 +2,10 @@
 ghost use Rattle.std.specs.Prelude.{◌≡◌, ◌≤◌, ◌<◌, ◌⊎◌, [], map, Some, None, Ok, Err, IfOk, OnOk, OnErr, IsErrOf, IsTrue};
 ghost use Rattle.std.specs.String.{string_bytes};
 ghost use Rattle.standard.specs.Output.{result_with};
-ghost use Rattle.outside.specs.Outside.{Rose, seen, KeepsOthers};
+ghost use Rattle.outside.specs.Outside.{Rose, seen};
 ghost use Rattle.page_runner.specs.Words.{asked, shown};
-ghost use Rattle.page_runner.specs.Given.{ReadTo};
+ghost use Rattle.page_runner.specs.Given.{ReadTo, KeepsEntities};
+ghost use Rattle.page_runner.specs.Scripts.{ReadScriptsTo};
 ghost use Rattle.page_runner.specs.Taken.{Took, TookFront};
 ghost use Rattle.page_runner.specs.Shown.{result_of};
 ghost use Rattle.page_runner.specs.Answers.{status_for, table_of, is_finished, PageAnswers, Answers, RunsTo, StopsAtLimits, CompletesRun, Exactly, AbsenceRose, FaultRose};
@@ -13,6 +14,7 @@ use crate::fetch::{Fetch, read_whole};
 use crate::outcome::status_at;
 use crate::output::show_outcome;
 use crate::page::{Failure, PAGE_LIMIT, Parsed, parse_page};
+use crate::scripts::SCRIPT_LIMIT;
 use crate::status::Status;
 use crate::words::{PageWords, Refused, read_words};
 use crate::write::write_all;
@@ -37,8 +39,8 @@ fn status_for(failure: Failure) -> Status
 
 // Writes what came of the page, and finishes the sink.
 fn end_page<K: Sink>(alloc: Global, out: &mut K, parsed: &Parsed, dump: bool) -> Result<(), Failure>
-    ensures ok { OnOk result (Took (K.taken out.old) (K.taken out.new) (result_with dump (result_of parsed.now.outcome) parsed.now.driver.doc.tree)) }
-    ensures err { OnErr result (TookFront (K.taken out.old) (K.taken out.new) (result_with dump (result_of parsed.now.outcome) parsed.now.driver.doc.tree)) }
+    ensures ok { OnOk result (Took (K.taken out.old) (K.taken out.new) (result_with dump (result_of parsed.now.outcome) parsed.now.driver.writer.doc.tree)) }
+    ensures err { OnErr result (TookFront (K.taken out.old) (K.taken out.new) (result_with dump (result_of parsed.now.outcome) parsed.now.driver.writer.doc.tree)) }
     ensures clean { OnOk result (IsTrue (K.clean out.new)) }
     ensures write { IsErrOf result Failure.Write → Rose (K.faults out.old) (K.faults out.new) }
     ensures faults { K.faults out.old ≤ K.faults out.new }
@@ -72,12 +74,14 @@ fn run_page<F: Outside, K: Sink>(
     words: &PageWords,
 ) -> Status
     requires { 0 < words.now.piece }
-    ensures answer { PageAnswers table.now words.now.dump (string_bytes words.now.page)
+    ensures answer { PageAnswers table.now words.now.dump (string_bytes words.now.page) (string_bytes words.now.dir)
         (seen F.files F.left F.faults F.absences files.old) (seen F.files F.left F.faults F.absences files.new)
         (K.taken out.old) (K.taken out.new) result }
     ensures no_further { ReadTo PAGE_LIMIT Port.Page (string_bytes words.now.page)
         (seen F.files F.left F.faults F.absences files.old) (seen F.files F.left F.faults F.absences files.new) }
-    ensures others { KeepsOthers Port.Page (seen F.files F.left F.faults F.absences files.old) (seen F.files F.left F.faults F.absences files.new) }
+    ensures scripts_no_further { ReadScriptsTo SCRIPT_LIMIT (string_bytes words.now.dir)
+        (seen F.files F.left F.faults F.absences files.old) (seen F.files F.left F.faults F.absences files.new) }
+    ensures others { KeepsEntities (seen F.files F.left F.faults F.absences files.old) (seen F.files F.left F.faults F.absences files.new) }
     ensures write_fault { result ≡ Status.WriteFault → Rose (K.faults out.old) (K.faults out.new) }
     ensures clean { IsTrue (is_finished result) → IsTrue (K.clean out.new) }
 {
@@ -86,7 +90,7 @@ fn run_page<F: Outside, K: Sink>(
         Ok(false) => return Status::Absent,
         Ok(true) => {}
     }
-    let parsed = match parse_page(alloc, table, files, out, words.piece) {
+    let parsed = match parse_page(alloc, table, files, out, words.dir.as_str(), words.piece) {
         Err(failure) => return status_for(failure),
         Ok(parsed) => parsed,
     };

@@ -1,26 +1,25 @@
-// The parser and its document, and the scripts between them: what runs of a page in one thread.
-ghost use Rattle.std.specs.Prelude.{◌≡◌, ◌≤◌, suc, IfOk, OnErr, IsErrOf, IsTrue};
+// The parse of a page in one thread: its text, the scripts between its characters, and the files of those.
+ghost use Rattle.std.specs.Prelude.{◌≡◌, ◌≤◌, [], None, Some, IfOk, OnOk, OnErr, IsErrOf, IsTrue, flat_map};
 ghost use Rattle.std.specs.Str.{chars};
-ghost use Rattle.standard.specs.Act.{is_bound, new_doc};
-ghost use Rattle.standard.specs.Parser.{new_parser};
+ghost use Rattle.std.specs.String.{string_bytes};
+ghost use Rattle.standard.specs.Act.{is_bound};
 ghost use Rattle.standard.specs.Naming.{IsStopBound};
-ghost use Rattle.outside.specs.Outside.{Rose};
-ghost use Rattle.page_runner.specs.Driving.{View, IsServed, Parses, Finishes};
-ghost use Rattle.page_runner.specs.Moments.{went_of, Does, DoesAll, at_script, at_stop, TextPasses, TextPassesInPart, Passes, PassesInPart, Takes, TakesFront};
+ghost use Rattle.standard.specs.Output.{line_text};
+ghost use Rattle.outside.specs.Outside.{Rose, seen, KeepsOthers};
+ghost use Rattle.write_parser.specs.Writing.{first_view, Stands, AtTag, Finishes, why_of};
+ghost use Rattle.page_runner.specs.Taken.{Took, TookFront};
+ghost use Rattle.page_runner.specs.Scripts.{met_of, Fetches};
+ghost use Rattle.page_runner.specs.Moments.{IsReady, IsLeft, AtStop, Arrives, Resumes, Way, Reaches, ReachesInPart, Takes, TakesFront};
 
-use crate::output::write_syntax;
+use crate::output::write_lines;
 use crate::page::Failure;
+use crate::scripts::{Script, ScriptFiles};
 use entity_table::Table;
-use html_types::{Finish, NoMemory, NodeId, Ops, Statement, Stop, Text, Why};
-use op_exec::{Doc, ScriptKind};
-use outside::Sink;
-use parse_machine::{Machine, Ran};
-use script_lang::Script;
+use html_types::{Finish, NoMemory, NodeId, Stop, Why};
+use op_exec::Doc;
+use outside::{Outside, Port, Sink};
 use std::alloc::Global;
-use std::marker::Model;
-
-/// The most characters that the scripts of a page write.
-const WRITE_LIMIT: usize = 1_048_576;
+use write_parser::{Left, Limit, Writer};
 
 /// How a part of the parse ended.
 #[derive(Clone, Copy, Debug, PartialEq, Eq)]
@@ -30,243 +29,237 @@ pub(crate) enum Went {
     Refused(Why),
 }
 
-/// Where the parse of a page stands: a contract sees the parser, the document, the characters written and the scripts
-/// executed so far.
+/// Where the parse of a page stands, and the scripts that it has fetched.
 #[derive(Drop)]
 pub(crate) struct Driver {
-    machine: Machine,
-    doc: Doc,
-    written: usize,
-    executed: u64,
+    writer: Writer,
+    scripts: ScriptFiles,
 }
 
-impl Model for Driver {
-    ghost use Rattle.page_runner.specs.Driving.{View};
-
-    ghost Value = { View };
-
-    ghost view = { λ d. record { parser = d.machine; doc = d.doc; written = d.written; executed = d.executed } };
-}
-
-// One script more. A page has fewer of them than it has bytes.
-fn one_more(executed: u64) -> Result<u64, NoMemory>
-    ensures { IfOk result (λ n. n ≡ suc executed) }
+fn why_of(limit: Limit) -> Why
+    ensures { result ≡ why_of limit }
 {
-    executed.checked_add(1).ok_or(NoMemory)
-}
-
-// Where a text that a script writes doesn't end, the page is refused.
-fn went_at(stop: Stop) -> Went
-    ensures { result ≡ went_of stop }
-{
-    match stop {
-        Stop::InputEnd => Went::On,
-        Stop::Deep => Went::Refused(Why::Depth),
-        Stop::Script(_) => Went::Refused(Why::Unready),
-        Stop::Missing => Went::Refused(Why::Unready),
+    match limit {
+        Limit::Depth => Why::Depth,
+        Limit::Writes => Why::Writes,
     }
 }
 
 impl Driver {
-    /// At the beginning of a page, with an empty document.
-    pub fn new(alloc: Global) -> Result<Driver, NoMemory>
-        ensures served { IfOk result (λ d. IsServed d) }
-        ensures first { IfOk result (λ d. d ≡ record { parser = new_parser 0; doc = new_doc; written = 0; executed = 0 }) }
+    /// At the beginning of a page, with an empty document and that folder of scripts.
+    pub fn new(alloc: Global, dir: &str) -> Result<Driver, NoMemory>
+        ensures first { IfOk result (λ d. d.writer ≡ first_view 0) }
+        ensures dir { IfOk result (λ d. string_bytes d.scripts.dir ≡ dir.now) }
+        ensures none { IfOk result (λ d. (name : _) → met_of d.scripts name ≡ None) }
     {
-        let doc = Doc::new(alloc)?;
-        Ok(Driver {
-            machine: Machine::new(alloc, 0),
-            doc,
-            written: 0,
-            executed: 0,
-        })
+        let writer = Writer::new(alloc, 0)?;
+        let scripts = ScriptFiles::new(alloc, dir)?;
+        Ok(Driver { writer, scripts })
     }
 
     /// The document.
     pub fn doc(&self) -> &Doc
-        ensures { result.now ≡ self.now.doc }
+        ensures { result.now ≡ self.now.writer.doc }
     {
-        &self.doc
-    }
-
-    /// Parses the text up to the first stop, and does the operations.
-    pub fn parse(&mut self, alloc: Global, table: &Table, text: &str) -> Result<Ran, NoMemory>
-        requires { IsServed self.old }
-        ensures { IfOk result (λ ran. Parses table.now self.old self.new text.now ran) }
-    {
-        let mut ops = Ops::new(alloc);
-        let ran = self.machine.run(alloc, table, text, &mut ops)?;
-        self.doc.apply_all(&ops)?;
-        Ok(ran)
+        self.writer.doc()
     }
 
     /// Takes the end of the page, and does the operations.
-    pub fn finish(&mut self, alloc: Global, table: &Table) -> Result<Finish, NoMemory>
-        requires { IsServed self.old }
-        ensures { IfOk result (λ finish. Finishes table.now self.old self.new finish) }
+    pub fn finish(&mut self, table: &Table) -> Result<Finish, NoMemory>
+        ensures finished { IfOk result (λ finish. Finishes table.now self.old.writer self.new.writer finish) }
+        ensures scripts { self.new.scripts ≡ self.old.scripts }
     {
-        let mut ops = Ops::new(alloc);
-        let finish = self.machine.finish(alloc, table, &mut ops)?;
-        self.doc.apply_all(&ops)?;
-        Ok(finish)
+        self.writer.finish(table)
     }
 
-    // `document.write()` (8.4.3): the text stands before the rest of the page, and is parsed at once.
-    fn write(&mut self, alloc: Global, table: &Table, text: &Text) -> Result<Went, NoMemory>
-        requires { IsServed self.old }
-        ensures served { IfOk result (λ _. IsServed self.new) }
-        ensures does { IfOk result (λ went. Does table.now self.old self.new (Statement.Write text.now) went) }
+    // Writes the lines that scripts gave.
+    fn write_lines<K: Sink>(&mut self, alloc: Global, out: &mut K) -> Result<(), Failure>
+        ensures took { OnOk result (Took (K.taken out.old) (K.taken out.new) (flat_map line_text self.old.writer.lines)) }
+        ensures front { OnErr result (TookFront (K.taken out.old) (K.taken out.new) (flat_map line_text self.old.writer.lines)) }
+        ensures others { self.new ≡ record self.old { writer = record self.old.writer { lines = [] } } }
+        ensures write { IsErrOf result Failure.Write → Rose (K.faults out.old) (K.faults out.new) }
+        ensures faults { K.faults out.old ≤ K.faults out.new }
     {
-        let written = self.written.saturating_add(text.len());
-        if written > WRITE_LIMIT {
-            return Ok(Went::Refused(Why::Writes));
-        }
-        self.written = written;
-        let ran = self.parse(alloc, table, text.as_str())?;
-        Ok(went_at(ran.stop))
+        let lines = self.writer.take_lines();
+        write_lines(alloc, out, lines.as_slice())
     }
 
-    fn run_statement(
+    // Parses what scripts wrote, until it is used, a script is awaited, or the page is refused.
+    fn feed_left<K: Sink>(
         &mut self,
         alloc: Global,
         table: &Table,
-        statement: &Statement,
-    ) -> Result<Went, NoMemory>
-        requires { IsServed self.old }
-        ensures served { IfOk result (λ _. IsServed self.new) }
-        ensures does { IfOk result (λ went. Does table.now self.old self.new statement.now went) }
+        out: &mut K,
+    ) -> Result<Left, Failure>
+        ensures scripts { self.new.scripts ≡ self.old.scripts }
+        ensures left { IfOk result (λ left. IsLeft left self.new.writer) }
+        ensures reaches { OnOk result (Reaches table.now self.old.scripts (Stands self.old.writer) (Stands self.new.writer) (K.taken out.old) (K.taken out.new)) }
+        ensures part { OnErr result (ReachesInPart table.now self.old.scripts (Stands self.old.writer) (K.taken out.old) (K.taken out.new)) }
+        ensures write { IsErrOf result Failure.Write → Rose (K.faults out.old) (K.faults out.new) }
+        ensures faults { K.faults out.old ≤ K.faults out.new }
     {
-        match statement {
-            Statement::Write(text) => self.write(alloc, table, text),
-            Statement::Remove(_) => Ok(Went::Refused(Why::Unready)),
-            Statement::LogById(_) => Ok(Went::Refused(Why::Unready)),
-            Statement::LogRoot => Ok(Went::Refused(Why::Unready)),
-        }
+        let left = self.writer.feed_left(table)?;
+        self.write_lines(alloc, out)?;
+        Ok(left)
     }
 
-    // Up to the first that refuses the page.
-    fn run_statements(
+    // Fetches the script that is awaited, and runs it.
+    fn resume<F: Outside>(
         &mut self,
         alloc: Global,
         table: &Table,
-        script: &Script,
+        files: &mut F,
+        name: &str,
     ) -> Result<Went, NoMemory>
-        requires { IsServed self.old }
-        ensures served { IfOk result (λ _. IsServed self.new) }
-        ensures does { IfOk result (λ went. DoesAll table.now self.old self.new script.now went) }
+        requires awaits { self.old.writer.pending ≡ Some (chars name.now) }
+        requires halted { self.old.writer.halted ≡ None }
+        ensures resumes { IfOk result (λ went. Way table.now self.new.scripts (Stands self.old.writer) (Resumes self.new.writer went) []) }
+        ensures fetches { Fetches (seen F.files F.left F.faults F.absences files.old) (seen F.files F.left F.faults F.absences files.new) self.old.scripts self.new.scripts }
+        ensures others { KeepsOthers Port.Script (seen F.files F.left F.faults F.absences files.old) (seen F.files F.left F.faults F.absences files.new) }
     {
-        for statement in script.as_slice() {
-            match self.run_statement(alloc, table, statement)? {
-                Went::On => {}
-                Went::Refused(why) => return Ok(Went::Refused(why)),
-            }
+        self.scripts.fetch(alloc, files, name)?;
+        match self.scripts.find(name) {
+            // A name that isn't lawful is missing.
+            None | Some(Script::Missing) => self.writer.miss()?,
+            Some(Script::Faulted) => return Ok(Went::Refused(Why::Fault)),
+            Some(Script::Text(text)) => self.writer.run_script(table, text.as_str())?,
         }
         Ok(Went::On)
     }
 
-    // A text that isn't in the language gives a line, and runs nothing.
-    fn run_text<K: Sink>(
+    // The same, and its lines are written.
+    fn run_awaited<F: Outside, K: Sink>(
         &mut self,
         alloc: Global,
         table: &Table,
+        files: &mut F,
         out: &mut K,
-        text: &str,
+        name: &str,
     ) -> Result<Went, Failure>
-        requires { IsServed self.old }
-        ensures served { IfOk result (λ _. IsServed self.new) }
-        ensures passes { IfOk result (λ went. TextPasses table.now self.old self.new (chars text.now) (K.taken out.old) (K.taken out.new) went) }
-        ensures part { OnErr result (TextPassesInPart table.now self.old (chars text.now) (K.taken out.old) (K.taken out.new)) }
+        requires awaits { self.old.writer.pending ≡ Some (chars name.now) }
+        requires halted { self.old.writer.halted ≡ None }
+        ensures reaches { IfOk result (λ went. Reaches table.now self.new.scripts (Stands self.old.writer) (Resumes self.new.writer went) (K.taken out.old) (K.taken out.new)) }
+        ensures part { OnErr result (ReachesInPart table.now self.new.scripts (Stands self.old.writer) (K.taken out.old) (K.taken out.new)) }
+        ensures lines { OnOk result (self.new.writer.lines ≡ []) }
+        ensures fetches { Fetches (seen F.files F.left F.faults F.absences files.old) (seen F.files F.left F.faults F.absences files.new) self.old.scripts self.new.scripts }
+        ensures others { KeepsOthers Port.Script (seen F.files F.left F.faults F.absences files.old) (seen F.files F.left F.faults F.absences files.new) }
         ensures write { IsErrOf result Failure.Write → Rose (K.faults out.old) (K.faults out.new) }
         ensures faults { K.faults out.old ≤ K.faults out.new }
     {
-        let script = script_lang::read(alloc, text)?;
-        self.executed = one_more(self.executed)?;
-        match script {
-            None => {
-                write_syntax(alloc, out, self.executed)?;
-                Ok(Went::On)
-            }
-            Some(script) => {
-                let went = self.run_statements(alloc, table, &script)?;
-                Ok(went)
-            }
-        }
+        let went = self.resume(alloc, table, files, name)?;
+        self.write_lines(alloc, out)?;
+        Ok(went)
     }
 
-    // Prepares the script whose end tag was met (4.12.1.1), and runs it.
-    fn run_script<K: Sink>(
+    // Parses what scripts wrote, and runs those that are awaited, until the page's own text is next.
+    fn feed<F: Outside, K: Sink>(
         &mut self,
         alloc: Global,
         table: &Table,
+        files: &mut F,
+        out: &mut K,
+    ) -> Result<Went, Failure>
+        ensures ready { IfOk result (λ went. went ≡ Went.On → IsReady self.new.writer) }
+        ensures reaches { IfOk result (λ went. Reaches table.now self.new.scripts (Stands self.old.writer) (Arrives self.new.writer went) (K.taken out.old) (K.taken out.new)) }
+        ensures part { OnErr result (ReachesInPart table.now self.new.scripts (Stands self.old.writer) (K.taken out.old) (K.taken out.new)) }
+        ensures fetches { Fetches (seen F.files F.left F.faults F.absences files.old) (seen F.files F.left F.faults F.absences files.new) self.old.scripts self.new.scripts }
+        ensures others { KeepsOthers Port.Script (seen F.files F.left F.faults F.absences files.old) (seen F.files F.left F.faults F.absences files.new) }
+        ensures write { IsErrOf result Failure.Write → Rose (K.faults out.old) (K.faults out.new) }
+        ensures faults { K.faults out.old ≤ K.faults out.new }
+    {
+        // Each turn but the first is behind the end tag of a script, of which a page has fewer.
+        'turns: for _ in 0..u64::MAX {
+            match self.feed_left(alloc, table, out)? {
+                Left::Empty => return Ok(Went::On),
+                Left::Limit(limit) => return Ok(Went::Refused(why_of(limit))),
+                Left::Awaits(name) => {
+                    match self.run_awaited(alloc, table, files, out, name.as_str())? {
+                        Went::On => {}
+                        Went::Refused(why) => return Ok(Went::Refused(why)),
+                    }
+                }
+            }
+        }
+        Err(Failure::Memory)
+    }
+
+    // The script whose end tag was met (13.2.6.4.8).
+    fn run_script<F: Outside, K: Sink>(
+        &mut self,
+        alloc: Global,
+        table: &Table,
+        files: &mut F,
         out: &mut K,
         id: NodeId,
     ) -> Result<Went, Failure>
-        requires served { IsServed self.old }
-        requires bound { IsTrue (is_bound self.old.doc.bound id) }
-        ensures served { IfOk result (λ _. IsServed self.new) }
-        ensures passes { IfOk result (λ went. Passes table.now (at_script self.old id) self.new (K.taken out.old) (K.taken out.new) went) }
-        ensures part { OnErr result (PassesInPart table.now (at_script self.old id) (K.taken out.old) (K.taken out.new)) }
+        requires ready { IsReady self.old.writer }
+        requires bound { IsTrue (is_bound self.old.writer.doc.bound id) }
+        ensures ready { IfOk result (λ went. went ≡ Went.On → IsReady self.new.writer) }
+        ensures reaches { IfOk result (λ went. Reaches table.now self.new.scripts (AtTag id self.old.writer) (Arrives self.new.writer went) (K.taken out.old) (K.taken out.new)) }
+        ensures part { OnErr result (ReachesInPart table.now self.new.scripts (AtTag id self.old.writer) (K.taken out.old) (K.taken out.new)) }
+        ensures fetches { Fetches (seen F.files F.left F.faults F.absences files.old) (seen F.files F.left F.faults F.absences files.new) self.old.scripts self.new.scripts }
+        ensures others { KeepsOthers Port.Script (seen F.files F.left F.faults F.absences files.old) (seen F.files F.left F.faults F.absences files.new) }
         ensures write { IsErrOf result Failure.Write → Rose (K.faults out.old) (K.faults out.new) }
         ensures faults { K.faults out.old ≤ K.faults out.new }
     {
-        match self.doc.script_kind(id) {
-            ScriptKind::Still => Ok(Went::On),
-            ScriptKind::External => Ok(Went::Refused(Why::Unready)),
-            ScriptKind::Inline => {
-                let text = self.doc.script_text(id)?;
-                self.run_text(alloc, table, out, text.as_str())
-            }
-        }
+        self.writer.end_tag(table, id)?;
+        self.write_lines(alloc, out)?;
+        self.feed(alloc, table, files, out)
     }
 
-    // The script at a stop, where it stopped at one.
-    fn pass<K: Sink>(
+    // What stands at a stop of the parser.
+    fn pass<F: Outside, K: Sink>(
         &mut self,
         alloc: Global,
         table: &Table,
+        files: &mut F,
         out: &mut K,
         stop: Stop,
     ) -> Result<Went, Failure>
-        requires served { IsServed self.old }
-        requires bound { IsStopBound (is_bound self.old.doc.bound) stop }
-        ensures served { IfOk result (λ _. IsServed self.new) }
-        ensures passes { IfOk result (λ went. Passes table.now (at_stop self.old stop) self.new (K.taken out.old) (K.taken out.new) went) }
-        ensures part { OnErr result (PassesInPart table.now (at_stop self.old stop) (K.taken out.old) (K.taken out.new)) }
+        requires ready { IsReady self.old.writer }
+        requires bound { IsStopBound (is_bound self.old.writer.doc.bound) stop }
+        ensures ready { IfOk result (λ went. went ≡ Went.On → IsReady self.new.writer) }
+        ensures reaches { IfOk result (λ went. Reaches table.now self.new.scripts (AtStop self.old.writer stop) (Arrives self.new.writer went) (K.taken out.old) (K.taken out.new)) }
+        ensures part { OnErr result (ReachesInPart table.now self.new.scripts (AtStop self.old.writer stop) (K.taken out.old) (K.taken out.new)) }
+        ensures fetches { Fetches (seen F.files F.left F.faults F.absences files.old) (seen F.files F.left F.faults F.absences files.new) self.old.scripts self.new.scripts }
+        ensures others { KeepsOthers Port.Script (seen F.files F.left F.faults F.absences files.old) (seen F.files F.left F.faults F.absences files.new) }
         ensures write { IsErrOf result Failure.Write → Rose (K.faults out.old) (K.faults out.new) }
         ensures faults { K.faults out.old ≤ K.faults out.new }
     {
         match stop {
             Stop::InputEnd => Ok(Went::On),
-            Stop::Script(id) => self.run_script(alloc, table, out, id),
+            Stop::Script(id) => self.run_script(alloc, table, files, out, id),
             Stop::Deep => Ok(Went::Refused(Why::Depth)),
-            Stop::Missing => Ok(Went::Refused(Why::Unready)),
         }
     }
 
     /// Parses the next text of the page, and runs its scripts where their end tags are met.
-    pub fn take<K: Sink>(
+    pub fn take<F: Outside, K: Sink>(
         &mut self,
         alloc: Global,
         table: &Table,
+        files: &mut F,
         out: &mut K,
         text: &str,
     ) -> Result<Went, Failure>
-        requires { IsServed self.old }
-        ensures served { IfOk result (λ _. IsServed self.new) }
+        requires { IsReady self.old.writer }
+        ensures ready { IfOk result (λ went. went ≡ Went.On → IsReady self.new.writer) }
         // The serial parse goes over the text, or is over in it, and the sink took the lines of its scripts.
-        ensures takes { IfOk result (λ went. Takes table.now self.old self.new (chars text.now) (K.taken out.old) (K.taken out.new) went) }
-        ensures front { OnErr result (TakesFront table.now self.old (chars text.now) (K.taken out.old) (K.taken out.new)) }
+        ensures takes { IfOk result (λ went. Takes table.now self.new.scripts self.old.writer self.new.writer (chars text.now) (K.taken out.old) (K.taken out.new) went) }
+        ensures front { OnErr result (TakesFront table.now self.new.scripts self.old.writer (chars text.now) (K.taken out.old) (K.taken out.new)) }
+        ensures fetches { Fetches (seen F.files F.left F.faults F.absences files.old) (seen F.files F.left F.faults F.absences files.new) self.old.scripts self.new.scripts }
+        ensures others { KeepsOthers Port.Script (seen F.files F.left F.faults F.absences files.old) (seen F.files F.left F.faults F.absences files.new) }
         ensures write { IsErrOf result Failure.Write → Rose (K.faults out.old) (K.faults out.new) }
         ensures faults { K.faults out.old ≤ K.faults out.new }
     {
         let mut rest = text;
         'stops: loop {
-            let ran = self.parse(alloc, table, rest)?;
+            let ran = self.writer.parse(table, rest)?;
             if ran.stop == Stop::InputEnd {
                 return Ok(Went::On);
             }
             rest = &rest[ran.used..];
-            match self.pass(alloc, table, out, ran.stop)? {
+            match self.pass(alloc, table, files, out, ran.stop)? {
                 Went::On => {}
                 Went::Refused(why) => return Ok(Went::Refused(why)),
             }

@@ -7,6 +7,7 @@ mod fetch;
 mod outcome;
 mod output;
 mod page;
+mod scripts;
 mod status;
 #[cfg(test)]
 mod tests;
@@ -16,6 +17,7 @@ mod write;
 pub use command::{ENTITIES_LIMIT, run};
 pub use fetch::{Fetch, read_whole};
 pub use page::PAGE_LIMIT;
+pub use scripts::SCRIPT_LIMIT;
 pub use status::{Limit, Status};
 pub use words::{PageWords, Refused, read_words};
 pub use write::write_all;

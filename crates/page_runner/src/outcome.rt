@@ -18,7 +18,6 @@ pub(crate) fn outcome_at(finish: Finish) -> Outcome
     match finish {
         Finish::Finished => Outcome::Finished,
         Finish::Deep => Outcome::Refused(Why::Depth),
-        Finish::Missing => Outcome::Refused(Why::Unready),
     }
 }
 
@@ -33,6 +32,5 @@ pub(crate) fn status_at(outcome: Outcome) -> Status
         Outcome::Refused(Why::Writes) => Status::Limit(Limit::Writes),
         Outcome::Refused(Why::Page) => Status::Limit(Limit::Page),
         Outcome::Refused(Why::Fault) => Status::ReadFault,
-        Outcome::Refused(Why::Unready) => Status::Unready,
     }
 }

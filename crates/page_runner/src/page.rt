@@ -2,12 +2,16 @@
 ghost use Rattle.std.specs.Prelude.{◌≡◌, ◌<◌, ◌≤◌, ◌+◌, ℕ, List, [], length, take, IfOk, IfErr, OnErr, IsErrOf, IsNone};
 ghost use Rattle.outside.specs.Outside.{Rose, seen, KeepsOthers};
 ghost use Rattle.page_runner.specs.declared.page.Failure.TheVariants as failures;
-ghost use Rattle.page_runner.specs.Driving.{IsServed};
+ghost use Rattle.write_parser.specs.Writing.{first_view};
+ghost use Rattle.page_runner.specs.Given.{KeepsEntities};
+ghost use Rattle.page_runner.specs.Scripts.{Fetches, ReadScriptsTo};
+ghost use Rattle.page_runner.specs.Moments.{IsReady};
 ghost use Rattle.utf8_pieces.specs.Decoder.{HasRead};
-ghost use Rattle.page_runner.specs.Pages.{first_view, AreTaken, ReadsOn, ClosesAt, EndsAs, TakesPiece, TakesPieceInPart, ParsesPage, ParsesFront};
+ghost use Rattle.page_runner.specs.Pages.{AreTaken, ReadsOn, ClosesAt, EndsAs, TakesPiece, TakesPieceInPart, ParsesPage, ParsesFront, EndsWithScripts, FrontWithScripts};
 
 use crate::driver::{Driver, Went};
 use crate::outcome::{Outcome, outcome_at};
+use crate::scripts::SCRIPT_LIMIT;
 use entity_table::Table;
 use html_types::{Ending, NoMemory, Why};
 use outside::{Failed, Outside, Port, Sink};
@@ -56,18 +60,14 @@ pub(crate) struct Parsed {
 pub const PAGE_LIMIT: usize = 1_073_741_824;
 
 // The outcome where the text is used, by how the page ends.
-fn end(
-    alloc: Global,
-    table: &Table,
-    driver: &mut Driver,
-    ending: Ending,
-) -> Result<Outcome, NoMemory>
-    requires { IsServed driver.old }
-    ensures { IfOk result (λ outcome. EndsAs table.now driver.old driver.new ending outcome) }
+fn end(table: &Table, driver: &mut Driver, ending: Ending) -> Result<Outcome, NoMemory>
+    requires { IsReady driver.old.writer }
+    ensures ends { IfOk result (λ outcome. EndsAs table.now driver.old.writer driver.new.writer ending outcome) }
+    ensures scripts { driver.new.scripts ≡ driver.old.scripts }
 {
     match ending {
         Ending::End => {
-            let finish = driver.finish(alloc, table)?;
+            let finish = driver.finish(table)?;
             Ok(outcome_at(finish))
         }
         Ending::Bad => Ok(Outcome::Refused(Why::BadUtf8)),
@@ -96,28 +96,31 @@ fn read_piece<F: Outside>(
 }
 
 // Parses the text of the next piece. An outcome says that the parse is over.
-fn take_piece<K: Sink>(
+fn take_piece<F: Outside, K: Sink>(
     alloc: Global,
     table: &Table,
+    files: &mut F,
     out: &mut K,
     driver: &mut Driver,
     decoder: &mut Decoder,
     piece: &[u8],
 ) -> Result<Option<Outcome>, Failure>
-    requires { IsServed driver.old }
-    ensures served { IfOk result (λ o. IsNone o → IsServed driver.new) }
+    requires { IsReady driver.old.writer }
+    ensures ready { IfOk result (λ o. IsNone o → IsReady driver.new.writer) }
     ensures ok { IfOk result (λ o. TakesPiece table.now decoder.old decoder.new driver.old driver.new piece.now (K.taken out.old) (K.taken out.new) o) }
-    ensures err { OnErr result (TakesPieceInPart table.now decoder.old driver.old piece.now (K.taken out.old) (K.taken out.new)) }
+    ensures err { OnErr result (TakesPieceInPart table.now driver.new.scripts decoder.old driver.old piece.now (K.taken out.old) (K.taken out.new)) }
+    ensures fetches { Fetches (seen F.files F.left F.faults F.absences files.old) (seen F.files F.left F.faults F.absences files.new) driver.old.scripts driver.new.scripts }
+    ensures others { KeepsOthers Port.Script (seen F.files F.left F.faults F.absences files.old) (seen F.files F.left F.faults F.absences files.new) }
     ensures write { IsErrOf result Failure.Write → Rose (K.faults out.old) (K.faults out.new) }
     ensures faults { K.faults out.old ≤ K.faults out.new }
 {
     let fed = decoder.feed(alloc, piece)?;
-    match driver.take(alloc, table, out, fed.text.as_str())? {
+    match driver.take(alloc, table, files, out, fed.text.as_str())? {
         Went::Refused(why) => Ok(Some(Outcome::Refused(why))),
         Went::On => match fed.ending {
             None => Ok(None),
             Some(ending) => {
-                let outcome = end(alloc, table, driver, ending)?;
+                let outcome = end(table, driver, ending)?;
                 Ok(Some(outcome))
             }
         },
@@ -133,17 +136,17 @@ fn parse_reads<F: Outside, K: Sink>(
     driver: &mut Driver,
     room: &mut [u8],
 ) -> Result<Outcome, Failure>
-    requires served { IsServed driver.old }
-    requires first { driver.old ≡ first_view }
+    requires first { driver.old.writer ≡ first_view 0 }
     requires room { 0 < length room.old }
     ensures ok { IfOk result (λ outcome. ParsesPage table.now (F.left files.old Port.Page) (F.left files.new Port.Page)
         (Rose (F.faults files.old Port.Page) (F.faults files.new Port.Page)) driver.new (K.taken out.old) (K.taken out.new) outcome) }
-    ensures err { OnErr result (ParsesFront table.now (F.left files.old Port.Page) (F.left files.new Port.Page)
+    ensures err { OnErr result (ParsesFront table.now driver.new.scripts (F.left files.old Port.Page) (F.left files.new Port.Page)
         (Rose (F.faults files.old Port.Page) (F.faults files.new Port.Page)) (K.taken out.old) (K.taken out.new)) }
+    ensures fetches { Fetches (seen F.files F.left F.faults F.absences files.old) (seen F.files F.left F.faults F.absences files.new) driver.old.scripts driver.new.scripts }
+    ensures others { KeepsEntities (seen F.files F.left F.faults F.absences files.old) (seen F.files F.left F.faults F.absences files.new) }
+    ensures no_further { ReadsOn (PAGE_LIMIT + 1) (F.left files.old Port.Page) (F.left files.new Port.Page) }
     ensures write { IsErrOf result Failure.Write → Rose (K.faults out.old) (K.faults out.new) }
     ensures faults { K.faults out.old ≤ K.faults out.new }
-    ensures no_further { ReadsOn (PAGE_LIMIT + 1) (F.left files.old Port.Page) (F.left files.new Port.Page) }
-    ensures others { KeepsOthers Port.Page (seen F.files F.left F.faults F.absences files.old) (seen F.files F.left F.faults F.absences files.new) }
 {
     let mut decoder = Decoder::new(alloc, PAGE_LIMIT);
     let mut left = PAGE_LIMIT + 1;
@@ -151,13 +154,15 @@ fn parse_reads<F: Outside, K: Sink>(
         let most = room.len().min(left);
         match read_piece(files, &decoder, &mut room[..most]) {
             Err(ending) => {
-                let outcome = end(alloc, table, driver, ending)?;
+                let outcome = end(table, driver, ending)?;
                 return Ok(outcome);
             }
             Ok(n) => {
                 left -= n;
                 let piece = &room[..n];
-                if let Some(outcome) = take_piece(alloc, table, out, driver, &mut decoder, piece)? {
+                if let Some(outcome) =
+                    take_piece(alloc, table, files, out, driver, &mut decoder, piece)?
+                {
                     return Ok(outcome);
                 }
             }
@@ -165,26 +170,30 @@ fn parse_reads<F: Outside, K: Sink>(
     }
 }
 
-/// Parses the page that was begun, by reads of at most that many bytes, and writes its lines. Where memory runs out or the sink
-/// fails it has taken a front of what is written of the page.
+/// Parses the page that was begun, with the scripts of the folder, by reads of at most that many bytes, and writes its lines.
+/// Where memory runs out or the sink fails it has taken a front of what is written of the page.
 pub(crate) fn parse_page<F: Outside, K: Sink>(
     alloc: Global,
     table: &Table,
     files: &mut F,
     out: &mut K,
+    dir: &str,
     piece: usize,
 ) -> Result<Parsed, Failure>
     requires { 0 < piece }
-    ensures ok { IfOk result (λ parsed. ParsesPage table.now (F.left files.old Port.Page) (F.left files.new Port.Page)
-        (Rose (F.faults files.old Port.Page) (F.faults files.new Port.Page)) parsed.driver (K.taken out.old) (K.taken out.new) parsed.outcome) }
-    ensures err { OnErr result (ParsesFront table.now (F.left files.old Port.Page) (F.left files.new Port.Page)
+    ensures ok { IfOk result (λ parsed. EndsWithScripts table.now dir.now
+        (seen F.files F.left F.faults F.absences files.old) (seen F.files F.left F.faults F.absences files.new) (F.left files.old Port.Page) (F.left files.new Port.Page)
+        (Rose (F.faults files.old Port.Page) (F.faults files.new Port.Page)) parsed.driver.writer (K.taken out.old) (K.taken out.new) parsed.outcome) }
+    ensures err { OnErr result (FrontWithScripts table.now dir.now
+        (seen F.files F.left F.faults F.absences files.old) (seen F.files F.left F.faults F.absences files.new) (F.left files.old Port.Page) (F.left files.new Port.Page)
         (Rose (F.faults files.old Port.Page) (F.faults files.new Port.Page)) (K.taken out.old) (K.taken out.new)) }
+    ensures others { KeepsEntities (seen F.files F.left F.faults F.absences files.old) (seen F.files F.left F.faults F.absences files.new) }
+    ensures no_further { ReadsOn (PAGE_LIMIT + 1) (F.left files.old Port.Page) (F.left files.new Port.Page) }
+    ensures scripts_no_further { ReadScriptsTo SCRIPT_LIMIT dir.now (seen F.files F.left F.faults F.absences files.old) (seen F.files F.left F.faults F.absences files.new) }
     ensures write { IsErrOf result Failure.Write → Rose (K.faults out.old) (K.faults out.new) }
     ensures faults { K.faults out.old ≤ K.faults out.new }
-    ensures no_further { ReadsOn (PAGE_LIMIT + 1) (F.left files.old Port.Page) (F.left files.new Port.Page) }
-    ensures others { KeepsOthers Port.Page (seen F.files F.left F.faults F.absences files.old) (seen F.files F.left F.faults F.absences files.new) }
 {
-    let mut driver = Driver::new(alloc)?;
+    let mut driver = Driver::new(alloc, dir)?;
     let mut room = vec![in alloc; 0u8; piece]?;
     let outcome = parse_reads(alloc, table, files, out, &mut driver, &mut room)?;
     Ok(Parsed { driver, outcome })

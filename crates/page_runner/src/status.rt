@@ -32,8 +32,6 @@ pub enum Status {
     WriteFault,
     /// There is no such page, or no such entities file.
     Absent,
-    /// The parse needs a row, a statement or a kind of script that isn't there yet.
-    Unready,
     /// Memory ran out.
     NoMemory,
 }
@@ -52,7 +50,6 @@ impl Status {
             Status::ReadFault => 7,
             Status::WriteFault => 8,
             Status::Absent => 9,
-            Status::Unready => 10,
             Status::NoMemory => 12,
         }
     }
