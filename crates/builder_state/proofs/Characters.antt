@@ -10,7 +10,7 @@ use Rattle.html_types.specs.declared.instruction.Flow.TheVariants.{On, Skip, Lea
 use Rattle.html_types.specs.declared.open.Open.{Open}
 use Rattle.standard.specs.Space.{is_space}
 use Rattle.standard.specs.Formatting.{lost, kept}
-use Rattle.standard.specs.Instructions.{Config, config, on, room, reopen, reopen_all, reconstruct, all_space, body_text, body_character, body_characters, none_pending, insert_pending}
+use Rattle.standard.specs.Instructions.{Config, config, on, room, reopen, reopen_all, reconstruct, all_space, body_text, body_character, body_characters, insert_pending}
 
 pub all_space_all : (cs : List ℕ) → list_all is_space cs ≡ all_space cs
 all_space_all [] = refl

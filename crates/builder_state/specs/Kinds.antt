@@ -3,6 +3,14 @@ use Rattle.std.specs.Prelude.{Bool, true, false, not, ◌&&◌}
 use Rattle.html_types.specs.declared.instruction.Instr.{Instr}
 use Rattle.html_types.specs.declared.instruction.Instr.TheVariants as ins
 
+-- it only asks a question
+abbrev pub is_guard : Instr → Bool
+is_guard (ins.Need c) = true
+is_guard (ins.Forbid c) = true
+is_guard (ins.When c) = true
+is_guard (ins.Unless c) = true
+is_guard _ = false
+
 -- behind it the row goes on, whatever the open state is
 abbrev pub goes_on : Instr → Bool
 goes_on (ins.Need c) = false

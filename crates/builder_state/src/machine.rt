@@ -8,7 +8,7 @@ ghost use Rattle.standard.specs.Stack.{without_open};
 ghost use Rattle.standard.specs.Reset.{reset_mode};
 ghost use Rattle.standard.specs.Elements.{is_word};
 ghost use Rattle.standard.specs.Instructions.{config, on, original_or, stop_at_script, for_tag, enlist, adopt_own, adopt_anchor, step, run};
-ghost use Rattle.builder_state.specs.Kinds.{goes_on, is_change};
+ghost use Rattle.builder_state.specs.Kinds.{is_guard, goes_on, is_change};
 
 use crate::checks::test_holds;
 use crate::formatting::{clear_back, entry_of, take_entry_off};
@@ -42,7 +42,7 @@ fn take_head_off(state: &mut Open)
     }
 }
 
-/// The mode is the original mode again. (There always is one in the mode "text".)
+/// The mode is the original mode again. (There always is one in the modes "text" and "in table text".)
 fn restore(state: &mut Open)
     ensures { state.new ≡ record state.old { mode = original_or Mode.InBody state.old.original; original = None } }
 {
@@ -150,6 +150,20 @@ fn when(holds: bool) -> Flow
     if holds { Flow::On } else { Flow::Skip }
 }
 
+/// An instruction that only asks a question.
+fn guard(state: &Open, instr: Instr, token: &Token, ops: &Ops) -> Flow
+    requires { IsTrue (is_guard instr) }
+    ensures { config state.now ops.now result ≡ step instr token.now state.now ops.now }
+{
+    match instr {
+        Instr::Need(test) => need(test_holds(state, test, token)),
+        Instr::Forbid(test) => need(!test_holds(state, test, token)),
+        Instr::When(test) => when(test_holds(state, test, token)),
+        Instr::Unless(test) => when(!test_holds(state, test, token)),
+        _ => Flow::On,
+    }
+}
+
 /// An instruction that closes elements, or changes the list, a flag, a pointer or a mode. It takes no memory.
 fn change(state: &mut Open, instr: Instr, token: &Token, ops: &Ops)
     requires { IsTrue (is_change instr) }
@@ -232,10 +246,9 @@ fn exec(
     ensures bounded { length state.new.stack ≤ 512 }
 {
     match instr {
-        Instr::Need(test) => Ok(need(test_holds(state, test, token))),
-        Instr::Forbid(test) => Ok(need(!test_holds(state, test, token))),
-        Instr::When(test) => Ok(when(test_holds(state, test, token))),
-        Instr::Unless(test) => Ok(when(!test_holds(state, test, token))),
+        Instr::Need(_) | Instr::Forbid(_) | Instr::When(_) | Instr::Unless(_) => {
+            Ok(guard(state, instr, token, ops))
+        }
         Instr::Insert => insert_for(alloc, state, token, ops),
         Instr::InsertA(word) => insert_bare(alloc, state, word, ops),
         Instr::InsertRoot => insert_root_for(alloc, state, token, ops),

@@ -122,7 +122,7 @@ fn inserts_nothing(op: &Op) -> bool
 
 impl Doc {
     ghost use Rattle.html_types.specs.Operations.{spelled_one};
-    ghost use Rattle.standard.specs.Tree.{host_of, detached};
+    ghost use Rattle.standard.specs.Tree.{host_of};
     ghost use Rattle.standard.specs.Act.{new_doc, act, acts, bound_to, node_of, is_bound, spot_of, text_at, IsPlaceBound, IsOpBound, AreOpsBound};
     ghost use Rattle.op_exec.specs.Docs.{IsDoneInPart};
 
@@ -322,7 +322,30 @@ impl Doc {
         Ok(())
     }
 
-    /// Takes a node out of its parent.
+}
+
+// What a script asks for.
+impl Doc {
+    ghost use Rattle.std.specs.Str.{chars};
+    ghost use Rattle.standard.specs.Tree.{detached, find_id, first_element};
+
+    /// The Document's element.
+    pub fn root(&self) -> Option<usize>
+        ensures root { result ≡ first_element self.now.tree }
+        ensures here { ForSome result (λ n. n < length self.now.tree) }
+    {
+        self.tree.first_element()
+    }
+
+    /// The first element of the Document, in tree order, with that `id`. An empty one finds nothing.
+    pub fn find_id(&self, id: &str) -> Result<Option<usize>, NoMemory>
+        ensures found { IfOk result (λ n. n ≡ find_id self.now.tree (chars id.now)) }
+        ensures here { IfOk result (λ n. ForSome n (λ k. k < length self.now.tree)) }
+    {
+        self.tree.find_id(id)
+    }
+
+    /// Takes a node out of its parent. What ids stand for stays.
     pub fn remove(&mut self, node: usize)
         requires { node < length self.old.tree }
         ensures { self.new ≡ record self.old { tree = detached self.old.tree node } }

@@ -34,6 +34,20 @@ mod tests {
     }
 
     #[test]
+    fn a_template_has_contents(rt: HostRuntime) -> Result<(), NoMemory> {
+        let alloc = rt.alloc();
+        let mut doc = Doc::new(alloc)?;
+        doc.apply(&Op::Make {
+            id: NodeId { realm: 1, n: 0 },
+            name: Name::from_text(Text::from_str(alloc, "template")?),
+            attributes: Attributes::new(alloc),
+        })?;
+        assert!(rt; doc.tree().len() == 3);
+        assert_eq!(rt; doc.tree().contents(1), Some(2));
+        Ok(())
+    }
+
+    #[test]
     #[tactic(auto, unfolding(standard::specs::Act::AreOpsBound))]
     fn the_document_takes_no_text(rt: HostRuntime) -> Result<(), NoMemory> {
         let alloc = rt.alloc();

@@ -14,7 +14,7 @@ use html_types::{Mode, Next, NoMemory, Ops, Then, Token, Word};
 use std::alloc::Global;
 
 /// No token goes by more rules than this.
-const ROUNDS: u32 = 4096;
+const ROUNDS: u32 = 8192;
 
 fn is_line_feed(token: &Token) -> bool
     ensures { result ≡ is_line_feed_in token.now }

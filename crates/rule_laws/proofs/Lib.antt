@@ -2,6 +2,7 @@ mod Counts
 mod Readings
 mod Calm
 mod Pending
+mod Depth
 mod Takes
 mod Walk
 mod Rows

@@ -41,7 +41,7 @@ reopen_all-kept m (tag ∷ tags) b o On k =
 reopen_all-kept m (tag ∷ tags) b o Skip k = k
 reopen_all-kept m (tag ∷ tags) b o (Leave n) k = k
 
-reconstruct-kept : (m : Option Mode) (b : Open) (o : List Op) → Kept m b → Kept m (reconstruct b o).open_state
+pub reconstruct-kept : (m : Option Mode) (b : Open) (o : List Op) → Kept m b → Kept m (reconstruct b o).open_state
 reconstruct-kept m b o k = reopen_all-kept m (reverse (lost b.stack b.formats)) (record b { formats = kept b.stack b.formats }) o On k
 
 body_text-kept : (m : Option Mode) (c : ℕ) (b : Open) (o : List Op) (f : Flow) → Kept m b → Kept m (body_text c (config b o f)).open_state

@@ -38,11 +38,8 @@ fn push_under(stack: &mut Vec<Left>, tree: &Tree, node: usize, depth: usize) -> 
     ensures { OnOk result (stack.new.items ≡ stack.old.items ++ stacked depth (under_of tree.now node)) }
 {
     push_reversed(stack, tree.children(node), depth)?;
-    if let Some(contents) = tree.contents(node) {
-        stack.push(Left {
-            node: contents,
-            depth,
-        })?;
+    if let Some(node) = tree.contents(node) {
+        stack.push(Left { node, depth })?;
     }
     Ok(())
 }

@@ -66,6 +66,12 @@ a_page : option_map (output_with true) (serial_with 10000 (record { text = codes
 unfolding serial_on_literals dump_lines output_with
 a_page = refl
 
+-- a template is made with its contents, and a script in them doesn't run
+a_template : option_map (output_with true) (serial_with 10000 (record { text = codes "<template>x<script>document.write('n');</script></template>y"; ending = ending.End }) (without_files []))
+    ≡ Some (codes "node 0 element \"html\"\nnode 1 element \"head\"\nnode 2 element \"template\"\nnode 3 contents\nnode 4 text \"x\"\nnode 4 element \"script\"\nnode 5 text \"document.write('n');\"\nnode 1 element \"body\"\nnode 2 text \"y\"\nend\n")
+unfolding serial_on_literals dump_lines output_with
+a_template = refl
+
 -- the lines of the scripts stand before it, and a refusal has no dump
 a_refused_page : option_map (output_with true) (serial_with 10000 (record { text = codes "<script>x</script>"; ending = ending.Bad }) (without_files []))
     ≡ Some (codes "syntax 1\nrefused bad-utf8\n")

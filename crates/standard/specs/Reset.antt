@@ -1,5 +1,5 @@
 -- Reset the insertion mode appropriately (13.2.4.1).
-use Rattle.std.specs.Prelude.{Bool, if◌then◌else◌, List, [], ◌∷◌, Option, Some, None}
+use Rattle.std.specs.Prelude.{if◌then◌else◌, List, [], ◌∷◌, Option, Some, None}
 use Rattle.html_types.specs.declared.word.Word.TheVariants as word
 use Rattle.html_types.specs.declared.instruction.Group.TheVariants as group
 use Rattle.html_types.specs.declared.instruction.Mode.{Mode}

@@ -276,7 +276,7 @@ process (suc n) m t b o =
 
 -- no token goes by more rules than this
 abbrev pub rounds : ℕ
-rounds = 4096
+rounds = 8192
 
 abbrev pub is_line_feed : Token → Bool
 is_line_feed (Character c) = c == 10
