@@ -1,8 +1,10 @@
 //! Runs in which a call fails.
 
-use crate::rows::{Row, gives, gives_at_every_fault, gives_at_every_size, page, scripted};
+use crate::rows::{
+    Row, gives, gives_at_every_fault, gives_at_every_piece, gives_at_every_size, page, scripted,
+};
 use outside::Port;
-use page_runner::{Limit, Status};
+use page_runner::Status;
 use std::test::Fail;
 
 // Runs in which something fails, or is not there.
@@ -76,7 +78,7 @@ fn faults() -> [Row; 12] {
 }
 
 // Which files of scripts are begun and read: the call that fails is made, or isn't.
-fn counted() -> [Row; 21] {
+fn counted() -> [Row; 20] {
     [
         // The file of `a` is begun, read, and read to its end.
         Row {
@@ -125,18 +127,6 @@ fn counted() -> [Row; 21] {
                 b"<script>document.write(\"<script src=\\\"a\\\"><\\/script>\");</script><script src=\"a\"></script>",
                 &[("a", b"foo();")],
                 "syntax 2\nsyntax 3\ntree \"<html><head><script>document.write(\\\"<script src=\\\\\\\"a\\\\\\\"><\\\\/script>\\\");</script><script src=\\\"a\\\"></script><script src=\\\"a\\\"></script></head><body></body></html>\"\n",
-            )
-        },
-        Row {
-            status: Status::Limit(Limit::Writes),
-            fail: &[(Port::Script, 4)],
-            ..scripted(
-                b"<script src=\"a\"></script>",
-                &[(
-                    "a",
-                    b"document.write(\"<script src=\\\"a\\\"><\\/script>\");",
-                )],
-                "refused writes\n",
             )
         },
         // A file that isn't there is begun once.
@@ -307,9 +297,7 @@ fn faults_give_their_status(rt: HostRuntime) -> Result<(), Fail> {
 #[test]
 fn files_are_read_once(rt: HostRuntime) -> Result<(), Fail> {
     for row in &counted() {
-        for piece in ["1", "4096"] {
-            assert!(rt; gives(&rt, rt.alloc(), row, piece)?, "{}", row.text);
-        }
+        assert!(rt; gives_at_every_piece(&rt, rt.alloc(), row)?, "{}", row.text);
     }
     Ok(())
 }
@@ -317,14 +305,12 @@ fn files_are_read_once(rt: HostRuntime) -> Result<(), Fail> {
 #[test]
 fn every_read_fault_leaves_a_front(rt: HostRuntime) -> Result<(), Fail> {
     for row in &external() {
-        for port in [Port::Entities, Port::Page, Port::Script] {
-            for piece in ["1", "64"] {
-                assert!(rt;
-                    gives_at_every_fault(&rt, rt.alloc(), row, port, piece)?,
-                    "{}",
-                    row.text
-                );
-            }
+        for piece in ["1", "64"] {
+            assert!(rt;
+                gives_at_every_fault(&rt, rt.alloc(), row, piece)?,
+                "{}",
+                row.text
+            );
         }
     }
     Ok(())

@@ -105,6 +105,20 @@ pub fn gives<R: Threads + Wait + Copy + Send + Sync + 'static>(
     Ok(status == row.status && sink.bytes() == row.text.as_bytes())
 }
 
+/// Whether the run answers and writes what is wanted, with reads of 1, of 7 and of 4,096 bytes.
+pub fn gives_at_every_piece<R: Threads + Wait + Copy + Send + Sync + 'static>(
+    rt: &R,
+    alloc: Global,
+    row: &Row,
+) -> Result<bool, NoMemory> {
+    for piece in ["1", "7", "4096"] {
+        if !gives(rt, alloc, row, piece)? {
+            return Ok(false);
+        }
+    }
+    Ok(true)
+}
+
 /// Whether a sink of every size up to the text's takes a front of the text, and one of its size all of it.
 pub fn gives_at_every_size<R: Threads + Wait + Copy + Send + Sync + 'static>(
     rt: &R,
@@ -125,9 +139,9 @@ pub fn gives_at_every_size<R: Threads + Wait + Copy + Send + Sync + 'static>(
 // More calls than a row has at one port.
 const MANY_CALLS: u64 = 1000;
 
-/// Whether the run is a read fault that wrote a front of the text where the first call at the port fails, where the second does,
-/// and so on, up to the number of a call that isn't made: there the run answers and writes what is wanted.
-pub fn gives_at_every_fault<R: Threads + Wait + Copy + Send + Sync + 'static>(
+// Whether the run is a read fault that wrote a front of the text where the first call at the port fails, where the second does, and
+// so on, up to the number of a call that isn't made: there the run answers and writes what is wanted.
+fn gives_at_faults_of<R: Threads + Wait + Copy + Send + Sync + 'static>(
     rt: &R,
     alloc: Global,
     row: &Row,
@@ -145,4 +159,19 @@ pub fn gives_at_every_fault<R: Threads + Wait + Copy + Send + Sync + 'static>(
         }
     }
     Ok(false)
+}
+
+/// Whether the run is a read fault that wrote a front of the text, whichever call at whichever port fails. Each port has one at least.
+pub fn gives_at_every_fault<R: Threads + Wait + Copy + Send + Sync + 'static>(
+    rt: &R,
+    alloc: Global,
+    row: &Row,
+    piece: &str,
+) -> Result<bool, NoMemory> {
+    for port in [Port::Entities, Port::Page, Port::Script] {
+        if !gives_at_faults_of(rt, alloc, row, port, piece)? {
+            return Ok(false);
+        }
+    }
+    Ok(true)
 }

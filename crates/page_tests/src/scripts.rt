@@ -1,10 +1,11 @@
 //! Pages with scripts.
 
-use crate::rows::{Row, gives, scripted};
+use crate::rows::{Row, gives, gives_at_every_piece, scripted};
+use outside::Port;
 use page_runner::{Limit, Status};
 use std::test::Fail;
 
-fn scripts() -> [Row; 26] {
+fn scripts() -> [Row; 25] {
     [
         scripted(
             b"<p>a<script>document.write(\"<b>x</b>\");</script>b",
@@ -67,17 +68,6 @@ fn scripts() -> [Row; 26] {
                 b"<script>console.log(document.documentElement.outerHTML);</script>\xFF",
                 &[],
                 "log 1 \"<html><head><script>console.log(document.documentElement.outerHTML);</script></head></html>\"\nrefused bad-utf8\n",
-            )
-        },
-        Row {
-            status: Status::Limit(Limit::Writes),
-            ..scripted(
-                b"<script src=\"a\"></script>",
-                &[(
-                    "a",
-                    b"document.write(\"<script src=\\\"a\\\"><\\/script>\");",
-                )],
-                "refused writes\n",
             )
         },
         scripted(
@@ -151,9 +141,26 @@ fn scripts() -> [Row; 26] {
 #[test]
 fn scripts_give_their_lines(rt: HostRuntime) -> Result<(), Fail> {
     for row in &scripts() {
-        for piece in ["1", "7", "4096"] {
-            assert!(rt; gives(&rt, rt.alloc(), row, piece)?, "{}", row.text);
-        }
+        assert!(rt; gives_at_every_piece(&rt, rt.alloc(), row)?, "{}", row.text);
     }
+    Ok(())
+}
+
+// Its 41,944th write passes the limit, and its file is read once.
+#[test]
+fn a_script_that_writes_itself_is_refused(rt: HostRuntime) -> Result<(), Fail> {
+    let row = Row {
+        status: Status::Limit(Limit::Writes),
+        fail: &[(Port::Script, 4)],
+        ..scripted(
+            b"<script src=\"a\"></script>",
+            &[(
+                "a",
+                b"document.write(\"<script src=\\\"a\\\"><\\/script>\");",
+            )],
+            "refused writes\n",
+        )
+    };
+    assert!(rt; gives(&rt, rt.alloc(), &row, "7")?);
     Ok(())
 }

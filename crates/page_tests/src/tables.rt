@@ -1,6 +1,6 @@
 //! Tables, templates, `select` and framesets.
 
-use crate::rows::{gives, page};
+use crate::rows::{gives_at_every_piece, page};
 use page_runner::Status;
 use std::test::Fail;
 
@@ -152,9 +152,7 @@ const TABLES: [(&str, &str); 35] = [
 fn tables_give_their_trees(rt: HostRuntime) -> Result<(), Fail> {
     for (html, text) in &TABLES {
         let row = page(html.as_bytes(), Status::Done, text);
-        for piece in ["1", "7", "4096"] {
-            assert!(rt; gives(&rt, rt.alloc(), &row, piece)?, "{html}");
-        }
+        assert!(rt; gives_at_every_piece(&rt, rt.alloc(), &row)?, "{html}");
     }
     Ok(())
 }

@@ -1,10 +1,10 @@
-//! The rows.
+//! Pages that the tokenizer, formatting elements and the scopes decide.
 
-use crate::rows::{Row, gives, gives_at_every_size, page};
+use crate::rows::{Row, gives, gives_at_every_piece, gives_at_every_size, page};
 use page_runner::{Limit, Status};
 use std::test::Fail;
 
-// Pages, each read by 1, by 7 and by 4,096 bytes.
+// Pages of each kind.
 fn pages() -> [Row; 15] {
     [
         page(
@@ -334,9 +334,7 @@ fn formatting() -> [Row; 16] {
 #[test]
 fn pages_give_their_trees(rt: HostRuntime) -> Result<(), Fail> {
     for row in &pages() {
-        for piece in ["1", "7", "4096"] {
-            assert!(rt; gives(&rt, rt.alloc(), row, piece)?, "{}", row.text);
-        }
+        assert!(rt; gives_at_every_piece(&rt, rt.alloc(), row)?, "{}", row.text);
     }
     Ok(())
 }
@@ -344,9 +342,7 @@ fn pages_give_their_trees(rt: HostRuntime) -> Result<(), Fail> {
 #[test]
 fn dumps_give_their_nodes(rt: HostRuntime) -> Result<(), Fail> {
     for row in &dumps() {
-        for piece in ["1", "7", "4096"] {
-            assert!(rt; gives(&rt, rt.alloc(), row, piece)?, "{}", row.text);
-        }
+        assert!(rt; gives_at_every_piece(&rt, rt.alloc(), row)?, "{}", row.text);
     }
     Ok(())
 }
@@ -354,9 +350,7 @@ fn dumps_give_their_nodes(rt: HostRuntime) -> Result<(), Fail> {
 #[test]
 fn tokens_give_their_trees(rt: HostRuntime) -> Result<(), Fail> {
     for row in &tokens() {
-        for piece in ["1", "7", "4096"] {
-            assert!(rt; gives(&rt, rt.alloc(), row, piece)?, "{}", row.text);
-        }
+        assert!(rt; gives_at_every_piece(&rt, rt.alloc(), row)?, "{}", row.text);
     }
     Ok(())
 }
@@ -364,9 +358,7 @@ fn tokens_give_their_trees(rt: HostRuntime) -> Result<(), Fail> {
 #[test]
 fn formatting_gives_its_trees(rt: HostRuntime) -> Result<(), Fail> {
     for row in &formatting() {
-        for piece in ["1", "7", "4096"] {
-            assert!(rt; gives(&rt, rt.alloc(), row, piece)?, "{}", row.text);
-        }
+        assert!(rt; gives_at_every_piece(&rt, rt.alloc(), row)?, "{}", row.text);
     }
     Ok(())
 }
