@@ -2,6 +2,12 @@
 #![tactic(auto)]
 
 #[cfg(test)]
+mod faults;
+#[cfg(test)]
 mod rows;
+#[cfg(test)]
+mod scripts;
+#[cfg(test)]
+mod tables;
 #[cfg(test)]
 mod tests;

@@ -7,13 +7,14 @@ use std::alloc::Global;
 use std::sync::{Arc, Wait};
 use std::thread::Threads;
 
-/// The words of a run (the bytes of a read, and whether the dump is asked for), the page (none: there is no such file), the entities file, which calls fail, how many bytes the sink takes,
-/// and the status and text that are wanted.
+/// The words of a run (the bytes of a read, and whether the dump is asked for), the page (none: there is no such file), the files
+/// of its scripts, the entities file, which calls fail, how many bytes the sink takes, and the status and text that are wanted.
 #[derive(Clone, Copy)]
 pub struct Row {
     pub piece: &'static str,
     pub dump: bool,
     pub page: Option<&'static [u8]>,
+    pub scripts: &'static [(&'static str, &'static [u8])],
     pub entities: &'static str,
     pub fail: &'static [(Port, u64)],
     pub sink: usize,
@@ -31,6 +32,7 @@ pub fn page(page: &'static [u8], status: Status, text: &'static str) -> Row {
         piece: "4096",
         dump: false,
         page: Some(page),
+        scripts: &[],
         entities: ENTITIES,
         fail: &[],
         sink: 100_000,
@@ -39,11 +41,27 @@ pub fn page(page: &'static [u8], status: Status, text: &'static str) -> Row {
     }
 }
 
-fn files(alloc: Global, row: &Row) -> Result<MemFiles, NoMemory> {
-    let mut files = MemFiles::new(alloc, row.fail)?;
+/// A page with files of scripts, in whose run nothing fails, and which is parsed to its end.
+pub fn scripted(
+    html: &'static [u8],
+    scripts: &'static [(&'static str, &'static [u8])],
+    text: &'static str,
+) -> Row {
+    Row {
+        scripts,
+        ..page(html, Status::Done, text)
+    }
+}
+
+fn files(alloc: Global, row: &Row, fail: &[(Port, u64)]) -> Result<MemFiles, NoMemory> {
+    let mut files = MemFiles::new(alloc, fail)?;
     files.add("e", row.entities.as_bytes())?;
     if let Some(page) = row.page {
         files.add("p", page)?;
+    }
+    for (name, bytes) in row.scripts {
+        let path = format!(in alloc; "d/{name}")?;
+        files.add(path.as_str(), bytes)?;
     }
     Ok(files)
 }
@@ -64,11 +82,12 @@ fn outcome<R: Threads + Wait + Copy + Send + Sync + 'static>(
     rt: &R,
     alloc: Global,
     row: &Row,
+    fail: &[(Port, u64)],
     piece: &str,
     size: usize,
 ) -> Result<(Status, MemSink), NoMemory> {
     let words = words(alloc, piece, row.dump)?;
-    let mut files = files(alloc, row)?;
+    let mut files = files(alloc, row, fail)?;
     let mut sink = MemSink::new(alloc, size)?;
     let gate = Arc::new(alloc, OpenGate)?;
     let status = run(rt, alloc, &words, &mut files, &mut sink, &gate);
@@ -82,8 +101,22 @@ pub fn gives<R: Threads + Wait + Copy + Send + Sync + 'static>(
     row: &Row,
     piece: &str,
 ) -> Result<bool, NoMemory> {
-    let (status, sink) = outcome(rt, alloc, row, piece, row.sink)?;
+    let (status, sink) = outcome(rt, alloc, row, row.fail, piece, row.sink)?;
     Ok(status == row.status && sink.bytes() == row.text.as_bytes())
+}
+
+/// Whether the run answers and writes what is wanted, with reads of 1, of 7 and of 4,096 bytes.
+pub fn gives_at_every_piece<R: Threads + Wait + Copy + Send + Sync + 'static>(
+    rt: &R,
+    alloc: Global,
+    row: &Row,
+) -> Result<bool, NoMemory> {
+    for piece in ["1", "7", "4096"] {
+        if !gives(rt, alloc, row, piece)? {
+            return Ok(false);
+        }
+    }
+    Ok(true)
 }
 
 /// Whether a sink of every size up to the text's takes a front of the text, and one of its size all of it.
@@ -94,11 +127,51 @@ pub fn gives_at_every_size<R: Threads + Wait + Copy + Send + Sync + 'static>(
 ) -> Result<bool, NoMemory> {
     let text = row.text.as_bytes();
     for size in 0..text.len() {
-        let (status, sink) = outcome(rt, alloc, row, row.piece, size)?;
+        let (status, sink) = outcome(rt, alloc, row, row.fail, row.piece, size)?;
         if status != Status::WriteFault || sink.bytes() != &text[..size] {
             return Ok(false);
         }
     }
-    let (status, sink) = outcome(rt, alloc, row, row.piece, text.len())?;
+    let (status, sink) = outcome(rt, alloc, row, row.fail, row.piece, text.len())?;
     Ok(status == row.status && sink.bytes() == text)
+}
+
+// More calls than a row has at one port.
+const MANY_CALLS: u64 = 1000;
+
+// Whether the run is a read fault that wrote a front of the text where the first call at the port fails, where the second does, and
+// so on, up to the number of a call that isn't made: there the run answers and writes what is wanted.
+fn gives_at_faults_of<R: Threads + Wait + Copy + Send + Sync + 'static>(
+    rt: &R,
+    alloc: Global,
+    row: &Row,
+    port: Port,
+    piece: &str,
+) -> Result<bool, NoMemory> {
+    let text = row.text.as_bytes();
+    for call in 1..MANY_CALLS {
+        let (status, sink) = outcome(rt, alloc, row, &[(port, call)], piece, row.sink)?;
+        if status != Status::ReadFault {
+            return Ok(1 < call && status == row.status && sink.bytes() == text);
+        }
+        if text.len() <= sink.bytes().len() || !text.starts_with(sink.bytes()) {
+            return Ok(false);
+        }
+    }
+    Ok(false)
+}
+
+/// Whether the run is a read fault that wrote a front of the text, whichever call at whichever port fails. Each port has one at least.
+pub fn gives_at_every_fault<R: Threads + Wait + Copy + Send + Sync + 'static>(
+    rt: &R,
+    alloc: Global,
+    row: &Row,
+    piece: &str,
+) -> Result<bool, NoMemory> {
+    for port in [Port::Entities, Port::Page, Port::Script] {
+        if !gives_at_faults_of(rt, alloc, row, port, piece)? {
+            return Ok(false);
+        }
+    }
+    Ok(true)
 }

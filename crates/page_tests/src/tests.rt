@@ -1,11 +1,10 @@
-//! The rows.
+//! Pages that the tokenizer, formatting elements and the scopes decide.
 
-use crate::rows::{Row, gives, gives_at_every_size, page};
-use outside::Port;
+use crate::rows::{Row, gives, gives_at_every_piece, gives_at_every_size, page};
 use page_runner::{Limit, Status};
 use std::test::Fail;
 
-// Pages, each read by 1, by 7 and by 4,096 bytes.
+// Pages of each kind.
 fn pages() -> [Row; 15] {
     [
         page(
@@ -60,12 +59,39 @@ fn pages() -> [Row; 15] {
             Status::BadUtf8,
             "syntax 1\nrefused bad-utf8\n",
         ),
-        page(b"<table>\xFF", Status::Unready, ""),
+        page(b"<table>\xFF", Status::BadUtf8, "refused bad-utf8\n"),
         page(
-            b"<script>console.log(document.documentElement.outerHTML);</script>",
-            Status::Unready,
-            "",
+            b"<p>a\xEF\xBB\xBFb",
+            Status::Done,
+            "tree \"<html><head></head><body><p>a\u{FEFF}b</p></body></html>\"\n",
         ),
+        page(
+            b"<script>document.write(\"<i-i\");</script> class=\"k\">z",
+            Status::Done,
+            "tree \"<html><head><script>document.write(\\\"<i-i\\\");</script></head><body><i-i class=\\\"k\\\">z</i-i></body></html>\"\n",
+        ),
+    ]
+}
+
+// What `--dump` writes.
+fn dumps() -> [Row; 5] {
+    [
+        Row {
+            dump: true,
+            ..page(
+                b"<template>x</template>",
+                Status::Done,
+                "node 0 element \"html\"\nnode 1 element \"head\"\nnode 2 element \"template\"\nnode 3 contents\nnode 4 text \"x\"\nnode 1 element \"body\"\nend\n",
+            )
+        },
+        Row {
+            dump: true,
+            ..page(
+                b"<body>a<script id=\"s\">document.getElementById(\"s\").remove();</script>b",
+                Status::Done,
+                "node 0 element \"html\"\nnode 1 element \"head\"\nnode 1 element \"body\"\nnode 2 text \"ab\"\nend\n",
+            )
+        },
         Row {
             dump: true,
             ..page(
@@ -74,11 +100,27 @@ fn pages() -> [Row; 15] {
                 "node 0 element \"html\"\nnode 1 element \"head\"\nnode 1 element \"body\"\nnode 2 element \"p\" \"a\" \"1\"\nnode 3 text \"x\"\nnode 3 comment \"y\"\nend\n",
             )
         },
+        Row {
+            dump: true,
+            ..page(
+                b"<!DOCTYPE html><script>foo();</script>\"",
+                Status::Done,
+                "syntax 1\nnode 0 doctype \"html\"\nnode 0 element \"html\"\nnode 1 element \"head\"\nnode 2 element \"script\"\nnode 3 text \"foo();\"\nnode 1 element \"body\"\nnode 2 text \"\\\"\"\nend\n",
+            )
+        },
+        Row {
+            dump: true,
+            ..page(
+                b"<script>foo();</script>\xFF",
+                Status::BadUtf8,
+                "syntax 1\nrefused bad-utf8\n",
+            )
+        },
     ]
 }
 
 // Pages that the tokenizer decides: references, comments, doctypes, declarations, script data.
-fn tokens() -> [Row; 23] {
+fn tokens() -> [Row; 24] {
     [
         page(
             b"<!DOCTYPE html><p>Hi",
@@ -195,6 +237,11 @@ fn tokens() -> [Row; 23] {
             Status::Done,
             "tree \"<html><head></head><body><script>document.write(\\\"<textarea>\\\");</script><textarea>&lt;b&gt;</textarea></body></html>\"\n",
         ),
+        page(
+            b"<script>document.write(\"<!--\");</script>\xFF",
+            Status::BadUtf8,
+            "refused bad-utf8\n",
+        ),
     ]
 }
 
@@ -284,65 +331,18 @@ fn formatting() -> [Row; 16] {
     ]
 }
 
-// Runs in which something fails, or is not there.
-fn faults() -> [Row; 11] {
-    [
-        Row {
-            page: None,
-            status: Status::Absent,
-            ..page(b"", Status::Done, "")
-        },
-        Row {
-            entities: "[]",
-            ..page(b"x", Status::Entities, "")
-        },
-        Row {
-            entities: "{\"&amp;\":{\"codepoints\":[38,1,2]}}",
-            ..page(b"x", Status::Entities, "")
-        },
-        Row {
-            fail: &[(Port::Entities, 1)],
-            ..page(b"x", Status::ReadFault, "")
-        },
-        Row {
-            fail: &[(Port::Page, 1)],
-            ..page(b"x", Status::ReadFault, "")
-        },
-        Row {
-            fail: &[(Port::Page, 3)],
-            ..page(b"<p>a", Status::ReadFault, "")
-        },
-        Row {
-            fail: &[(Port::Page, 3)],
-            ..page(b"<table>", Status::Unready, "")
-        },
-        Row {
-            piece: "1",
-            fail: &[(Port::Page, 9)],
-            ..page(b"<table>x", Status::Unready, "")
-        },
-        Row {
-            piece: "24",
-            fail: &[(Port::Page, 3)],
-            ..page(b"<script>foo();</script>x", Status::ReadFault, "syntax 1\n")
-        },
-        Row {
-            sink: 10,
-            ..page(b"", Status::WriteFault, "tree \"<htm")
-        },
-        Row {
-            sink: 0,
-            ..page(b"\xFF", Status::WriteFault, "")
-        },
-    ]
-}
-
 #[test]
 fn pages_give_their_trees(rt: HostRuntime) -> Result<(), Fail> {
     for row in &pages() {
-        for piece in ["1", "7", "4096"] {
-            assert!(rt; gives(&rt, rt.alloc(), row, piece)?, "{}", row.text);
-        }
+        assert!(rt; gives_at_every_piece(&rt, rt.alloc(), row)?, "{}", row.text);
+    }
+    Ok(())
+}
+
+#[test]
+fn dumps_give_their_nodes(rt: HostRuntime) -> Result<(), Fail> {
+    for row in &dumps() {
+        assert!(rt; gives_at_every_piece(&rt, rt.alloc(), row)?, "{}", row.text);
     }
     Ok(())
 }
@@ -350,9 +350,7 @@ fn pages_give_their_trees(rt: HostRuntime) -> Result<(), Fail> {
 #[test]
 fn tokens_give_their_trees(rt: HostRuntime) -> Result<(), Fail> {
     for row in &tokens() {
-        for piece in ["1", "7", "4096"] {
-            assert!(rt; gives(&rt, rt.alloc(), row, piece)?, "{}", row.text);
-        }
+        assert!(rt; gives_at_every_piece(&rt, rt.alloc(), row)?, "{}", row.text);
     }
     Ok(())
 }
@@ -360,9 +358,7 @@ fn tokens_give_their_trees(rt: HostRuntime) -> Result<(), Fail> {
 #[test]
 fn formatting_gives_its_trees(rt: HostRuntime) -> Result<(), Fail> {
     for row in &formatting() {
-        for piece in ["1", "7", "4096"] {
-            assert!(rt; gives(&rt, rt.alloc(), row, piece)?, "{}", row.text);
-        }
+        assert!(rt; gives_at_every_piece(&rt, rt.alloc(), row)?, "{}", row.text);
     }
     Ok(())
 }
@@ -373,14 +369,6 @@ fn a_sink_of_every_size_takes_a_front(rt: HostRuntime) -> Result<(), Fail> {
     let pages = pages();
     assert!(rt; gives_at_every_size(&rt, rt.alloc(), &pages[1])?);
     assert!(rt; gives_at_every_size(&rt, rt.alloc(), &pages[7])?);
-    Ok(())
-}
-
-#[test]
-fn faults_give_their_status(rt: HostRuntime) -> Result<(), Fail> {
-    for row in &faults() {
-        assert!(rt; gives(&rt, rt.alloc(), row, row.piece)?, "{}", row.text);
-    }
     Ok(())
 }
 

@@ -21,7 +21,6 @@ fn message(status: Status) -> Option<&'static str> {
         Status::ReadFault => Some("read fault"),
         Status::WriteFault => Some("write fault"),
         Status::Absent => Some("absent"),
-        Status::Unready => Some("unready"),
         Status::NoMemory => Some("no memory"),
     }
 }
