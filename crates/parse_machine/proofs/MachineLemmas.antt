@@ -69,6 +69,12 @@ rests s cr t b rest (next.Script i) e = cc
 rests s cr t b rest next.Deep e = cc
 rests s cr t b rest _ e = refl
 
+pub goes_on_else : (n : Next) → ((r : Reading) → n ≡ next.Switch r → ⊥) → ((i : NodeId) → n ≡ next.Script i → ⊥) → (n ≡ next.Deep → ⊥) → goes_on n ≡ true
+goes_on_else (next.Switch r) a b c = absurd (a r refl)
+goes_on_else (next.Script i) a b c = absurd (b i refl)
+goes_on_else next.Deep a b c = absurd (c refl)
+goes_on_else _ a b c = refl
+
 pub went_on : (t : Token) (cr : Bool) (m m' : Reached) (b b' : Open) (o o' : List Op) (n : Next) → answer b' o' n ≡ construct t b o → goes_on n ≡ true
     → m' ≡ m → WentTo cr m' b' o' went.On ≡ after_ops o (build m.state cr (t ∷ m.tokens) b)
 went_on t cr m m' b b' o o' n e is same =
@@ -143,6 +149,11 @@ rests_end : (s : TokState) (cr : Bool) (b : Open) (rest : Finished) (x : Next) �
 rests_end s cr b rest next.Finished e = cc
 rests_end s cr b rest next.Deep e = cc
 rests_end s cr b rest _ e = refl
+
+pub ends_on_else : (n : Next) → (n ≡ next.Finished → ⊥) → (n ≡ next.Deep → ⊥) → ends_on n ≡ true
+ends_on_else next.Finished a b = absurd (a refl)
+ends_on_else next.Deep a b = absurd (b refl)
+ends_on_else _ a b = refl
 
 pub ended_on : (t : Token) (cr : Bool) (m m' : Reached) (b b' : Open) (o o' : List Op) (n : Next) → answer b' o' n ≡ construct t b o → ends_on n ≡ true
     → m' ≡ m → EndedTo cr m' b' o' ended.On ≡ after_all o (build_end m.state cr (t ∷ m.tokens) b)

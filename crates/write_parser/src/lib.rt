@@ -6,10 +6,9 @@ mod left;
 mod live;
 mod nesting;
 mod rest;
-mod writer;
-
 #[cfg(test)]
 mod tests;
+mod writer;
 
 pub use left::{Left, Limit};
 pub use parse_machine::Ran;

@@ -20,12 +20,17 @@ fn page(alloc: Global, table: &Table, text: &str) -> Result<Writer, NoMemory> {
 fn a_script_in_a_script_writes_at_its_own_place(rt: HostRuntime) -> Result<(), Fail> {
     let alloc = rt.alloc();
     let table = Table::read(alloc, b"{}")?;
-    let text = "<body><script>document.write(\"<script>document.write(\\\"A\\\");<\\/script>B\");document.write(\"C\");</script>";
+    let text =
+        "<body><script>document.write(\"<script>document.write(\\\"A\\\");<\\/script>B\");document.write(\"C\");</script>";
     let mut writer = page(alloc, &table, text)?;
     assert!(rt; matches!(writer.feed_left(&table)?, Left::Empty));
     writer.finish(&table)?;
     let written = document(alloc, writer.doc().tree())?;
-    assert!(rt; written.as_str().ends_with("</script><script>document.write(\"A\");</script>ABC</body></html>"));
+    assert!(rt;
+        written.as_str().ends_with(
+            "</script><script>document.write(\"A\");</script>ABC</body></html>"
+        )
+    );
     Ok(())
 }
 
@@ -33,13 +38,18 @@ fn a_script_in_a_script_writes_at_its_own_place(rt: HostRuntime) -> Result<(), F
 fn written_text_waits_for_a_script(rt: HostRuntime) -> Result<(), Fail> {
     let alloc = rt.alloc();
     let table = Table::read(alloc, b"{}")?;
-    let text = "<body><script>document.write(\"<script src=\\\"a\\\"><\\/script>X\");document.write(\"Y\");</script>";
+    let text =
+        "<body><script>document.write(\"<script src=\\\"a\\\"><\\/script>X\");document.write(\"Y\");</script>";
     let mut writer = page(alloc, &table, text)?;
     assert!(rt; matches!(writer.feed_left(&table)?, Left::Awaits(name) if name.is("a")));
     writer.run_script(&table, "document.write(\"Q\");")?;
     assert!(rt; matches!(writer.feed_left(&table)?, Left::Empty));
     let written = document(alloc, writer.doc().tree())?;
-    assert!(rt; written.as_str().ends_with("<script src=\"a\"></script>QXY</body></html>"));
+    assert!(rt;
+        written
+            .as_str()
+            .ends_with("<script src=\"a\"></script>QXY</body></html>")
+    );
     Ok(())
 }
 
