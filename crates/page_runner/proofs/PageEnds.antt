@@ -1,6 +1,6 @@
 -- How the parse of a page that is read at a port ends.
 use Rattle.std.proofs.Common.{◌≡◌, ℕ, ◌≤◌, ◌<◌, ◌+◌, ◌-◌, List, [], ◌++◌, length, take, Bool, true, false, Option, Some, None, IfSome, refl, sym, subst, length-append, length-take, min, arith}
-use Rattle.std.specs.Prelude.{Result, Ok, Err, IfOk, OnErr, nat_lt, if◌then◌else◌}
+use Rattle.std.specs.Prelude.{Result, Ok, Err, IfOk, nat_lt, if◌then◌else◌}
 use Rattle.std.proofs.lemmas.Bool.{ltb-false}
 use Rattle.std.proofs.lemmas.List.{take_all, take-append-le}
 use Rattle.std.proofs.lemmas.Str.{IsUtf8-nil}
@@ -156,10 +156,6 @@ module _ (es : Entities) (whole left : Option (List ℕ)) (u : Decoder) (d : Dri
 pub if_ok : {T E : Type 0} (r : Result T E) {P Q : T → Type 0} → ((x : T) → P x → Q x) → IfOk r P → IfOk r Q
 if_ok (Ok x) turn p = turn x p
 if_ok (Err e) turn p = p
-
-pub if_err : {T E : Type 0} (r : Result T E) {P Q : Type 0} → (P → Q) → OnErr r P → OnErr r Q
-if_err (Ok x) turn p = p
-if_err (Err e) turn p = turn p
 
 module _ (es : Entities) (dir : List ℕ) (before after : Seen) (t t' : Option (List ℕ)) where
   pub ends_with_scripts : (d : Driver) (o : Told) → HasWorld es dir before after d.scripts → ParsesPage es (before.left port.Page) (after.left port.Page) (FaultsRose port.Page before after) d t t' o

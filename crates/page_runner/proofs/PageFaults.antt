@@ -17,7 +17,7 @@ use Rattle.standard.specs.Parser.{Parser, Took, took, take_character, Finished, 
 use Rattle.standard.specs.Prepare.{Prepared, still, inline, external}
 use Rattle.standard.specs.Scripts.{Fetched, got, missing, faulted, is_lawful, file_statements}
 use Rattle.standard.specs.Statements.{statements}
-use Rattle.standard.specs.Serial.{World, fetched_if, fetched, Serial, Outcome, refused, Flow, goes, refuses, starved, ◌then◌, Advanced, advanced, advance, before_point, moved, insert, tree_of, inside, back_at, remove, read, one_more_executed, write_limit, prepared, execute, run_statements, on_element, write, go_on, stopped, end_of_script, run_prepared, run_text, Moment, reading, tag_ended, awaits, over, at_end, after_character, unless_pending, behind_script, after_script, after_fetch, read_next, moment_after, moments_on, first}
+use Rattle.standard.specs.Serial.{World, fetched_if, fetched, Serial, Outcome, refused, Flow, goes, refuses, starved, ◌then◌, Advanced, advanced, advance, before_point, moved, insert, tree_of, inside, back_at, remove, read, one_more_executed, write_limit, prepared, execute, run_statements, on_element, write, go_on, stopped, end_of_script, run_prepared, run_text, Moment, reading, tag_ended, awaits, over, at_end, after_character, unless_pending, after_script, after_fetch, read_next, moment_after, moments_on, first}
 use Rattle.standard.specs.Laws.{outcome_at}
 use Rattle.standard.proofs.Fuel.{serial-over}
 use Rattle.standard.proofs.Passing.{finished-at}

@@ -154,9 +154,15 @@ fn parse_reads<F: Outside, K: Sink>(
             Ok(n) => {
                 left -= n;
                 let piece = &room[..n];
-                if let Some(outcome) =
-                    take_piece(alloc, table, files, out, driver, &mut decoder, piece)?
-                {
+                if let Some(outcome) = take_piece(
+                    alloc,
+                    table,
+                    files,
+                    out,
+                    driver,
+                    &mut decoder,
+                    piece,
+                )? {
                     return Ok(outcome);
                 }
             }

@@ -1,8 +1,8 @@
 use Rattle.outside.specs.Outside.{seen}
 use Rattle.page_runner.proofs.MeetLemmas.{fetches_same}
-use Rattle.page_runner.proofs.WayLemmas.{on_err}
+use Rattle.page_runner.proofs.WayLemmas.{on_err, err_weaker}
 use Rattle.page_runner.proofs.WorldLemmas.{has_world}
-use Rattle.page_runner.proofs.PageEnds.{unread, if_ok, if_err, ends_with_scripts, front_with_scripts}
+use Rattle.page_runner.proofs.PageEnds.{unread, if_ok, ends_with_scripts, front_with_scripts}
 use Rattle.page_runner.proofs.page.parse_page.Goals as goal
 
 pub returns-in_err-room-clause-err : goal.returns-in_err-room-clause-err
@@ -25,4 +25,4 @@ returns-clause-err g c =
     let before = at c.args.files.now in
     let after = at c.parse_reads.new.files in
     let new = c.parse_reads.new.driver in
-    if_err _ (λ parses. front_with_scripts c.args.table.now _ before after _ _ new.scripts (has_world c.args.table.now before after c.args.driver.now.scripts new.scripts c.requires.none c.parse_reads.ensures.fetches) parses) c.parse_reads.ensures.err
+    err_weaker _ _ _ (λ parses. front_with_scripts c.args.table.now _ before after _ _ new.scripts (has_world c.args.table.now before after c.args.driver.now.scripts new.scripts c.requires.none c.parse_reads.ensures.fetches) parses) c.parse_reads.ensures.err

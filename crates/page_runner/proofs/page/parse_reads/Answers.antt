@@ -1,10 +1,10 @@
-use Rattle.std.proofs.Common.{◌<◌, ◌≡◌, ◌≤◌, length, take, drop, length-take, arith, refl, subst}
+use Rattle.std.proofs.Common.{◌<◌, ◌≤◌, length, drop, length-take, arith, refl, subst}
 use Rattle.outside.specs.declared.traits.Port.TheVariants as port
 use Rattle.page_runner.specs.Pages.{TakesPiece}
-use Rattle.page_runner.proofs.KeepsLemmas.{rose-on}
+use Rattle.page_runner.proofs.KeepsLemmas.{entities-same, rose-on}
 use Rattle.page_runner.proofs.MeetLemmas.{fetches_same}
 use Rattle.page_runner.proofs.WayLemmas.{on_err}
-use Rattle.page_runner.proofs.WorldLemmas.{keeps_all, keeps_read, keeps_piece, fetches_read_on, fetches_piece}
+use Rattle.page_runner.proofs.WorldLemmas.{keeps_read, keeps_piece, fetches_read_on, fetches_piece}
 use Rattle.page_runner.proofs.PageLemmas.{ready_first}
 use Rattle.page_runner.proofs.PageEnds.{at_start, has_room, piece_then, piece_length, closed_ok, closed_in_part, closed_no_further, piece_past, piece_gave_up, piece_no_further, piece_on}
 use Rattle.page_runner.proofs.page.parse_reads.Goals as goal
@@ -14,7 +14,7 @@ reads-init g c = record {
   at = at_start _ _ _ _ _ c.new-decoder.ensures c.requires.first;
   ready = ready_first _ c.requires.first;
   fetches = fetches_same _ _;
-  others = keeps_all _;
+  others = entities-same _;
   faults = omega arith;
 }
 

@@ -1,5 +1,4 @@
 use Rattle.std.proofs.Common.{subst}
-use Rattle.outside.specs.Outside.{seen}
 use Rattle.page_runner.specs.Moments.{Takes}
 use Rattle.page_runner.proofs.WayLemmas.{on_err}
 use Rattle.page_runner.proofs.PagePieces.{piece_unread, piece_in_part, piece_stops, piece_goes_on, piece_ends, piece_end_in_part}
