@@ -52,8 +52,8 @@ impl Driver {
         ensures dir { IfOk result (λ d. string_bytes d.scripts.dir ≡ dir.now) }
         ensures none { IfOk result (λ d. (name : _) → met_of d.scripts name ≡ None) }
     {
-        let writer = Writer::new(alloc, 0)?;
         let scripts = ScriptFiles::new(alloc, dir)?;
+        let writer = Writer::new(alloc, 0)?;
         Ok(Driver { writer, scripts })
     }
 
