@@ -109,6 +109,36 @@ fn run_begun<F: Outside, K: Sink>(
     }
 }
 
+// Parses the page that was begun, with the scripts of the folder, and writes what comes of it.
+fn run_in_folder<F: Outside, K: Sink>(
+    alloc: Global,
+    table: &Table,
+    files: &mut F,
+    out: &mut K,
+    words: &PageWords,
+) -> Status
+    requires begun { IsBegun (string_bytes words.now.page) (seen F.files F.left F.faults F.absences files.old) }
+    requires piece { 0 < words.now.piece }
+    ensures answer { PageAnswers table.now words.now.dump (string_bytes words.now.page) (string_bytes words.now.dir)
+        (seen F.files F.left F.faults F.absences files.old) (seen F.files F.left F.faults F.absences files.new)
+        (K.taken out.old) (K.taken out.new) result }
+    ensures no_further { ReadTo PAGE_LIMIT Port.Page (string_bytes words.now.page)
+        (seen F.files F.left F.faults F.absences files.old) (seen F.files F.left F.faults F.absences files.new) }
+    ensures scripts_no_further { ReadScriptsTo SCRIPT_LIMIT (string_bytes words.now.dir)
+        (seen F.files F.left F.faults F.absences files.old) (seen F.files F.left F.faults F.absences files.new) }
+    ensures others { KeepsEntities (seen F.files F.left F.faults F.absences files.old) (seen F.files F.left F.faults F.absences files.new) }
+    ensures write_fault { result ≡ Status.WriteFault → Rose (K.faults out.old) (K.faults out.new) }
+    ensures clean { IsTrue (is_finished result) → IsTrue (K.clean out.new) }
+{
+    let mut driver = match Driver::new(alloc, words.dir.as_str()) {
+        Err(NoMemory) => return Status::NoMemory,
+        Ok(driver) => driver,
+    };
+    let status = run_begun(alloc, table, files, out, &mut driver, words);
+    drop(driver);
+    status
+}
+
 // Begins the page, parses it and writes what comes of it.
 fn run_page<F: Outside, K: Sink>(
     alloc: Global,
@@ -130,13 +160,9 @@ fn run_page<F: Outside, K: Sink>(
     ensures clean { IsTrue (is_finished result) → IsTrue (K.clean out.new) }
 {
     match files.begin(Port::Page, words.page.as_str()) {
-        Err(Failed) => return end_at_fault(out),
-        Ok(false) => return Status::Absent,
-        Ok(true) => {}
-    }
-    match Driver::new(alloc, words.dir.as_str()) {
-        Err(NoMemory) => Status::NoMemory,
-        Ok(mut driver) => run_begun(alloc, table, files, out, &mut driver, words),
+        Err(Failed) => end_at_fault(out),
+        Ok(false) => Status::Absent,
+        Ok(true) => run_in_folder(alloc, table, files, out, words),
     }
 }
 

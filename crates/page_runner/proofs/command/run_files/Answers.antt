@@ -8,7 +8,7 @@ use Rattle.page_runner.specs.Words.{shown}
 use Rattle.page_runner.specs.Given.{unmet, missing, faulted}
 use Rattle.page_runner.specs.Answers.{table_of}
 use Rattle.page_runner.proofs.PageTakenLemmas.{front_nothing, took_nothing}
-use Rattle.page_runner.proofs.RunLemmas.{gives_fault, answers_early, answers_no_table, answers_on, given_is, read_to_is, page_untouched, read_still, read_since}
+use Rattle.page_runner.proofs.RunLemmas.{gives_fault, answers_early, answers_no_table, answers_on, given_is, read_to_is, stops_early, stops_on}
 use Rattle.page_runner.proofs.command.run_files.Goals as goal
 
 pub returns-in-Err-clause-answer : goal.returns-in-Err-clause-answer
@@ -16,7 +16,9 @@ returns-in-Err-clause-answer g c = answers_early _ _ _ _ _ _ unmet tt (front_not
 
 pub returns-in-Err-clause-no_further : goal.returns-in-Err-clause-no_further
 returns-in-Err-clause-no_further g c =
-    (read_to_is ENTITIES_LIMIT Entities _ (string_bytes c.args.words.now.entities) _ _ c.as_str-entities.ensures.value c.read_whole.ensures.no_further, page_untouched _ _ _ c.read_whole.ensures.others)
+    let at = seen g.F.Outside.files g.F.Outside.left g.F.Outside.faults g.F.Outside.absences in
+    stops_early (shown c.args.words.now) (at c.args.files.now) (at c.read_whole.new.files)
+    (read_to_is ENTITIES_LIMIT Entities _ (string_bytes c.args.words.now.entities) _ _ c.as_str-entities.ensures.value c.read_whole.ensures.no_further) c.read_whole.ensures.others
 
 pub returns-in-Ok-Missing-clause-answer : goal.returns-in-Ok-Missing-clause-answer
 returns-in-Ok-Missing-clause-answer g c =
@@ -27,7 +29,9 @@ returns-in-Ok-Missing-clause-answer g c =
 
 pub returns-in-Ok-Missing-clause-no_further : goal.returns-in-Ok-Missing-clause-no_further
 returns-in-Ok-Missing-clause-no_further g c =
-    (read_to_is ENTITIES_LIMIT Entities _ (string_bytes c.args.words.now.entities) _ _ c.as_str-entities.ensures.value c.read_whole.ensures.no_further, page_untouched _ _ _ c.read_whole.ensures.others)
+    let at = seen g.F.Outside.files g.F.Outside.left g.F.Outside.faults g.F.Outside.absences in
+    stops_early (shown c.args.words.now) (at c.args.files.now) (at c.read_whole.new.files)
+    (read_to_is ENTITIES_LIMIT Entities _ (string_bytes c.args.words.now.entities) _ _ c.as_str-entities.ensures.value c.read_whole.ensures.no_further) c.read_whole.ensures.others
 
 pub returns-in-Ok-Faulted-clause-answer : goal.returns-in-Ok-Faulted-clause-answer
 returns-in-Ok-Faulted-clause-answer g c =
@@ -38,7 +42,9 @@ returns-in-Ok-Faulted-clause-answer g c =
 
 pub returns-in-Ok-Faulted-clause-no_further : goal.returns-in-Ok-Faulted-clause-no_further
 returns-in-Ok-Faulted-clause-no_further g c =
-    (read_to_is ENTITIES_LIMIT Entities _ (string_bytes c.args.words.now.entities) _ _ c.as_str-entities.ensures.value c.read_whole.ensures.no_further, page_untouched _ _ _ c.read_whole.ensures.others)
+    let at = seen g.F.Outside.files g.F.Outside.left g.F.Outside.faults g.F.Outside.absences in
+    stops_early (shown c.args.words.now) (at c.args.files.now) (at c.read_whole.new.files)
+    (read_to_is ENTITIES_LIMIT Entities _ (string_bytes c.args.words.now.entities) _ _ c.as_str-entities.ensures.value c.read_whole.ensures.no_further) c.read_whole.ensures.others
 
 pub returns-in-Err-NotTable-clause-answer : goal.returns-in-Err-NotTable-clause-answer
 returns-in-Err-NotTable-clause-answer g c =
@@ -50,14 +56,18 @@ returns-in-Err-NotTable-clause-answer g c =
 
 pub returns-in-Err-NotTable-clause-no_further : goal.returns-in-Err-NotTable-clause-no_further
 returns-in-Err-NotTable-clause-no_further g c =
-    (read_to_is ENTITIES_LIMIT Entities _ (string_bytes c.args.words.now.entities) _ _ c.as_str-entities.ensures.value c.read_whole.ensures.no_further, page_untouched _ _ _ c.read_whole.ensures.others)
+    let at = seen g.F.Outside.files g.F.Outside.left g.F.Outside.faults g.F.Outside.absences in
+    stops_early (shown c.args.words.now) (at c.args.files.now) (at c.read_whole.new.files)
+    (read_to_is ENTITIES_LIMIT Entities _ (string_bytes c.args.words.now.entities) _ _ c.as_str-entities.ensures.value c.read_whole.ensures.no_further) c.read_whole.ensures.others
 
 pub returns-in-Err-NoMemory-clause-answer : goal.returns-in-Err-NoMemory-clause-answer
 returns-in-Err-NoMemory-clause-answer g c = answers_early _ _ _ _ _ _ unmet tt (front_nothing _ _)
 
 pub returns-in-Err-NoMemory-clause-no_further : goal.returns-in-Err-NoMemory-clause-no_further
 returns-in-Err-NoMemory-clause-no_further g c =
-    (read_to_is ENTITIES_LIMIT Entities _ (string_bytes c.args.words.now.entities) _ _ c.as_str-entities.ensures.value c.read_whole.ensures.no_further, page_untouched _ _ _ c.read_whole.ensures.others)
+    let at = seen g.F.Outside.files g.F.Outside.left g.F.Outside.faults g.F.Outside.absences in
+    stops_early (shown c.args.words.now) (at c.args.files.now) (at c.read_whole.new.files)
+    (read_to_is ENTITIES_LIMIT Entities _ (string_bytes c.args.words.now.entities) _ _ c.as_str-entities.ensures.value c.read_whole.ensures.no_further) c.read_whole.ensures.others
 
 pub returns-clause-answer : goal.returns-clause-answer
 returns-clause-answer g c =
@@ -68,7 +78,8 @@ returns-clause-answer g c =
     c.read_whole.ensures.others (ap table_of (sym c.deref.ensures.value) ∙ c.in-Ok.ensures.table) c.run_page.ensures.answer c.run_page.ensures.others
 
 pub returns-clause-no_further : goal.returns-clause-no_further
-returns-clause-no_further g c = (
-  read_still ENTITIES_LIMIT (string_bytes c.args.words.now.entities) _ _ _ (read_to_is ENTITIES_LIMIT Entities _ (string_bytes c.args.words.now.entities) _ _ c.as_str-entities.ensures.value c.read_whole.ensures.no_further) c.run_page.ensures.others,
-  read_since _ (string_bytes c.args.words.now.page) _ _ _ c.read_whole.ensures.others c.run_page.ensures.no_further,
-)
+returns-clause-no_further g c =
+    let at = seen g.F.Outside.files g.F.Outside.left g.F.Outside.faults g.F.Outside.absences in
+    stops_on (shown c.args.words.now) (at c.args.files.now) (at c.read_whole.new.files) (at c.run_page.new.files)
+    (read_to_is ENTITIES_LIMIT Entities _ (string_bytes c.args.words.now.entities) _ _ c.as_str-entities.ensures.value c.read_whole.ensures.no_further) c.read_whole.ensures.others
+    c.run_page.ensures.others c.run_page.ensures.no_further c.run_page.ensures.scripts_no_further
