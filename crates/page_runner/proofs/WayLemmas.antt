@@ -149,8 +149,12 @@ stands-taken : (v : View) (before : List Line) (page : List ℕ) (m : Moment) �
 stands-taken v before page m at = by_halted v.halted at
   where
     by_halted : (h : Option Why) → StandsBy h v before page m → StandsBy h (record v { lines = [] }) (before ++ v.lines) page m
-    by_halted None is = is ∙ ap (λ l. moment_by v.pending (record { input = v.rest ++ page; point = 0; parser = v.parser;
-      side = record { doc = v.doc; level = 0; pending = None; written = v.written; executed = v.executed; lines = l } })) (sym (append-nil (before ++ v.lines)))
+    by_halted None is = is ∙ ap (λ l. moment_by v.pending (record {
+      input = v.rest ++ page;
+      point = 0;
+      parser = v.parser;
+      side = record { doc = v.doc; level = 0; pending = None; written = v.written; executed = v.executed; lines = l };
+    })) (sym (append-nil (before ++ v.lines)))
     by_halted (Some r) there = record { last = there.last; is = there.is; lines = there.lines ∙ sym (append-nil (before ++ v.lines)); doc = there.doc }
 
 module _ (es : Entities) (files : ScriptFiles) (From : List Line → List ℕ → Moment → Type 0) (mid : View) (t t' : Option (List ℕ)) (way : Way es files From (Stands mid) []) where
@@ -242,9 +246,11 @@ module _ (es : Entities) (files : ScriptFiles) (old : View) (name : List ℕ) (p
         let await = stands_awaits old name before page from pending halted is in
         let leads = awaits-missing e w m name (serial_of old before page) (subst (λ k. Leads e w m k) await at) (none w suits) in
         let there : new ≡ record old { lines = old.lines ++ line.Miss name ∷ []; pending = None } =
-        subst (λ h. HasMissed h (Some name) old new) halted (subst (λ p. HasMissed old.halted p old new) pending missed) in
-        (reading (serial_with old page ((before ++ old.lines) ++ line.Miss name ∷ [])),
-        subst (λ v. Stands v (before ++ []) page (reading (serial_with old page ((before ++ old.lines) ++ line.Miss name ∷ [])))) (sym there) (stands_there before page), leads);
+        subst (λ h. HasMissed h (Some name) old new) halted (subst (λ p. HasMissed old.halted p old new) pending missed) in (
+          reading (serial_with old page ((before ++ old.lines) ++ line.Miss name ∷ [])),
+          subst (λ v. Stands v (before ++ []) page (reading (serial_with old page ((before ++ old.lines) ++ line.Miss name ∷ [])))) (sym there) (stands_there before page),
+          leads,
+        );
   }
     where
       stands_there : (before : List Line) (page : List ℕ)

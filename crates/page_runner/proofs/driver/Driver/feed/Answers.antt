@@ -84,11 +84,11 @@ turns-preserved g c =
           (g.K.Sink.taken c.args.out.now) (g.K.Sink.taken c.feed_left.new.out) (g.K.Sink.taken c.run_awaited.new.out)
           (λ w. suits-before c.args.table.now (at c.turns.files) (at c.run_awaited.new.files) c.feed_left.new.self.scripts c.run_awaited.new.self.scripts w c.run_awaited.ensures.fetches)
           (turn-fed c.args.table.now c.turns.self.scripts c.feed_left.new.self.scripts (Stands c.args.self.now.writer) c.turns.self.writer c.feed_left.new.self.writer (g.K.Sink.taken c.args.out.now) (g.K.Sink.taken c.turns.out)
-    (g.K.Sink.taken c.feed_left.new.out) c.feed_left.ensures.scripts c.turns.invariant.reaches c.in_ok-feed_left.ensures.reaches)
+          (g.K.Sink.taken c.feed_left.new.out) c.feed_left.ensures.scripts c.turns.invariant.reaches c.in_ok-feed_left.ensures.reaches)
           (subst (λ w. Reaches c.args.table.now c.run_awaited.new.self.scripts (Stands c.feed_left.new.self.writer) (Resumes c.run_awaited.new.self.writer w) (g.K.Sink.taken c.feed_left.new.out) (g.K.Sink.taken c.run_awaited.new.out)) c.in-On.is
           c.in_ok-run_awaited-in-Awaits.ensures.reaches);
       fetches = fetches-on (at c.args.files.now) (at c.turns.files) (at c.run_awaited.new.files) c.args.self.now.scripts c.turns.self.scripts c.feed_left.new.self.scripts c.run_awaited.new.self.scripts c.turns.invariant.others c.run_awaited.ensures.others
-    c.feed_left.ensures.scripts c.turns.invariant.fetches c.run_awaited.ensures.fetches;
+          c.feed_left.ensures.scripts c.turns.invariant.fetches c.run_awaited.ensures.fetches;
       others = keeps-then _ _ _ _ c.turns.invariant.others c.run_awaited.ensures.others;
       faults = let a = c.turns.invariant.faults in let b = c.feed_left.ensures.faults in let d = c.run_awaited.ensures.faults in omega arith;
     }
