@@ -172,26 +172,7 @@ module _ (es : Table) (dump : Bool) (path dir : List ℕ) (dir' : List ℕ) (is_
   pub page_read_to : ReadsOn (PAGE_LIMIT + 1) (before.left Page) (after.left Page) → ReadTo PAGE_LIMIT Page path before after
   page_read_to reads = begun reads.read (read_of before.files path (before.left Page) (after.left Page) reads.read found reads.taken) reads.at_most
 
--- the page couldn't be begun, or memory ran out before it was parsed
-pub page_unmet : (es : Table) (dump : Bool) (path dir : List ℕ) (before after : Seen) (t : Option (List ℕ)) → PageAnswers es dump path dir before after t t status.NoMemory
-page_unmet es dump path dir before after t = record { page = unmet; may = tt; parsed = tt; gives = front_nothing t [] }
-
-pub page_missing : (es : Table) (dump : Bool) (path dir : List ℕ) (before after : Seen) (t : Option (List ℕ)) → AbsencesRose Page before after → IfSome (file_at before path) (λ file. file ≡ None)
-    → PageAnswers es dump path dir before after t t status.Absent
-page_missing es dump path dir before after t rose none = record { page = missing; may = (rose, none); parsed = tt; gives = (refl, took_nothing t) }
-
-pub page_faulted : (es : Table) (dump : Bool) (path dir : List ℕ) (before after : Seen) (t t' : Option (List ℕ)) (r : Status) → FaultsRose Page before after → IfSome (after.left Page) (λ rest. rest ≡ [])
-    → (r ≡ status.ReadFault) ⊎ (r ≡ status.WriteFault) → t' ≡ t → PageAnswers es dump path dir before after t t' r
-page_faulted es dump path dir before after t t' r rose none is same = record { page = faulted; may = (rose, none); parsed = tt; gives = gives_fault r t t' is same }
-
 -- ---- the run
-
--- what was given before may be given still
-pub may_still : (limit : ℕ) (path : List ℕ) (before now after : Seen) (given : Given (List ℕ)) → MayGive limit Entities path before now given → KeepsEntities now after → MayGive limit Entities path before after given
-may_still limit path before now after unmet may keeps = tt
-may_still limit path before now after missing may keeps = (rose-stays _ _ _ may.0 (keeps.absences Entities), may.1)
-may_still limit path before now after faulted may keeps = rose-stays _ _ _ may (keeps.faults Entities)
-may_still limit path before now after (got bytes) may keeps = may
 
 -- What may come of a script after a call at another port may come of it over both.
 absent_since : (file file' : Option (Option (List ℕ))) (rose rose' : Type 0) → file ≡ file' → (rose → rose') → IsAbsent file rose → IsAbsent file' rose'
@@ -315,13 +296,6 @@ begun_page_read path before now after keeps found (unbegun none (inr rose)) = un
 begun_page_read path before now after keeps found (begun read taken most) =
     begun read (subst (λ file. AreRead file (after.left Page) read) (file_since path before now keeps.files) taken) most
 
--- where the page is begun, and no more
-pub page_only_begun : (path : List ℕ) (before now : Seen) → KeepsOthers Page before now → IsBegun path now → ReadTo PAGE_LIMIT Page path before now
-page_only_begun path before now keeps found = begun_page_read path before now now keeps found (untouched refl)
-
-pub no_scripts : (dir : List ℕ) (before now : Seen) → KeepsOthers Page before now → ReadScriptsTo SCRIPT_LIMIT dir before now
-no_scripts dir before now keeps = none_begun (keeps.left Script (λ e. cc e))
-
 -- where the entities alone were read
 pub stops_early : (asked : Asked) (before after : Seen) → ReadTo ENTITIES_LIMIT Entities asked.entities before after → KeepsOthers Entities before after → StopsAtEach asked before after
 stops_early asked before after reads keeps = record {
@@ -377,6 +351,3 @@ given_is limit port path path' before after fetch fetch' same is may =
 
 pub read_to_is : (limit : ℕ) (port : Port) (path path' : List ℕ) (before after : Seen) → path ≡ path' → ReadTo limit port path before after → ReadTo limit port path' before after
 read_to_is limit port path path' before after same reads = subst (λ p. ReadTo limit port p before after) same reads
-
-pub at_limit : (bytes : List ℕ) → ENTITIES_LIMIT < length bytes → table_of bytes ≡ None
-at_limit bytes long = rw (lt-leb (length bytes) ENTITIES_LIMIT long) refl

@@ -171,9 +171,10 @@ pub record Exactly (wanted result : Status) (fact : Type 0) : Type 0 where
   pub nowhere_else : result ≡ wanted → fact
   pub there : fact → (result ≡ wanted) ⊎ (result ≡ status.WriteFault) ⊎ (result ≡ status.NoMemory)
 
--- a count rose at one of the ports
+-- An absence was counted at the port of the entities or of the page. A script that isn't there ends no run.
 abbrev pub AbsenceRose : Seen → Seen → Type 0
 AbsenceRose before after = AbsencesRose Entities before after ⊎ AbsencesRose Page before after
 
+-- a fault was counted at one of the ports
 abbrev pub FaultRose : Seen → Seen → Type 0
 FaultRose before after = FaultsRose Entities before after ⊎ FaultsRose Page before after ⊎ FaultsRose Script before after
