@@ -35,7 +35,6 @@ fn spell(spelled: &mut String, token: &Token) -> Result<(), NoMemory> {
             if *force_quirks { "?>" } else { "!>" },
         )?,
         Token::EndOfFile => spelled.push('$')?,
-        Token::Missing => spelled.push_str("<missing>")?,
     }
     Ok(())
 }
