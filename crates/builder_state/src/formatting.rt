@@ -1,6 +1,6 @@
 //! Walks over the list of active formatting elements (13.2.4.3), from the latest entry up.
 
-ghost use Rattle.std.specs.Prelude.{◌≡◌, ◌<◌, length, reverse, remove, IfOk, MatchOption};
+ghost use Rattle.std.specs.Prelude.{◌≡◌, ◌<◌, [], length, reverse, remove, IfOk, IsTrue, MatchOption};
 ghost use Rattle.standard.specs.Elements.{is_meant, is_word};
 ghost use Rattle.standard.specs.Formatting.{listed, clear_to_marker, lost, kept, entry_named, without_entry};
 
@@ -89,12 +89,27 @@ pub fn clear_back(formats: &mut Formats)
     }
 }
 
+/// Whether no entry stands behind the last marker or open entry, as at nearly each character of a page.
+pub fn none_lost(formats: &Formats, stack: &Stack) -> bool
+    ensures lost { IsTrue result → lost stack.now formats.now ≡ [] }
+    ensures kept { IsTrue result → kept stack.now formats.now ≡ formats.now }
+{
+    match formats.as_slice().split_last() {
+        None => true,
+        Some((Format::Marker, _)) => true,
+        Some((Format::Element { id, tag: _ }, _)) => has_open(stack, *id),
+    }
+}
+
 /// Takes the entries behind the last marker or open entry off the list: their tags, the latest first.
 pub fn take_lost(alloc: Global, formats: &mut Formats, stack: &Stack) -> Result<Vec<Tag>, NoMemory>
     ensures tags { IfOk result (λ tags. tags.items ≡ lost stack.now formats.old) }
     ensures kept { IfOk result (λ _. formats.new ≡ kept stack.now formats.old) }
 {
     let mut tags = Vec::new(alloc);
+    if none_lost(formats, stack) {
+        return Ok(tags);
+    }
     while let Some(last) = formats.pop() {
         match last {
             Format::Marker => {

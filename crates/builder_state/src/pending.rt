@@ -39,7 +39,7 @@ fn insert_characters(alloc: Global, place: Place, text: &str, ops: &mut Ops) -> 
 }
 
 /// Inserts a character by the rules of "in body" (13.2.6.4.7).
-fn insert_body_character(
+pub fn insert_body_character(
     alloc: Global,
     state: &mut Open,
     c: char,

@@ -1,13 +1,14 @@
 //! The builder of a tree: the open state with at most 512 open elements.
 
 ghost use Rattle.std.specs.Prelude.{◌≡◌, ◌≤◌, ◌↔◌, length, IsTrue, IfOk, false};
-ghost use Rattle.standard.specs.Instructions.{config, on, here, reconstruct, run};
+ghost use Rattle.standard.specs.Instructions.{config, on, here, reconstruct, run, body_character};
 ghost use Rattle.standard.specs.Rules.{answer, answer_of, next_of};
 ghost use Rattle.standard.specs.Parser.{opening};
 ghost use Rattle.builder_state.specs.Push.{opened};
 
 use crate::insert::{LIMIT, place_now, reopen_lost};
 use crate::machine::run_row;
+use crate::pending::insert_body_character;
 use html_types::{
     Flow, Formats, Instr, Mode, Modes, Next, NoMemory, NodeId, Open, OpenElement, Ops, Place,
     Stack, Text, Token,
@@ -101,6 +102,20 @@ impl Builder {
         ensures { IfOk result (λ next. answer self.new ops.new next ≡ answer_of (run token.now (on self.old ops.old) program.now)) }
     {
         let flow = self.run(alloc, program, token, ops)?;
+        Ok(asked(flow))
+    }
+
+    /// Inserts a character by the rules of "in body" (13.2.6.4.7), which are the same for each character but U+0000, and says
+    /// what is asked of the caller then.
+    pub fn insert_body_character(
+        &mut self,
+        alloc: Global,
+        c: char,
+        ops: &mut Ops,
+    ) -> Result<Next, NoMemory>
+        ensures { IfOk result (λ next. answer self.new ops.new next ≡ answer_of (body_character c self.old ops.old)) }
+    {
+        let flow = insert_body_character(alloc, &mut self.state, c, ops)?;
         Ok(asked(flow))
     }
 

@@ -10,6 +10,7 @@ ghost use Rattle.parse_machine.specs.Machine.{WentTo, EndedTo, Builds, BuildsLas
 
 use crate::token::construct;
 use builder_state::Builder;
+use char_class::class_of;
 use entity_table::Table;
 use html_types::{
     Finish, Name, Next, NoMemory, NodeId, Ops, RawText, Reading, Stop, TextState, TokState, Token,
@@ -18,6 +19,7 @@ use html_types::{
 use std::alloc::Global;
 use std::marker::Model;
 use tokenizer::Tokenizer;
+use tokenizer::reading::is_plain;
 
 /// A parser: contracts see the tokenizer's state, whether the last character was a CR, and the open state.
 #[derive(Drop)]
@@ -230,6 +232,35 @@ fn line_feed_for_cr(c: char) -> char
     if c == '\r' { '\n' } else { c }
 }
 
+// The token of a character that the tokenizer emits as it is, and then stays in its state.
+fn plain_token(tokenizer: &Tokenizer, c: char) -> Option<Token>
+    ensures { IfSome result (λ t. (es : Entities) → read es tokenizer.now.state c ≡ record { tokens = t ∷ []; state = tokenizer.now.state }) }
+{
+    if is_plain(tokenizer.state(), class_of(c)) {
+        Some(Token::Character(c))
+    } else {
+        None
+    }
+}
+
+// Processes the only token that a character makes.
+fn process_alone(
+    alloc: Global,
+    tokenizer: &mut Tokenizer,
+    builder: &mut Builder,
+    token: &Token,
+    ops: &mut Ops,
+) -> Result<Stop, NoMemory>
+    requires { tokenizer.old.tokens ≡ [] }
+    ensures built { IfOk result (λ stop. (cr : Bool) → Builds cr (record { tokens = token.now ∷ []; state = tokenizer.old.state }) builder.old ops.old tokenizer.new builder.new ops.new stop) }
+    ensures none_waits { IfOk result (λ _. tokenizer.new.tokens ≡ []) }
+{
+    match process(alloc, tokenizer, builder, token, ops)? {
+        Went::At(stop) => Ok(stop),
+        Went::AllUsed | Went::On => Ok(Stop::InputEnd),
+    }
+}
+
 // Reads a character, and processes the tokens that it makes.
 fn read_and_build(
     alloc: Global,
@@ -243,8 +274,13 @@ fn read_and_build(
     ensures built { IfOk result (λ stop. (cr : Bool) → Builds cr (read table.now tokenizer.old.state c) builder.old ops.old tokenizer.new builder.new ops.new stop) }
     ensures none_waits { IfOk result (λ _. tokenizer.new.tokens ≡ []) }
 {
-    tokenizer.read_character(alloc, table, c)?;
-    build_waiting(alloc, tokenizer, builder, ops)
+    match plain_token(tokenizer, c) {
+        Some(token) => process_alone(alloc, tokenizer, builder, &token, ops),
+        None => {
+            tokenizer.read_character(alloc, table, c)?;
+            build_waiting(alloc, tokenizer, builder, ops)
+        }
+    }
 }
 
 // Reads the end of the input, and processes the tokens that it makes.

@@ -1,6 +1,8 @@
 //! A token, by the rules of the mode and of those that it is then to go by (13.2.6).
 
-ghost use Rattle.std.specs.Prelude.{◌≡◌, ◌&&◌, IfOk};
+ghost use Rattle.std.specs.Prelude.{◌≡◌, ◌==◌, ◌&&◌, false, IfOk};
+ghost use Rattle.html_types.specs.declared.instruction.Mode.TheVariants as mode;
+ghost use Rattle.html_types.specs.declared.token.Token.TheVariants as token;
 ghost use Rattle.standard.specs.Rules.{answer, by_mode, adopting, by_rules, process, rounds, is_line_feed as is_line_feed_in, construct as constructed};
 ghost use Rattle.parse_machine.specs.Rounds.{rounded, round_of};
 
@@ -137,6 +139,35 @@ fn by_all_rules(
     }
 }
 
+// A character by the rules of "in body", as most of a page's are: what its row comes to, at once.
+#[tactic(auto, using(std::proofs::lemmas::Grind::common_steps, crate::proofs::Characters::character_in_body))]
+fn by_body_row(
+    alloc: Global,
+    builder: &mut Builder,
+    c: char,
+    ops: &mut Ops,
+) -> Result<Next, NoMemory>
+    requires { (c == 0) ≡ false }
+    ensures { IfOk result (λ n. answer builder.new ops.new n ≡ process rounds mode.InBody (token.Character c) builder.old ops.old) }
+{
+    builder.insert_body_character(alloc, c, ops)
+}
+
+// By the rules of the insertion mode.
+fn by_own_rules(
+    alloc: Global,
+    builder: &mut Builder,
+    token: &Token,
+    ops: &mut Ops,
+) -> Result<Next, NoMemory>
+    ensures { IfOk result (λ n. answer builder.new ops.new n ≡ process rounds builder.old.mode token.now builder.old ops.old) }
+{
+    match (builder.mode(), token) {
+        (Mode::InBody, Token::Character(c)) if *c != '\0' => by_body_row(alloc, builder, *c, ops),
+        (mode, _) => by_all_rules(alloc, builder, mode, token, ops),
+    }
+}
+
 // A line feed is left out where the token before asks for that.
 fn is_left_out(skip: bool, token: &Token) -> bool
     ensures { result ≡ (skip && is_line_feed_in token.now) }
@@ -159,8 +190,7 @@ pub fn construct(
     let next = if is_left_out(skip, token) {
         Next::Done
     } else {
-        let mode = builder.mode();
-        by_all_rules(alloc, builder, mode, token, ops)?
+        by_own_rules(alloc, builder, token, ops)?
     };
     builder.stop_fostering();
     Ok(next)

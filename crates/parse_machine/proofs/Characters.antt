@@ -1,0 +1,105 @@
+-- A character by the rules of "in body": what its row comes to.
+use Rattle.std.proofs.Common.{◌≡◌, ◌==◌, ℕ, Bool, true, false, List, [], ◌∷◌, reverse, refl, sym, ap, ◌∙◌, suc}
+use Rattle.std.specs.Prelude.{if◌then◌else◌}
+use Rattle.html_types.specs.declared.token.Tag.{Tag}
+use Rattle.html_types.specs.declared.token.Token.{Token}
+use Rattle.html_types.specs.declared.token.Token.TheVariants.{Character}
+use Rattle.html_types.specs.declared.operation.Op.{Op}
+use Rattle.html_types.specs.declared.open.Open.{Open}
+use Rattle.html_types.specs.declared.instruction.Flow.{Flow}
+use Rattle.html_types.specs.declared.instruction.Flow.TheVariants.{On, Skip, Leave}
+use Rattle.html_types.specs.declared.instruction.Instr.{Instr}
+use Rattle.html_types.specs.declared.instruction.Instr.TheVariants.{Reconstruct, InsertText, NotOk}
+use Rattle.html_types.specs.declared.instruction.Mode.{Mode}
+use Rattle.html_types.specs.declared.instruction.Mode.TheVariants.{InBody}
+use Rattle.html_types.specs.declared.instruction.Next.TheVariants as next
+use Rattle.standard.specs.Space.{is_space}
+use Rattle.standard.specs.Formatting.{lost, kept}
+use Rattle.standard.specs.Instructions.{Config, config, on, room, reopen, reopen_all, reconstruct, run, body_text, body_character}
+use Rattle.standard.specs.RulesBody.{in_body_space, in_body_character}
+use Rattle.standard.specs.Rules.{Answer, answer, answer_of, next_of, by_mode, with_adoption, go_round, round_after, process, rounds, row}
+
+-- how a reconstruction ends: at its end, or where no element more may be opened
+ends : Flow → Bool
+ends On = true
+ends (Leave next.Deep) = true
+ends _ = false
+
+either-ends : (t : Bool) (x y : Config) → ends x.flow ≡ true → ends y.flow ≡ true → ends (if t then x else y).flow ≡ true
+either-ends true x y h k = h
+either-ends false x y h k = k
+
+reopen-ends : (tag : Tag) (b : Open) (o : List Op) → ends (reopen tag b o).flow ≡ true
+unfolding ends
+reopen-ends tag b o = either-ends (room b) _ _ refl refl
+
+reopen_all-ends : (tags : List Tag) (b : Open) (o : List Op) (f : Flow) → ends f ≡ true → ends (reopen_all tags (config b o f)).flow ≡ true
+reopen_all-ends [] b o f h = h
+reopen_all-ends (tag ∷ tags) b o On h = let r : Config = reopen tag b o in reopen_all-ends tags r.open_state r.ops r.flow (reopen-ends tag b o)
+reopen_all-ends (tag ∷ tags) b o Skip h = h
+reopen_all-ends (tag ∷ tags) b o (Leave n) h = h
+
+rebuilt-ends : (b : Open) (o : List Op) → ends (reconstruct b o).flow ≡ true
+unfolding ends
+rebuilt-ends b o = reopen_all-ends (reverse (lost b.stack b.formats)) (record b { formats = kept b.stack b.formats }) o On refl
+
+-- the rest of the row, behind the reconstruction
+rest_of : Bool → List Instr
+rest_of true = InsertText ∷ []
+rest_of false = InsertText ∷ NotOk ∷ []
+
+rest-comes : (c : ℕ) (b : Open) (o : List Op) (f : Flow) (space : Bool) → ends f ≡ true → is_space c ≡ space
+    → run (Character c) (config b o f) (rest_of space) ≡ body_text c (config b o f)
+unfolding run rest_of
+rest-comes c b o On true h e = rw e refl
+rest-comes c b o On false h e = rw e refl
+rest-comes c b o Skip space h e = absurd (cc)
+rest-comes c b o (Leave n) true h e = refl
+rest-comes c b o (Leave n) false h e = refl
+
+text-ends : (c : ℕ) (b : Open) (o : List Op) (f : Flow) → ends f ≡ true → ends (body_text c (config b o f)).flow ≡ true
+unfolding ends
+text-ends c b o On h = refl
+text-ends c b o Skip h = h
+text-ends c b o (Leave n) h = h
+
+-- the row
+
+row-by : (zero space : Bool) → zero ≡ false → (if zero then [] else (if space then in_body_space else in_body_character)) ≡ Reconstruct ∷ rest_of space
+unfolding rest_of
+row-by true space e = absurd (cc)
+row-by false true e = refl
+row-by false false e = refl
+
+row-comes : (c : ℕ) → (c == 0) ≡ false → row InBody (Character c) ≡ Reconstruct ∷ rest_of (is_space c)
+unfolding row
+row-comes c h = row-by (c == 0) (is_space c) h
+
+row-runs : (c : ℕ) (b : Open) (o : List Op) → (c == 0) ≡ false → by_mode InBody (Character c) b o ≡ answer_of (body_character c b o)
+unfolding by_mode run
+row-runs c b o h =
+    let r : Config = reconstruct b o in
+    ap (λ is. answer_of (run (Character c) (on b o) is)) (row-comes c h)
+    ∙ ap answer_of (rest-comes c r.open_state r.ops r.flow (is_space c) (rebuilt-ends b o) refl)
+
+-- one round is enough
+
+behind : ℕ → Token → Answer → Answer
+behind n t a = go_round (λ m'. process n m' t a.open_state a.ops) a.open_state a.ops (round_after a.open_state a.next)
+
+over : (n : ℕ) (t : Token) (b : Open) (o : List Op) (f : Flow) → ends f ≡ true → behind n t (with_adoption t b o (next_of f)) ≡ answer b o (next_of f)
+unfolding ends behind
+over n t b o On h = refl
+over n t b o (Leave next.Deep) h = refl
+over n t b o _ h = absurd (cc)
+
+one_round : (n : ℕ) (m : Mode) (t : Token) (b b' : Open) (o o' : List Op) (f : Flow) → by_mode m t b o ≡ answer_of (config b' o' f) → ends f ≡ true
+    → process (suc n) m t b o ≡ answer_of (config b' o' f)
+unfolding process behind
+one_round n m t b b' o o' f e h = ap (λ (a : Answer). behind n t (with_adoption t a.open_state a.ops a.next)) e ∙ over n t b' o' f h
+
+pub character_in_body : (c : ℕ) (b : Open) (o : List Op) (x : Answer) → (c == 0) ≡ false → x ≡ answer_of (body_character c b o) → x ≡ process rounds InBody (Character c) b o
+character_in_body c b o x h e =
+    let r : Config = body_character c b o in
+    let q : Config = reconstruct b o in
+    e ∙ sym (one_round 8191 InBody (Character c) b r.open_state o r.ops r.flow (row-runs c b o h) (text-ends c q.open_state q.ops q.flow (rebuilt-ends b o)))
