@@ -50,7 +50,7 @@ rest_of false = InsertText ∷ NotOk ∷ []
 
 rest-comes : (c : ℕ) (b : Open) (o : List Op) (f : Flow) (space : Bool) → ends f ≡ true → is_space c ≡ space
     → run (Character c) (config b o f) (rest_of space) ≡ body_text c (config b o f)
-unfolding run rest_of
+unfolding run rest_of ends
 rest-comes c b o On true h e = rw e refl
 rest-comes c b o On false h e = rw e refl
 rest-comes c b o Skip space h e = absurd (cc)

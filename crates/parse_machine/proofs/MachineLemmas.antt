@@ -19,12 +19,18 @@ use Rattle.html_types.specs.declared.instruction.Stop.TheVariants as stop
 use Rattle.html_types.specs.declared.open.Open.{Open}
 use Rattle.standard.specs.Entities.{Entities}
 use Rattle.standard.specs.Rules.{Answer, answer, construct}
-use Rattle.standard.specs.Tokenizer.{Reached, after_tokens, read, read_end}
+use Rattle.html_types.specs.declared.token.Token.TheVariants.{Character}
+use Rattle.html_types.specs.declared.class.Class.{Class}
+use Rattle.standard.specs.Class.{class_of}
+use Rattle.standard.specs.Step.{emit}
+use Rattle.standard.specs.Tokenizer.{Reached, after_tokens, row, read, read_end}
+use Rattle.standard.proofs.SettleLemmas.{reading-emit}
 use Rattle.standard.specs.Parser.{Parser, parser, read_as, Took, took, after_ops, build_on, build, built, take_character, finish, Finished, after_all, build_end_on, build_end, Parsed, and_rest, parse}
 use Rattle.standard.specs.Laws.{joined, unless_stopped}
 use Rattle.standard.proofs.Framing.{construct-framed}
 use Rattle.standard.proofs.Parse.{parse-append}
 use Rattle.parse_machine.specs.Machine.{WentTo, EndedTo, finished_as, stops, RanAs}
+use Rattle.parse_machine.specs.declared.machine.Went.{Went}
 use Rattle.parse_machine.specs.declared.machine.Went.TheVariants as went
 use Rattle.parse_machine.specs.declared.machine.Went.TheVariants.{AllUsed}
 use Rattle.parse_machine.specs.declared.machine.Ended.TheVariants as ended
@@ -202,6 +208,24 @@ ended_deep t cr m m' b b' o o' n e is same = ended_at t cr m m' b b' o o' n next
 -- no token waited before those of a character
 pub none-waited : (m r : Reached) (ts : List Token) → m ≡ after_tokens ts r → ts ≡ [] → m ≡ r
 none-waited m r ts e none = e ∙ ap (λ (l : List Token). after_tokens l r) none
+
+-- a character that the tokenizer emits as it is
+pub plain_read : (es : Entities) (s s' : TokState) (k : Class) (c : ℕ) → s' ≡ s → k ≡ class_of c → row es s' k c ≡ emit (Character c ∷ []) s'
+    → read es s c ≡ record { tokens = Character c ∷ []; state = s }
+plain_read es s s' k c same class e =
+    reading-emit es s s (Character c ∷ []) (class_of c) c
+        (subst (λ v. row es v (class_of c) c ≡ emit (Character c ∷ []) v) same (subst (λ q. row es s' q c ≡ emit (Character c ∷ []) s') class e))
+
+-- the only token that a character makes was processed, and the parser goes on
+pub went_alone : (t : Token) (cr : Bool) (m m' : Reached) (b b' : Open) (o o' : List Op) (w : Went) → m.tokens ≡ [] → m'.tokens ≡ m.tokens → w ≡ went.On
+    → WentTo cr m' b' o' w ≡ after_ops o (build m.state cr (t ∷ m.tokens) b)
+    → after_ops o (build m.state cr (t ∷ []) b) ≡ took o' (parser m'.state cr b') stop.InputEnd
+unfolding build
+went_alone t cr m m' b b' o o' w none waiting is e =
+    ap (λ ts. after_ops o (build m.state cr (t ∷ ts) b)) (sym none) ∙ sym e
+    ∙ ap (λ v. WentTo cr m' b' o' v) is
+    ∙ ap (λ ts. after_ops o' (build m'.state cr ts b')) (waiting ∙ none)
+    ∙ ap (λ l. took l (parser m'.state cr b') stop.InputEnd) (append-nil o')
 
 -- the line feed behind a CR
 pub taken-skipped : (es : Entities) (s : TokState) (cr : Bool) (b : Open) (c : ℕ) (o : List Op) → (cr && (c == 10)) ≡ true

@@ -1,7 +1,8 @@
 //! The machine.
 
-ghost use Rattle.std.specs.Prelude.{◌≡◌, ◌↔◌, ◌==◌, ◌≢◌, ◌&&◌, ◌<◌, [], ◌∷◌, Bool, length, if◌then◌else◌, IfOk, IsTrue};
+ghost use Rattle.std.specs.Prelude.{◌≡◌, ◌↔◌, ◌==◌, ◌≢◌, ◌&&◌, ◌<◌, [], ◌∷◌, Bool, length, if◌then◌else◌, IfOk, IfSome, IsTrue};
 ghost use Rattle.std.specs.Str.{chars};
+ghost use Rattle.standard.specs.Entities.{Entities};
 ghost use Rattle.standard.specs.Tokenizer.{Reached, read, read_end};
 ghost use Rattle.std.specs.Str.{IsCharBoundary};
 ghost use Rattle.standard.specs.Parser as definition;
@@ -256,8 +257,9 @@ fn process_alone(
     ensures none_waits { IfOk result (λ _. tokenizer.new.tokens ≡ []) }
 {
     match process(alloc, tokenizer, builder, token, ops)? {
+        Went::AllUsed => Ok(Stop::InputEnd),
+        Went::On => Ok(Stop::InputEnd),
         Went::At(stop) => Ok(stop),
-        Went::AllUsed | Went::On => Ok(Stop::InputEnd),
     }
 }
 

@@ -150,7 +150,8 @@ fn by_body_row(
     requires { (c == 0) ≡ false }
     ensures { IfOk result (λ n. answer builder.new ops.new n ≡ process rounds mode.InBody (token.Character c) builder.old ops.old) }
 {
-    builder.insert_body_character(alloc, c, ops)
+    let next = builder.insert_body_character(alloc, c, ops)?;
+    Ok(next)
 }
 
 // By the rules of the insertion mode.
