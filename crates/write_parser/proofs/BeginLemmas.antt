@@ -28,6 +28,7 @@ begins-outside text old new is none = subst (λ n. Begins text old None n) (sym 
       (subst (λ l. NestComesTo w (record (nest_of old fs before page) { executed = suc old.executed; lines = l }) g)
       (sym (append_assoc before old.lines (line.Syntax (suc old.executed) ∷ []))) come);
   keeps = refl;
+  pending = refl;
   wrote = tt;
 })
 
@@ -37,6 +38,7 @@ pub begins-inside : (text : List ℕ) (old new : Live) (b : Begun) → new ≡ r
 begins-inside text old new b is number done rest some = subst (λ n. Begins text old (Some b) n) (sym is) (record {
   comes = λ w fs before page g come. by_begun w fs before page g (rw (number, done, rest) at come);
   keeps = refl;
+  pending = refl;
   wrote = rest;
 })
   where

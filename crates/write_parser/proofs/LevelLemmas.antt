@@ -1,5 +1,6 @@
 -- Scripts and written text at level 0, against the moments of the serial parse.
-use Rattle.std.proofs.Common.{◌≡◌, ◌<◌, ◌≤◌, ℕ, Bool, false, List, [], ◌∷◌, ◌++◌, length, Option, Some, None, refl, sym, ap, ◌∙◌, subst, arith}
+use Rattle.std.proofs.Common.{◌≡◌, ◌≢◌, ◌<◌, ◌≤◌, ℕ, suc, Bool, true, false, List, [], ◌∷◌, ◌++◌, length, Option, Some, None, refl, sym, ap, ◌∙◌, subst, arith}
+use Rattle.std.specs.Option.{is_some}
 use Rattle.html_types.specs.declared.operation.NodeId.{NodeId}
 use Rattle.html_types.specs.declared.script.Ending.{Ending}
 use Rattle.html_types.specs.declared.script.Line.{Line}
@@ -18,11 +19,12 @@ use Rattle.write_parser.specs.declared.left.Limit.TheVariants as limit
 use Rattle.write_parser.specs.declared.nesting.Begun.{Begun}
 use Rattle.write_parser.specs.declared.live.Live.{Live}
 use Rattle.write_parser.specs.Parsing.{RestParsed}
-use Rattle.write_parser.specs.Writing.{View, why_of, serial_of, moment_by, moment_of, StandsBy, Stands, AtTag, LeadsTo, ComesBy, Runs}
-use Rattle.write_parser.specs.Steps.{IsGoing, halted_of, view_of, with_begun, nest_of, ThenBy, Then, weight, Moves, WroteNothing, Begins, Prepares, Keeps, Continues, EndsTag, awaits_none, RunsText, FeedsOn, StaysAt}
+use Rattle.write_parser.specs.Writing.{View, why_of, serial_of, moment_by, moment_of, StandsBy, Stands, AtTag, LeadsTo, ComesBy, Runs, scripts_awaited, left_to_do}
+use Rattle.write_parser.specs.Steps.{IsGoing, halted_of, view_of, with_begun, nest_of, ThenBy, Then, weight, Moves, WroteNothing, Begins, Prepares, Keeps, Continues, EndsTag, awaits_none, RunsText, Misses, FeedsOn, StaysAt}
 use Rattle.standard.proofs.Passing.{parse-left, leads-batch}
 use Rattle.standard.proofs.Scripts.{script-leads, script-refuses}
 use Rattle.standard.proofs.Frames.{frames-end, scripts-enter}
+use Rattle.write_parser.proofs.NestingLemmas.{awaited-one}
 
 -- ---- a script that was begun, and all behind it
 
@@ -39,16 +41,20 @@ nothing-written : (begun : Option Begun) → WroteNothing begun → length (rest
 nothing-written None wrote = refl
 nothing-written (Some b) wrote = ap (λ r. length (r ++ [])) wrote
 
-begun-weight : (old mid : Live) (begun : Option Begun) → Keeps old mid → WroteNothing begun → weight mid (with_begun begun []) ≤ weight old []
-begun-weight old mid begun keeps wrote =
-    omega (arith, nothing-written begun wrote, ap (λ (l : Live). l.written) keeps, ap (λ (l : Live). length l.rest) keeps)
+tag-weight : (old mid : Live) (begun : Option Begun) → Keeps old mid → WroteNothing begun → weight mid (with_begun begun []) ≤ suc (weight old [])
+tag-weight old mid begun keeps wrote =
+    omega (arith, nothing-written begun wrote, awaited-one mid.pending, ap (λ (l : Live). l.written) keeps, ap (λ (l : Live). length l.rest) keeps)
+
+text-weight : (old mid : Live) (begun : Option Begun) → Keeps old mid → mid.pending ≡ old.pending → WroteNothing begun → weight mid (with_begun begun []) ≤ weight old []
+text-weight old mid begun keeps pending wrote =
+    omega (arith, nothing-written begun wrote, ap scripts_awaited pending, ap (λ (l : Live). l.written) keeps, ap (λ (l : Live). length l.rest) keeps)
 
 pub ends-tag : (es : Entities) (id : NodeId) (old mid new : Live) (begun : Option Begun) → Prepares id old begun mid → Moves es mid (with_begun begun []) new [] → EndsTag es id old new
 ends-tag es id old mid new begun prepares moves = record {
   comes = λ w before page is.
       then-of w (TagComesTo w id (nest_of old [] before page)) mid new begun before page (λ g come. prepares.comes w [] before page g come) (moves.turns.turns w before page is);
   served = moves.served;
-  weight = omega (arith, moves.weight, begun-weight old mid begun prepares.keeps prepares.wrote);
+  weight = omega (arith, moves.weight, tag-weight old mid begun prepares.keeps prepares.wrote);
 }
 
 pub runs-text : (es : Entities) (text : List ℕ) (old mid new : Live) (begun : Option Begun) → Begins text (awaits_none old) begun mid → Moves es mid (with_begun begun []) new [] →
@@ -58,7 +64,35 @@ runs-text es text old mid new begun begins moves = record {
       then-of w (TextComesTo w (statements text) (nest_of (awaits_none old) [] before page)) mid new begun before page (λ g come. begins.comes w [] before page g come)
       (moves.turns.turns w before page is);
   served = moves.served;
+  less = omega (arith, moves.weight, text-weight (awaits_none old) mid begun begins.keeps begins.pending begins.wrote);
 }
+
+-- ---- what is left to do behind a script that was awaited, or is missing
+
+pub misses-less : (old new : Live) → Misses old.pending old new → left_to_do (view_of new false) ≤ left_to_do (view_of (awaits_none old) false)
+misses-less old new = by old.pending refl
+  where
+    by : (pending : Option (List ℕ)) → old.pending ≡ pending → Misses pending old new → left_to_do (view_of new false) ≤ left_to_do (view_of (awaits_none old) false)
+    by None none is = subst (λ l. left_to_do (view_of l false) ≤ left_to_do (view_of (awaits_none old) false)) (sym is) (omega (arith, ap scripts_awaited none))
+    by (Some name) some is = subst (λ l. left_to_do (view_of l false) ≤ left_to_do (view_of (awaits_none old) false)) (sym is) (omega arith)
+
+pub behind-no_more : (old new : Live) (spent : Bool) (v : View) → view_of old spent ≡ v → left_to_do (view_of new false) ≤ left_to_do (view_of (awaits_none old) false) →
+    left_to_do (view_of new false) ≤ left_to_do v
+behind-no_more old new spent v is less = subst (λ u. left_to_do (view_of new false) ≤ left_to_do u) is (omega (arith, less))
+
+pub behind-less : (old new : Live) (spent : Bool) (v : View) → view_of old spent ≡ v → left_to_do (view_of new false) ≤ left_to_do (view_of (awaits_none old) false) → v.pending ≢ None →
+    left_to_do (view_of new false) < left_to_do v
+behind-less old new spent v is less awaited =
+    subst (λ u. left_to_do (view_of new false) < left_to_do u) is (omega (arith, less, one old.pending (λ none. awaited (sym (ap (λ (u : View). u.pending) is) ∙ none))))
+  where
+    one : (pending : Option (List ℕ)) → pending ≢ None → 1 ≤ scripts_awaited pending
+    one None some = absurd (some refl)
+    one (Some name) some = omega arith
+
+-- the page isn't refused where it is
+pub refused-not : (halted : Option Limit) → is_some halted ≡ true → halted_of halted ≡ None → ⊥
+refused-not None is none = absurd (cc is)
+refused-not (Some l) is none = absurd (cc none)
 
 -- ---- the moment behind a script
 

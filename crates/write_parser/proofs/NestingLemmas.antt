@@ -23,6 +23,7 @@ use Rattle.write_parser.specs.declared.live.Did.TheVariants as did
 use Rattle.write_parser.specs.declared.live.Turn.{Turn}
 use Rattle.write_parser.specs.declared.live.Turn.TheVariants as turn
 use Rattle.write_parser.specs.Parsing.{IsServed, RestParsed}
+use Rattle.write_parser.specs.Writing.{scripts_awaited}
 use Rattle.write_parser.specs.Steps.{Steps, IsGoing, framed, frame_of, frames_of, nest_of, ThenBy, Then, weight, steps_of, Moves, frames_at, Prepares, Nests, left_by, IsLight, Does, RunsOn, Continues, ParsesOn}
 use Rattle.standard.proofs.Passing.{parse-left}
 use Rattle.standard.proofs.Frames.{frame-ends, rest-ends, rest-stops, rest-refuses}
@@ -113,11 +114,11 @@ step-ends-inner old n n' around going waits ended below is = record {
 light-weight : (old new : Live) (k j : ℕ) (list list' : List Statement) (rest rest' : List ℕ) (fs : List Frame) → IsLight old rest new rest' →
     weight new (framed j list' rest' ∷ fs) ≤ weight old (framed k list rest ∷ fs)
 light-weight old new k j list list' rest rest' fs light =
-    omega (arith, light.light, ap length light.behind, length-append rest (rests fs), length-append rest' (rests fs))
+    omega (arith, light.light, ap length light.behind, ap scripts_awaited light.pending, length-append rest (rests fs), length-append rest' (rests fs))
 
 light-over : (old new : Live) (k : ℕ) (list : List Statement) (rest rest' : List ℕ) (fs : List Frame) → IsLight old rest new rest' → weight new [] ≤ weight old (framed k list rest ∷ fs)
 light-over old new k list rest rest' fs light =
-    omega (arith, light.light, ap length light.behind, length-append rest (rests fs))
+    omega (arith, light.light, ap length light.behind, ap scripts_awaited light.pending, length-append rest (rests fs))
 
 -- where the page is refused, it doesn't matter which scripts are left
 refused-then : (w : World) (Of : Flow → Type 0) (new : Live) (fs fs' : List Frame) (before : List Line) (page : List ℕ) (l : Limit) → new.halted ≡ Some l → Then w Of new fs before page →
@@ -269,6 +270,11 @@ parse-deep es old new n n' p d left s going goes parsed deep is = subst (λ l. P
   on = λ over. absurd (cc over);
 })
 
+-- at most one script is awaited
+pub awaited-one : (pending : Option (List ℕ)) → scripts_awaited pending ≤ 1
+awaited-one None = omega arith
+awaited-one (Some name) = omega arith
+
 -- the end tag of a script was met
 pub parse-nests : (es : Entities) (old mid new : Live) (n m n' : Nesting) (p : Parser) (d : Doc) (left : List ℕ) (s : Stop) (id : NodeId) → IsGoing old → Continues old.pending n.top.rest →
     RestParsed es old.machine old.doc n.top.rest p d left s → s ≡ stop.Script id → mid ≡ parsed_live p d old → m ≡ with_rest left n → Nests id mid m new n' → ParsesOn es old n new n' turn.On
@@ -288,6 +294,7 @@ parse-nests es old mid new n m n' p d left s id going goes parsed stops is is' n
         omega (
           arith,
           shorter,
+          awaited-one new.pending,
           ap (λ (l : Live). l.written) here.keeps,
           ap (λ (l : Live). length l.rest) here.keeps,
           ap length here.rests,

@@ -42,7 +42,7 @@ wrote-fits k t old rest going waits fits = record {
         refl refl waits fits come);
   };
   served = going.served;
-  light = record { light = omega (arith, length-append rest t); behind = refl };
+  light = record { light = omega (arith, length-append rest t); behind = refl; pending = refl };
 }
 
 wrote-long : (k : ℕ) (t : List ℕ) (old : Live) (rest : List ℕ) → IsGoing old → Waits old.pending rest → write_limit < old.written + length t →
@@ -56,7 +56,7 @@ wrote-long k t old rest going waits long = record {
     );
   };
   served = going.served;
-  light = record { light = omega arith; behind = refl };
+  light = record { light = omega arith; behind = refl; pending = refl };
 }
 
 pub does-write : (k : ℕ) (t : List ℕ) (old : Live) (rest : List ℕ) (new : Live) (rest' : List ℕ) (d : Did) → IsGoing old → Waits old.pending rest →
@@ -81,7 +81,7 @@ lacks k a old rest new rest' d going lacking same (is, nothing) =
     subst (λ d'. DoesMost k a old rest new rest' d') (sym nothing)
     (subst (λ r. DoesMost k a old rest new r did.Nothing) (sym same)
     (subst (λ n. DoesMost k a old rest n rest did.Nothing) (sym is)
-    (record { done = (refl, refl, lacking); served = going.served; light = record { light = omega arith; behind = refl } })))
+    (record { done = (refl, refl, lacking); served = going.served; light = record { light = omega arith; behind = refl; pending = refl } })))
 
 -- ---- a removal
 
@@ -96,7 +96,7 @@ removed-there k v old rest e going waits there = record {
         refl refl waits there come);
   };
   served = going.served;
-  light = record { light = omega arith; behind = refl };
+  light = record { light = omega arith; behind = refl; pending = refl };
 }
 
 pub does-remove : (k : ℕ) (v : List ℕ) (old : Live) (rest : List ℕ) (new : Live) (rest' : List ℕ) (d : Did) → IsGoing old → Waits old.pending rest → rest' ≡ rest →
@@ -134,7 +134,7 @@ reads-there k a old rest new rest' d e going same reads (is, all) =
             (sym (append_assoc before old.lines (line.Log k (outer_text old.doc.tree e) ∷ []))) come));
       };
       served = going.served;
-      light = record { light = omega arith; behind = refl };
+      light = record { light = omega arith; behind = refl; pending = refl };
     })))
 
 pub does-read-by_id : (k : ℕ) (v : List ℕ) (old : Live) (rest : List ℕ) (new : Live) (rest' : List ℕ) (d : Did) → IsGoing old → Waits old.pending rest → rest' ≡ rest →
@@ -181,7 +181,7 @@ does-throw k a old rest mid new rest' did.Nothing going waits there does is =
             (sym (append_assoc before old.lines (line.Throw k ∷ []))) come));
       };
       served = going.served;
-      light = record { light = omega arith; behind = refl };
+      light = record { light = omega arith; behind = refl; pending = refl };
     }))
 
 -- a call's answer says more than it owes

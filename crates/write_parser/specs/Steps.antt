@@ -22,7 +22,7 @@ use Rattle.write_parser.specs.declared.live.Did.TheVariants as did
 use Rattle.write_parser.specs.declared.live.Turn.{Turn}
 use Rattle.write_parser.specs.declared.live.Turn.TheVariants as turn
 use Rattle.write_parser.specs.Parsing.{IsServed}
-use Rattle.write_parser.specs.Writing.{View, first_view, why_of, IsRefusal, LeadsTo, Stands}
+use Rattle.write_parser.specs.Writing.{View, first_view, why_of, IsRefusal, LeadsTo, Stands, left_to_do}
 
 -- ---- what it holds
 
@@ -95,9 +95,9 @@ Then w Of new fs before page = ThenBy new.halted w Of new fs before page
 pub record Turns (es : Entities) (old : Live) (fs : List Frame) (new : Live) (fs' : List Frame) : Type 0 where
   pub turns : (w : World) (before : List Line) (page : List ℕ) → w.entities ≡ es → Then w (NestComesTo w (nest_of old fs before page)) new fs' before page
 
--- what there is still to parse, and to write: each step of the parser makes it less
+-- what is left to do, with what the scripts wrote that were begun: each step of the parser makes it less
 abbrev pub weight : Live → List Frame → ℕ
-weight l fs = 2 * (write_limit - l.written) + length (rests fs) + length l.rest
+weight l fs = left_to_do (view_of l false) + 2 * length (rests fs)
 
 -- the statements that are left, and the ends of the scripts
 abbrev pub steps_of : List Frame → ℕ
@@ -126,11 +126,12 @@ WroteNothing (Some b) = b.rest ≡ []
 abbrev pub Keeps : Live → Live → Type 0
 Keeps old new = new ≡ record old { executed = new.executed; lines = new.lines; pending = new.pending }
 
--- The text of a script was read: what comes of the script begun, comes of the text.
+-- The text of a script was read: what comes of the script begun, comes of the text. No other script comes to be awaited.
 pub record Begins (text : List ℕ) (old : Live) (begun : Option Begun) (new : Live) : Type 0 where
   pub comes : (w : World) (fs : List Frame) (before : List Line) (page : List ℕ) (g : Flow) →
       NestComesTo w (nest_of new (with_begun begun fs) before page) g → TextComesTo w (statements text) (nest_of old fs before page) g
   pub keeps : Keeps old new
+  pub pending : new.pending ≡ old.pending
   pub wrote : WroteNothing begun
 
 -- A script was prepared at its end tag.
@@ -175,8 +176,9 @@ DoneBy did.Nothing k a old rest new rest' = (new ≡ old) × (rest' ≡ rest) ×
 
 -- what is left to parse and to write didn't grow
 pub record IsLight (old : Live) (rest : List ℕ) (new : Live) (rest' : List ℕ) : Type 0 where
-  pub light : 2 * (write_limit - new.written) + length rest' ≤ 2 * (write_limit - old.written) + length rest
+  pub light : (write_limit - new.written) + length rest' ≤ (write_limit - old.written) + length rest
   pub behind : new.rest ≡ old.rest
+  pub pending : new.pending ≡ old.pending
 
 pub record DoesMost (k : ℕ) (a : Statement) (old : Live) (rest : List ℕ) (new : Live) (rest' : List ℕ) (d : Did) : Type 0 where
   pub done : DoneBy d k a old rest new rest'
@@ -216,7 +218,8 @@ pub record Nests (id : NodeId) (old : Live) (n : Nesting) (new : Live) (n' : Nes
 pub record EndsTag (es : Entities) (id : NodeId) (old new : Live) : Type 0 where
   pub comes : (w : World) (before : List Line) (page : List ℕ) → w.entities ≡ es → Then w (TagComesTo w id (nest_of old [] before page)) new [] before page
   pub served : IsServed new.machine new.doc
-  pub weight : weight new [] ≤ weight old []
+  -- the script may be awaited
+  pub weight : weight new [] ≤ suc (weight old [])
 
 -- no script is awaited
 abbrev pub awaits_none : Live → Live
@@ -225,6 +228,7 @@ awaits_none l = record l { pending = None }
 pub record RunsText (es : Entities) (text : List ℕ) (old new : Live) : Type 0 where
   pub comes : (w : World) (before : List Line) (page : List ℕ) → w.entities ≡ es → Then w (TextComesTo w (statements text) (nest_of (awaits_none old) [] before page)) new [] before page
   pub served : IsServed new.machine new.doc
+  pub less : left_to_do (view_of new false) ≤ left_to_do (view_of (awaits_none old) false)
 
 abbrev pub Misses : Option (List ℕ) → Live → Live → Type 0
 Misses None old new = new ≡ old
@@ -251,3 +255,4 @@ pub record Fed (es : Entities) (old new : Live) : Type 0 where
   pub served : IsServed new.machine new.doc
   pub fed : IsFed new
   pub stays : StaysAt old.halted old.pending old new
+  pub less : left_to_do (view_of new false) ≤ left_to_do (view_of old false)

@@ -1,5 +1,5 @@
 -- What a writer holds, the moments of the serial parse for which that stands, and what its calls do.
-use Rattle.std.specs.Prelude.{◌≡◌, ◌≢◌, ◌<◌, ⊤, ℕ, Bool, false, List, [], ◌∷◌, ◌++◌, drop, Option, Some, None}
+use Rattle.std.specs.Prelude.{◌≡◌, ◌≢◌, ◌<◌, ◌+◌, ◌*◌, ◌-◌, ⊤, ℕ, Bool, false, List, [], ◌∷◌, ◌++◌, length, drop, Option, Some, None}
 use Rattle.std.specs.Str.{chars, IsCharBoundary}
 use Rattle.html_types.specs.declared.operation.NodeId.{NodeId}
 use Rattle.html_types.specs.declared.script.Ending.{Ending}
@@ -14,7 +14,7 @@ use Rattle.standard.specs.Entities.{Entities}
 use Rattle.standard.specs.Act.{Doc, new_doc, is_bound}
 use Rattle.standard.specs.Parser.{Parser, new_parser}
 use Rattle.standard.specs.Naming.{IsStopBound}
-use Rattle.standard.specs.Serial.{World, Serial, Flow, goes, refuses, awaiting, run_text, Moment, reading, tag_ended, awaits, over, refusal, Leads}
+use Rattle.standard.specs.Serial.{World, Serial, Flow, goes, refuses, awaiting, run_text, write_limit, Moment, reading, tag_ended, awaits, over, refusal, Leads}
 use Rattle.standard.specs.Laws.{HasParsed, HasFinished}
 use Rattle.parse_machine.specs.declared.machine.Ran.{Ran}
 use Rattle.write_parser.specs.declared.left.Limit.{Limit}
@@ -168,3 +168,16 @@ pub record Feeds (es : Entities) (old new : View) (answer : Left) : Type 0 where
   pub leads : LeadsTo es (Stands old) new
   pub left : LeftIs new answer
   pub stays : StaysBy old.halted old.pending old new
+
+-- ---- what is left to do
+
+-- how many scripts are awaited
+abbrev pub scripts_awaited : Option (List ℕ) → ℕ
+scripts_awaited None = 0
+scripts_awaited (Some name) = 1
+
+-- A measure of what is left to do before the page's own text is next: the characters that scripts may still write, those that
+-- they wrote and that aren't parsed, and the script that is awaited. A character counts twice: where it ends the end tag of a
+-- script, that may come to be awaited.
+abbrev pub left_to_do : View → ℕ
+left_to_do v = 2 * (write_limit - v.written) + 2 * length v.rest + scripts_awaited v.pending

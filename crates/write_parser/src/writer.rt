@@ -1,10 +1,10 @@
 //! The writer.
 
-ghost use Rattle.std.specs.Prelude.{◌≡◌, true, false, [], None, IfOk, OnOk, OnErr, IsErr, IsTrue};
+ghost use Rattle.std.specs.Prelude.{◌≡◌, ◌≢◌, ◌<◌, ◌≤◌, true, false, [], None, IfOk, OnOk, OnErr, IsErr, IsTrue};
 ghost use Rattle.std.specs.Str.{chars};
 ghost use Rattle.standard.specs.Act.{is_bound};
 ghost use Rattle.standard.specs.Statements.{statements};
-ghost use Rattle.write_parser.specs.Writing.{first_view, Parses, Finishes, AtTag, LeadsTo, HasRun, HasMissed, Feeds};
+ghost use Rattle.write_parser.specs.Writing.{first_view, Parses, Finishes, AtTag, LeadsTo, HasRun, HasMissed, Feeds, left_to_do};
 
 use crate::left::Left;
 use crate::live::Live;
@@ -125,6 +125,8 @@ impl Writer {
         ensures kept { OnOk result (self.new.spent ≡ false) }
         ensures err { OnErr result (self.new.spent ≡ true) }
         ensures run { OnOk result (HasRun table.now self.old.halted self.old self.new (statements (chars text.now))) }
+        ensures no_more { OnOk result (left_to_do self.new ≤ left_to_do self.old) }
+        ensures less { OnOk result (self.old.halted ≡ None → self.old.pending ≢ None → left_to_do self.new < left_to_do self.old) }
     {
         if self.spent {
             return Err(NoMemory);
@@ -145,6 +147,8 @@ impl Writer {
         ensures kept { OnOk result (self.new.spent ≡ false) }
         ensures err { OnErr result (self.new.spent ≡ true) }
         ensures missed { OnOk result (HasMissed self.old.halted self.old.pending self.old self.new) }
+        ensures no_more { OnOk result (left_to_do self.new ≤ left_to_do self.old) }
+        ensures less { OnOk result (self.old.halted ≡ None → self.old.pending ≢ None → left_to_do self.new < left_to_do self.old) }
     {
         if self.spent {
             return Err(NoMemory);
@@ -165,6 +169,7 @@ impl Writer {
         ensures kept { OnOk result (self.new.spent ≡ false) }
         ensures err { OnErr result (self.new.spent ≡ true) }
         ensures feeds { IfOk result (λ left. Feeds table.now self.old self.new left) }
+        ensures no_more { OnOk result (left_to_do self.new ≤ left_to_do self.old) }
     {
         if self.spent {
             return Err(NoMemory);
