@@ -1,6 +1,5 @@
 -- Scripts and written text at level 0, against the moments of the serial parse.
 use Rattle.std.proofs.Common.{◌≡◌, ◌≢◌, ◌<◌, ◌≤◌, ℕ, suc, Bool, true, false, List, [], ◌∷◌, ◌++◌, length, Option, Some, None, refl, sym, ap, ◌∙◌, subst, arith}
-use Rattle.std.specs.Option.{is_some}
 use Rattle.html_types.specs.declared.operation.NodeId.{NodeId}
 use Rattle.html_types.specs.declared.script.Ending.{Ending}
 use Rattle.html_types.specs.declared.script.Line.{Line}
@@ -67,18 +66,7 @@ runs-text es text old mid new begun begins moves = record {
   less = omega (arith, moves.weight, text-weight (awaits_none old) mid begun begins.keeps begins.pending begins.wrote);
 }
 
--- ---- what is left to do behind a script that was awaited, or is missing
-
-pub misses-less : (old new : Live) → Misses old.pending old new → left_to_do (view_of new false) ≤ left_to_do (view_of (awaits_none old) false)
-misses-less old new = by old.pending refl
-  where
-    by : (pending : Option (List ℕ)) → old.pending ≡ pending → Misses pending old new → left_to_do (view_of new false) ≤ left_to_do (view_of (awaits_none old) false)
-    by None none is = subst (λ l. left_to_do (view_of l false) ≤ left_to_do (view_of (awaits_none old) false)) (sym is) (omega (arith, ap scripts_awaited none))
-    by (Some name) some is = subst (λ l. left_to_do (view_of l false) ≤ left_to_do (view_of (awaits_none old) false)) (sym is) (omega arith)
-
-pub behind-no_more : (old new : Live) (spent : Bool) (v : View) → view_of old spent ≡ v → left_to_do (view_of new false) ≤ left_to_do (view_of (awaits_none old) false) →
-    left_to_do (view_of new false) ≤ left_to_do v
-behind-no_more old new spent v is less = subst (λ u. left_to_do (view_of new false) ≤ left_to_do u) is (omega (arith, less))
+-- ---- what is left to do behind a script that was awaited
 
 pub behind-less : (old new : Live) (spent : Bool) (v : View) → view_of old spent ≡ v → left_to_do (view_of new false) ≤ left_to_do (view_of (awaits_none old) false) → v.pending ≢ None →
     left_to_do (view_of new false) < left_to_do v
@@ -88,11 +76,6 @@ behind-less old new spent v is less awaited =
     one : (pending : Option (List ℕ)) → pending ≢ None → 1 ≤ scripts_awaited pending
     one None some = absurd (some refl)
     one (Some name) some = omega arith
-
--- the page isn't refused where it is
-pub refused-not : (halted : Option Limit) → is_some halted ≡ true → halted_of halted ≡ None → ⊥
-refused-not None is none = absurd (cc is)
-refused-not (Some l) is none = absurd (cc none)
 
 -- ---- the moment behind a script
 
