@@ -1,12 +1,12 @@
 // The parse of a page in one thread: its text, the scripts between its characters, and the files of those.
-ghost use Rattle.std.specs.Prelude.{◌≡◌, ◌≤◌, [], None, Some, IfOk, OnOk, OnErr, IsErrOf, IsTrue, flat_map};
+ghost use Rattle.std.specs.Prelude.{◌≡◌, ◌<◌, ◌≤◌, [], None, Some, IfOk, OnOk, OnErr, IsErrOf, IsTrue, flat_map};
 ghost use Rattle.std.specs.Str.{chars};
 ghost use Rattle.std.specs.String.{string_bytes};
 ghost use Rattle.standard.specs.Act.{is_bound};
 ghost use Rattle.standard.specs.Naming.{IsStopBound};
 ghost use Rattle.standard.specs.Output.{line_text};
 ghost use Rattle.outside.specs.Outside.{Rose, seen, KeepsOthers};
-ghost use Rattle.write_parser.specs.Writing.{first_view, Stands, AtTag, Finishes, why_of};
+ghost use Rattle.write_parser.specs.Writing.{first_view, Stands, AtTag, Finishes, why_of, left_to_do};
 ghost use Rattle.page_runner.specs.Taken.{Took, TookFront};
 ghost use Rattle.page_runner.specs.Scripts.{met_of, Fetches};
 ghost use Rattle.page_runner.specs.Moments.{IsReady, IsLeft, AtStop, Arrives, Resumes, Way, Reaches, ReachesInPart, Takes, TakesFront};
@@ -93,6 +93,7 @@ impl Driver {
     ) -> Result<Left, Failure>
         ensures scripts { self.new.scripts ≡ self.old.scripts }
         ensures left { IfOk result (λ left. IsLeft left self.new.writer) }
+        ensures no_more { OnOk result (left_to_do self.new.writer ≤ left_to_do self.old.writer) }
         ensures reaches { OnOk result (Reaches table.now self.new.scripts (Stands self.old.writer) (Stands self.new.writer) (K.taken out.old) (K.taken out.new)) }
         ensures part { OnErr result (ReachesInPart table.now self.new.scripts (Stands self.old.writer) (K.taken out.old) (K.taken out.new)) }
         ensures write { IsErrOf result Failure.Write → Rose (K.faults out.old) (K.faults out.new) }
@@ -114,6 +115,7 @@ impl Driver {
         requires awaits { self.old.writer.pending ≡ Some (chars name.now) }
         requires halted { self.old.writer.halted ≡ None }
         ensures resumes { IfOk result (λ went. Way table.now self.new.scripts (Stands self.old.writer) (Resumes self.new.writer went) []) }
+        ensures less { IfOk result (λ went. went ≡ Went.On → left_to_do self.new.writer < left_to_do self.old.writer) }
         ensures fetches { Fetches (seen F.files F.left F.faults F.absences files.old) (seen F.files F.left F.faults F.absences files.new) self.old.scripts self.new.scripts }
         ensures others { KeepsOthers Port.Script (seen F.files F.left F.faults F.absences files.old) (seen F.files F.left F.faults F.absences files.new) }
     {
@@ -150,6 +152,7 @@ impl Driver {
         ensures reaches { IfOk result (λ went. Reaches table.now self.new.scripts (Stands self.old.writer) (Resumes self.new.writer went) (K.taken out.old) (K.taken out.new)) }
         ensures part { OnErr result (ReachesInPart table.now self.new.scripts (Stands self.old.writer) (K.taken out.old) (K.taken out.new)) }
         ensures lines { OnOk result (self.new.writer.lines ≡ []) }
+        ensures less { IfOk result (λ went. went ≡ Went.On → left_to_do self.new.writer < left_to_do self.old.writer) }
         ensures fetches { Fetches (seen F.files F.left F.faults F.absences files.old) (seen F.files F.left F.faults F.absences files.new) self.old.scripts self.new.scripts }
         ensures others { KeepsOthers Port.Script (seen F.files F.left F.faults F.absences files.old) (seen F.files F.left F.faults F.absences files.new) }
         ensures write { IsErrOf result Failure.Write → Rose (K.faults out.old) (K.faults out.new) }
@@ -176,8 +179,7 @@ impl Driver {
         ensures write { IsErrOf result Failure.Write → Rose (K.faults out.old) (K.faults out.new) }
         ensures faults { K.faults out.old ≤ K.faults out.new }
     {
-        // Each turn but the first is behind the end tag of a script, of which a page has fewer.
-        'turns: for _ in 0..u64::MAX {
+        'turns: loop {
             match self.feed_left(alloc, table, out)? {
                 Left::Empty => return Ok(Went::On),
                 Left::Limit(limit) => return Ok(Went::Refused(why_of(limit))),
@@ -189,7 +191,6 @@ impl Driver {
                 }
             }
         }
-        Err(Failure::Memory)
     }
 
     // The script whose end tag was met (13.2.6.4.8).

@@ -1,5 +1,5 @@
 -- Scripts and written text at level 0, against the moments of the serial parse.
-use Rattle.std.proofs.Common.{◌≡◌, ◌≢◌, ◌<◌, ◌≤◌, ℕ, suc, Bool, true, false, List, [], ◌∷◌, ◌++◌, length, Option, Some, None, refl, sym, ap, ◌∙◌, subst, arith}
+use Rattle.std.proofs.Common.{◌≡◌, ◌<◌, ◌≤◌, ℕ, suc, Bool, false, List, [], ◌∷◌, ◌++◌, length, Option, Some, None, refl, sym, ap, ◌∙◌, subst, arith}
 use Rattle.html_types.specs.declared.operation.NodeId.{NodeId}
 use Rattle.html_types.specs.declared.script.Ending.{Ending}
 use Rattle.html_types.specs.declared.script.Line.{Line}
@@ -18,8 +18,8 @@ use Rattle.write_parser.specs.declared.left.Limit.TheVariants as limit
 use Rattle.write_parser.specs.declared.nesting.Begun.{Begun}
 use Rattle.write_parser.specs.declared.live.Live.{Live}
 use Rattle.write_parser.specs.Parsing.{RestParsed}
-use Rattle.write_parser.specs.Writing.{View, why_of, serial_of, moment_by, moment_of, StandsBy, Stands, AtTag, LeadsTo, ComesBy, Runs, scripts_awaited, left_to_do}
-use Rattle.write_parser.specs.Steps.{IsGoing, halted_of, view_of, with_begun, nest_of, ThenBy, Then, weight, Moves, WroteNothing, Begins, Prepares, Keeps, Continues, EndsTag, awaits_none, RunsText, Misses, FeedsOn, StaysAt}
+use Rattle.write_parser.specs.Writing.{View, why_of, serial_of, moment_by, moment_of, StandsBy, Stands, AtTag, LeadsTo, ComesBy, Runs, scripts_awaited}
+use Rattle.write_parser.specs.Steps.{IsGoing, halted_of, view_of, with_begun, nest_of, ThenBy, Then, weight, Moves, WroteNothing, Begins, Prepares, Keeps, Continues, EndsTag, awaits_none, RunsText, FeedsOn, StaysAt}
 use Rattle.standard.proofs.Passing.{parse-left, leads-batch}
 use Rattle.standard.proofs.Scripts.{script-leads, script-refuses}
 use Rattle.standard.proofs.Frames.{frames-end, scripts-enter}
@@ -65,17 +65,6 @@ runs-text es text old mid new begun begins moves = record {
   served = moves.served;
   less = omega (arith, moves.weight, text-weight (awaits_none old) mid begun begins.keeps begins.pending begins.wrote);
 }
-
--- ---- what is left to do behind a script that was awaited
-
-pub behind-less : (old new : Live) (spent : Bool) (v : View) → view_of old spent ≡ v → left_to_do (view_of new false) ≤ left_to_do (view_of (awaits_none old) false) → v.pending ≢ None →
-    left_to_do (view_of new false) < left_to_do v
-behind-less old new spent v is less awaited =
-    subst (λ u. left_to_do (view_of new false) < left_to_do u) is (omega (arith, less, one old.pending (λ none. awaited (sym (ap (λ (u : View). u.pending) is) ∙ none))))
-  where
-    one : (pending : Option (List ℕ)) → pending ≢ None → 1 ≤ scripts_awaited pending
-    one None some = absurd (some refl)
-    one (Some name) some = omega arith
 
 -- ---- the moment behind a script
 

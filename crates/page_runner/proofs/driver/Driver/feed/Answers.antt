@@ -92,8 +92,3 @@ turns-preserved g c =
       others = keeps-then _ _ _ _ c.turns.invariant.others c.run_awaited.ensures.others;
       faults = let a = c.turns.invariant.faults in let b = c.feed_left.ensures.faults in let d = c.run_awaited.ensures.faults in omega arith;
     }
-
-pub returns-clause-part : goal.returns-clause-part
-returns-clause-part g c =
-    part-then c.args.table.now c.turns.self.scripts c.turns.self.scripts (Stands c.args.self.now.writer) (Stands c.turns.self.writer) (g.K.Sink.taken c.args.out.now) (g.K.Sink.taken c.turns.out) (g.K.Sink.taken c.turns.out)
-    (λ w s. s) c.turns.invariant.reaches (part-stands c.args.table.now c.turns.self.scripts c.turns.self.writer (g.K.Sink.taken c.turns.out))

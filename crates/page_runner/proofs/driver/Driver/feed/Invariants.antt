@@ -1,7 +1,7 @@
 use Rattle.std.proofs.Common.{◌≤◌}
 use Rattle.outside.specs.Outside.{seen, KeepsOthers}
 use Rattle.outside.specs.declared.traits.Port.TheVariants.{Script}
-use Rattle.write_parser.specs.Writing.{Stands}
+use Rattle.write_parser.specs.Writing.{Stands, left_to_do}
 use Rattle.page_runner.specs.Scripts.{Fetches}
 use Rattle.page_runner.specs.Moments.{Reaches}
 use Rattle.page_runner.proofs.driver.Driver.feed.Given as goal
@@ -17,3 +17,6 @@ invariant-turns g l =
       others : KeepsOthers Script (now l.fn.files) (now l.files);
       faults : sink.faults l.fn.out ≤ sink.faults l.out;
     }
+
+abbrev pub decreases-turns : goal.decreases-turns
+decreases-turns g l = left_to_do l.self.writer

@@ -1,5 +1,4 @@
 use Rattle.std.proofs.Common.{refl, sym, subst, IfOk, ◌≡◌, ◌∙◌, ap}
-use Rattle.std.specs.Str.{chars}
 use Rattle.standard.specs.Tree.{find_id, first_element}
 use Rattle.write_parser.specs.Steps.{DoesMost, HasRead}
 use Rattle.write_parser.proofs.StatementLemmas.{if_ok, does-write, does-remove, does-read-by_id, does-read-root}
