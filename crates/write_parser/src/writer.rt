@@ -125,6 +125,7 @@ impl Writer {
         ensures kept { OnOk result (self.new.spent ≡ false) }
         ensures err { OnErr result (self.new.spent ≡ true) }
         ensures run { OnOk result (HasRun table.now self.old.halted self.old self.new (statements (chars text.now))) }
+        // What is left to do doesn't grow, and is less where a script was awaited.
         ensures no_more { OnOk result (left_to_do self.new ≤ left_to_do self.old) }
         ensures less { OnOk result (self.old.halted ≡ None → self.old.pending ≢ None → left_to_do self.new < left_to_do self.old) }
     {
@@ -147,6 +148,7 @@ impl Writer {
         ensures kept { OnOk result (self.new.spent ≡ false) }
         ensures err { OnErr result (self.new.spent ≡ true) }
         ensures missed { OnOk result (HasMissed self.old.halted self.old.pending self.old self.new) }
+        // What is left to do doesn't grow, and is less where a script was awaited.
         ensures no_more { OnOk result (left_to_do self.new ≤ left_to_do self.old) }
         ensures less { OnOk result (self.old.halted ≡ None → self.old.pending ≢ None → left_to_do self.new < left_to_do self.old) }
     {

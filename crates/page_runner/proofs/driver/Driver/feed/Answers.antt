@@ -1,15 +1,12 @@
-use Rattle.std.proofs.Common.{◌≡◌, Some, None, [], sym, subst, ap, ◌∙◌, arith}
+use Rattle.std.proofs.Common.{subst, arith}
 use Rattle.outside.specs.Outside.{seen}
-use Rattle.outside.specs.declared.traits.Port.TheVariants.{Script}
 use Rattle.write_parser.specs.Writing.{Stands, why_of}
 use Rattle.write_parser.specs.declared.left.Left.TheVariants as left
-use Rattle.page_runner.specs.declared.driver.Went.TheVariants.{On, Refused}
-use Rattle.page_runner.specs.declared.scripts.ScriptFiles.{ScriptFiles}
-use Rattle.page_runner.specs.Scripts.{Fetches}
-use Rattle.page_runner.specs.Moments.{IsLeft, IsReady, Arrives, Resumes, Reaches, ReachesInPart}
+use Rattle.page_runner.specs.declared.driver.Went.TheVariants.{Refused}
+use Rattle.page_runner.specs.Moments.{IsLeft, IsReady, Resumes, Reaches}
 use Rattle.page_runner.proofs.KeepsLemmas.{keeps-same, keeps-then}
 use Rattle.page_runner.proofs.MeetLemmas.{fetches_same, fetches-on}
-use Rattle.page_runner.proofs.WayLemmas.{on_err, part-stands, part-then, reaches-then, way-same, reaches-way, fed-empty, fed-refused, fed-over, suits-before, agrees-same, turn-fed}
+use Rattle.page_runner.proofs.WayLemmas.{on_err, part-then, reaches-then, way-same, reaches-way, fed-empty, fed-refused, fed-over, suits-before, agrees-same, turn-fed}
 use Rattle.page_runner.proofs.driver.Driver.feed.Goals as goal
 
 pub turns-init : goal.turns-init
