@@ -214,7 +214,7 @@ pub plain_read : (es : Entities) (s s' : TokState) (k : Class) (c : ℕ) → s' 
     → read es s c ≡ record { tokens = Character c ∷ []; state = s }
 plain_read es s s' k c same class e =
     reading-emit es s s (Character c ∷ []) (class_of c) c
-        (subst (λ v. row es v (class_of c) c ≡ emit (Character c ∷ []) v) same (subst (λ q. row es s' q c ≡ emit (Character c ∷ []) s') class e))
+    (subst (λ v. row es v (class_of c) c ≡ emit (Character c ∷ []) v) same (subst (λ q. row es s' q c ≡ emit (Character c ∷ []) s') class e))
 
 -- the only token that a character makes was processed, and the parser goes on
 pub went_alone : (t : Token) (cr : Bool) (m m' : Reached) (b b' : Open) (o o' : List Op) (w : Went) → m.tokens ≡ [] → m'.tokens ≡ m.tokens → w ≡ went.On
