@@ -4,17 +4,17 @@ ghost use Rattle.std.specs.Prelude.{◌≡◌, ◌≢◌, ◌<◌, ◌≤◌, �
 ghost use Rattle.std.specs.Str.{chars};
 ghost use Rattle.std.specs.Option.{ForSome};
 
-use crate::attributes::{joined, value_of};
-use html_types::{Attributes, Children, Kind, NoMemory, Node, Text};
+use crate::attributes::value_of;
+use crate::nodes::Nodes;
+use html_types::{Attributes, Kind, NoMemory, Text};
 use std::alloc::Global;
 use std::marker::Model;
-use std::mem;
 
 /// A tree: a contract sees the list of its nodes. The nodes have the numbers below `len`, and the Document is number 0.
 #[derive(Drop)]
 pub struct Tree {
     alloc: Global,
-    nodes: Vec<Node>,
+    nodes: Nodes,
 }
 
 impl Model for Tree {
@@ -25,9 +25,9 @@ impl Model for Tree {
 
     ghost use Rattle.standard.specs.Tree.{IsTree};
 
-    ghost view = { λ t. t.nodes.items };
+    ghost view = { λ t. t.nodes };
 
-    ghost invariant = { λ t. IsTree t.nodes.items };
+    ghost invariant = { λ t. IsTree t.nodes };
 }
 
 /// What became of a node that was to be put somewhere.
@@ -38,7 +38,7 @@ pub enum Put {
     Impossible,
 }
 
-ghost use Rattle.standard.specs.Tree.{is_element, is_document, lone};
+ghost use Rattle.standard.specs.Tree.{is_element, is_document, is_text};
 
 fn is_element(kind: &Kind) -> bool
     ensures { result ≡ is_element kind.now }
@@ -52,16 +52,10 @@ fn is_document(kind: &Kind) -> bool
     matches!(kind, Kind::Document)
 }
 
-fn lone(alloc: Global, kind: Kind) -> Node
-    ensures { result ≡ lone kind }
+fn is_text(kind: &Kind) -> bool
+    ensures { result ≡ is_text kind.now }
 {
-    Node {
-        kind,
-        parent: None,
-        children: Children::new(alloc),
-        host: None,
-        contents: None,
-    }
+    matches!(kind, Kind::Text(_))
 }
 
 ghost use Rattle.standard.specs.Tree.{text_of};
@@ -85,17 +79,18 @@ fn has_text(kind: &Kind) -> bool
 }
 
 ghost use Rattle.html_types.specs.Numbers.{place_of};
+ghost use Rattle.doc_tree.specs.Rows.{next_of, is_given, sibling_before};
 
 // Changes of the tree.
 impl Tree {
-    ghost use Rattle.standard.specs.Tree.{IsTree, Keeps, kind_of, parent_of, children_of, host_of, new_tree, detached, moved, put_of, put_before_of, is_impossible, is_impossible_before, is_second_element, is_leaf, lies_in, with_new, with_kind, with_more, text_added, text_before, text_put, with_template};
+    ghost use Rattle.standard.specs.Tree.{IsTree, Keeps, kind_of, parent_of, children_of, host_of, new_tree, detached, moved, put_of, put_before_of, is_impossible, is_impossible_before, is_second_element, is_other_element, is_leaf, lies_in, with_new, with_kind, with_more, text_added, text_before, text_put, put_under, lone, with_template};
 
     /// The Document alone.
     pub fn new(alloc: Global) -> Result<Tree, NoMemory>
         ensures { IfOk result (λ t. t ≡ new_tree) }
     {
-        let mut nodes = Vec::new(alloc);
-        nodes.push(lone(alloc, Kind::Document))?;
+        let mut nodes = Nodes::new(alloc);
+        nodes.push(Kind::Document)?;
         Ok(Tree { alloc, nodes })
     }
 
@@ -105,8 +100,7 @@ impl Tree {
         ensures err { OnErr result (self.new ≡ self.old) }
         ensures keeps { Keeps self.old self.new }
     {
-        let number = self.nodes.len();
-        self.nodes.push(lone(self.alloc, kind))?;
+        let number = self.nodes.push(kind)?;
         Ok(number)
     }
 
@@ -116,22 +110,7 @@ impl Tree {
         ensures err { OnErr result (self.new ≡ self.old) }
         ensures keeps { Keeps self.old self.new }
     {
-        let number = self.nodes.len();
-        self.nodes.reserve(2)?;
-        self.nodes.push(Node {
-            kind,
-            parent: None,
-            children: Children::new(self.alloc),
-            host: None,
-            contents: Some(number + 1),
-        })?;
-        self.nodes.push(Node {
-            kind: Kind::Contents,
-            parent: None,
-            children: Children::new(self.alloc),
-            host: Some(number),
-            contents: None,
-        })?;
+        let number = self.nodes.push_template(kind)?;
         Ok(number)
     }
 
@@ -141,10 +120,7 @@ impl Tree {
         ensures node { self.new ≡ detached self.old node }
         ensures keeps { Keeps self.old self.new }
     {
-        if let Some(parent) = self.nodes[node].parent {
-            self.nodes[parent].children.remove(node);
-            self.nodes[node].parent = None;
-        }
+        self.nodes.unlink(node);
     }
 
     // Whether nothing stands under the node.
@@ -153,8 +129,7 @@ impl Tree {
         ensures leaf { result ≡ is_leaf self.now node }
         ensures tree { IsTree self.now }
     {
-        let here = &self.nodes[node];
-        here.children.len() == 0 && here.contents.is_none()
+        self.nodes.first_child(node).is_none() && self.nodes.contents(node).is_none()
     }
 
     // Whether `place` is the node or stands under it. The way up from the place is walked, unless nothing stands under the node.
@@ -171,13 +146,20 @@ impl Tree {
             if at == node {
                 return true;
             }
-            let here = &self.nodes[at];
-            match here.host.or(here.parent) {
+            match self.nodes.host(at).or(self.nodes.parent(at)) {
                 Some(above) => at = above,
                 None => return false,
             }
         }
         false
+    }
+
+    // Whether a child is an element other than the node.
+    fn is_other_element(&self, node: usize, child: usize) -> bool
+        requires { child < length self.now }
+        ensures { result ≡ is_other_element self.now node child }
+    {
+        child != node && is_element(self.nodes.kind(child))
     }
 
     // Whether the parent is a Document that has an element other than the node, which is one too.
@@ -186,131 +168,95 @@ impl Tree {
         requires parent_here { parent < length self.now }
         ensures { result ≡ is_second_element self.now node parent }
     {
-        if !is_document(&self.nodes[parent].kind) || !is_element(&self.nodes[node].kind) {
+        if !is_document(self.nodes.kind(parent)) || !is_element(self.nodes.kind(node)) {
             return false;
         }
-        let children = self.nodes[parent].children.as_slice();
-        for child in children {
-            if *child != node && is_element(&self.nodes[*child].kind) {
+        let mut child = self.nodes.first_child(parent);
+        'children: while let Some(at) = child {
+            if self.is_other_element(node, at) {
                 return true;
             }
+            child = self.nodes.next_sibling(at);
         }
         false
     }
 
-    // Where among the parent's children a node goes that is put before the given one, or last.
-    fn place(&self, parent: usize, before: Option<usize>) -> usize
-        requires { parent < length self.now }
-        ensures place { result ≡ place_of (children_of self.now parent) before }
-        ensures within { result ≤ length (children_of self.now parent) }
+    // Whether the number is that of a child of the parent.
+    fn is_child(&self, node: usize, parent: usize) -> bool
+        ensures child { IsTrue result → parent_of self.now node ≡ Some parent }
+        ensures other { IsFalse result → parent_of self.now node ≢ Some parent }
+        ensures here { IsTrue result → node < length self.now }
     {
-        self.nodes[parent].children.place(before)
+        node < self.nodes.len() && self.nodes.parent(node) == Some(parent)
+    }
+
+    // The given node where it is a child of the parent.
+    fn child(&self, parent: usize, before: Option<usize>) -> Option<usize>
+        requires { parent < length self.now }
+        ensures place { place_of (children_of self.now parent) result ≡ place_of (children_of self.now parent) before }
+        ensures child { ForSome result (λ b. parent_of self.now b ≡ Some parent) }
+        ensures here { ForSome result (λ b. b < length self.now) }
+        ensures tree { IsTree self.now }
+    {
+        // Its invariant is that this is a tree.
+        let _nodes = &self.nodes;
+        match before {
+            Some(before) => {
+                if self.is_child(before, parent) {
+                    Some(before)
+                } else {
+                    None
+                }
+            }
+            None => None,
+        }
     }
 
     // A node without a parent goes among the parent's children, before one of them or last.
-    fn link(&mut self, node: usize, parent: usize, before: Option<usize>) -> Result<(), NoMemory>
+    fn link(&mut self, node: usize, parent: usize, before: Option<usize>)
         requires node_here { node < length self.old }
         requires parent_here { parent < length self.old }
-        requires not_document { node ≢ 0 }
-        requires no_contents { host_of self.old node ≡ None }
-        requires apart { lies_in self.old parent node ≡ false }
         requires alone { parent_of self.old node ≡ None }
-        ensures ok { OnOk result (self.new ≡ moved self.old node parent before) }
-        ensures err { OnErr result (self.new ≡ self.old) }
-        ensures keeps { Keeps self.old self.new }
+        requires kept { IsTree (put_under self.old node parent before) }
+        ensures { self.new ≡ put_under self.old node parent before }
     {
-        let place = self.place(parent, before);
-        self.nodes[parent].children.insert(place, node)?;
-        self.nodes[node].parent = Some(parent);
-        Ok(())
-    }
-
-    // A child of the parent goes to another place among its siblings.
-    fn reorder(&mut self, node: usize, parent: usize, before: Option<usize>) -> Result<(), NoMemory>
-        requires node_here { node < length self.old }
-        requires parent_here { parent < length self.old }
-        requires not_document { node ≢ 0 }
-        requires no_contents { host_of self.old node ≡ None }
-        requires apart { lies_in self.old parent node ≡ false }
-        requires child { parent_of self.old node ≡ Some parent }
-        ensures ok { OnOk result (self.new ≡ moved self.old node parent before) }
-        ensures err { OnErr result (self.new ≡ self.old) }
-        ensures keeps { Keeps self.old self.new }
-    {
-        self.nodes[parent].children.put(node, before)?;
-        Ok(())
-    }
-
-    // A child of another parent goes among the parent's children.
-    fn transfer(
-        &mut self,
-        node: usize,
-        from: usize,
-        parent: usize,
-        before: Option<usize>,
-    ) -> Result<(), NoMemory>
-        requires node_here { node < length self.old }
-        requires parent_here { parent < length self.old }
-        requires not_document { node ≢ 0 }
-        requires no_contents { host_of self.old node ≡ None }
-        requires apart { lies_in self.old parent node ≡ false }
-        requires child { parent_of self.old node ≡ Some from }
-        requires elsewhere { from ≢ parent }
-        ensures ok { OnOk result (self.new ≡ moved self.old node parent before) }
-        ensures err { OnErr result (self.new ≡ self.old) }
-        ensures keeps { Keeps self.old self.new }
-    {
-        let place = self.place(parent, before);
-        self.nodes[parent].children.insert(place, node)?;
-        self.nodes[from].children.remove(node);
-        self.nodes[node].parent = Some(parent);
-        Ok(())
+        match self.child(parent, before) {
+            Some(before) => self.nodes.link_before(node, parent, before),
+            None => self.nodes.link_last(node, parent),
+        }
     }
 
     // The node goes among the parent's children, from wherever it stands.
-    fn relocate(
-        &mut self,
-        node: usize,
-        parent: usize,
-        before: Option<usize>,
-    ) -> Result<(), NoMemory>
+    fn relocate(&mut self, node: usize, parent: usize, before: Option<usize>)
         requires node_here { node < length self.old }
         requires parent_here { parent < length self.old }
         requires not_document { node ≢ 0 }
         requires no_contents { host_of self.old node ≡ None }
         requires apart { lies_in self.old parent node ≡ false }
-        ensures ok { OnOk result (self.new ≡ moved self.old node parent before) }
-        ensures err { OnErr result (self.new ≡ self.old) }
+        ensures moved { self.new ≡ moved self.old node parent before }
         ensures keeps { Keeps self.old self.new }
     {
-        match self.nodes[node].parent {
-            None => self.link(node, parent, before),
-            Some(from) => {
-                if from == parent {
-                    self.reorder(node, parent, before)
-                } else {
-                    self.transfer(node, from, parent, before)
-                }
-            }
-        }
+        // Its invariant is that this is a tree.
+        let _nodes = self.nodes.len();
+        self.detach(node);
+        self.link(node, parent, before);
     }
 
     // Puts the node under the parent, before one of its children or last.
-    fn put(&mut self, node: usize, parent: usize, before: Option<usize>) -> Result<Put, NoMemory>
+    fn put(&mut self, node: usize, parent: usize, before: Option<usize>) -> Put
         requires node_here { node < length self.old }
         requires parent_here { parent < length self.old }
         requires not_document { node ≢ 0 }
         requires no_contents { host_of self.old node ≡ None }
-        ensures answer { IfOk result (λ put. put ≡ (if is_impossible self.old node parent then Put.Impossible else Put.Done)) }
-        ensures ok { OnOk result (self.new ≡ put_of self.old node parent before) }
-        ensures err { OnErr result (self.new ≡ self.old) }
+        ensures answer { result ≡ (if is_impossible self.old node parent then Put.Impossible else Put.Done) }
+        ensures put { self.new ≡ put_of self.old node parent before }
         ensures keeps { Keeps self.old self.new }
     {
         if self.lies_in(parent, node) || self.is_second_element(node, parent) {
-            return Ok(Put::Impossible);
+            return Put::Impossible;
         }
-        self.relocate(node, parent, before)?;
-        Ok(Put::Done)
+        self.relocate(node, parent, before);
+        Put::Done
     }
 
     /// Puts the node at the end of the parent's children, from wherever it stands. Impossible, and then nothing changes, exactly where the
@@ -325,7 +271,7 @@ impl Tree {
         ensures err { OnErr result (self.new ≡ self.old) }
         ensures keeps { Keeps self.old self.new }
     {
-        self.put(node, parent, None)
+        Ok(self.put(node, parent, None))
     }
 
     /// Puts the node just before another. A node stays where it is before itself.
@@ -343,29 +289,8 @@ impl Tree {
         if node == before {
             return Ok(Put::Done);
         }
-        let parent = self.nodes[before].parent.unwrap();
-        self.put(node, parent, Some(before))
-    }
-
-    // A new node at a place among the parent's children.
-    fn insert_new(&mut self, parent: usize, place: usize, kind: Kind) -> Result<(), NoMemory>
-        requires parent_here { parent < length self.old }
-        requires place_here { place ≤ length (children_of self.old parent) }
-        ensures ok { OnOk result (self.new ≡ with_new self.old parent place kind) }
-        ensures err { OnErr result (self.new ≡ self.old) }
-        ensures keeps { Keeps self.old self.new }
-    {
-        let number = self.nodes.len();
-        self.nodes.reserve(1)?;
-        self.nodes[parent].children.insert(place, number)?;
-        self.nodes.push(Node {
-            kind,
-            parent: Some(parent),
-            children: Children::new(self.alloc),
-            host: None,
-            contents: None,
-        })?;
-        Ok(())
+        let parent = self.nodes.parent(before).unwrap();
+        Ok(self.put(node, parent, Some(before)))
     }
 
     /// Makes a node among the parent's children, before the given one or last.
@@ -375,25 +300,39 @@ impl Tree {
         ensures err { OnErr result (self.new ≡ self.old) }
         ensures keeps { Keeps self.old self.new }
     {
-        let place = self.place(parent, before);
-        self.insert_new(parent, place, kind)
+        let _nodes = self.nodes.len();
+        let number = self.make(kind)?;
+        self.link(number, parent, before);
+        Ok(())
     }
 
-    // The Text just before a place among the parent's children.
-    fn text_before(&self, parent: usize, place: usize) -> Option<usize>
-        requires parent_here { parent < length self.now }
-        requires place_here { place ≤ length (children_of self.now parent) }
-        ensures found { result ≡ text_before self.now parent place }
+    // What stands just before a child of the parent, or the last child.
+    fn before(&self, parent: usize, before: Option<usize>) -> Option<usize>
+        requires { parent < length self.now }
+        ensures before { result ≡ sibling_before (children_of self.now parent) (place_of (children_of self.now parent) before) }
         ensures here { ForSome result (λ m. m < length self.now) }
     {
-        if place == 0 {
-            return None;
+        match self.child(parent, before) {
+            Some(before) => self.nodes.previous_sibling(before),
+            None => self.nodes.last_child(parent),
         }
-        let previous = self.nodes[parent].children.at(place - 1);
-        if let Kind::Text(_) = self.nodes[previous].kind {
-            Some(previous)
-        } else {
-            None
+    }
+
+    // The Text just before a child of the parent, or the last child.
+    fn text_before(&self, parent: usize, before: Option<usize>) -> Option<usize>
+        requires { parent < length self.now }
+        ensures found { result ≡ text_before self.now parent (place_of (children_of self.now parent) before) }
+        ensures here { ForSome result (λ m. m < length self.now) }
+    {
+        match self.before(parent, before) {
+            Some(previous) => {
+                if is_text(self.nodes.kind(previous)) {
+                    Some(previous)
+                } else {
+                    None
+                }
+            }
+            None => None,
         }
     }
 
@@ -404,27 +343,62 @@ impl Tree {
         ensures err { OnErr result (self.new ≡ self.old) }
         ensures keeps { Keeps self.old self.new }
     {
-        if let Kind::Text(old) = &mut self.nodes[node].kind {
-            return old.push_str(text);
-        }
+        self.nodes.append_text(node, text)?;
         Ok(())
     }
 
-    // Text at a place among the parent's children, joined to a Text just before it.
-    fn put_text(&mut self, parent: usize, place: usize, text: &str) -> Result<(), NoMemory>
+    // Text among the parent's children, before the given one or last, joined to a Text just before it.
+    fn put_text(&mut self, parent: usize, before: Option<usize>, text: &str) -> Result<(), NoMemory>
+        requires { parent < length self.old }
+        ensures ok { OnOk result (self.new ≡ (let place = place_of (children_of self.old parent) before in text_put self.old parent place (chars text.now) (text_before self.old parent place))) }
+        ensures err { OnErr result (self.new ≡ self.old) }
+        ensures keeps { Keeps self.old self.new }
+    {
+        match self.text_before(parent, before) {
+            Some(previous) => self.append_text(previous, text),
+            None => {
+                let text = Text::from_str(self.alloc, text)?;
+                self.add(parent, before, Kind::Text(text))
+            }
+        }
+    }
+
+    // Text at a place among the parent's children, joined to a Text just before it; else it becomes a node without being copied.
+    fn put_whole_text(&mut self, parent: usize, place: usize, text: Text) -> Result<(), NoMemory>
         requires parent_here { parent < length self.old }
         requires place_here { place ≤ length (children_of self.old parent) }
-        ensures ok { OnOk result (self.new ≡ text_put self.old parent place (chars text.now) (text_before self.old parent place)) }
+        ensures ok { OnOk result (self.new ≡ text_put self.old parent place text (text_before self.old parent place)) }
         ensures err { OnErr result (self.new ≡ self.old) }
         ensures keeps { Keeps self.old self.new }
     {
         match self.text_before(parent, place) {
-            Some(previous) => self.append_text(previous, text),
-            None => {
-                let text = Text::from_str(self.alloc, text)?;
-                self.insert_new(parent, place, Kind::Text(text))
-            }
+            Some(previous) => self.append_text(previous, text.as_str()),
+            None => self.insert_new(parent, place, Kind::Text(text)),
         }
+    }
+
+    /// Puts text that is given away among the parent's children, before the given one or last, as `add_text` does.
+    pub fn add_whole_text(
+        &mut self,
+        parent: usize,
+        before: Option<usize>,
+        text: Text,
+    ) -> Result<(), NoMemory>
+        requires { parent < length self.old }
+        ensures ok { OnOk result (self.new ≡ text_added self.old parent (place_of (children_of self.old parent) before) text) }
+        ensures err { OnErr result (self.new ≡ self.old) }
+        ensures keeps { Keeps self.old self.new }
+    {
+        if text.is_empty() {
+            return Ok(());
+        }
+        let takes_none = is_document(&self.nodes[parent].kind);
+        if takes_none {
+            return Ok(());
+        }
+        let place = self.place(parent, before);
+        self.put_whole_text(parent, place, text)?;
+        Ok(())
     }
 
     /// Puts text among the parent's children, before the given one or last. It joins a Text just before it; a Document takes none, and an
@@ -443,128 +417,17 @@ impl Tree {
         if text.is_empty() {
             return Ok(());
         }
-        if is_document(&self.nodes[parent].kind) {
+        if is_document(self.nodes.kind(parent)) {
             return Ok(());
         }
-        let place = self.place(parent, before);
-        self.put_text(parent, place, text)?;
+        self.put_text(parent, before, text)?;
         Ok(())
     }
 }
 
-// The children of a node that go to the end of another's, and those that stay, each in order.
-#[derive(Drop)]
-struct Parting {
-    going: Vec<usize>,
-    staying: Vec<usize>,
-    // Whether one goes of which the place takes only one.
-    taken: bool,
-}
-
-impl Parting {
-    fn new(alloc: Global) -> Parting
-        ensures going { result.going.items ≡ [] }
-        ensures staying { result.staying.items ≡ [] }
-        ensures taken { result.taken ≡ false }
-    {
-        Parting {
-            going: Vec::new(alloc),
-            staying: Vec::new(alloc),
-            taken: false,
-        }
-    }
-
-    // With one more child, which stays where it is stuck, or where the place takes only one such and one goes already.
-    fn with(mut self, child: usize, stuck: bool, single: bool) -> Result<Parting, NoMemory>
-        ensures going { IfOk result (λ p. p.going.items ≡ self.going.items ++ (if stuck || (self.taken && single) then [] else child ∷ [])) }
-        ensures staying { IfOk result (λ p. p.staying.items ≡ self.staying.items ++ (if stuck || (self.taken && single) then child ∷ [] else [])) }
-        ensures taken { IfOk result (λ p. p.taken ≡ (if stuck || (self.taken && single) then self.taken else (self.taken || single))) }
-    {
-        if stuck || (self.taken && single) {
-            self.staying.push(child)?;
-            return Ok(self);
-        }
-        self.going.push(child)?;
-        self.taken = self.taken || single;
-        Ok(self)
-    }
-}
-
-ghost use Rattle.doc_tree.specs.Moving.{going, staying, is_stuck, is_single, adopted, handed_over};
-
-// The nodes' parent is now another: nothing else changes.
-fn adopt(nodes: &mut Vec<Node>, children: &[usize], parent: usize)
-    requires { (k : ℕ) → k < length children.now → slice_index children.now k < length nodes.old.items }
-    ensures { nodes.new.items ≡ adopted nodes.old.items children.now parent }
-{
-    for child in children {
-        nodes[*child].parent = Some(parent);
-    }
-}
-
-// The children that go now stand behind the other node's own. Where memory runs out, all is as it was.
-fn hand_over(
-    nodes: &mut Vec<Node>,
-    from: usize,
-    to: usize,
-    parting: Parting,
-) -> Result<(), NoMemory>
-    requires from_here { from < length nodes.old.items }
-    requires to_here { to < length nodes.old.items }
-    requires going_here { (k : ℕ) → k < length parting.going.items → slice_index parting.going.items k < length nodes.old.items }
-    ensures ok { OnOk result (nodes.new.items ≡ handed_over nodes.old.items from to parting.going.items parting.staying.items) }
-    ensures err { OnErr result (nodes.new.items ≡ nodes.old.items) }
-{
-    let kept = mem::replace(
-        &mut nodes[from].children,
-        Children::from_vec(parting.staying),
-    );
-    if let Err(error) = nodes[to].children.extend(&parting.going) {
-        nodes[from].children = kept;
-        return Err(error);
-    }
-    adopt(nodes, &parting.going, to);
-    Ok(())
-}
-
 // All children of a node move at once.
 impl Tree {
-    ghost use Rattle.standard.specs.Tree.{Keeps, children_of, children_moved};
-
-    // Whether the node can't be put at the end of the parent's children.
-    fn is_stuck(&self, node: usize, parent: usize) -> bool
-        requires node_here { node < length self.now }
-        requires parent_here { parent < length self.now }
-        ensures { result ≡ is_stuck self.now parent node }
-    {
-        self.lies_in(parent, node) || self.is_second_element(node, parent)
-    }
-
-    // Whether the parent takes only one node such as this, as a Document one element.
-    fn is_single(&self, node: usize, parent: usize) -> bool
-        requires node_here { node < length self.now }
-        requires parent_here { parent < length self.now }
-        ensures { result ≡ is_single self.now parent node }
-    {
-        is_document(&self.nodes[parent].kind) && is_element(&self.nodes[node].kind)
-    }
-
-    // Which children of a node can go to the end of another's, one after another.
-    fn parting(&self, from: usize, to: usize) -> Result<Parting, NoMemory>
-        requires from_here { from < length self.now }
-        requires to_here { to < length self.now }
-        ensures going { IfOk result (λ p. p.going.items ≡ going (is_stuck self.now to) (is_single self.now to) false (children_of self.now from)) }
-        ensures staying { IfOk result (λ p. p.staying.items ≡ staying (is_stuck self.now to) (is_single self.now to) false (children_of self.now from)) }
-    {
-        let mut parting = Parting::new(self.alloc);
-        let children = self.nodes[from].children.as_slice();
-        for child in children {
-            let stuck = self.is_stuck(*child, to);
-            let single = self.is_single(*child, to);
-            parting = parting.with(*child, stuck, single)?;
-        }
-        Ok(parting)
-    }
+    ghost use Rattle.standard.specs.Tree.{IsTree, Keeps, parent_of, children_of, children_moved};
 
     /// Puts the children of a node, in order, each at the end of another's. One that can't be put there stays where it is.
     pub fn move_children(&mut self, from: usize, to: usize) -> Result<(), NoMemory>
@@ -574,9 +437,27 @@ impl Tree {
         ensures err { OnErr result (self.new ≡ self.old) }
         ensures keeps { Keeps self.old self.new }
     {
-        let parting = self.parting(from, to)?;
-        hand_over(&mut self.nodes, from, to, parting)?;
+        let last = self.nodes.last_child(from);
+        let mut child = self.nodes.first_child(from);
+        'moving: while let Some(at) = child {
+            child = self.behind(at, last);
+            self.put(at, to, None);
+        }
         Ok(())
+    }
+
+    // The sibling behind the node, unless the node is the last that is meant.
+    fn behind(&self, node: usize, last: Option<usize>) -> Option<usize>
+        requires { node < length self.now }
+        ensures behind { result ≡ (if is_given last node then None else next_of self.now node (parent_of self.now node)) }
+        ensures tree { IsTree self.now }
+    {
+        // Its invariant is that this is a tree.
+        let _nodes = &self.nodes;
+        if last == Some(node) {
+            return None;
+        }
+        self.nodes.next_sibling(node)
     }
 }
 
@@ -590,7 +471,7 @@ impl Tree {
         requires { node < length self.now }
         ensures { option_map (λ text. text.now) result ≡ attribute (chars name.now) (attributes_of (kind_of self.now node)) }
     {
-        match &self.nodes[node].kind {
+        match self.nodes.kind(node) {
             Kind::Element { attributes, .. } => value_of(attributes, name),
             _ => None,
         }
@@ -603,21 +484,12 @@ impl Tree {
         ensures err { OnErr result (self.new ≡ self.old) }
         ensures keeps { Keeps self.old self.new }
     {
-        add_lacking(self.alloc, &mut self.nodes[node].kind, more)
+        self.nodes.add_attributes(self.alloc, node, more)?;
+        Ok(())
     }
 }
 
-fn add_lacking(alloc: Global, kind: &mut Kind, more: &Attributes) -> Result<(), NoMemory>
-    ensures ok { OnOk result (kind.new ≡ with_lacking kind.old more.now) }
-    ensures err { OnErr result (kind.new ≡ kind.old) }
-{
-    if let Kind::Element { attributes, .. } = kind {
-        *attributes = joined(alloc, attributes, more)?;
-    }
-    Ok(())
-}
-
-ghost use Rattle.standard.specs.Tree.{with_lacking, is_value, attributes_of, attribute};
+ghost use Rattle.standard.specs.Tree.{is_value, attributes_of, attribute};
 
 // Whether the node is an element with that `id`.
 fn has_id(kind: &Kind, id: &str) -> bool
@@ -632,24 +504,12 @@ fn has_id(kind: &Kind, id: &str) -> bool
     }
 }
 
-// Pushes the numbers, the last first.
-fn push_reversed(list: &mut Vec<usize>, numbers: &[usize]) -> Result<(), NoMemory>
-    ensures { OnOk result (list.new.items ≡ list.old.items ++ reverse numbers.now) }
-{
-    let mut place = numbers.len();
-    'down: while place > 0 {
-        place -= 1;
-        list.push(numbers[place])?;
-    }
-    Ok(())
-}
-
 // Walks.
 impl Tree {
     ghost use Rattle.standard.specs.Tree.{kind_of, children_of, find_id, script_text};
 
-    /// The first element of the Document, in tree order, with that `id`. An empty one finds nothing. The walk keeps the nodes that are left to
-    /// be looked at, so it takes memory, and time in the number of nodes.
+    /// The first element of the Document, in tree order, with that `id`. An empty one finds nothing. The walk takes no
+    /// memory.
     pub fn find_id(&self, id: &str) -> Result<Option<usize>, NoMemory>
         ensures found { IfOk result (λ n. n ≡ find_id self.now (chars id.now)) }
         ensures here { IfOk result (λ n. ForSome n (λ k. k < length self.now)) }
@@ -657,16 +517,15 @@ impl Tree {
         if id.is_empty() {
             return Ok(None);
         }
-        if self.nodes.is_empty() {
+        if self.nodes.len() == 0 {
             return Ok(None);
         }
-        let mut left = Vec::new(self.alloc);
-        left.push(0)?;
-        'walk: while let Some(node) = left.pop() {
-            if has_id(&self.nodes[node].kind, id) {
+        let mut left = Some(0);
+        'walk: while let Some(node) = left {
+            if has_id(self.nodes.kind(node), id) {
                 return Ok(Some(node));
             }
-            push_reversed(&mut left, self.nodes[node].children.as_slice())?;
+            left = self.next(node);
         }
         Ok(None)
     }
@@ -677,9 +536,10 @@ impl Tree {
         ensures { IfOk result (λ text. text ≡ script_text self.now node) }
     {
         let mut joined = Text::new(self.alloc);
-        let children = self.nodes[node].children.as_slice();
-        for child in children {
-            push_text(&mut joined, &self.nodes[*child].kind)?;
+        let mut child = self.nodes.first_child(node);
+        'children: while let Some(at) = child {
+            push_text(&mut joined, self.nodes.kind(at))?;
+            child = self.nodes.next_sibling(at);
         }
         Ok(joined)
     }
@@ -690,11 +550,12 @@ impl Tree {
         ensures some { IsTrue result → script_text self.now node ≢ [] }
         ensures none { IsFalse result → script_text self.now node ≡ [] }
     {
-        let children = self.nodes[node].children.as_slice();
-        for child in children {
-            if has_text(&self.nodes[*child].kind) {
+        let mut child = self.nodes.first_child(node);
+        'children: while let Some(at) = child {
+            if has_text(self.nodes.kind(at)) {
                 return true;
             }
+            child = self.nodes.next_sibling(at);
         }
         false
     }
@@ -717,7 +578,7 @@ impl Tree {
         requires { node < length self.now }
         ensures { result.now ≡ kind_of self.now node }
     {
-        &self.nodes[node].kind
+        self.nodes.kind(node)
     }
 
     /// The node's parent; none where it stands nowhere, and none of the Document and of a template's contents.
@@ -727,7 +588,7 @@ impl Tree {
         ensures here { ForSome result (λ p. p < length self.now) }
         ensures tree { IsTree self.now }
     {
-        self.nodes[node].parent
+        self.nodes.parent(node)
     }
 
     /// The contents of a template.
@@ -737,26 +598,34 @@ impl Tree {
         ensures here { ForSome result (λ c. c < length self.now) }
         ensures tree { IsTree self.now }
     {
-        self.nodes[node].contents
+        self.nodes.contents(node)
     }
 
-    /// The node's children.
-    pub fn children(&self, node: usize) -> &[usize]
+    /// The node's first child.
+    pub fn first_child(&self, node: usize) -> Option<usize>
         requires { node < length self.now }
-        ensures { result.now ≡ children_of self.now node }
+        ensures { result ≡ first_of (children_of self.now node) }
     {
-        self.nodes[node].children.as_slice()
+        self.nodes.first_child(node)
     }
 
-    /// The nodes that a text shows under the node: its children, or for a template those of its contents.
-    pub fn shown(&self, node: usize) -> &[usize]
+    /// The first of the nodes that a text shows under the node: its children, or for a template those of its contents.
+    pub fn first_shown(&self, node: usize) -> Option<usize>
         requires { node < length self.now }
-        ensures { result.now ≡ shown_of self.now node }
+        ensures { result ≡ first_of (shown_of self.now node) }
     {
-        match self.nodes[node].contents {
-            Some(contents) => self.nodes[contents].children.as_slice(),
-            None => self.nodes[node].children.as_slice(),
+        match self.contents(node) {
+            Some(contents) => self.nodes.first_child(contents),
+            None => self.nodes.first_child(node),
         }
+    }
+
+    /// The sibling just behind the node.
+    pub fn next_sibling(&self, node: usize) -> Option<usize>
+        requires { node < length self.now }
+        ensures { result ≡ next_of self.now node (parent_of self.now node) }
+    {
+        self.nodes.next_sibling(node)
     }
 
     /// Whether the node is in the Document. Its way up is walked.
@@ -770,7 +639,7 @@ impl Tree {
             if at == 0 {
                 return true;
             }
-            match self.nodes[at].parent {
+            match self.nodes.parent(at) {
                 Some(parent) => at = parent,
                 None => return false,
             }
@@ -783,51 +652,32 @@ impl Tree {
         requires { node < length self.now }
         ensures { result ≡ last_of (children_of self.now node) }
     {
-        let children = &self.nodes[node].children;
-        if children.len() == 0 {
-            return None;
-        }
-        Some(children.at(children.len() - 1))
+        self.nodes.last_child(node)
     }
 
-    /// The sibling just before the node. Its place among its siblings is searched for.
+    /// The sibling just before the node.
     pub fn previous(&self, node: usize) -> Option<usize>
         requires { node < length self.now }
         ensures { result ≡ previous_of self.now node (parent_of self.now node) }
     {
-        let Some(parent) = self.nodes[node].parent else {
-            return None;
-        };
-        let siblings = &self.nodes[parent].children;
-        let place = self.place(parent, Some(node));
-        if place == 0 {
-            return None;
-        }
-        Some(siblings.at(place - 1))
+        self.nodes.previous_sibling(node)
     }
 
-    /// The next node in tree order. Places among siblings are searched for, so a walk over many nodes keeps its own.
+    /// The next node in tree order. A walk by it over all nodes takes time in their number.
     pub fn next(&self, node: usize) -> Option<usize>
         requires { node < length self.now }
         ensures next { result ≡ first_of (after_node self.now node) }
     {
-        let children = self.nodes[node].children.as_slice();
-        if !children.is_empty() {
-            return Some(children[0]);
+        if let Some(child) = self.nodes.first_child(node) {
+            return Some(child);
         }
         let mut at = node;
         for _ in 0..self.nodes.len() {
-            match self.nodes[at].parent {
-                None => return None,
-                Some(parent) => {
-                    let siblings = &self.nodes[parent].children;
-                    let place = siblings.place(Some(at));
-                    if place < siblings.len() && place + 1 < siblings.len() {
-                        return Some(siblings.at(place + 1));
-                    }
-                    at = parent;
-                }
+            let parent = self.nodes.parent(at)?;
+            if let Some(sibling) = self.nodes.next_sibling(at) {
+                return Some(sibling);
             }
+            at = parent;
         }
         None
     }
@@ -838,14 +688,15 @@ impl Tree {
         ensures first { result ≡ first_element self.now }
         ensures here { ForSome result (λ n. n < length self.now) }
     {
-        if self.nodes.is_empty() {
+        if self.nodes.len() == 0 {
             return None;
         }
-        let children = self.nodes[0].children.as_slice();
-        for child in children {
-            if is_element(&self.nodes[*child].kind) {
-                return Some(*child);
+        let mut child = self.nodes.first_child(0);
+        'children: while let Some(at) = child {
+            if is_element(self.nodes.kind(at)) {
+                return Some(at);
             }
+            child = self.nodes.next_sibling(at);
         }
         None
     }

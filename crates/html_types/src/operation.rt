@@ -197,6 +197,13 @@ impl Ops {
         Ok(false)
     }
 
+    /// The operations as they are kept, a text in one, given away.
+    pub fn into_vec(self) -> Vec<Op>
+        ensures { spelled result.items ≡ self }
+    {
+        self.list
+    }
+
     /// The operations as they are kept, a text in one.
     pub fn as_slice(&self) -> &[Op]
         ensures { spelled result.now ≡ self.now }

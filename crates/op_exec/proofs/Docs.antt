@@ -1,5 +1,5 @@
 -- What keeps a document one.
-use Rattle.std.proofs.Common.{◌≡◌, ℕ, ◌<◌, List, [], ◌∷◌, ◌++◌, length, Option, Some, None, IsSome, Bool, true, false, if◌then◌else◌, refl, ap, ◌∙◌, arith, rules}
+use Rattle.std.proofs.Common.{◌≡◌, ℕ, ◌<◌, List, [], ◌∷◌, ◌++◌, length, Option, Some, None, Result, Ok, Err, OnOk, OnErr, IsSome, Bool, true, false, if◌then◌else◌, refl, sym, ap, subst, ◌∙◌, arith, rules}
 use Rattle.std.specs.Prelude.{unwrap_or, IfSome, IsTrue, is_some}
 use Rattle.std.specs.Map.{values_of, remove_entry}
 use Rattle.std.specs.BTreeMap.{insert_entry, is_at}
@@ -17,7 +17,7 @@ use Rattle.html_types.specs.declared.word.Word.TheVariants.{Template}
 use Rattle.html_types.specs.declared.tree.Kind.TheVariants.{Element}
 use Rattle.html_types.specs.declared.operation.NodeId.{NodeId}
 use Rattle.standard.specs.Elements.{is_word}
-use Rattle.standard.specs.Act.{Bound, id_cmp, bound_to, node_of, is_bound, element_made}
+use Rattle.standard.specs.Act.{Bound, Doc, id_cmp, bound_to, node_of, is_bound, element_made}
 use Rattle.doc_tree.proofs.Trees.{node_at-push}
 use Rattle.op_exec.specs.Docs.{IsPlain, IsDoc}
 
@@ -47,6 +47,13 @@ some_from_test (Some n) there = search rules
 -- an id that is bound stands for a node
 pub IsPlain-node_of : (t : Nodes) (bound : Bound) (id : NodeId) → IsDoc t bound → IsTrue (is_bound bound id) → IsPlain t (node_of bound id)
 IsPlain-node_of t bound id doc there = at_some (bound_to bound id) (IsPlain t) (some_from_test (bound_to bound id) there) (IfSome-lookup_from_All (IsPlain t) (is_at (id_cmp id)) bound doc.plain)
+
+-- so does what is read at it in a document
+pub IsPlain-read : (d : Doc) (t : Nodes) (bound : Bound) (id : NodeId) (n : ℕ) → record { tree = t; bound = bound } ≡ d → n ≡ node_of bound id → IsDoc t bound → IsTrue (is_bound d.bound id)
+    → IsPlain d.tree n
+IsPlain-read d t bound id n view is doc there =
+    let here : IsTrue (is_bound bound id) = subst (λ (x : Doc). IsTrue (is_bound x.bound id)) (sym view) there in
+    subst (λ (x : Doc). IsPlain x.tree n) view (subst (IsPlain t) (sym is) (IsPlain-node_of t bound id doc here))
 
 pub id_cmp-same : (id : NodeId) → id_cmp id id ≡ Equal
 id_cmp-same id = grind (arith, nat_tests)
@@ -82,3 +89,10 @@ IsPlain-element_made t s name as' some made = rw made (by (is_word Template name
 pub none_from_test : (o : Option ℕ) → is_some o ≡ false → o ≡ None
 none_from_test None none = refl
 none_from_test (Some n) none = absurd (cc)
+
+-- a document in which an element was made, or wasn't
+pub IsDoc-made : {T E : Type 0} (r : Result T E) (t s : Nodes) (old new : Bound) (id : NodeId) (name : Name) (as' : List Attribute) → IsDoc t old
+    → OnOk r (new ≡ insert_entry id_cmp old id (length t)) → OnOk r (s ≡ element_made t name as') → OnErr r (new ≡ old) → Keeps t s → IsDoc s new
+IsDoc-made (Ok x) t s old new id name as' doc bound made kept keeps =
+    subst (IsDoc s) (sym bound) (IsDoc-bound t s old id (length t) doc keeps (IsPlain-element_made t s name as' doc.document made))
+IsDoc-made (Err e) t s old new id name as' doc bound made kept keeps = subst (IsDoc s) (sym kept) (IsDoc-kept t s old doc keeps)

@@ -1,8 +1,7 @@
 -- Operations in a list, and which of them have their ids bound.
-use Rattle.std.proofs.Common.{◌≡◌, ℕ, ◌+◌, ◌<◌, Bool, true, false, cond, ◌||◌, List, [], ◌∷◌, ◌++◌, length, get_or, take, drop, map, Option, Some, refl, sym, ap, ◌∙◌, subst, inl, inr, append_assoc, append-nil, take-append-drop}
+use Rattle.std.proofs.Common.{◌≡◌, ℕ, Bool, true, false, cond, ◌||◌, List, [], ◌∷◌, ◌++◌, length, map, Option, Some, refl, sym, ap, ◌∙◌, subst, inl, inr, append_assoc, append-nil}
 use Rattle.std.specs.Prelude.{is_some, ◌==◌}
 use Rattle.std.specs.Ordering.{is_eq}
-use Rattle.std.proofs.lemmas.List.{at_drop_more, take_more}
 use Rattle.std.proofs.lemmas.Bool.{and_from, eq-eqb, false_from_ne_true, and_parts, eqb-true}
 use Rattle.html_types.specs.Operations.{same_id, spelled, spelled_one}
 use Rattle.html_types.specs.declared.operation.NodeId.{NodeId}
@@ -109,34 +108,30 @@ acts-nothing d (Detach id) none = absurd (cc)
 acts-nothing d (MoveChildren from to) none = absurd (cc)
 acts-nothing d (AddAttributes id attributes) none = absurd (cc)
 
--- ---- a turn of the loop over operations
+-- ---- a turn of the loop over operations: xs are done, then comes o, and os are left
 
-module _ (d e : Doc) (os : List Op) (i : ℕ) (o : Op) (below : i < length os) (at : o ≡ get_or os i o) (done : e ≡ acts d (spelled (take i os))) (bound : AreOpsBound (is_bound e.bound) (spelled (drop i os))) where
-  left : spelled (drop i os) ≡ spelled_one o ++ spelled (drop (i + 1) os)
-  left = at_drop_more spelled os i o below ∙ spelled-first (get_or os i o) (drop (i + 1) os) ∙ ap (λ x. spelled_one x ++ spelled (drop (i + 1) os)) (sym at)
+module _ (d e : Doc) (xs : List Op) (o : Op) (os : List Op) (done : e ≡ acts d (spelled xs)) (bound : AreOpsBound (is_bound e.bound) (spelled (o ∷ os))) where
+  whole : AreOpsBound (is_bound e.bound) (spelled_one o ++ spelled os)
+  whole = subst (AreOpsBound (is_bound e.bound)) (spelled-first o os) bound
 
   pub turn-bound : AreOpsBound (is_bound e.bound) (spelled_one o)
-  turn-bound = AreOpsBound-front (is_bound e.bound) (spelled_one o) (spelled (drop (i + 1) os)) (subst (AreOpsBound (is_bound e.bound)) left bound)
+  turn-bound = AreOpsBound-front (is_bound e.bound) (spelled_one o) (spelled os) whole
 
-  pub turn-bound_after : (e' : Doc) → e' ≡ acts e (spelled_one o) → AreOpsBound (is_bound e'.bound) (spelled (drop (i + 1) os))
-  turn-bound_after e' is =
-      subst (λ (x : Doc). AreOpsBound (is_bound x.bound) (spelled (drop (i + 1) os))) (sym is)
-      (AreOpsBound-after e (spelled_one o) (spelled (drop (i + 1) os)) (subst (AreOpsBound (is_bound e.bound)) left bound))
+  pub turn-bound_after : (e' : Doc) → e' ≡ acts e (spelled_one o) → AreOpsBound (is_bound e'.bound) (spelled os)
+  turn-bound_after e' is = subst (λ (x : Doc). AreOpsBound (is_bound x.bound) (spelled os)) (sym is) (AreOpsBound-after e (spelled_one o) (spelled os) whole)
 
-  pub turn-done : (e' : Doc) → e' ≡ acts e (spelled_one o) → e' ≡ acts d (spelled (take (i + 1) os))
+  pub turn-done : (e' : Doc) → e' ≡ acts e (spelled_one o) → e' ≡ acts d (spelled (xs ++ o ∷ []))
   turn-done e' is =
       is
       ∙ ap (λ (x : Doc). acts x (spelled_one o)) done
-      ∙ sym (acts-append d (spelled (take i os)) (spelled_one o))
-      ∙ ap (λ xs. acts d (spelled (take i os) ++ xs)) (sym (spelled-one o))
-      ∙ ap (acts d) (sym (spelled-split (take i os) (o ∷ [])))
-      ∙ ap (λ x. acts d (spelled (take i os ++ x ∷ []))) at
-      ∙ ap (λ xs. acts d (spelled xs)) (sym (take_more os i o below))
+      ∙ sym (acts-append d (spelled xs) (spelled_one o))
+      ∙ ap (λ ys. acts d (spelled xs ++ ys)) (sym (spelled-one o))
+      ∙ ap (acts d) (sym (spelled-split xs (o ∷ [])))
 
-  pub turn-part : IsDoneInPart d e (spelled os)
+  pub turn-part : IsDoneInPart d e (spelled (xs ++ o ∷ os))
   turn-part = record {
-    done = spelled (take i os);
-    left = spelled (drop i os);
-    all = ap spelled (sym (take-append-drop i os)) ∙ spelled-split (take i os) (drop i os);
+    done = spelled xs;
+    left = spelled (o ∷ os);
+    all = spelled-split xs (o ∷ os);
     result = done;
   }

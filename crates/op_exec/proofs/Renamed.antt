@@ -15,7 +15,7 @@ use Rattle.standard.specs.Act.{Bound, id_cmp, bound_to, node_of}
 use Rattle.standard.specs.Act.{Doc, act, acts, spot_of, rename_place, rename_op, SameUpTo}
 use Rattle.op_exec.proofs.Docs.{id_cmp-same}
 
-same_from_equal : (a b : NodeId) → id_cmp a b ≡ Equal → a ≡ b
+pub same_from_equal : (a b : NodeId) → id_cmp a b ≡ Equal → a ≡ b
 same_from_equal a b h = ap (λ (p : ℕ × ℕ). record { realm = p.0; n = p.1 }) (exact_pairs nat_cmp nat_cmp exact_unsigned exact_unsigned (a.realm, a.n) (b.realm, b.n) h)
 
 -- two ids are one or not, and the test says so

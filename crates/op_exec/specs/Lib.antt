@@ -1,2 +1,3 @@
 pub mod Docs
 pub mod Scripts
+pub mod Ids

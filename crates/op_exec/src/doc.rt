@@ -2,14 +2,13 @@
 
 ghost use Rattle.std.specs.Prelude.{◌≡◌, ◌≢◌, ◌<◌, length, IsTrue, IsSome, OnOk, OnErr, IfOk, Some, None, false};
 ghost use Rattle.std.specs.Option.{ForSome};
-ghost use Rattle.html_types.specs.declared.word.Word.TheVariants.{Template};
 ghost use Rattle.html_types.specs.declared.operation.Op.TheVariants as op;
 
+use crate::bound::Bound;
 use crate::script::{ScriptKind, kind_of_script};
 use doc_tree::Tree;
-use html_types::{Attributes, Kind, Name, NoMemory, NodeId, Op, Ops, Place, Text, Word};
+use html_types::{Attributes, Kind, Name, NoMemory, NodeId, Op, Ops, Place, Text};
 use std::alloc::Global;
-use std::collections::BTreeMap;
 use std::marker::Model;
 
 /// A tree and what ids name in it: a contract sees both.
@@ -17,7 +16,7 @@ use std::marker::Model;
 pub struct Doc {
     alloc: Global,
     tree: Tree,
-    bound: BTreeMap<NodeId, usize>,
+    bound: Bound,
 }
 
 impl Model for Doc {
@@ -27,9 +26,9 @@ impl Model for Doc {
 
     ghost use Rattle.op_exec.specs.Docs.{IsDoc};
 
-    ghost view = { λ d. record { tree = d.tree; bound = d.bound.entries } };
+    ghost view = { λ d. record { tree = d.tree; bound = d.bound } };
 
-    ghost invariant = { λ d. IsDoc d.tree d.bound.entries };
+    ghost invariant = { λ d. IsDoc d.tree d.bound };
 }
 
 // Among the children of a node, just before one of them or at their end.
@@ -81,33 +80,6 @@ fn foster_spot(tree: &Tree, table: usize, above: usize) -> Spot
     }
 }
 
-ghost use Rattle.standard.specs.Tree.{Keeps};
-ghost use Rattle.standard.specs.Elements.{is_word};
-ghost use Rattle.standard.specs.Act.{element_made};
-
-fn is_template(name: &Name) -> bool
-    ensures { result ≡ is_word Template name.now }
-{
-    match name {
-        Name::Known(word) => Word::Template.same(*word),
-        Name::Other(_) => false,
-    }
-}
-
-// A new element, which stands nowhere; a template is made with its contents.
-fn make_element(tree: &mut Tree, name: Name, attributes: Attributes) -> Result<(), NoMemory>
-    ensures ok { OnOk result (tree.new ≡ element_made tree.old name attributes) }
-    ensures err { OnErr result (tree.new ≡ tree.old) }
-    ensures keeps { Keeps tree.old tree.new }
-{
-    if is_template(&name) {
-        tree.make_template(Kind::Element { name, attributes })?;
-    } else {
-        tree.make(Kind::Element { name, attributes })?;
-    }
-    Ok(())
-}
-
 ghost use Rattle.op_exec.specs.Docs.{inserts_nothing};
 
 // Whether it inserts an empty text.
@@ -134,7 +106,7 @@ impl Doc {
         Ok(Doc {
             alloc,
             tree,
-            bound: BTreeMap::new(alloc),
+            bound: Bound::new(alloc),
         })
     }
 
@@ -153,7 +125,7 @@ impl Doc {
         ensures not_document { result ≢ 0 }
         ensures no_contents { host_of self.now.tree result ≡ None }
     {
-        self.bound.get(&id).copied().unwrap()
+        self.bound.get(id)
     }
 
     // Where a place lies on the tree as it is now.
@@ -178,20 +150,12 @@ impl Doc {
     }
 
     #[tactic(auto, unfolding(standard::specs::Act::act))]
-    fn make(&mut self, id: NodeId, name: &Name, attributes: &Attributes) -> Result<(), NoMemory>
+    fn make(&mut self, id: NodeId, name: Name, attributes: Attributes) -> Result<(), NoMemory>
         requires { is_bound self.old.bound id ≡ false }
-        ensures ok { OnOk result (self.new ≡ act self.old (op.Make id name.now attributes.now)) }
+        ensures ok { OnOk result (self.new ≡ act self.old (op.Make id name attributes)) }
         ensures err { OnErr result (self.new ≡ self.old) }
     {
-        let name = name.copy(self.alloc)?;
-        let attributes = attributes.copy(self.alloc)?;
-        let number = self.tree.len();
-        self.bound.insert(id, number)?;
-        if let Err(error) = make_element(&mut self.tree, name, attributes) {
-            self.bound.remove(&id);
-            return Err(error);
-        }
-        Ok(())
+        self.bound.make(id, &mut self.tree, name, attributes)
     }
 
     #[tactic(auto, unfolding(standard::specs::Act::act))]
@@ -210,33 +174,31 @@ impl Doc {
         Ok(())
     }
 
-    fn text(&mut self, place: Place, text: &Text) -> Result<(), NoMemory>
+    fn text(&mut self, place: Place, text: Text) -> Result<(), NoMemory>
         requires { IsPlaceBound (is_bound self.old.bound) place }
-        ensures ok { OnOk result (self.new ≡ acts self.old (spelled_one (op.Text place text.now))) }
+        ensures ok { OnOk result (self.new ≡ acts self.old (spelled_one (op.Text place text))) }
         ensures err { OnErr result (self.new ≡ self.old) }
     {
         let spot = self.spot(place);
-        self.tree.add_text(spot.parent, spot.before, text.as_str())?;
+        self.tree.add_whole_text(spot.parent, spot.before, text)?;
         Ok(())
     }
 
     #[tactic(auto, unfolding(standard::specs::Act::act))]
-    fn note(&mut self, place: Place, text: &Text) -> Result<(), NoMemory>
+    fn note(&mut self, place: Place, text: Text) -> Result<(), NoMemory>
         requires { IsPlaceBound (is_bound self.old.bound) place }
-        ensures ok { OnOk result (self.new ≡ act self.old (op.Note place text.now)) }
+        ensures ok { OnOk result (self.new ≡ act self.old (op.Note place text)) }
         ensures err { OnErr result (self.new ≡ self.old) }
     {
-        let text = text.copy(self.alloc)?;
         let spot = self.spot(place);
         self.tree.add(spot.parent, spot.before, Kind::Comment(text))
     }
 
     #[tactic(auto, unfolding(standard::specs::Act::act))]
-    fn doctype(&mut self, name: &Text) -> Result<(), NoMemory>
-        ensures ok { OnOk result (self.new ≡ act self.old (op.Doctype name.now)) }
+    fn doctype(&mut self, name: Text) -> Result<(), NoMemory>
+        ensures ok { OnOk result (self.new ≡ act self.old (op.Doctype name)) }
         ensures err { OnErr result (self.new ≡ self.old) }
     {
-        let name = name.copy(self.alloc)?;
         let spot = end_of(&self.tree, 0);
         self.tree.add(spot.parent, spot.before, Kind::Doctype(name))
     }
@@ -263,20 +225,20 @@ impl Doc {
     }
 
     #[tactic(auto, unfolding(standard::specs::Act::act))]
-    fn add_attributes(&mut self, id: NodeId, attributes: &Attributes) -> Result<(), NoMemory>
+    fn add_attributes(&mut self, id: NodeId, attributes: Attributes) -> Result<(), NoMemory>
         requires { IsTrue (is_bound self.old.bound id) }
-        ensures ok { OnOk result (self.new ≡ act self.old (op.AddAttributes id attributes.now)) }
+        ensures ok { OnOk result (self.new ≡ act self.old (op.AddAttributes id attributes)) }
         ensures err { OnErr result (self.new ≡ self.old) }
     {
         let node = self.node(id);
-        self.tree.add_attributes(node, attributes)
+        self.tree.add_attributes(node, &attributes)
     }
 
     /// Does the operation on the tree as it is now; where it inserts text, the insertions of its characters one by one.
     #[tactic(auto, unfolding(standard::specs::Act::acts))]
-    pub fn apply(&mut self, op: &Op) -> Result<(), NoMemory>
-        requires { IsOpBound (is_bound self.old.bound) op.now }
-        ensures ok { OnOk result (self.new ≡ acts self.old (spelled_one op.now)) }
+    pub fn apply(&mut self, op: Op) -> Result<(), NoMemory>
+        requires { IsOpBound (is_bound self.old.bound) op }
+        ensures ok { OnOk result (self.new ≡ acts self.old (spelled_one op)) }
         ensures err { OnErr result (self.new ≡ self.old) }
     {
         match op {
@@ -284,39 +246,39 @@ impl Doc {
                 id,
                 name,
                 attributes,
-            } => self.make(*id, name, attributes),
-            Op::Put { node, place } => self.put(*node, *place),
-            Op::Text { place, text } => self.text(*place, text),
-            Op::Note { place, text } => self.note(*place, text),
+            } => self.make(id, name, attributes),
+            Op::Put { node, place } => self.put(node, place),
+            Op::Text { place, text } => self.text(place, text),
+            Op::Note { place, text } => self.note(place, text),
             Op::Doctype { name } => self.doctype(name),
             Op::Detach { node } => {
-                self.detach(*node);
+                self.detach(node);
                 Ok(())
             }
-            Op::MoveChildren { from, to } => self.move_children(*from, *to),
-            Op::AddAttributes { node, attributes } => self.add_attributes(*node, attributes),
+            Op::MoveChildren { from, to } => self.move_children(from, to),
+            Op::AddAttributes { node, attributes } => self.add_attributes(node, attributes),
         }
     }
 
     // Does the operation, unless it inserts an empty text: then nothing is asked of its place.
-    fn apply_spelled(&mut self, op: &Op) -> Result<(), NoMemory>
-        requires { AreOpsBound (is_bound self.old.bound) (spelled_one op.now) }
-        ensures ok { OnOk result (self.new ≡ acts self.old (spelled_one op.now)) }
+    fn apply_spelled(&mut self, op: Op) -> Result<(), NoMemory>
+        requires { AreOpsBound (is_bound self.old.bound) (spelled_one op) }
+        ensures ok { OnOk result (self.new ≡ acts self.old (spelled_one op)) }
         ensures err { OnErr result (self.new ≡ self.old) }
     {
-        if inserts_nothing(op) {
+        if inserts_nothing(&op) {
             return Ok(());
         }
         self.apply(op)
     }
 
-    /// Does the operations in order. Where memory runs out, the first of them are done, and no other.
-    pub fn apply_all(&mut self, ops: &Ops) -> Result<(), NoMemory>
-        requires { AreOpsBound (is_bound self.old.bound) ops.now }
-        ensures ok { OnOk result (self.new ≡ acts self.old ops.now) }
-        ensures err { OnErr result (IsDoneInPart self.old self.new ops.now) }
+    /// Does the operations in order, whose names, attributes and texts it moves into the tree. Where memory runs out, the first of them are done, and no other.
+    pub fn apply_all(&mut self, ops: Ops) -> Result<(), NoMemory>
+        requires { AreOpsBound (is_bound self.old.bound) ops }
+        ensures ok { OnOk result (self.new ≡ acts self.old ops) }
+        ensures err { OnErr result (IsDoneInPart self.old self.new ops) }
     {
-        for op in ops.as_slice() {
+        for op in ops.into_vec() {
             self.apply_spelled(op)?;
         }
         Ok(())

@@ -1,7 +1,9 @@
 //! Executes operations on a document: a tree, and what ids name in it.
 #![tactic(auto)]
 
+mod bound;
 mod doc;
+mod element;
 mod laws;
 mod script;
 
@@ -22,7 +24,7 @@ mod tests {
         let mut doc = Doc::new(alloc)?;
         let name = Name::from_text(Text::from_str(alloc, "script")?);
         let attributes = Attributes::new(alloc);
-        doc.apply(&Op::Make {
+        doc.apply(Op::Make {
             id,
             name,
             attributes,
@@ -37,7 +39,7 @@ mod tests {
     fn a_template_has_contents(rt: HostRuntime) -> Result<(), NoMemory> {
         let alloc = rt.alloc();
         let mut doc = Doc::new(alloc)?;
-        doc.apply(&Op::Make {
+        doc.apply(Op::Make {
             id: NodeId { realm: 1, n: 0 },
             name: Name::from_text(Text::from_str(alloc, "template")?),
             attributes: Attributes::new(alloc),
@@ -55,7 +57,7 @@ mod tests {
         let mut ops = Ops::new(alloc);
         ops.push_character(alloc, Place::Page, 'x')?;
         ops.push_character(alloc, Place::Page, 'y')?;
-        doc.apply_all(&ops)?;
+        doc.apply_all(ops)?;
         assert_eq!(rt; doc.tree().len(), 1);
         Ok(())
     }

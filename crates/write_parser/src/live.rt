@@ -97,7 +97,7 @@ impl Live {
     {
         let mut ops = Ops::new(self.alloc);
         let finish = self.machine.finish(self.alloc, table, &mut ops)?;
-        self.doc.apply_all(&ops)?;
+        self.doc.apply_all(ops)?;
         Ok(finish)
     }
 

@@ -42,7 +42,7 @@ pub(crate) fn parse_text(
 {
     let mut ops = Ops::new(alloc);
     let ran = machine.run(alloc, table, text, &mut ops)?;
-    doc.apply_all(&ops)?;
+    doc.apply_all(ops)?;
     Ok(ran)
 }
 

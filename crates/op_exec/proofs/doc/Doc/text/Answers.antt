@@ -9,19 +9,18 @@ use Rattle.op_exec.proofs.doc.Doc.text.Goals as goal
 pub returns-clause-ok : goal.returns-clause-ok
 returns-clause-ok c =
     let t = c.self.inside.tree in
-    let bound = c.self.inside.bound.entries in
+    let bound = c.self.inside.bound in
     let d : Doc = record { tree = t; bound = bound } in
     let place = c.args.place in
-    let text = c.args.text.now in
+    let text = c.args.text in
     let spot = c.spot-spot.result in
     let tree : IsTree t = subst (λ (x : Doc). IsTree x.tree) (sym c.self.view_is) c.spot-spot.ensures.tree in
     let there : IsPlaceBound (is_bound bound) place = subst (λ (x : Doc). IsPlaceBound (is_bound x.bound) place) (sym c.self.view_is) c.requires in
     let parent : spot.parent ≡ (spot_of d place).parent = subst (λ (x : Doc). spot.parent ≡ (spot_of x place).parent) (sym c.self.view_is) c.spot-spot.ensures.parent in
     let before : spot.before ≡ (spot_of d place).before = subst (λ (x : Doc). spot.before ≡ (spot_of x place).before) (sym c.self.view_is) c.spot-spot.ensures.before in
-    let wrote : c.add_text.new.self ≡ text_at t text (spot_of d place) =
-    c.in_ok-add_text.ensures.ok
-    ∙ ap (text_added t spot.parent (place_of (children_of t spot.parent) spot.before)) c.as_str.ensures
+    let wrote : c.add_whole_text.new.self ≡ text_at t text (spot_of d place) =
+    c.in_ok-add_whole_text.ensures.ok
     ∙ ap (λ (p : ℕ). text_added t p (place_of (children_of t p) spot.before) text) parent
     ∙ ap (λ (b : Option ℕ). text_added t (spot_of d place).parent (place_of (children_of t (spot_of d place).parent) b) text) before in
     let whole = ap (λ (x : Nodes). let y : Doc = record { tree = x; bound = bound } in y) wrote ∙ sym (run_is bound text t place tree c.self.invariant there) in
-    subst (λ (x : Doc). record { tree = c.add_text.new.self; bound = bound } ≡ acts x (map (λ k. op.Text place (k ∷ [])) text)) c.self.view_is whole
+    subst (λ (x : Doc). record { tree = c.add_whole_text.new.self; bound = bound } ≡ acts x (map (λ k. op.Text place (k ∷ [])) text)) c.self.view_is whole
