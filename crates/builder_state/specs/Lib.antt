@@ -1,3 +1,4 @@
 pub mod Push
 pub mod Kinds
 pub mod Adopted
+pub mod Texts

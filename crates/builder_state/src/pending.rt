@@ -1,12 +1,13 @@
 //! The pending table character tokens (13.2.6.4.10).
 
-ghost use Rattle.std.specs.Prelude.{◌≡◌, ◌≤◌, ◌++◌, length, IfOk};
+ghost use Rattle.std.specs.Prelude.{◌≡◌, ◌≤◌, ◌++◌, ◌&&◌, ◌||◌, length, IfOk};
 ghost use Rattle.std.specs.Str.{chars};
-ghost use Rattle.standard.specs.Instructions.{config, on, append_pending, all_space, texts, body_character, body_characters, insert_pending};
+ghost use Rattle.standard.specs.Instructions.{config, on, append_pending, all_space, texts, here, body_character, body_characters, insert_pending};
+ghost use Rattle.builder_state.specs.Texts.{keeps_ok as mode_keeps_ok, behind_text};
 
 use crate::insert::{place_now, reopen_lost};
 use crate::space::is_space;
-use html_types::{Flow, NoMemory, Open, Ops, Place, Text, Token};
+use html_types::{Flow, Mode, NoMemory, Open, Ops, Place, Text, Token};
 use std::alloc::Global;
 use std::mem;
 
@@ -58,6 +59,36 @@ pub fn insert_body_character(
         state.frameset_ok = false;
     }
     Ok(Flow::On)
+}
+
+/// Inserts characters where there is nothing to reopen: by the rules of "in body", or of "text" in that mode.
+pub fn insert_body_text(
+    alloc: Global,
+    state: &mut Open,
+    text: &str,
+    ops: &mut Ops,
+) -> Result<(), NoMemory>
+    ensures inserted { IfOk result (λ _. ops.new ≡ ops.old ++ texts (here state.old) (chars text.now)) }
+    ensures done { IfOk result (λ _. state.new ≡ behind_text (chars text.now) state.old) }
+    ensures stack { state.new.stack ≡ state.old.stack }
+{
+    ops.push_text(alloc, place_now(state), text)?;
+    state.frameset_ok = stays_ok(state.mode, state.frameset_ok, text);
+    Ok(())
+}
+
+/// Whether a character doesn't matter to a frameset in the mode.
+fn keeps_ok(mode: Mode) -> bool
+    ensures { result ≡ mode_keeps_ok mode }
+{
+    matches!(&mode, Mode::InText)
+}
+
+/// Whether a frameset may still replace the body behind a text.
+fn stays_ok(mode: Mode, ok: bool, text: &str) -> bool
+    ensures { result ≡ ((mode_keeps_ok mode || all_space (chars text.now)) && ok) }
+{
+    ok && (keeps_ok(mode) || is_all_space(text))
 }
 
 /// Inserts characters by the rules of "in body", up to one at which an element more than 512 would be open.

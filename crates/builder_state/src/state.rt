@@ -1,14 +1,17 @@
 //! The builder of a tree: the open state with at most 512 open elements.
 
-ghost use Rattle.std.specs.Prelude.{◌≡◌, ◌≤◌, ◌↔◌, length, IsTrue, IfOk, false};
-ghost use Rattle.standard.specs.Instructions.{config, on, here, reconstruct, run, body_character};
+ghost use Rattle.std.specs.Prelude.{◌≡◌, ◌≤◌, ◌↔◌, ◌++◌, length, IsTrue, IfOk, false};
+ghost use Rattle.std.specs.Str.{chars};
+ghost use Rattle.standard.specs.Instructions.{config, on, here, reconstruct, run, texts, body_character};
 ghost use Rattle.standard.specs.Rules.{answer, answer_of, next_of};
 ghost use Rattle.standard.specs.Parser.{opening};
 ghost use Rattle.builder_state.specs.Push.{opened};
+ghost use Rattle.builder_state.specs.Texts.{takes_characters as mode_takes_characters, TakesText, behind_text};
 
+use crate::formatting::none_lost;
 use crate::insert::{LIMIT, place_now, reopen_lost};
 use crate::machine::run_row;
-use crate::pending::insert_body_character;
+use crate::pending::{insert_body_character, insert_body_text};
 use html_types::{
     Flow, Formats, Instr, Mode, Modes, Next, NoMemory, NodeId, Open, OpenElement, Ops, Place,
     Stack, Text, Token,
@@ -117,6 +120,29 @@ impl Builder {
     {
         let flow = insert_body_character(alloc, &mut self.state, c, ops)?;
         Ok(asked(flow))
+    }
+
+    /// Whether a text's characters are inserted as they are. Where the answer is no, they may be all the same.
+    pub fn takes_text(&self) -> bool
+        ensures { IsTrue result → TakesText self.now }
+    {
+        takes_characters(self.state.mode)
+            && !self.state.skip_line_feed
+            && !self.state.foster
+            && none_lost(&self.state.formats, &self.state.stack)
+    }
+
+    /// Inserts a text's characters where there is nothing to reopen: by the rules of "in body" (13.2.6.4.7), or of "text" in that mode.
+    pub fn insert_body_text(
+        &mut self,
+        alloc: Global,
+        text: &str,
+        ops: &mut Ops,
+    ) -> Result<(), NoMemory>
+        ensures inserted { IfOk result (λ _. ops.new ≡ ops.old ++ texts (here self.old) (chars text.now)) }
+        ensures done { IfOk result (λ _. self.new ≡ behind_text (chars text.now) self.old) }
+    {
+        insert_body_text(alloc, &mut self.state, text, ops)
     }
 
     /// Reconstructs the active formatting elements (13.2.4.3).
@@ -242,6 +268,13 @@ fn first_state(alloc: Global, realm: u64) -> Open
         foster: false,
         next: NodeId { realm, n: 0 },
     }
+}
+
+/// Whether the mode's characters go by the rules of "in body", or are inserted in any case.
+fn takes_characters(mode: Mode) -> bool
+    ensures { result ≡ mode_takes_characters mode }
+{
+    matches!(&mode, Mode::InBody | Mode::InCell | Mode::InText)
 }
 
 /// What a row asks of its caller.

@@ -1,6 +1,7 @@
 //! What the builder asks of the tree. It names elements by ids, which it gives out itself.
 
 ghost use Rattle.std.specs.Prelude.{◌≡◌, ◌↔◌, ◌+◌, ◌<◌, ◌^◌, ◌++◌, ◌∷◌, [], IsTrue, IsFalse, IfOk, OnOk, OnErr};
+ghost use Rattle.std.specs.Str.{chars};
 ghost use Rattle.html_types.specs.Operations.{same_id, later, same_place, spelled, spelled_one};
 ghost use Rattle.html_types.specs.declared.operation.Op.TheVariants as op;
 
@@ -133,6 +134,21 @@ impl Op {
             _ => Ok(false),
         }
     }
+
+    /// Adds the characters to the text that this inserts at that place, and says whether it does insert text there.
+    fn join_text(&mut self, place: Place, added: &str) -> Result<bool, NoMemory>
+        ensures joined { IfOk result (λ r. IsTrue r → spelled_one self.new ≡ spelled_one self.old ++ spelled_one (op.Text place (chars added.now))) }
+        ensures kept { IfOk result (λ r. IsFalse r → self.new ≡ self.old) }
+        ensures err { OnErr result (self.new ≡ self.old) }
+    {
+        match self {
+            Op::Text { place: at, text } if at.same(place) => {
+                text.push_str(added)?;
+                Ok(true)
+            }
+            _ => Ok(false),
+        }
+    }
 }
 
 /// Operations in order. A contract sees the list of them with each text spelled out, an operation a character.
@@ -202,6 +218,32 @@ impl Ops {
         ensures { spelled result.items ≡ self }
     {
         self.list
+    }
+
+    /// Adds the insertions of a text's characters at the end, in order: they join the text that the last operation inserts at that place.
+    pub fn push_text(&mut self, alloc: Global, place: Place, added: &str) -> Result<(), NoMemory>
+        ensures ok { OnOk result (self.new ≡ self.old ++ spelled_one (op.Text place (chars added.now))) }
+        ensures err { OnErr result (self.new ≡ self.old) }
+    {
+        if self.join_last_text(place, added)? {
+            return Ok(());
+        }
+        let text = Text::from_str(alloc, added)?;
+        self.push(Op::Text { place, text })
+    }
+
+    /// Adds the characters to the text that the last operation inserts at that place, and says whether it does insert text there.
+    fn join_last_text(&mut self, place: Place, added: &str) -> Result<bool, NoMemory>
+        ensures joined { IfOk result (λ r. IsTrue r → self.new ≡ self.old ++ spelled_one (op.Text place (chars added.now))) }
+        ensures kept { IfOk result (λ r. IsFalse r → self.new ≡ self.old) }
+        ensures err { OnErr result (self.new ≡ self.old) }
+    {
+        if let Some(last) = self.list.last_mut() {
+            if last.join_text(place, added)? {
+                return Ok(true);
+            }
+        }
+        Ok(false)
     }
 
     /// The operations as they are kept, a text in one.

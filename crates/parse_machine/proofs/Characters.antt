@@ -1,5 +1,5 @@
 -- A character by the rules of "in body": what its row comes to.
-use Rattle.std.proofs.Common.{◌≡◌, ◌==◌, ℕ, Bool, true, false, List, [], ◌∷◌, reverse, refl, sym, ap, ◌∙◌, suc}
+use Rattle.std.proofs.Common.{◌≡◌, ◌==◌, ℕ, Bool, true, false, List, [], ◌∷◌, ◌++◌, reverse, refl, sym, ap, ◌∙◌, suc}
 use Rattle.std.specs.Prelude.{if◌then◌else◌}
 use Rattle.html_types.specs.declared.token.Tag.{Tag}
 use Rattle.html_types.specs.declared.token.Token.{Token}
@@ -11,11 +11,12 @@ use Rattle.html_types.specs.declared.instruction.Flow.TheVariants.{On, Skip, Lea
 use Rattle.html_types.specs.declared.instruction.Instr.{Instr}
 use Rattle.html_types.specs.declared.instruction.Instr.TheVariants.{Reconstruct, InsertText, NotOk}
 use Rattle.html_types.specs.declared.instruction.Mode.{Mode}
-use Rattle.html_types.specs.declared.instruction.Mode.TheVariants.{InBody}
+use Rattle.html_types.specs.declared.instruction.Mode.TheVariants.{InBody, InCell, InText}
 use Rattle.html_types.specs.declared.instruction.Next.TheVariants as next
 use Rattle.standard.specs.Space.{is_space}
 use Rattle.standard.specs.Formatting.{lost, kept}
-use Rattle.standard.specs.Instructions.{Config, config, on, room, reopen, reopen_all, reconstruct, run, body_text, body_character}
+use Rattle.html_types.specs.declared.operation.Op.TheVariants as op
+use Rattle.standard.specs.Instructions.{Config, config, on, here, room, reopen, reopen_all, reconstruct, run, body_text, body_character}
 use Rattle.standard.specs.RulesBody.{in_body_space, in_body_character}
 use Rattle.standard.specs.Rules.{Answer, answer, answer_of, next_of, by_mode, with_adoption, go_round, round_after, process, rounds, row}
 
@@ -103,3 +104,24 @@ character_in_body c b o x h e =
     let r : Config = body_character c b o in
     let q : Config = reconstruct b o in
     e ∙ sym (one_round 8191 InBody (Character c) b r.open_state o r.ops r.flow (row-runs c b o h) (text-ends c q.open_state q.ops q.flow (rebuilt-ends b o)))
+
+-- the same where the mode is "in cell", whose rules take a character to those of "in body"
+
+in_cell : (n : ℕ) (c : ℕ) (b : Open) (o : List Op) → process (suc (suc n)) InCell (Character c) b o ≡ process (suc n) InBody (Character c) b o
+unfolding process by_mode run row
+in_cell n c b o = refl
+
+pub body_in_cell : (c : ℕ) (b : Open) (o : List Op) → (c == 0) ≡ false → process rounds InCell (Character c) b o ≡ answer_of (body_character c b o)
+body_in_cell c b o h =
+    let r : Config = body_character c b o in
+    let q : Config = reconstruct b o in
+    in_cell 8190 c b o ∙ one_round 8190 InBody (Character c) b r.open_state o r.ops r.flow (row-runs c b o h) (text-ends c q.open_state q.ops q.flow (rebuilt-ends b o))
+
+-- and where it is "text", which only inserts it
+
+text_round : (n : ℕ) (c : ℕ) (b : Open) (o : List Op) → process (suc n) InText (Character c) b o ≡ answer b (o ++ op.Text (here b) (c ∷ []) ∷ []) next.Done
+unfolding process by_mode run row
+text_round n c b o = refl
+
+pub in_text_mode : (c : ℕ) (b : Open) (o : List Op) → process rounds InText (Character c) b o ≡ answer b (o ++ op.Text (here b) (c ∷ []) ∷ []) next.Done
+in_text_mode c b o = text_round 8191 c b o

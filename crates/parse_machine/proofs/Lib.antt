@@ -1,3 +1,5 @@
 pub mod MachineLemmas
 pub mod Rounds
 pub mod Characters
+pub mod Marks
+pub mod Runs

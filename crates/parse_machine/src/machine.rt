@@ -1,17 +1,20 @@
 //! The machine.
 
-ghost use Rattle.std.specs.Prelude.{◌≡◌, ◌↔◌, ◌==◌, ◌≢◌, ◌&&◌, ◌<◌, [], ◌∷◌, Bool, length, if◌then◌else◌, IfOk, IfSome, IsTrue};
+ghost use Rattle.std.specs.Prelude.{◌≡◌, ◌↔◌, ◌==◌, ◌≢◌, ◌&&◌, ◌<◌, ◌≤◌, ◌+◌, ◌++◌, [], ◌∷◌, Bool, length, take, if◌then◌else◌, IfOk, IfSome, IsTrue};
 ghost use Rattle.std.specs.Str.{chars};
 ghost use Rattle.standard.specs.Entities.{Entities};
 ghost use Rattle.standard.specs.Tokenizer.{Reached, read, read_end};
 ghost use Rattle.std.specs.Str.{IsCharBoundary};
 ghost use Rattle.standard.specs.Parser as definition;
 ghost use Rattle.standard.specs.Parser.{new_parser, took, after_ops, build, build_end, take_character, finish as finished, parse, AreSame, after_all};
+ghost use Rattle.builder_state.specs.Texts.{behind_text};
+ghost use Rattle.standard.specs.Instructions.{here, texts};
+ghost use Rattle.parse_machine.specs.Runs.{ArePlain, reads_runs as state_reads_runs, TakesRuns, TakesRun};
 ghost use Rattle.parse_machine.specs.Machine.{WentTo, EndedTo, Builds, BuildsLast, RanAs, stops as stops_at};
 
 use crate::token::construct;
 use builder_state::Builder;
-use char_class::class_of;
+use char_class::{class_of, first_mark};
 use entity_table::Table;
 use html_types::{
     Finish, Name, Next, NoMemory, NodeId, Ops, RawText, Reading, Stop, TextState, TokState, Token,
@@ -301,6 +304,31 @@ fn end_and_build(
     build_last(alloc, tokenizer, builder, ops)
 }
 
+// Whether the state emits characters other than NUL, CR, `&` and `<` as they are, and stays.
+fn reads_runs(state: &TokState) -> bool
+    ensures { result ≡ state_reads_runs state.now }
+{
+    match state {
+        TokState::Text(TextState::Data) => true,
+        TokState::Text(TextState::Raw(raw, _)) => matches!(
+            raw,
+            RawText::Rcdata | RawText::Rawtext | RawText::ScriptData
+        ),
+        _ => false,
+    }
+}
+
+// The characters of a text from a place on, up to the first NUL, CR, `&` or `<`.
+fn plain_run(text: &str, from: usize) -> &str
+    requires { IsCharBoundary text.now from }
+    ensures plain { ArePlain (chars result.now) }
+    ensures boundary { IsCharBoundary text.now (from + length result.now) }
+    ensures front { chars (take (from + length result.now) text.now) ≡ chars (take from text.now) ++ chars result.now }
+{
+    let rest = &text[from..];
+    &rest[..first_mark(rest.as_bytes())]
+}
+
 impl Machine {
     /// The parser at the beginning of a page. Its elements are of that realm. It takes no memory.
     pub fn new(alloc: Global, realm: u64) -> Machine
@@ -345,6 +373,45 @@ impl Machine {
         }
     }
 
+    // Whether characters other than NUL, CR, `&` and `<` are inserted as they are. Where the answer is no, they may be all the same.
+    fn takes_runs(&self) -> bool
+        ensures { IsTrue result → TakesRuns self.now }
+    {
+        reads_runs(self.tokenizer.state()) && !self.after_cr && self.builder.takes_text()
+    }
+
+    // Inserts such characters.
+    fn insert_run(&mut self, alloc: Global, run: &str, ops: &mut Ops) -> Result<(), NoMemory>
+        ensures inserted { IfOk result (λ _. ops.new ≡ ops.old ++ texts (here self.old.open_state) (chars run.now)) }
+        ensures done { IfOk result (λ _. self.new ≡ record self.old { open_state = behind_text (chars run.now) self.old.open_state }) }
+    {
+        self.builder.insert_body_text(alloc, run, ops)
+    }
+
+    // Takes the characters from a place on that are inserted as they are, and gives the place behind them.
+    fn take_run(
+        &mut self,
+        alloc: Global,
+        text: &str,
+        from: usize,
+        ops: &mut Ops,
+    ) -> Result<usize, NoMemory>
+        requires { IsCharBoundary text.now from }
+        ensures onward { IfOk result (λ end. from ≤ end) }
+        ensures boundary { IfOk result (λ end. IsCharBoundary text.now end) }
+        ensures parsed { IfOk result (λ end. TakesRun text.now from end self.old ops.old self.new ops.new) }
+    {
+        if !self.takes_runs() {
+            return Ok(from);
+        }
+        let run = plain_run(text, from);
+        if run.is_empty() {
+            return Ok(from);
+        }
+        self.insert_run(alloc, run, ops)?;
+        Ok(from + run.len())
+    }
+
     /// Takes the characters of a text, up to the first stop, with the named character references of `table`. Operations are added at the end of `ops`.
     /// Where it answers want of memory, the machine and the operations only keep their types.
     pub fn run(
@@ -360,11 +427,11 @@ impl Machine {
     {
         let mut used = 0;
         while let Some((c, behind)) = char_at(text, used) {
-            used = behind;
             let stop = self.take(alloc, table, c, ops)?;
             if stops(stop) {
-                return Ok(Ran { stop, used });
+                return Ok(Ran { stop, used: behind });
             }
+            used = self.take_run(alloc, text, behind, ops)?;
         }
         Ok(Ran {
             stop: Stop::InputEnd,

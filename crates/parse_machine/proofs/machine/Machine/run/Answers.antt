@@ -3,6 +3,7 @@ use Rattle.std.proofs.lemmas.Str.{chars-nil, IsCharBoundary-start}
 use Rattle.html_types.specs.declared.instruction.Stop.TheVariants.{InputEnd}
 use Rattle.standard.specs.Parser.{parse}
 use Rattle.parse_machine.proofs.MachineLemmas.{IsOver, over-nothing, over-goes_on, over-stopped, ran-stopped, ran-through}
+use Rattle.parse_machine.proofs.Runs.{over-both_taken}
 use Rattle.parse_machine.proofs.machine.Machine.run.Goals as goal
 
 pub loop-c-init : goal.loop-c-init
@@ -13,8 +14,10 @@ loop-c-init c = record {
 
 pub loop-c-preserved : goal.loop-c-preserved
 loop-c-preserved c = record {
-  boundary = c.in-Some.ensures.boundary;
-  over = over-goes_on c.args.table.now _ _ _ _ _ _ c.in-Some.c _ _ c.in_ok-stop.stop c.in-Some.ensures.read (sym c.stops.ensures ∙ c.if-stops.false) c.loop-c.invariant.over c.in_ok-stop.ensures;
+  boundary = c.in_ok-used.ensures.boundary;
+  over = over-both_taken c.args.table.now _ _ c.args.text.now c.in-Some.behind c.in_ok-used.used _ _ _ _
+      (over-goes_on c.args.table.now _ _ _ _ _ _ c.in-Some.c _ _ c.in_ok-stop.stop c.in-Some.ensures.read (sym c.stops.ensures ∙ c.if-stops.false) c.loop-c.invariant.over c.in_ok-stop.ensures)
+      c.in_ok-used.ensures.parsed;
 }
 
 pub returns-then-stops-clause-parsed : goal.returns-then-stops-clause-parsed

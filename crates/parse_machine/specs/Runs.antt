@@ -1,0 +1,40 @@
+-- Runs of characters that are parsed at once.
+use Rattle.std.specs.Prelude.{◌≡◌, ℕ, Bool, true, false, List, ◌++◌, length, take}
+use Rattle.std.specs.List.{list_any}
+use Rattle.std.specs.Str.{chars}
+use Rattle.html_types.specs.declared.operation.Op.{Op}
+use Rattle.html_types.specs.declared.instruction.Stop.TheVariants.{InputEnd}
+use Rattle.html_types.specs.declared.state.TokState.{TokState}
+use Rattle.html_types.specs.declared.state.TokState.TheVariants.{Text}
+use Rattle.html_types.specs.declared.state.TextState.TheVariants.{Data, Raw}
+use Rattle.html_types.specs.declared.state.RawText.TheVariants.{Rcdata, Rawtext, ScriptData}
+use Rattle.builder_state.specs.Texts.{TakesText}
+use Rattle.standard.specs.Class.{is_mark}
+use Rattle.standard.specs.Entities.{Entities}
+use Rattle.standard.specs.Parser.{Parser, parse}
+
+-- no NUL, CR, `&` or `<` among them
+abbrev pub ArePlain : List ℕ → Type 0
+ArePlain cs = list_any is_mark cs ≡ false
+
+-- the states that emit such characters as they are, and stay
+abbrev pub reads_runs : TokState → Bool
+reads_runs (Text Data) = true
+reads_runs (Text (Raw Rcdata last)) = true
+reads_runs (Text (Raw Rawtext last)) = true
+reads_runs (Text (Raw ScriptData last)) = true
+reads_runs _ = false
+
+-- The parser inserts such characters as they are.
+pub record TakesRuns (p : Parser) : Type 0 where
+  pub tokenizer : reads_runs p.tokenizer ≡ true
+  pub after_cr : p.after_cr ≡ false
+  pub builder : TakesText p.open_state
+
+-- The characters of the text from one place to another were parsed, and the parser didn't stop.
+pub record TakesRun (text : List ℕ) (from end : ℕ) (was : Parser) (before : List Op) (now : Parser) (after : List Op) : Type 0 where
+  pub run : List ℕ
+  pub added : List Op
+  pub front : chars (take end text) ≡ chars (take from text) ++ run
+  pub ops : after ≡ before ++ added
+  pub parsed : (es : Entities) → parse es was run ≡ record { ops = added; parser = now; used = length run; stop = InputEnd }
