@@ -347,58 +347,17 @@ impl Tree {
         Ok(())
     }
 
-    // Text among the parent's children, before the given one or last, joined to a Text just before it.
-    fn put_text(&mut self, parent: usize, before: Option<usize>, text: &str) -> Result<(), NoMemory>
+    // Text among the parent's children, before the given one or last, joined to a Text just before it; else it becomes a node uncopied.
+    fn put_text(&mut self, parent: usize, before: Option<usize>, text: Text) -> Result<(), NoMemory>
         requires { parent < length self.old }
-        ensures ok { OnOk result (self.new ≡ (let place = place_of (children_of self.old parent) before in text_put self.old parent place (chars text.now) (text_before self.old parent place))) }
+        ensures ok { OnOk result (self.new ≡ (let place = place_of (children_of self.old parent) before in text_put self.old parent place text (text_before self.old parent place))) }
         ensures err { OnErr result (self.new ≡ self.old) }
         ensures keeps { Keeps self.old self.new }
     {
         match self.text_before(parent, before) {
-            Some(previous) => self.append_text(previous, text),
-            None => {
-                let text = Text::from_str(self.alloc, text)?;
-                self.add(parent, before, Kind::Text(text))
-            }
-        }
-    }
-
-    // Text at a place among the parent's children, joined to a Text just before it; else it becomes a node without being copied.
-    fn put_whole_text(&mut self, parent: usize, place: usize, text: Text) -> Result<(), NoMemory>
-        requires parent_here { parent < length self.old }
-        requires place_here { place ≤ length (children_of self.old parent) }
-        ensures ok { OnOk result (self.new ≡ text_put self.old parent place text (text_before self.old parent place)) }
-        ensures err { OnErr result (self.new ≡ self.old) }
-        ensures keeps { Keeps self.old self.new }
-    {
-        match self.text_before(parent, place) {
             Some(previous) => self.append_text(previous, text.as_str()),
-            None => self.insert_new(parent, place, Kind::Text(text)),
+            None => self.add(parent, before, Kind::Text(text)),
         }
-    }
-
-    /// Puts text that is given away among the parent's children, before the given one or last, as `add_text` does.
-    pub fn add_whole_text(
-        &mut self,
-        parent: usize,
-        before: Option<usize>,
-        text: Text,
-    ) -> Result<(), NoMemory>
-        requires { parent < length self.old }
-        ensures ok { OnOk result (self.new ≡ text_added self.old parent (place_of (children_of self.old parent) before) text) }
-        ensures err { OnErr result (self.new ≡ self.old) }
-        ensures keeps { Keeps self.old self.new }
-    {
-        if text.is_empty() {
-            return Ok(());
-        }
-        let takes_none = is_document(&self.nodes[parent].kind);
-        if takes_none {
-            return Ok(());
-        }
-        let place = self.place(parent, before);
-        self.put_whole_text(parent, place, text)?;
-        Ok(())
     }
 
     /// Puts text among the parent's children, before the given one or last. It joins a Text just before it; a Document takes none, and an
@@ -407,10 +366,10 @@ impl Tree {
         &mut self,
         parent: usize,
         before: Option<usize>,
-        text: &str,
+        text: Text,
     ) -> Result<(), NoMemory>
         requires { parent < length self.old }
-        ensures ok { OnOk result (self.new ≡ text_added self.old parent (place_of (children_of self.old parent) before) (chars text.now)) }
+        ensures ok { OnOk result (self.new ≡ text_added self.old parent (place_of (children_of self.old parent) before) text) }
         ensures err { OnErr result (self.new ≡ self.old) }
         ensures keeps { Keeps self.old self.new }
     {

@@ -180,7 +180,7 @@ impl Doc {
         ensures err { OnErr result (self.new ≡ self.old) }
     {
         let spot = self.spot(place);
-        self.tree.add_whole_text(spot.parent, spot.before, text)?;
+        self.tree.add_text(spot.parent, spot.before, text)?;
         Ok(())
     }
 

@@ -18,9 +18,9 @@ returns-clause-ok c =
     let there : IsPlaceBound (is_bound bound) place = subst (λ (x : Doc). IsPlaceBound (is_bound x.bound) place) (sym c.self.view_is) c.requires in
     let parent : spot.parent ≡ (spot_of d place).parent = subst (λ (x : Doc). spot.parent ≡ (spot_of x place).parent) (sym c.self.view_is) c.spot-spot.ensures.parent in
     let before : spot.before ≡ (spot_of d place).before = subst (λ (x : Doc). spot.before ≡ (spot_of x place).before) (sym c.self.view_is) c.spot-spot.ensures.before in
-    let wrote : c.add_whole_text.new.self ≡ text_at t text (spot_of d place) =
-    c.in_ok-add_whole_text.ensures.ok
+    let wrote : c.add_text.new.self ≡ text_at t text (spot_of d place) =
+    c.in_ok-add_text.ensures.ok
     ∙ ap (λ (p : ℕ). text_added t p (place_of (children_of t p) spot.before) text) parent
     ∙ ap (λ (b : Option ℕ). text_added t (spot_of d place).parent (place_of (children_of t (spot_of d place).parent) b) text) before in
     let whole = ap (λ (x : Nodes). let y : Doc = record { tree = x; bound = bound } in y) wrote ∙ sym (run_is bound text t place tree c.self.invariant there) in
-    subst (λ (x : Doc). record { tree = c.add_whole_text.new.self; bound = bound } ≡ acts x (map (λ k. op.Text place (k ∷ [])) text)) c.self.view_is whole
+    subst (λ (x : Doc). record { tree = c.add_text.new.self; bound = bound } ≡ acts x (map (λ k. op.Text place (k ∷ [])) text)) c.self.view_is whole
