@@ -9,7 +9,7 @@ use Rattle.std.proofs.lemmas.Str.{encodes-chars}
 use denote.Enum.Bare.{same_true, true_same}
 use Rattle.html_types.specs.Text.{same_text}
 use Rattle.html_types.specs.Words.{same_word, word_text, words}
-use Rattle.html_types.specs.Names.{word_of, word_among}
+use Rattle.html_types.specs.Names.{known_word, word_among}
 use Rattle.html_types.specs.contracts.word.Word.{the_type}
 use Rattle.html_types.specs.declared.word.Word.{Word}
 use Rattle.html_types.specs.declared.word.Word.TheVariants as word
@@ -28,13 +28,13 @@ encodes_word word.A = refl
 encodes_word _ = refl
 
 -- each word is known by its text
-pub word_known : (w : Word) → word_of (word_text w) ≡ Some w
+pub word_known : (w : Word) → known_word (word_text w) ≡ Some w
 word_known word.A = refl
 word_known _ = refl
 
 -- bytes that are a word's text
-pub word_found : (t : List ℕ) (w : Word) → t ≡ word_text w → word_of (chars t) ≡ Some w
-word_found t w e = ap (λ s. word_of (chars s)) e ∙ ap word_of (chars_word w) ∙ word_known w
+pub word_found : (t : List ℕ) (w : Word) → t ≡ word_text w → known_word (chars t) ≡ Some w
+word_found t w e = ap (λ s. known_word (chars s)) e ∙ ap known_word (chars_word w) ∙ word_known w
 
 other : (a : Bool) (w : Word) (o : Option Word) → (a ≡ true → ⊥) → o ≡ None → cond a (Some w) o ≡ None
 other true w o not e = absurd (not refl)
@@ -45,7 +45,7 @@ none_among [] t not = refl
 none_among (w ∷ ws) t not = other (same_text t (word_text w)) w (word_among ws t) (λ e. not w ((bytes_decides t (word_text w)).0 e)) (none_among ws t not)
 
 -- bytes that are no word's text
-pub no_word : (t : List ℕ) → IsUtf8 t → ((w : Word) → t ≡ word_text w → ⊥) → word_of (chars t) ≡ None
+pub no_word : (t : List ℕ) → IsUtf8 t → ((w : Word) → t ≡ word_text w → ⊥) → known_word (chars t) ≡ None
 no_word t u not = none_among words (chars t) (λ w e. not w (sym (encodes-chars t u) ∙ ap encodes e ∙ encodes_word w))
 
 has_letter : (w : Word) → is_some (slice_get (word_text w) 0) ≡ true
@@ -53,7 +53,7 @@ has_letter word.A = refl
 has_letter _ = refl
 
 -- no bytes are no word's text
-pub empty_no_word : (t : List ℕ) → IsUtf8 t → None ≡ slice_get t 0 → word_of (chars t) ≡ None
+pub empty_no_word : (t : List ℕ) → IsUtf8 t → None ≡ slice_get t 0 → known_word (chars t) ≡ None
 empty_no_word t u first = no_word t u (λ w e. true≢false (sym (has_letter w) ∙ ap (λ s. is_some (slice_get s 0)) (sym e) ∙ ap is_some (sym first)))
 
 second : (a b : Bool) → (a || b) ≡ true → (a ≡ true → ⊥) → b ≡ true

@@ -13,8 +13,8 @@ word_among [] t = None
 word_among (w ∷ ws) t = if same_text t (word_text w) then Some w else word_among ws t
 
 -- the word that is written so
-abbrev pub word_of : List ℕ → Option Word
-word_of = word_among words
+abbrev pub known_word : List ℕ → Option Word
+known_word = word_among words
 
 -- These have all words that begin with the letter.
 abbrev pub HasAllFrom : ℕ → List Word → Type 0
@@ -27,7 +27,7 @@ name_from None t = Other t
 
 -- the name that is written so
 abbrev pub name_of : List ℕ → Name
-name_of t = name_from (word_of t) t
+name_of t = name_from (known_word t) t
 
 -- Each word is known by its text.
 abbrev pub NamesAreKnown : Type 0

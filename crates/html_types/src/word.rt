@@ -2,7 +2,7 @@
 
 ghost use Rattle.std.specs.Prelude.{◌≡◌, ◌↔◌, IsTrue};
 ghost use Rattle.std.specs.Str.{chars};
-ghost use Rattle.html_types.specs.Names.{word_of, HasAllFrom};
+ghost use Rattle.html_types.specs.Names.{known_word, HasAllFrom};
 ghost use Rattle.html_types.specs.Words.{word_text, same_word};
 
 /// A name that the rules speak of.
@@ -248,7 +248,7 @@ impl Word {
 
     /// The word that is written so.
     pub fn find(text: &str) -> Option<Word>
-        ensures { result ≡ word_of (chars text.now) }
+        ensures { result ≡ known_word (chars text.now) }
     {
         let Some(letter) = text.as_bytes().first() else {
             return None;
