@@ -10,6 +10,7 @@ pub mod instruction;
 pub mod mark_state;
 pub mod memory;
 pub mod name;
+mod name_index;
 pub mod open;
 pub mod operation;
 pub mod reference_state;
