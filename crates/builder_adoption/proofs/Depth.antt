@@ -4,7 +4,7 @@ use Rattle.html_types.specs.declared.word.Word.{Word}
 use Rattle.html_types.specs.declared.operation.Op.{Op}
 use Rattle.html_types.specs.declared.open.Open.{Open}
 use Rattle.standard.specs.Adoption.{adopted, adopt}
-use Rattle.standard.proofs.AdoptionDepth.{adopt_depth}
+use Rattle.rule_laws.proofs.AdoptionDepth.{adopt_depth}
 
 pub adopted_depth : (w : Word) (b b' : Open) (o o' : List Op) (v : Bool) → adopted b' o' v ≡ adopt w b o → length b'.stack ≤ length b.stack
 adopted_depth w b b' o o' v e =

@@ -12,7 +12,7 @@ use Rattle.standard.specs.Scripts.{Fetched}
 use Rattle.standard.specs.Scripts as fetched
 use Rattle.standard.specs.Serial.{Outcome, finished}
 use Rattle.standard.specs.Output.{output_with}
-use Rattle.standard.proofs.Fuel.{one_outcome}
+use Rattle.standard_laws.proofs.Fuel.{one_outcome}
 use Rattle.page_runner.specs.declared.command.TheConstants.{ENTITIES_LIMIT}
 use Rattle.page_runner.specs.declared.status.Status.{Status}
 use Rattle.page_runner.specs.declared.status.Status.TheVariants as status

@@ -18,9 +18,9 @@ use Rattle.standard.specs.Prepare.{Prepared, still, inline, external}
 use Rattle.standard.specs.Scripts.{Fetched, got, missing, faulted, is_lawful, file_statements}
 use Rattle.standard.specs.Statements.{statements}
 use Rattle.standard.specs.Serial.{World, fetched_if, fetched, Serial, Outcome, refused, Flow, goes, refuses, starved, ◌then◌, Advanced, advanced, advance, before_point, moved, insert, tree_of, inside, back_at, remove, read, one_more_executed, write_limit, prepared, execute, run_statements, on_element, write, go_on, stopped, end_of_script, run_prepared, run_text, Moment, reading, tag_ended, awaits, over, at_end, after_character, unless_pending, after_script, after_fetch, read_next, moment_after, moments_on, first}
-use Rattle.standard.specs.Laws.{outcome_at}
-use Rattle.standard.proofs.Fuel.{serial-over}
-use Rattle.standard.proofs.Passing.{finished-at}
+use Rattle.standard_laws.specs.Laws.{outcome_at}
+use Rattle.standard_laws.proofs.Fuel.{serial-over}
+use Rattle.standard_laws.proofs.Passing.{finished-at}
 use Rattle.page_runner.specs.declared.page.TheConstants.{PAGE_LIMIT}
 use Rattle.page_runner.specs.Pages.{PageRead, page_at, ComesTo}
 

@@ -11,10 +11,10 @@ use Rattle.html_types.specs.declared.instruction.Finish.TheVariants as finale
 use Rattle.standard.specs.Entities.{Entities}
 use Rattle.standard.specs.Page.{text_of, ending_of, shown}
 use Rattle.standard.specs.Serial.{World, Serial, Outcome, refusal, Moment, reading, over, ended, Leads, Passes}
-use Rattle.standard.specs.Laws.{HasFinished, lines_of, outcome_at}
+use Rattle.standard_laws.specs.Laws.{HasFinished, lines_of, outcome_at}
 use Rattle.standard.specs.Output.{line_text, result_with}
-use Rattle.standard.proofs.Passing.{leads-same, leads-end, leads-finish, passes-over}
-use Rattle.standard.proofs.Lines.{passed-output_with}
+use Rattle.standard_laws.proofs.Passing.{leads-same, leads-end, leads-finish, passes-over}
+use Rattle.standard_laws.proofs.Lines.{passed-output_with}
 use Rattle.utf8_pieces.proofs.PageLaws.{text_of-nil, text_of-extends, shown-stays}
 use Rattle.write_parser.specs.Writing.{View, first_view, serial_of, Finishes}
 use Rattle.page_runner.specs.declared.page.TheConstants.{PAGE_LIMIT}

@@ -14,7 +14,7 @@ use Rattle.standard.specs.Scripts.{Fetched, is_lawful}
 use Rattle.standard.specs.Scripts as fetched
 use Rattle.standard.specs.Serial.{World, Result, finished, refused}
 use Rattle.standard.specs.Output.{line_text, result_with, output_with}
-use Rattle.standard.proofs.Total.{has_outcome}
+use Rattle.standard_laws.proofs.Total.{has_outcome}
 use Rattle.write_parser.specs.Writing.{View}
 use Rattle.page_runner.specs.declared.command.TheConstants.{ENTITIES_LIMIT}
 use Rattle.page_runner.specs.declared.page.TheConstants.{PAGE_LIMIT}

@@ -20,10 +20,10 @@ use Rattle.standard.specs.Parser.{Parser}
 use Rattle.standard.specs.Scripts.{Fetched, got, missing, faulted, is_lawful, file_statements}
 use Rattle.standard.specs.Statements.{statements}
 use Rattle.standard.specs.Serial.{World, fetched_if, fetched, Serial, Flow, goes, refuses, awaiting, run_text, Moment, reading, tag_ended, awaits, over, behind_script, refusal, Leads}
-use Rattle.standard.specs.Laws.{HasParsed, FileComesTo, moment_at, lines_of}
+use Rattle.standard_laws.specs.Laws.{HasParsed, FileComesTo, moment_at, lines_of}
 use Rattle.standard.specs.Output.{line_text}
-use Rattle.standard.proofs.Passing.{leads-batch, parse-left}
-use Rattle.standard.proofs.Scripts.{awaits-missing, awaits-fault, awaits-got, awaits-refuses}
+use Rattle.standard_laws.proofs.Passing.{leads-batch, parse-left}
+use Rattle.standard_laws.proofs.Scripts.{awaits-missing, awaits-fault, awaits-got, awaits-refuses}
 use Rattle.parse_machine.specs.declared.machine.Ran.{Ran}
 use Rattle.write_parser.specs.declared.left.Left.{Left}
 use Rattle.write_parser.specs.declared.left.Left.TheVariants as left

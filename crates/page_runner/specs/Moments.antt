@@ -9,7 +9,7 @@ use Rattle.html_types.specs.declared.instruction.Stop.{Stop}
 use Rattle.html_types.specs.declared.instruction.Stop.TheVariants as stop
 use Rattle.standard.specs.Entities.{Entities}
 use Rattle.standard.specs.Serial.{World, Serial, Moment, reading, over, refusal, Leads}
-use Rattle.standard.specs.Laws.{lines_of}
+use Rattle.standard_laws.specs.Laws.{lines_of}
 use Rattle.standard.specs.Output.{line_text}
 use Rattle.write_parser.specs.declared.left.Left.{Left}
 use Rattle.write_parser.specs.declared.left.Left.TheVariants as left

@@ -3,7 +3,7 @@ ghost use Rattle.std.specs.Prelude.{◌≡◌, ◌<◌, ◌≤◌, [], None, Som
 ghost use Rattle.std.specs.Str.{chars};
 ghost use Rattle.std.specs.String.{string_bytes};
 ghost use Rattle.standard.specs.Act.{is_bound};
-ghost use Rattle.standard.specs.Naming.{IsStopBound};
+ghost use Rattle.rule_laws.specs.Naming.{IsStopBound};
 ghost use Rattle.standard.specs.Output.{line_text};
 ghost use Rattle.outside.specs.Outside.{Rose, seen, KeepsOthers};
 ghost use Rattle.write_parser.specs.Writing.{first_view, Stands, AtTag, Finishes, why_of, left_to_do};

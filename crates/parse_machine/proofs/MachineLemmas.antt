@@ -24,11 +24,11 @@ use Rattle.html_types.specs.declared.class.Class.{Class}
 use Rattle.standard.specs.Class.{class_of}
 use Rattle.standard.specs.Step.{emit}
 use Rattle.standard.specs.Tokenizer.{Reached, after_tokens, row, read, read_end}
-use Rattle.standard.proofs.SettleLemmas.{reading-emit}
+use Rattle.tokenizer_laws.proofs.SettleLemmas.{reading-emit}
 use Rattle.standard.specs.Parser.{Parser, parser, read_as, Took, took, after_ops, build_on, build, built, take_character, finish, Finished, after_all, build_end_on, build_end, Parsed, and_rest, parse}
-use Rattle.standard.specs.Laws.{joined, unless_stopped}
-use Rattle.standard.proofs.Framing.{construct-framed}
-use Rattle.standard.proofs.Parse.{parse-append}
+use Rattle.standard_laws.specs.Laws.{joined, unless_stopped}
+use Rattle.rule_laws.proofs.Framing.{construct-framed}
+use Rattle.standard_laws.proofs.Parse.{parse-append}
 use Rattle.parse_machine.specs.Machine.{WentTo, EndedTo, finished_as, stops, RanAs}
 use Rattle.parse_machine.specs.declared.machine.Went.{Went}
 use Rattle.parse_machine.specs.declared.machine.Went.TheVariants as went

@@ -34,7 +34,7 @@ use Rattle.standard.specs.Instructions.{Config, config, on, room, here, made, pu
 use Rattle.standard.specs.Adoption.{Adopted, adopt}
 use Rattle.standard.specs.RulesBody.{after_adopt}
 use Rattle.standard.specs.Rules.{Answer, answer, adopting, with_adoption, row, by_mode, process, rounds, go_round, round_after, next_of, is_line_feed, settled_answer, construct}
-use Rattle.standard.proofs.AdoptionDepth.{adopt_depth}
+use Rattle.rule_laws.proofs.AdoptionDepth.{adopt_depth}
 use Rattle.rule_laws.specs.Depth.{IsShallow, TokensStayShallow, RoundsStayShallow, OpeningIsShallow}
 use Rattle.rule_laws.proofs.Counts.{count, all, count-all, pop-fewer, until-fewer, pop_to-fewer, implied-fewer}
 use Rattle.rule_laws.proofs.Readings.{Small}

@@ -1,3 +1,19 @@
+pub mod AdoptionFraming
+pub mod Framing
+pub mod FreshnessWalks
+pub mod FreshnessOps
+pub mod AdoptionFreshness
+pub mod AdoptionDepth
+pub mod Freshness
+pub mod FreshnessTexts
+pub mod FreshnessDocs
+pub mod RenamingWalks
+pub mod AdoptionGrowth
+pub mod RenamingGrowth
+pub mod AdoptionRenaming
+pub mod PlainRows
+pub mod Renaming
+pub mod RenamingTexts
 mod Counts
 mod Readings
 mod Calm

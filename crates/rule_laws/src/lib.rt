@@ -1,6 +1,13 @@
-//! Laws of the rules of tree construction (13.2.6): what holds of all rows together.
+//! Laws of the rules of tree construction (13.2.6): what holds of all rows together. Each stands on a function that does nothing, so that a
+//! contract names it.
 #![tactic(auto)]
 
+ghost use Rattle.rule_laws.specs.Naming.{AreFresh, CameBefore};
+ghost use Rattle.rule_laws.specs.NamingLaws.{RowsAppend, RulesAppend, RoundsAppend, TokensAppend, FosteringEnds};
+ghost use Rattle.rule_laws.specs.NamingLaws.{TokensStayBound, CharactersStayBound, EndsStayBound, TextsStayBound};
+ghost use Rattle.rule_laws.specs.NamingLaws.{ActsBind, NewDocServes, DocsServeTexts, DocsServeEnds};
+ghost use Rattle.rule_laws.specs.NamingLaws.{RowsRename, TokensRename, CharactersRename, EndsRename, TextsRename, LaterRenames};
+ghost use Rattle.rule_laws.specs.NamingLaws.{TokensGrow, CharactersGrow, EndsGrow, TextsGrow};
 ghost use Rattle.rule_laws.specs.Depth.{TokensStayShallow, RoundsStayShallow, OpeningIsShallow};
 ghost use Rattle.rule_laws.specs.Rounds.{RoundsSuffice, RoundsAnswer};
 
@@ -17,4 +24,63 @@ pub fn few_elements_are_open()
     ensures opening { OpeningIsShallow }
     ensures rounds { RoundsStayShallow }
     ensures tokens { TokensStayShallow }
+{}
+
+/// Operations are only appended (13.2.6): what is asked for doesn't depend on what was asked for before.
+pub fn appends_operations()
+    ensures rows { RowsAppend }
+    ensures rules { RulesAppend }
+    ensures rounds { RoundsAppend }
+    ensures tokens { TokensAppend }
+{}
+
+/// Foster parenting (13.2.6.1) is off behind a token, whatever turned it on.
+pub fn fostering_ends()
+    ensures { FosteringEnds }
+{}
+
+/// Operations name ids that are bound, and elements are made under ids that aren't, where the ids that the open state holds
+/// are bound and those that it is to give aren't; and so it stays.
+pub fn operations_are_bound()
+    ensures tokens { TokensStayBound AreFresh }
+    ensures characters { CharactersStayBound AreFresh }
+    ensures ends { EndsStayBound AreFresh }
+    ensures texts { TextsStayBound AreFresh }
+{}
+
+/// The same where no other realm has bound ids: those that are bound came before the next one.
+pub fn ids_come_in_order()
+    ensures tokens { TokensStayBound CameBefore }
+    ensures characters { CharactersStayBound CameBefore }
+    ensures ends { EndsStayBound CameBefore }
+    ensures texts { TextsStayBound CameBefore }
+{}
+
+/// The same of a document on which the operations are executed.
+pub fn documents_serve()
+    ensures binds { ActsBind }
+    ensures begins { NewDocServes AreFresh }
+    ensures begins_alone { NewDocServes CameBefore }
+    ensures texts { DocsServeTexts AreFresh }
+    ensures texts_alone { DocsServeTexts CameBefore }
+    ensures ends { DocsServeEnds AreFresh }
+    ensures ends_alone { DocsServeEnds CameBefore }
+{}
+
+/// Which ids the elements have makes no difference: under other ids, where those to come stay in order, all is the same.
+pub fn renames()
+    ensures rows { RowsRename }
+    ensures tokens { TokensRename }
+    ensures characters { CharactersRename }
+    ensures ends { EndsRename }
+    ensures texts { TextsRename }
+    ensures later { LaterRenames }
+{}
+
+/// The next id is never an earlier one.
+pub fn ids_grow()
+    ensures tokens { TokensGrow }
+    ensures characters { CharactersGrow }
+    ensures ends { EndsGrow }
+    ensures texts { TextsGrow }
 {}

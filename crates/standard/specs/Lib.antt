@@ -9,7 +9,6 @@ pub mod DoctypeStates
 pub mod MarkStates
 pub mod ReferenceStates
 pub mod Tokenizer
-pub mod TokenizerLaws
 pub mod Space
 pub mod Rows
 pub mod Groups
@@ -35,7 +34,3 @@ pub mod Scripts
 pub mod Parser
 pub mod Serial
 pub mod Output
-pub mod Laws
-pub mod Frames
-pub mod Naming
-pub mod NamingLaws

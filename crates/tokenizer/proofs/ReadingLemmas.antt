@@ -8,7 +8,7 @@ use Rattle.char_class.specs.declared.next.Next.{Next}
 use Rattle.char_class.specs.Steps.{Follows}
 use Rattle.standard.specs.Entities.{Entities}
 use Rattle.standard.specs.Tokenizer.{Reached, row, settle}
-use Rattle.standard.proofs.SettleLemmas.{settle-again, settle-done}
+use Rattle.tokenizer_laws.proofs.SettleLemmas.{settle-again, settle-done}
 use Rattle.tokenizer.specs.Adds.{Adds}
 
 -- the code did a row, and is done

@@ -2,7 +2,6 @@
 #![tactic(auto)]
 
 mod discard;
-pub mod laws;
 pub mod reading;
 pub mod run;
 

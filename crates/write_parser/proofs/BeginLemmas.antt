@@ -9,13 +9,13 @@ use Rattle.standard.specs.Tree.{Nodes, kind_of, attributes_of, attribute, is_con
 use Rattle.standard.specs.Prepare.{Prepared, still, inline, external, has, may_run, prepared_by, prepared_with, prepare}
 use Rattle.standard.specs.Statements.{statements}
 use Rattle.standard.specs.Serial.{World, Flow}
-use Rattle.standard.specs.Frames.{Frame, NestComesTo, TextComesTo}
+use Rattle.standard_laws.specs.Frames.{Frame, NestComesTo, TextComesTo}
 use Rattle.op_exec.specs.Scripts.{script_kind}
 use Rattle.op_exec.specs.declared.script.ScriptKind.TheVariants.{Still, Inline, External}
 use Rattle.write_parser.specs.declared.nesting.Begun.{Begun}
 use Rattle.write_parser.specs.declared.live.Live.{Live}
 use Rattle.write_parser.specs.Steps.{nest_of, Begins, Prepares}
-use Rattle.standard.proofs.Frames.{still-tag, external-tag, inline-tag, outside-text, text-begins}
+use Rattle.standard_laws.proofs.Frames.{still-tag, external-tag, inline-tag, outside-text, text-begins}
 
 -- ---- by its text
 

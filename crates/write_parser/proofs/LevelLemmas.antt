@@ -10,9 +10,9 @@ use Rattle.standard.specs.Entities.{Entities}
 use Rattle.standard.specs.Act.{Doc}
 use Rattle.standard.specs.Parser.{Parser}
 use Rattle.standard.specs.Statements.{statements}
-use Rattle.standard.specs.Laws.{HasParsed, moment_at}
+use Rattle.standard_laws.specs.Laws.{HasParsed, moment_at}
 use Rattle.standard.specs.Serial.{World, Flow, goes, refuses, awaiting, run_text, Moment, reading, tag_ended, over, refusal, taken, unless_pending, behind_script, Leads}
-use Rattle.standard.specs.Frames.{rests, state_of, NestComesTo, TagComesTo, TextComesTo}
+use Rattle.standard_laws.specs.Frames.{rests, state_of, NestComesTo, TagComesTo, TextComesTo}
 use Rattle.write_parser.specs.declared.left.Limit.{Limit}
 use Rattle.write_parser.specs.declared.left.Limit.TheVariants as limit
 use Rattle.write_parser.specs.declared.nesting.Begun.{Begun}
@@ -20,9 +20,9 @@ use Rattle.write_parser.specs.declared.live.Live.{Live}
 use Rattle.write_parser.specs.Parsing.{RestParsed}
 use Rattle.write_parser.specs.Writing.{View, why_of, serial_of, moment_by, moment_of, StandsBy, Stands, AtTag, LeadsTo, ComesBy, Runs, scripts_awaited}
 use Rattle.write_parser.specs.Steps.{IsGoing, halted_of, view_of, with_begun, nest_of, ThenBy, Then, weight, Moves, WroteNothing, Begins, Prepares, Keeps, Continues, EndsTag, awaits_none, RunsText, FeedsOn, StaysAt}
-use Rattle.standard.proofs.Passing.{parse-left, leads-batch}
-use Rattle.standard.proofs.Scripts.{script-leads, script-refuses}
-use Rattle.standard.proofs.Frames.{frames-end, scripts-enter}
+use Rattle.standard_laws.proofs.Passing.{parse-left, leads-batch}
+use Rattle.standard_laws.proofs.Scripts.{script-leads, script-refuses}
+use Rattle.standard_laws.proofs.Frames.{frames-end, scripts-enter}
 use Rattle.write_parser.proofs.NestingLemmas.{awaited-one}
 
 -- ---- a script that was begun, and all behind it

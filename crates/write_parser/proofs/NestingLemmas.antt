@@ -10,9 +10,9 @@ use Rattle.html_types.specs.declared.instruction.Stop.TheVariants as stop
 use Rattle.standard.specs.Entities.{Entities}
 use Rattle.standard.specs.Act.{Doc}
 use Rattle.standard.specs.Parser.{Parser}
-use Rattle.standard.specs.Laws.{HasParsed}
+use Rattle.standard_laws.specs.Laws.{HasParsed}
 use Rattle.standard.specs.Serial.{World, Flow, refuses}
-use Rattle.standard.specs.Frames.{Frame, rests, state_of, parsed_to, NestComesTo, Waits}
+use Rattle.standard_laws.specs.Frames.{Frame, rests, state_of, parsed_to, NestComesTo, Waits}
 use Rattle.write_parser.specs.declared.left.Limit.{Limit}
 use Rattle.write_parser.specs.declared.left.Limit.TheVariants as limit
 use Rattle.write_parser.specs.declared.nesting.Begun.{Begun}
@@ -25,8 +25,8 @@ use Rattle.write_parser.specs.declared.live.Turn.TheVariants as turn
 use Rattle.write_parser.specs.Parsing.{IsServed, RestParsed}
 use Rattle.write_parser.specs.Writing.{scripts_awaited}
 use Rattle.write_parser.specs.Steps.{Steps, IsGoing, framed, frame_of, frames_of, nest_of, ThenBy, Then, weight, steps_of, Moves, frames_at, Prepares, Nests, left_by, IsLight, Does, RunsOn, Continues, ParsesOn}
-use Rattle.standard.proofs.Passing.{parse-left}
-use Rattle.standard.proofs.Frames.{frame-ends, rest-ends, rest-stops, rest-refuses}
+use Rattle.standard_laws.proofs.Passing.{parse-left}
+use Rattle.standard_laws.proofs.Frames.{frame-ends, rest-ends, rest-stops, rest-refuses}
 use Rattle.write_parser.proofs.StatementLemmas.{then-on, on-then}
 
 -- ---- one part behind another

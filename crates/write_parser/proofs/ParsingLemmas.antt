@@ -9,11 +9,11 @@ use Rattle.html_types.specs.declared.instruction.Stop.TheVariants as stop
 use Rattle.html_types.specs.declared.instruction.Finish.{Finish}
 use Rattle.standard.specs.Entities.{Entities}
 use Rattle.standard.specs.Act.{Doc, is_bound, acts, AreOpsBound}
-use Rattle.standard.specs.Laws.{HasParsed}
+use Rattle.standard_laws.specs.Laws.{HasParsed}
 use Rattle.standard.specs.Parser.{Parser, Took, took, take_character, Parsed, and_rest, parse, Finished, finish, after_all}
-use Rattle.standard.specs.Naming.{AreFresh}
-use Rattle.standard.proofs.FreshnessTexts.{fresh-follows}
-use Rattle.standard.proofs.FreshnessDocs.{texts-served, ends-served}
+use Rattle.rule_laws.specs.Naming.{AreFresh}
+use Rattle.rule_laws.proofs.FreshnessTexts.{fresh-follows}
+use Rattle.rule_laws.proofs.FreshnessDocs.{texts-served, ends-served}
 use Rattle.parse_machine.specs.declared.machine.Ran.{Ran}
 use Rattle.parse_machine.specs.Machine.{RanAs}
 use Rattle.write_parser.specs.Parsing.{IsServed, TextParsed, RestParsed, EndParsed}

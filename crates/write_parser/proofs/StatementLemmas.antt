@@ -10,14 +10,14 @@ use Rattle.html_types.specs.declared.script.Why.TheVariants as why
 use Rattle.standard.specs.Outer.{outer_text}
 use Rattle.standard.specs.Tree.{find_id, first_element, detached}
 use Rattle.standard.specs.Serial.{World, Flow, refuses, write_limit}
-use Rattle.standard.specs.Frames.{Frame, state_of, NestComesTo, Waits, LacksElement}
+use Rattle.standard_laws.specs.Frames.{Frame, state_of, NestComesTo, Waits, LacksElement}
 use Rattle.write_parser.specs.declared.left.Limit.{Limit}
 use Rattle.write_parser.specs.declared.left.Limit.TheVariants as limit
 use Rattle.write_parser.specs.declared.live.Live.{Live}
 use Rattle.write_parser.specs.declared.live.Did.{Did}
 use Rattle.write_parser.specs.declared.live.Did.TheVariants as did
 use Rattle.write_parser.specs.Steps.{IsGoing, framed, nest_of, ThenBy, Then, HasWritten, HasRemoved, HasRead, DoesMost, Does}
-use Rattle.standard.proofs.Frames.{write-fits, write-refuses, removes, reads_by_id, reads_root, throws}
+use Rattle.standard_laws.proofs.Frames.{write-fits, write-refuses, removes, reads_by_id, reads_root, throws}
 
 -- ---- where the page isn't refused, and where it is
 

@@ -7,8 +7,8 @@ use Rattle.html_types.specs.declared.instruction.Finish.{Finish}
 use Rattle.standard.specs.Entities.{Entities}
 use Rattle.standard.specs.Act.{Doc, is_bound}
 use Rattle.standard.specs.Parser.{Parser}
-use Rattle.standard.specs.Naming.{Serves, AreFresh, IsStopBound}
-use Rattle.standard.specs.Laws.{HasParsed, HasFinished}
+use Rattle.rule_laws.specs.Naming.{Serves, AreFresh, IsStopBound}
+use Rattle.standard_laws.specs.Laws.{HasParsed, HasFinished}
 use Rattle.parse_machine.specs.declared.machine.Ran.{Ran}
 
 -- The ids that the parser holds are bound in the document, and those that it is to give aren't.

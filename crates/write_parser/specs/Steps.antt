@@ -11,7 +11,7 @@ use Rattle.standard.specs.Tree.{detached}
 use Rattle.standard.specs.Outer.{outer_text}
 use Rattle.standard.specs.Statements.{statements}
 use Rattle.standard.specs.Serial.{World, Flow, write_limit}
-use Rattle.standard.specs.Frames.{Frame, Nest, rests, NestComesTo, TagComesTo, TextComesTo, Waits, LacksElement}
+use Rattle.standard_laws.specs.Frames.{Frame, Nest, rests, NestComesTo, TagComesTo, TextComesTo, Waits, LacksElement}
 use Rattle.write_parser.specs.declared.left.Limit.{Limit}
 use Rattle.write_parser.specs.declared.left.Limit.TheVariants as limit
 use Rattle.write_parser.specs.declared.nesting.Begun.{Begun}

@@ -13,9 +13,9 @@ use Rattle.html_types.specs.declared.instruction.Finish.{Finish}
 use Rattle.standard.specs.Entities.{Entities}
 use Rattle.standard.specs.Act.{Doc, new_doc, is_bound}
 use Rattle.standard.specs.Parser.{Parser, new_parser}
-use Rattle.standard.specs.Naming.{IsStopBound}
+use Rattle.rule_laws.specs.Naming.{IsStopBound}
 use Rattle.standard.specs.Serial.{World, Serial, Flow, goes, refuses, awaiting, run_text, write_limit, Moment, reading, tag_ended, awaits, over, refusal, Leads}
-use Rattle.standard.specs.Laws.{HasParsed, HasFinished}
+use Rattle.standard_laws.specs.Laws.{HasParsed, HasFinished}
 use Rattle.parse_machine.specs.declared.machine.Ran.{Ran}
 use Rattle.write_parser.specs.declared.left.Limit.{Limit}
 use Rattle.write_parser.specs.declared.left.Limit.TheVariants as limit

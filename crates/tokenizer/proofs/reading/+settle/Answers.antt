@@ -1,5 +1,5 @@
 use Rattle.std.proofs.Common.{refl, sym, append-nil, arith}
-use Rattle.standard.proofs.SettleLemmas.{settle-none}
+use Rattle.tokenizer_laws.proofs.SettleLemmas.{settle-none}
 use Rattle.tokenizer.proofs.ReadingLemmas.{Adds-from_last, IfOk-from_more}
 use Rattle.tokenizer.proofs.reading.+settle.Goals as goal
 

@@ -1,7 +1,7 @@
 use Rattle.std.proofs.Common.{◌∙◌, sym, ap, append-nil, [], List}
 use Rattle.html_types.specs.declared.token.Token.{Token}
 use Rattle.standard.specs.Tokenizer.{Reached, after_tokens}
-use Rattle.standard.proofs.SettleLemmas.{reading-emit}
+use Rattle.tokenizer_laws.proofs.SettleLemmas.{reading-emit}
 use Rattle.tokenizer.proofs.run.Tokenizer.read_class.Goals as goal
 
 pub returns-then-branch : goal.returns-then-branch

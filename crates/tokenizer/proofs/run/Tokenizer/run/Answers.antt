@@ -2,7 +2,7 @@ use Rattle.std.proofs.Common.{◌∙◌, List, sym, ap}
 use Rattle.std.proofs.lemmas.Str.{IsCharBoundary-start}
 use Rattle.html_types.specs.declared.token.Token.{Token}
 use Rattle.standard.specs.Tokenizer.{Reached}
-use Rattle.standard.proofs.FeedLemmas.{onward-none, onward-read, onward-plain, onward-before, no_last}
+use Rattle.tokenizer_laws.proofs.FeedLemmas.{onward-none, onward-read, onward-plain, onward-before, no_last}
 use Rattle.tokenizer.proofs.run.Tokenizer.run.Goals as goal
 
 pub returns-in-Some-clause-boundary : goal.returns-in-Some-clause-boundary

@@ -1,8 +1,0 @@
-use Rattle.standard.proofs.Frames.{outside-text, text-begins}
-use Rattle.standard.proofs.nested_text_begins.Goals as goal
-
-pub returns-clause-outside : goal.returns-clause-outside
-returns-clause-outside c = outside-text
-
-pub returns-clause-begins : goal.returns-clause-begins
-returns-clause-begins c = text-begins

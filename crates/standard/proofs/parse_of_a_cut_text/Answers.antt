@@ -1,5 +1,0 @@
-use Rattle.standard.proofs.Parse.{parse-append}
-use Rattle.standard.proofs.parse_of_a_cut_text.Goals as goal
-
-pub returns : goal.returns
-returns c = parse-append

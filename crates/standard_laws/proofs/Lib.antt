@@ -1,0 +1,9 @@
+pub mod Fuel
+pub mod Total
+pub mod Parse
+pub mod Batch
+pub mod Passing
+pub mod Scripts
+pub mod Frames
+pub mod Kept
+pub mod Lines

@@ -1,0 +1,26 @@
+use Rattle.standard_laws.proofs.Frames.{write-fits, write-refuses, removes, reads_by_id, reads_root, throws, frame-ends, frames-end}
+use Rattle.standard_laws.proofs.statements_run.Goals as goal
+
+pub returns-clause-write : goal.returns-clause-write
+returns-clause-write c = write-fits
+
+pub returns-clause-long : goal.returns-clause-long
+returns-clause-long c = write-refuses
+
+pub returns-clause-remove : goal.returns-clause-remove
+returns-clause-remove c = removes
+
+pub returns-clause-read : goal.returns-clause-read
+returns-clause-read c = reads_by_id
+
+pub returns-clause-read_root : goal.returns-clause-read_root
+returns-clause-read_root c = reads_root
+
+pub returns-clause-throw : goal.returns-clause-throw
+returns-clause-throw c = throws
+
+pub returns-clause-end : goal.returns-clause-end
+returns-clause-end c = frame-ends
+
+pub returns-clause-last : goal.returns-clause-last
+returns-clause-last c = frames-end
