@@ -1,7 +1,7 @@
 //! The rows of "in body" for start tags (13.2.6.4.7).
 
 ghost use Rattle.std.specs.Prelude.{◌≡◌};
-ghost use Rattle.standard.specs.Rules.{known_start_row};
+ghost use Rattle.standard.specs.Rules.{start_row};
 
 use html_types::instruction::Instr::*;
 use html_types::instruction::Test::*;
@@ -13,7 +13,7 @@ use html_types::{Group, Instr, Mode, Reading, Scope, Word};
 const CLOSE_P: Instr = Close(Scope::Button, The(P));
 
 pub fn start(word: Word) -> &'static [Instr]
-    ensures { result.now ≡ known_start_row Mode.InBody word }
+    ensures { result.now ≡ start_row Mode.InBody (Name.Known word) }
 {
     match word {
         Html => &[Forbid(OnStack(The(Template))), AddToFirst],

@@ -1,7 +1,7 @@
 //! The rows of "after head" (13.2.6.4.6).
 
 ghost use Rattle.std.specs.Prelude.{◌≡◌};
-ghost use Rattle.standard.specs.Rules.{row, known_start_row, known_end_row};
+ghost use Rattle.standard.specs.Rules.{row, start_row, end_row};
 
 use builder_state::is_space;
 use html_types::instruction::Instr::*;
@@ -45,7 +45,7 @@ pub fn after_head(token: &Token) -> &'static [Instr]
 
 // What goes into the head is pushed on its node, which leaves the stack at once.
 fn start(word: Word) -> &'static [Instr]
-    ensures { result.now ≡ known_start_row Mode.AfterHead word }
+    ensures { result.now ≡ start_row Mode.AfterHead (Name.Known word) }
 {
     match word {
         Html => &[Using(Mode::InBody)],
@@ -91,7 +91,7 @@ fn start(word: Word) -> &'static [Instr]
 }
 
 fn end(word: Word) -> &'static [Instr]
-    ensures { result.now ≡ known_end_row Mode.AfterHead word }
+    ensures { result.now ≡ end_row Mode.AfterHead (Name.Known word) }
 {
     match word {
         Template => &[Using(Mode::InHead)],

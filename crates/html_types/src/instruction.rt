@@ -113,7 +113,7 @@ pub enum Test {
     InTemplates,
     /// The mode is "in table", "in caption", "in table body", "in row" or "in cell".
     InTables,
-    /// The current node is an option right above an optgroup.
+    /// The current node is an option right below an optgroup.
     OptionInOptgroup,
 }
 

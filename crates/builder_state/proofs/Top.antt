@@ -1,4 +1,4 @@
--- The bottom of a stack, also of one that is written with the current node last.
+-- The top of a stack (13.2.4.2: html stands there), also of one that is written with the current node last.
 use Rattle.std.proofs.Common.{◌≡◌, ◌∙◌, ◌<◌, refl, ap, List, [], ◌∷◌, ◌++◌, length, reverse, Some, None, arith}
 use Rattle.std.proofs.lemmas.List.{reverse-append}
 use Rattle.html_types.specs.declared.open.OpenElement.{OpenElement}
