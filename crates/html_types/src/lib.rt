@@ -25,7 +25,7 @@ pub use attributes::{Attribute, Attributes};
 pub use children::Children;
 pub use class::Class;
 pub use instruction::{
-    Finish, Flow, Group, Instr, Mode, Next, Reading, Scope, Stop, Test, Then, Turn, Who,
+    Finish, Flow, Group, Instr, Mode, Next, Scope, Stop, Test, Then, TokenizerSwitch, Turn, Who,
 };
 pub use mark_state::{CommentState, DoctypeState, MarkState};
 pub use memory::NoMemory;
