@@ -2,7 +2,7 @@
 use Rattle.std.proofs.Common.{◌≡◌, ℕ, List, [], ◌∷◌, ◌++◌, Bool, true, false, cond, Option, Some, None, subst, take, drop, length, append_assoc, ◌||◌, if◌then◌else◌, String, string_bytes, refl, sym, ap, ◌∙◌}
 use Rattle.std.specs.List.{list_any}
 use Rattle.std.specs.Global.{Global, Box}
-use Rattle.std.specs.Str.{chars, IsUtf8, bytes_eq}
+use Rattle.std.specs.Str.{chars, bytes_eq}
 use Rattle.std.specs.String.{string_cmp}
 use Rattle.std.specs.Ordering.{nat_cmp}
 use Rattle.std.specs.Cmp.Lexicographic.{slice_cmp}
@@ -76,6 +76,6 @@ missing_behind as' bs' b front = by_name (has_name b.name bs')
     by_name : (has : Bool) → take (length as') (if has then bs' else bs' ++ b ∷ []) ≡ as'
     by_name true = front
     by_name false =
-      let n = length as' in
-      ap (take n) (ap (λ (l : List Attribute). l ++ b ∷ []) (sym (take-append-drop n bs') ∙ ap (λ (l : List Attribute). l ++ drop n bs') front) ∙ append_assoc as' (drop n bs') (b ∷ []))
-      ∙ take_at as' (drop n bs' ++ b ∷ []) n refl
+        let n = length as' in
+        ap (take n) (ap (λ (l : List Attribute). l ++ b ∷ []) (sym (take-append-drop n bs') ∙ ap (λ (l : List Attribute). l ++ drop n bs') front) ∙ append_assoc as' (drop n bs') (b ∷ []))
+        ∙ take_at as' (drop n bs' ++ b ∷ []) n refl

@@ -1,7 +1,7 @@
 use Rattle.std.proofs.Common.{◌≡◌, ◌+◌, ◌++◌, ◌∷◌, [], take, sym, ap, ◌∙◌}
 use Rattle.std.proofs.lemmas.List.{take_more, take_all}
 use Rattle.html_types.specs.declared.attributes.Attribute.{Attribute}
-use Rattle.html_types.specs.Attributes.{has_name, Finds}
+use Rattle.html_types.specs.Attributes.{has_name}
 use Rattle.html_types.proofs.AttributeLemmas.{finds_append, finds_same}
 use Rattle.html_types.proofs.name_index.NameIndex.of.Goals as goal
 
