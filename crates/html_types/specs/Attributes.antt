@@ -3,6 +3,8 @@ use Rattle.std.specs.Prelude.{◌≡◌, ℕ, Bool, false, ◌||◌, if◌then�
 use Rattle.std.specs.Str.{chars, IsUtf8}
 use Rattle.std.specs.Global.{Global, Box}
 use Rattle.std.specs.BTreeSet.{BTreeSet, contains_text}
+use Rattle.std.specs.Arc.{arc_value}
+use Rattle.std.specs.declared.sync.Arc.{Arc}
 use Rattle.html_types.specs.Text.{same_text}
 use Rattle.html_types.specs.declared.attributes.Attribute.{Attribute}
 use Rattle.html_types.specs.declared.name_index.NameIndex.{NameIndex}
@@ -27,3 +29,10 @@ Finds names f = (bs : List ℕ) → IsUtf8 bs → contains_text names bs ≡ f (
 abbrev pub Indexes : Option (Box NameIndex) → (List ℕ → Bool) → Type 0
 Indexes None f = Unit {0}
 Indexes (Some index) f = Finds index.value.names f
+
+-- ---- sharing
+
+-- the attributes that are shared
+abbrev pub shared_list : Option (Arc (List Attribute) Global) → List Attribute
+shared_list None = []
+shared_list (Some shared) = arc_value shared

@@ -1,14 +1,14 @@
 //! The attributes of a tag or an element, in their order.
 
-ghost use Rattle.std.specs.Prelude.{◌≡◌, [], ◌∷◌, ◌++◌, ◌||◌, IsTrue, ◌↔◌, IfOk, OnOk, OnErr, take, length};
-ghost use Rattle.html_types.specs.Text.{same_text};
-ghost use Rattle.html_types.specs.Attributes.{has_name, with_missing, Indexes};
+ghost use Rattle.std.specs.Prelude.{◌≡◌, [], ◌∷◌, ◌++◌, IsTrue, ◌↔◌, IfOk, OnOk, OnErr};
+ghost use Rattle.html_types.specs.Attributes.{has_name, with_missing};
 
+use crate::attribute_list::AttributeList;
 use crate::memory::NoMemory;
-use crate::name_index::NameIndex;
 use crate::text::Text;
 use std::alloc::Global;
 use std::marker::Model;
+use std::sync::Arc;
 
 /// An attribute.
 #[derive(Drop)]
@@ -35,63 +35,23 @@ impl Attribute {
     }
 }
 
-// So many attributes are looked through one after another; where there are more, their names are in an index.
-const FEW: usize = 16;
-
-/// Attributes in their order: a contract sees the list of them. A name is found in the logarithm of their number.
+/// Attributes in their order: a contract sees the list of them. A name is found in the logarithm of their number. A copy
+/// shares them, until one of the two changes.
 #[derive(Drop)]
 pub struct Attributes {
     alloc: Global,
-    list: Vec<Attribute>,
-    // Where it is there, it has all their names.
-    index: Option<Box<NameIndex>>,
+    // None where there were never any.
+    shared: Option<Arc<AttributeList>>,
 }
 
 impl Model for Attributes {
     ghost use Rattle.std.specs.Prelude.{List};
     ghost use Rattle.html_types.specs.declared.attributes.Attribute.{Attribute};
-    ghost use Rattle.html_types.specs.Attributes.{has_name, Indexes};
+    ghost use Rattle.html_types.specs.Attributes.{shared_list};
 
     ghost Value = { List Attribute };
 
-    ghost view = { λ a. a.list.items };
-
-    ghost invariant = { λ a. Indexes a.index (λ name. has_name name a.list.items) };
-}
-
-// Whether one of them has this name.
-fn is_among(list: &[Attribute], name: &Text) -> bool
-    ensures { result ≡ has_name name.now list.now }
-{
-    for attribute in list {
-        if attribute.name.same(name) {
-            return true;
-        }
-    }
-    false
-}
-
-// A name comes to the index, which is made where there get to be more than a few.
-fn add_name(
-    alloc: Global,
-    index: &mut Option<Box<NameIndex>>,
-    list: &[Attribute],
-    name: &Text,
-) -> Result<(), NoMemory>
-    requires { Indexes index.old (λ n. has_name n list.now) }
-    ensures ok { OnOk result (Indexes index.new (λ n. same_text name.now n || has_name n list.now)) }
-    ensures err { OnErr result (Indexes index.new (λ n. has_name n list.now)) }
-{
-    if let Some(names) = index {
-        return names.add(alloc, name);
-    }
-    if list.len() < FEW {
-        return Ok(());
-    }
-    let mut names = NameIndex::of(alloc, list)?;
-    names.add(alloc, name)?;
-    *index = Some(Box::new(alloc, names)?);
-    Ok(())
+    ghost view = { λ a. shared_list a.shared };
 }
 
 impl Attributes {
@@ -101,8 +61,7 @@ impl Attributes {
     {
         Attributes {
             alloc,
-            list: Vec::new(alloc),
-            index: None,
+            shared: None,
         }
     }
 
@@ -111,57 +70,40 @@ impl Attributes {
         ensures ok { OnOk result (self.new ≡ self.old ++ attribute ∷ []) }
         ensures err { OnErr result (self.new ≡ self.old) }
     {
-        add_name(self.alloc, &mut self.index, &self.list, &attribute.name)?;
-        if let Err(error) = self.list.push(attribute) {
-            self.index = None;
-            return Err(NoMemory::from(error));
+        match &mut self.shared {
+            Some(shared) => Arc::make_mut(shared)?.push(attribute),
+            None => {
+                let mut list = AttributeList::new(self.alloc);
+                list.push(attribute)?;
+                self.shared = Some(Arc::new(self.alloc, list)?);
+                Ok(())
+            }
         }
-        Ok(())
     }
 
-    /// Adds at the end, in order, those of the attributes whose names are lacking.
-    pub fn add_missing(&mut self, more: Attributes) -> Result<(), NoMemory>
-        ensures ok { OnOk result (self.new ≡ with_missing self.old more) }
+    /// Adds at the end, in order, copies of those of the attributes whose names are lacking.
+    pub fn add_missing(&mut self, more: &Attributes) -> Result<(), NoMemory>
+        ensures ok { OnOk result (self.new ≡ with_missing self.old more.now) }
         ensures err { OnErr result (self.new ≡ self.old) }
     {
-        let before = self.list.len();
-        if let Err(error) = self.add_all(more) {
-            self.list.truncate(before);
-            self.index = None;
-            return Err(error);
+        match &mut self.shared {
+            Some(shared) => Arc::make_mut(shared)?.add_missing(more.as_slice()),
+            None => {
+                let mut list = AttributeList::new(self.alloc);
+                list.add_missing(more.as_slice())?;
+                self.shared = Some(Arc::new(self.alloc, list)?);
+                Ok(())
+            }
         }
-        Ok(())
-    }
-
-    // Adds those that are lacking, or the first of them.
-    fn add_all(&mut self, more: Attributes) -> Result<(), NoMemory>
-        ensures ok { OnOk result (self.new ≡ with_missing self.old more) }
-        ensures err { OnErr result (take (length self.old) self.new ≡ self.old) }
-    {
-        for attribute in more.list {
-            self.add_one(attribute)?;
-        }
-        Ok(())
-    }
-
-    // Adds the attribute, unless one has its name.
-    fn add_one(&mut self, attribute: Attribute) -> Result<(), NoMemory>
-        ensures ok { OnOk result (self.new ≡ with_missing self.old (attribute ∷ [])) }
-        ensures err { OnErr result (self.new ≡ self.old) }
-    {
-        if self.has(&attribute.name) {
-            return Ok(());
-        }
-        self.push(attribute)
     }
 
     /// Whether an attribute has this name.
     pub fn has(&self, name: &Text) -> bool
         ensures { result ≡ has_name name.now self.now }
     {
-        match &self.index {
-            Some(index) => index.has(name),
-            None => is_among(&self.list, name),
+        match &self.shared {
+            Some(shared) => shared.has(name),
+            None => false,
         }
     }
 
@@ -169,32 +111,44 @@ impl Attributes {
     pub fn as_slice(&self) -> &[Attribute]
         ensures { result.now ≡ self.now }
     {
-        self.list.as_slice()
+        match &self.shared {
+            Some(shared) => shared.as_slice(),
+            None => &[],
+        }
     }
 
     /// Whether two lists are the same, in order.
     pub fn same(&self, other: &Attributes) -> bool
         ensures { IsTrue result ↔ (self.now ≡ other.now) }
     {
-        if self.list.len() != other.list.len() {
-            return false;
-        }
-        for i in 0..self.list.len() {
-            if !self.list[i].same(&other.list[i]) {
-                return false;
-            }
-        }
-        true
+        same_lists(self.as_slice(), other.as_slice())
     }
 
-    /// A copy.
+    /// A copy, which shares them.
     pub fn copy(&self, alloc: Global) -> Result<Attributes, NoMemory>
         ensures { IfOk result (λ a. a ≡ self.now) }
     {
-        let mut copied = Attributes::new(alloc);
-        for attribute in &self.list {
-            copied.push(attribute.copy(alloc)?)?;
+        match &self.shared {
+            Some(shared) => Ok(Attributes {
+                alloc,
+                shared: Some(shared.clone()?),
+            }),
+            None => Ok(Attributes::new(alloc)),
         }
-        Ok(copied)
     }
+}
+
+// Whether two lists are the same, in order.
+fn same_lists(list: &[Attribute], other: &[Attribute]) -> bool
+    ensures { IsTrue result ↔ (list.now ≡ other.now) }
+{
+    if list.len() != other.len() {
+        return false;
+    }
+    for i in 0..list.len() {
+        if !list[i].same(&other[i]) {
+            return false;
+        }
+    }
+    true
 }

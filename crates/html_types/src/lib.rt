@@ -3,6 +3,7 @@
 //! A contract sees each of them as plain data: a text is the list of its characters.
 #![tactic(auto)]
 
+mod attribute_list;
 pub mod attributes;
 pub mod children;
 pub mod class;

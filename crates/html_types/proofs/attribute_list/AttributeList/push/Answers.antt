@@ -3,7 +3,7 @@ use Rattle.html_types.specs.Text.{same_text}
 use Rattle.html_types.specs.declared.attributes.Attribute.{Attribute}
 use Rattle.html_types.specs.Attributes.{has_name, Indexes}
 use Rattle.html_types.proofs.AttributeLemmas.{indexes_append}
-use Rattle.html_types.proofs.attributes.Attributes.push.Goals as goal
+use Rattle.html_types.proofs.attribute_list.AttributeList.push.Goals as goal
 
 pub invariant_of-self-in_default : goal.invariant_of-self-in_default
 invariant_of-self-in_default c =

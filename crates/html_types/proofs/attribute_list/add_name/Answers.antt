@@ -4,7 +4,7 @@ use Rattle.html_types.specs.Text.{same_text}
 use Rattle.html_types.specs.Attributes.{has_name, Finds}
 use Rattle.html_types.specs.declared.name_index.NameIndex.{NameIndex}
 use Rattle.html_types.proofs.AttributeLemmas.{finds_held}
-use Rattle.html_types.proofs.attributes.add_name.Goals as goal
+use Rattle.html_types.proofs.attribute_list.add_name.Goals as goal
 
 pub returns-in-Some-clause-ok : goal.returns-in-Some-clause-ok
 returns-in-Some-clause-ok c =
