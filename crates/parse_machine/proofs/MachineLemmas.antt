@@ -294,7 +294,7 @@ one-took es (took ops p stop.InputEnd) o o' p' s e = record {
 }
 one-took es (took ops p _) o o' p' s e = record { ops = sym (ap took_ops e); state = sym (ap took_parser e); used = refl; at_stop = sym (ap took_stop e) }
 
-one-character : (es : Entities) (p : Parser) (c : ℕ) (o o' : List Op) (p' : Parser) (s : Stop) → after_ops o (take_character es p c) ≡ took o' p' s
+pub one-character : (es : Entities) (p : Parser) (c : ℕ) (o o' : List Op) (p' : Parser) (s : Stop) → after_ops o (take_character es p c) ≡ took o' p' s
     → IsOver (parse es p (c ∷ [])) o 1 p' o' s
 unfolding parse
 one-character es p c o o' p' s e = one-took es (take_character es p c) o o' p' s e
@@ -321,7 +321,7 @@ over-more es p0 o0 x p o c p' o' s over e =
     subst (λ (w : Parsed). IsOver w o0 (length (x ++ c ∷ [])) p' o' s) whole
     (subst (λ (k : ℕ). IsOver (joined r (parse es r.parser (c ∷ []))) o0 k p' o' s) n (over-both o0 o o' p p' s (length x) r (parse es r.parser (c ∷ [])) over one))
 
-not_stopped : (s : Stop) → stops s ≡ false → s ≡ stop.InputEnd
+pub not_stopped : (s : Stop) → stops s ≡ false → s ≡ stop.InputEnd
 not_stopped stop.InputEnd e = refl
 not_stopped _ e = cc
 

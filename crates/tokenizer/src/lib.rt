@@ -5,5 +5,6 @@ mod discard;
 pub mod laws;
 pub mod reading;
 pub mod run;
+pub mod whole;
 
 pub use run::{Pause, Ran, Tokenizer};
