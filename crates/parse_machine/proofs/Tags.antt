@@ -1,6 +1,6 @@
 -- A tag that is parsed at once.
 use Rattle.std.proofs.Common.{◌≡◌, ℕ, ◌+◌, ◌-◌, ◌≤◌, ◌==◌, ◌||◌, Bool, true, false, List, [], ◌∷◌, ◌++◌, length, take, drop, refl, sym, ap, ◌∙◌, subst, append_assoc, append-nil, arith}
-use Rattle.std.specs.Prelude.{slice_range, if◌then◌else◌}
+use Rattle.std.specs.Prelude.{Option, Some, None, if◌then◌else◌}
 use Rattle.std.specs.Str.{chars, IsUtf8, IsCharBoundary}
 use Rattle.std.proofs.Math.Seq.{take-add}
 use Rattle.std.proofs.lemmas.List.{length-append}
@@ -13,14 +13,14 @@ use Rattle.html_types.specs.declared.instruction.Stop.TheVariants as stop
 use Rattle.html_types.specs.declared.open.Open.{Open}
 use Rattle.standard.specs.Entities.{Entities}
 use Rattle.standard.specs.Step.{data_state}
-use Rattle.standard.specs.Tokenizer.{Reached, after_tokens, read, feed, onward}
+use Rattle.standard.specs.Tokenizer.{Reached, after_tokens, read, feed}
 use Rattle.standard.specs.Parser.{Parser, parser, Took, took, after_ops, build, take_character, Parsed, after_character, and_rest, parse}
 use Rattle.standard.specs.Laws.{joined, unless_stopped}
 use Rattle.standard.proofs.FeedLemmas.{feed-append, onward-one}
 use Rattle.standard.proofs.Parse.{parse-append}
 use Rattle.tokenizer.specs.Whole.{has_cr, piece, MakesAlone}
 use Rattle.parse_machine.specs.Machine.{stops}
-use Rattle.parse_machine.specs.Runs.{ReadsTags, Takes, TakesRun}
+use Rattle.parse_machine.specs.Runs.{ReadsTags, Takes}
 use Rattle.parse_machine.specs.declared.machine.Ran.{Ran}
 use Rattle.parse_machine.proofs.MachineLemmas.{IsOver, one-character, over-more, not_stopped, none-waited, taken-read}
 
@@ -165,3 +165,11 @@ pub over-goes_on : (es : Entities) (p0 : Parser) (o0 : List Op) (text : List ℕ
 over-goes_on es p0 o0 text from ran p p' o o' going over taken =
     subst (λ (s : Stop). IsOver (parse es p0 (chars (take ran.used text))) o0 (length (chars (take ran.used text))) p' o' s) (not_stopped ran.stop going)
     (over-taken es p0 o0 text from ran p p' o o' over taken)
+
+-- nothing more was taken
+pub over-same : {r : Parsed} {o0 : List Op} {n : ℕ} {p p' : Parser} {o o' : List Op} {s : Stop} → p' ≡ p → o' ≡ o → IsOver r o0 n p o s → IsOver r o0 n p' o' s
+over-same {r} {o0} {n} {p} {p'} {o} {o'} {s} e f over = record { ops = f ∙ over.ops; state = e ∙ over.state; used = over.used; at_stop = over.at_stop }
+
+pub no_some : (r : Option Ran) → ((ran : Ran) → r ≡ Some ran → ⊥) → r ≡ None
+no_some None h = refl
+no_some (Some ran) h = absurd (h ran refl)

@@ -421,12 +421,7 @@ impl Machine {
     }
 
     // Processes a token that the tokenizer makes of some characters, and stays in its state.
-    fn take_token(
-        &mut self,
-        alloc: Global,
-        token: &Token,
-        ops: &mut Ops,
-    ) -> Result<Stop, NoMemory>
+    fn take_token(&mut self, alloc: Global, token: &Token, ops: &mut Ops) -> Result<Stop, NoMemory>
         ensures { IfOk result (λ stop. after_ops ops.old (build self.old.tokenizer self.old.after_cr (token.now ∷ []) self.old.open_state) ≡ took ops.new self.new stop) }
     {
         match process_alone(alloc, &mut self.tokenizer, &mut self.builder, token, ops) {
