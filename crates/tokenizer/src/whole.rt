@@ -1,10 +1,10 @@
 //! A tag that stands whole in a text, read at once in the data state.
 
-ghost use Rattle.std.specs.Prelude.{◌≡◌, ◌+◌, ◌<◌, ◌≤◌, ◌==◌, [], ◌∷◌, true, false, not, length, IfOk, IfSome, IsTrue};
+ghost use Rattle.std.specs.Prelude.{◌≡◌, ◌+◌, ◌<◌, ◌≤◌, ◌==◌, [], ◌∷◌, true, false, length, IfOk, IfSome, IsTrue};
 ghost use Rattle.std.specs.List.{list_any};
 ghost use Rattle.std.specs.Str.{chars, IsCharBoundary};
 ghost use Rattle.standard.specs.Step.{finished, tag_token};
-ghost use Rattle.tokenizer.specs.Whole.{in_quoted, all_of, is_gap, begins_name, begins_with, has_cr, quote_mark, close_text, may_close, piece, Opens, Gives, HasValue, MakesAlone};
+ghost use Rattle.tokenizer.specs.Whole.{all_of, is_gap, begins_name, begins_with, has_cr, quote_mark, close_text, may_close, piece, Opens, Gives, HasValue, MakesAlone};
 ghost use Rattle.tokenizer.specs.Whole as parts;
 ghost use Rattle.tokenizer.specs.declared.whole.Part.TheVariants as part;
 
@@ -58,47 +58,56 @@ pub enum Behind {
     Value,
 }
 
-fn is_quote_of(quote: Quote, class: Class) -> bool
-    ensures { result ≡ not (in_quoted quote class) }
+fn in_name(class: Class) -> bool
+    ensures { result ≡ parts.in_name class }
+{
+    !matches!(
+        class,
+        Class::Space | Class::Slash | Class::Greater | Class::InputEnd
+    )
+}
+
+fn in_attribute_name(class: Class) -> bool
+    ensures { result ≡ parts.in_attribute_name class }
+{
+    in_name(class) && !matches!(class, Class::Equals)
+}
+
+fn in_quoted(quote: Quote, class: Class) -> bool
+    ensures { result ≡ parts.in_quoted quote class }
 {
     match (quote, class) {
-        (Quote::Double, Class::DoubleQuote) => true,
-        (Quote::Single, Class::SingleQuote) => true,
-        (_, Class::Ampersand) => true,
-        (_, Class::InputEnd) => true,
-        _ => false,
+        (Quote::Double, Class::DoubleQuote) => false,
+        (Quote::Single, Class::SingleQuote) => false,
+        (_, Class::Ampersand | Class::InputEnd) => false,
+        _ => true,
     }
 }
 
+fn in_unquoted(class: Class) -> bool
+    ensures { result ≡ parts.in_unquoted class }
+{
+    !matches!(
+        class,
+        Class::Space
+            | Class::DoubleQuote
+            | Class::SingleQuote
+            | Class::Ampersand
+            | Class::Greater
+            | Class::InputEnd
+    )
+}
+
+// Whether this part of a tag goes on over a character, and gets it as it is.
 fn is_of(part: Part, c: char) -> bool
     ensures { result ≡ parts.is_of part c }
 {
     match part {
-        Part::TagName => {
-            !matches!(
-                class_of(c),
-                Class::Space | Class::Slash | Class::Greater | Class::InputEnd
-            ) && name_char(c) == c
-        }
+        Part::TagName => in_name(class_of(c)) && name_char(c) == c,
         Part::Gap => matches!(class_of(c), Class::Space),
-        Part::AttributeName => {
-            !matches!(
-                class_of(c),
-                Class::Space | Class::Slash | Class::Greater | Class::InputEnd | Class::Equals
-            ) && name_char(c) == c
-        }
-        Part::Quoted(quote) => !is_quote_of(quote, class_of(c)) && shown(c) == c,
-        Part::Unquoted => {
-            !matches!(
-                class_of(c),
-                Class::Space
-                    | Class::DoubleQuote
-                    | Class::SingleQuote
-                    | Class::Ampersand
-                    | Class::Greater
-                    | Class::InputEnd
-            ) && shown(c) == c
-        }
+        Part::AttributeName => in_attribute_name(class_of(c)) && name_char(c) == c,
+        Part::Quoted(quote) => in_quoted(quote, class_of(c)) && shown(c) == c,
+        Part::Unquoted => in_unquoted(class_of(c)) && shown(c) == c,
     }
 }
 
