@@ -1,0 +1,4 @@
+pub mod Alike
+pub mod Rebasing
+pub mod Ways
+pub mod OneResult
