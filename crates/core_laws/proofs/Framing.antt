@@ -74,7 +74,7 @@ module _ (r : NodeId → NodeId) (page : List ℕ) where
   reads : (k e : ℕ) (s : Serial) (d : Doc) → Okay r s.parser s.side.doc d → read k e (own_of r d s) ≡ own_of r d (read k e s)
   reads k e s d o = ap (λ x. with_line (line.Log k (outer_text x e)) (own_of r d s)) o.same.tree
 
-  prepared-same : (i : NodeId) (s : Serial) (d : Doc) → Okay r s.parser s.side.doc d → prepared (r i) (own_of r d s) ≡ prepared i s
+  pub prepared-same : (i : NodeId) (s : Serial) (d : Doc) → Okay r s.parser s.side.doc d → prepared (r i) (own_of r d s) ≡ prepared i s
   prepared-same i s d o = ap (λ x. prepare x (node_of d.bound (r i))) o.same.tree ∙ ap (λ x. prepare s.side.doc.tree (unwrap_or x 0)) (o.same.bound i)
 
   module _ (w : World) where
@@ -168,9 +168,9 @@ module _ (r : NodeId → NodeId) (page : List ℕ) (e : Ending) (w : World) wher
   Follows after own' = (m' : Moment) × (after ≡ Some m') × AreAlike r page m' own'
 
   -- behind a script
-  landed : (s : Serial) (d : Doc) → Okay r s.parser s.side.doc d → (pending : Option (List ℕ)) → AreAlike r page (unless_pending pending (with_page s)) (unless_pending pending (own_of r d s))
-  landed s d o None = (s, d, refl, refl, o)
-  landed s d o (Some name) = (awaiting None s, d, refl, refl, o)
+  landed : (s : Serial) (d : Doc) → Okay r s.parser s.side.doc d → (pending : Option (List ℕ)) → s.side.pending ≡ pending → AreAlike r page (unless_pending pending (with_page s)) (unless_pending pending (own_of r d s))
+  landed s d o None idle = (s, d, refl, refl, o, idle)
+  landed s d o (Some name) idle = (awaiting None s, d, refl, refl, o, refl)
 
   concluded : (s : Serial) (d : Doc) (f g : Flow) (own' : Moment) → Both r page f g → after_script (g then λ t. goes (back_at (own_of r d s) t)) ≡ Some own' →
       Follows (after_script (f then λ t. goes (back_at (with_page s) t))) own'
@@ -180,7 +180,7 @@ module _ (r : NodeId → NodeId) (page : List ℕ) (e : Ending) (w : World) wher
       let is : behind_script (own_of r d' u) ≡ own' = ap (λ x. behind_script (back_at (own_of r d s) x)) (sym q) ∙ same_Some _ own' a in (
         behind_script (with_page u),
         ap (λ x. after_script (x then λ v. goes (back_at (with_page s) v))) p,
-        subst (AreAlike r page (behind_script (with_page u))) is (landed u d' o s'.side.pending),
+        subst (AreAlike r page (behind_script (with_page u))) is (landed u d' o s'.side.pending refl),
       )
   concluded s d f (refuses why t) own' (s', d', p, q, o) a =
       let is : over (refusal why (own_of r d' s')) ≡ own' = ap (λ x. over (refusal why x)) (sym q) ∙ same_Some _ own' a in (
@@ -199,51 +199,51 @@ module _ (r : NodeId → NodeId) (page : List ℕ) (e : Ending) (w : World) wher
       (subst (λ k. Both r page (run_prepared n w (prepared i s) (behind page (inside s))) (run_prepared n w k (own_of r d (inside s)))) (sym (prepared-same r page i s d o)) (run_prepared-both r page w n (prepared i s) (inside s) d o)) in
       concluded s d _ _ own' flows a
 
-  from-fetch : (n : ℕ) (name : List ℕ) (s : Serial) (d : Doc) (own' : Moment) (f : Fetched) → Okay r s.parser s.side.doc d → after_fetch n w name (own_of r d s) f ≡ Some own' →
+  from-fetch : (n : ℕ) (name : List ℕ) (s : Serial) (d : Doc) (own' : Moment) (f : Fetched) → s.side.pending ≡ None → Okay r s.parser s.side.doc d → after_fetch n w name (own_of r d s) f ≡ Some own' →
       Follows (after_fetch n w name (with_page s) f) own'
-  from-fetch n name s d own' (got bytes) o a =
+  from-fetch n name s d own' (got bytes) idle o a =
       let flows : Both r page (execute n w (file_statements bytes) (inside (behind page s))) (execute n w (file_statements bytes) (inside (own_of r d s))) =
       subst (λ u. Both r page (execute n w (file_statements bytes) u) (execute n w (file_statements bytes) (own_of r d (inside s)))) (sym (inside-same r page s)) (execute-both r page w n (file_statements bytes) (inside s) d o) in
       concluded s d _ _ own' flows a
-  from-fetch n name s d own' missing o a =
+  from-fetch n name s d own' missing idle o a =
       let u : Serial = with_line (line.Miss name) s in (
         reading (with_page u),
         refl,
-        subst (AreAlike r page (reading (with_page u))) (same_Some (reading (own_of r d u)) own' a) (u, d, refl, refl, o),
+        subst (AreAlike r page (reading (with_page u))) (same_Some (reading (own_of r d u)) own' a) (u, d, refl, refl, o, idle),
       )
-  from-fetch n name s d own' faulted o a = (
+  from-fetch n name s d own' faulted idle o a = (
     over (refusal why.Fault (with_page s)),
     refl,
     subst (AreAlike r page (over (refusal why.Fault (with_page s)))) (same_Some (over (refusal why.Fault (own_of r d s))) own' a) (refusal why.Fault (with_page s), refl, refl, refl, o.same),
   )
 
   -- one character of the written text
-  after-same_character : (s : Serial) (d : Doc) (cs : List ℕ) (k : Took) → OkayBehind r s.side.doc d k →
+  after-same_character : (s : Serial) (d : Doc) (cs : List ℕ) (k : Took) → s.side.pending ≡ None → OkayBehind r s.side.doc d k →
       AreAlike r page (after_character (with_page s) (cs ++ page) k) (after_character (own_of r d s) cs (rename_took r k))
-  after-same_character s d cs (took ops q stop.InputEnd) o = (_, acts d (rename_ops r ops), refl, refl, o)
-  after-same_character s d cs (took ops q (stop.Script i)) o = (i, _, acts d (rename_ops r ops), refl, refl, refl, o)
-  after-same_character s d cs (took ops q stop.Deep) o = (_, refl, refl, refl, o.same)
+  after-same_character s d cs (took ops q stop.InputEnd) idle o = (_, acts d (rename_ops r ops), refl, refl, o, idle)
+  after-same_character s d cs (took ops q (stop.Script i)) idle o = (i, _, acts d (rename_ops r ops), refl, refl, refl, o, idle)
+  after-same_character s d cs (took ops q stop.Deep) idle o = (_, refl, refl, refl, o.same)
 
-  from-reading : (n : ℕ) (input : List ℕ) (s : Serial) (d : Doc) (own' : Moment) → s.input ≡ input → is_empty input ≡ false → Okay r s.parser s.side.doc d →
+  from-reading : (n : ℕ) (input : List ℕ) (s : Serial) (d : Doc) (own' : Moment) → s.side.pending ≡ None → s.input ≡ input → is_empty input ≡ false → Okay r s.parser s.side.doc d →
       moment_after n e w (reading (own_of r d s)) ≡ Some own' → Follows (moment_after n e w (reading (with_page s))) own'
   unfolding moment_after
-  from-reading n [] s d own' q some o a = absurd (true≢false some)
-  from-reading n (c ∷ cs) s d own' q some o a =
+  from-reading n [] s d own' idle q some o a = absurd (true≢false some)
+  from-reading n (c ∷ cs) s d own' idle q some o a =
       let es : Entities = w.entities in
       let k : Took = take_character es s.parser c in
       let is : after_character (own_of r d s) cs (rename_took r k) ≡ own' =
       ap (after_character (own_of r d s) cs) (sym (characters-renamed r es s.parser c o.renames)) ∙ same_Some _ own' (ap (λ y. Some (read_next es e (own_of r d s) y)) (sym q) ∙ a) in (
         after_character (with_page s) (cs ++ page) k,
         ap (λ y. Some (read_next es e (with_page s) (y ++ page))) q,
-        subst (AreAlike r page (after_character (with_page s) (cs ++ page) k)) is (after-same_character s d cs k (okay-character r es s.parser s.side.doc d c k refl o)),
+        subst (AreAlike r page (after_character (with_page s) (cs ++ page) k)) is (after-same_character s d cs k idle (okay-character r es s.parser s.side.doc d c k refl o)),
       )
 
   moments : (n : ℕ) (m own own' : Moment) → AreAlike r page m own → is_settled own ≡ false → moment_after n e w own ≡ Some own' → Follows (moment_after n e w m) own'
   unfolding moment_after
-  moments n m (reading t) own' (s, d, p, q, o) open_ a =
+  moments n m (reading t) own' (s, d, p, q, o, idle) open_ a =
       subst (λ x. Follows (moment_after n e w x) own') (sym p)
-      (from-reading n s.input s d own' refl (ap (λ (u : Serial). is_empty u.input) (sym q) ∙ open_) o (ap (λ x. moment_after n e w (reading x)) (sym q) ∙ a))
-  moments n m (tag_ended j t) own' (i, s, d, p, q, g, o) open_ a =
+      (from-reading n s.input s d own' idle refl (ap (λ (u : Serial). is_empty u.input) (sym q) ∙ open_) o (ap (λ x. moment_after n e w (reading x)) (sym q) ∙ a))
+  moments n m (tag_ended j t) own' (i, s, d, p, q, g, o, idle) open_ a =
       subst (λ x. Follows (moment_after n e w x) own') (sym p)
       (from-tag n i s d own' o (ap (λ x. moment_after n e w (tag_ended x (own_of r d s))) (sym q) ∙ (ap (λ x. moment_after n e w (tag_ended j x)) (sym g) ∙ a)))
   moments n m (awaits name t) own' h open_ a = absurd (true≢false open_)
@@ -254,6 +254,6 @@ moments-rename r page n e w m own own' h open_ a = moments r page e w n m own ow
 
 pub fetches-rename : FetchesRename
 unfolding moment_after
-fetches-rename r page n e w m name t own' (s, d, p, q, o) a =
+fetches-rename r page n e w m name t own' (s, d, p, q, o, idle) a =
     subst (λ x. Follows r page e w (moment_after n e w x) own') (sym p)
-    (from-fetch r page e w n name s d own' (fetched w name) o (ap (λ x. moment_after n e w (awaits name x)) (sym q) ∙ a))
+    (from-fetch r page e w n name s d own' (fetched w name) idle o (ap (λ x. moment_after n e w (awaits name x)) (sym q) ∙ a))

@@ -1,18 +1,15 @@
 -- A verdict, and an event of the document's side, come to one result.
-use Rattle.std.proofs.Common.{◌≡◌, ℕ, ◌+◌, Bool, true, false, true≢false, Option, Some, None, refl, sym, ◌∙◌, ap, subst, arith}
+use Rattle.std.proofs.Common.{◌≡◌, ℕ, ◌+◌, true, false, true≢false, Some, refl, sym, ◌∙◌, ap, subst, arith}
 use Rattle.std.proofs.lemmas.Option.{same_Some}
 use Rattle.html_types.specs.declared.script.Ending.{Ending}
 use Rattle.html_types.specs.declared.script.Ending.TheVariants as ending
 use Rattle.standard.specs.Parser.{Parser}
-use Rattle.standard.specs.Serial.{World, Serial, Moment, reading, tag_ended, awaits, over, moment_after}
+use Rattle.standard.specs.Serial.{World, Moment, reading, tag_ended, awaits, over, moment_after}
 use Rattle.standard_laws.proofs.Fuel.{moment_after-by}
-use Rattle.core_rules.specs.declared.event.Event.{Event}
 use Rattle.core_rules.specs.declared.event.Event.TheVariants.{Send, Pick, Give, Take, Do, Arrive}
-use Rattle.core_rules.specs.declared.verdict.Verdict.{Verdict}
 use Rattle.core_rules.specs.declared.verdict.Verdict.TheVariants.{Keep, Rewind}
-use Rattle.core_rules.specs.Verdict.{IsVerdict}
-use Rattle.core_rules.specs.Settling.{is_settled, Through, here, onward, Settles}
-use Rattle.core_rules.specs.Desk.{Phase, free, tagged, waits, done, Desk, decided, Concludes, RunsOn, DoesIn, Moves}
+use Rattle.core_rules.specs.Settling.{is_settled, Through, here, onward}
+use Rattle.core_rules.specs.Desk.{Phase, free, tagged, waits, done, Desk, decided, Concludes, RunsOn, DoesIn}
 use Rattle.core_laws.specs.OneResult.{OneVerdict, SettlesOnce, OneMove}
 
 pub one-verdict : OneVerdict

@@ -1,5 +1,5 @@
 -- A renaming that is changed for the ids to come.
-use Rattle.std.proofs.Common.{◌≡◌, ◌<◌, true≢false, ℕ, ◌+◌, ◌-◌, ◌==◌, nat_lt, Bool, true, false, List, [], ◌∷◌, map, Option, Some, None, refl, sym, ◌∙◌, ap, subst, arith}
+use Rattle.std.proofs.Common.{◌≢◌, ◌≡◌, ◌<◌, true≢false, ℕ, ◌+◌, ◌-◌, ◌==◌, nat_lt, Bool, true, false, List, [], ◌∷◌, map, Option, Some, None, refl, sym, ◌∙◌, ap, subst, arith}
 use Rattle.std.specs.Prelude.{IsTrue, option_map, is_some}
 use Rattle.html_types.specs.Operations.{same_id, later}
 use Rattle.html_types.specs.declared.operation.NodeId.{NodeId}
@@ -32,7 +32,7 @@ module _ (r g : NodeId → NodeId) (known : NodeId → Bool) (agree : (i : NodeI
   id-agrees None h = refl
   id-agrees (Some i) h = ap Some (agree i h)
 
-  parser-agrees : (p : Parser) → Serves CameBefore known p.open_state → with_next (g p.open_state.next) (rename_parser r p) ≡ rename_parser g p
+  pub parser-agrees : (p : Parser) → Serves CameBefore known p.open_state → with_next (g p.open_state.next) (rename_parser r p) ≡ rename_parser g p
   parser-agrees p h =
       rw (stack-agrees p.open_state.stack h.stack_bound, formats-agree p.open_state.formats h.formats_bound, id-agrees p.open_state.head h.head_bound, id-agrees p.open_state.form h.form_bound) refl
 
@@ -66,8 +66,8 @@ module _ (r : NodeId → NodeId) (n : ℕ) (next : NodeId) (low : ℕ) (b : Reba
       let t : a.n ≡ c.n = ap (λ i. i.n) e in
       same-true a c (grind (arith, s, t))
 
-  one-to-one : (a c : NodeId) → rebased r n next low a ≡ rebased r n next low c → a ≡ c
-  one-to-one a c e = parts (a.realm == 0) (nat_lt a.n n) (c.realm == 0) (nat_lt c.n n) a c refl refl refl refl e
+  pub rebased-one : (a c : NodeId) → rebased r n next low a ≡ rebased r n next low c → a ≡ c
+  rebased-one a c e = parts (a.realm == 0) (nat_lt a.n n) (c.realm == 0) (nat_lt c.n n) a c refl refl refl refl e
 
   apart : (a c : NodeId) → same_id (rebased r n next low a) (rebased r n next low c) ≡ same_id a c
   apart a c = by (same_id a c) (same_id (rebased r n next low a) (rebased r n next low c)) refl refl
@@ -76,7 +76,7 @@ module _ (r : NodeId → NodeId) (n : ℕ) (next : NodeId) (low : ℕ) (b : Reba
       by true true p q = refl
       by false false p q = refl
       by true false p q = sym q ∙ (ap (λ i. same_id (rebased r n next low a) (rebased r n next low i)) (sym (same-true a c p)) ∙ same-refl (rebased r n next low a))
-      by false true p q = sym (same-refl a) ∙ (ap (same_id a) (one-to-one a c (same-true _ _ q)) ∙ p)
+      by false true p q = sym (same-refl a) ∙ (ap (same_id a) (rebased-one a c (same-true _ _ q)) ∙ p)
 
   in-order : (i : NodeId) (k : ℕ) → i.realm ≡ 0 → i.n ≡ n → rebased r n next low (later k i) ≡ later k next
   in-order i k z e =
@@ -86,11 +86,29 @@ module _ (r : NodeId → NodeId) (n : ℕ) (next : NodeId) (low : ℕ) (b : Reba
       ap (λ u. part r n next low u (nat_lt (i.n + k) n) (later k i)) p
       ∙ (ap (λ v. part r n next low true v (later k i)) q ∙ ap (λ j. record { realm = next.realm; n = next.n + j }) m)
 
-  agrees : (i : NodeId) → i.realm ≡ 0 → i.n < n → r i ≡ rebased r n next low i
+  pub agrees : (i : NodeId) → i.realm ≡ 0 → i.n < n → r i ≡ rebased r n next low i
   agrees i z l =
       let p : (i.realm == 0) ≡ true = grind (arith, z) in
       let q : nat_lt i.n n ≡ true = grind (arith, l) in
       sym (ap (λ u. part r n next low u (nat_lt i.n n) i) p ∙ ap (λ v. part r n next low true v i) q)
+
+  -- what holds of the old names, of the ids to come and of the ids of other realms holds of every name
+  pub every-name : (P : NodeId → Type 0) → ((i : NodeId) → i.realm ≡ 0 → i.n < n → P (r i)) → ((k : ℕ) → P (later k next)) → ((i : NodeId) → i.realm ≢ 0 → P (record { realm = low + i.realm; n = i.n })) →
+      (i : NodeId) → P (rebased r n next low i)
+  every-name P old new other i = by (i.realm == 0) (nat_lt i.n n) refl refl
+    where
+      by : (u v : Bool) → (i.realm == 0) ≡ u → nat_lt i.n n ≡ v → P (part r n next low u v i)
+      by true true p q = old i (grind (arith, p)) (grind (arith, q))
+      by true false p q = new (i.n - n)
+      by false v p q = other i (λ z. grind (arith, p, z))
+
+  pub rebased-low : (i : NodeId) → i.realm ≡ 0 → (rebased r n next low i).realm < low
+  rebased-low i z = by (i.realm == 0) (nat_lt i.n n) refl
+    where
+      by : (u v : Bool) → (i.realm == 0) ≡ u → (part r n next low u v i).realm < low
+      by true true p = b.low_realms i z
+      by true false p = b.next_is_low
+      by false v p = absurd (grind (arith, p, z))
 
   -- what is bound to the new names
   module _ (d own : Doc) (same : SameUpTo r d own) (before : (i : NodeId) → IsTrue (is_bound d.bound i) → (i.realm ≡ 0) × (i.n < n)) (named : Named r own) where

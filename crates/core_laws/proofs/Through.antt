@@ -1,5 +1,5 @@
 -- Moments one behind another, none of them settled before the last.
-use Rattle.std.proofs.Common.{◌≡◌, ◌∙◌, ℕ, List, [], ◌∷◌, ◌++◌, drop, Some, refl, subst, sym, ap, Bool, true, false, true≢false, take}
+use Rattle.std.proofs.Common.{◌≡◌, ◌∙◌, ℕ, List, [], ◌∷◌, ◌++◌, drop, Some, refl, subst, sym, ap, false, true≢false, take}
 use Rattle.html_types.specs.declared.script.Ending.{Ending}
 use Rattle.html_types.specs.declared.instruction.Stop.TheVariants as stop
 use Rattle.standard.specs.Act.{Doc, acts}

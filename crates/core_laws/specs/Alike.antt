@@ -1,14 +1,12 @@
 -- Two states of the serial parse that are one: the second has its ids renamed, and hasn't the page's rest behind its input.
-use Rattle.std.specs.Prelude.{◌≡◌, ℕ, ◌+◌, false, List, ◌++◌, length, Some, IsTrue}
+use Rattle.std.specs.Prelude.{None, ◌≡◌, ℕ, ◌+◌, false, List, ◌++◌, length, Some, IsTrue}
 use Rattle.html_types.specs.declared.operation.NodeId.{NodeId}
 use Rattle.html_types.specs.declared.script.Ending.{Ending}
 use Rattle.standard.specs.Act.{Doc, is_bound, SameUpTo}
 use Rattle.standard.specs.Parser.{Parser}
 use Rattle.rule_laws.specs.Naming.{Serves, CameBefore, Renames, rename_parser}
-use Rattle.standard.specs.Serial.{World, Serial, Flow, goes, refuses, starved, Moment, reading, tag_ended, awaits, over, Outcome, end_of_script, moment_after, Leads}
-use Rattle.html_types.specs.declared.instruction.Stop.{Stop}
-use Rattle.standard_laws.specs.Laws.{HasParsed, moment_at}
-use Rattle.core_rules.specs.Settling.{is_settled, Through}
+use Rattle.standard.specs.Serial.{World, Serial, Flow, goes, refuses, starved, Moment, reading, tag_ended, awaits, over, Outcome, end_of_script, moment_after}
+use Rattle.core_rules.specs.Settling.{is_settled}
 
 -- the state with its ids renamed, over this document
 abbrev pub own_of : (NodeId → NodeId) → Doc → Serial → Serial
@@ -39,9 +37,11 @@ ScriptsRename = (r : NodeId → NodeId) (page : List ℕ) (n : ℕ) (w : World) 
 
 -- one moment is the other's, at level 0
 abbrev pub AreAlike : (NodeId → NodeId) → List ℕ → Moment → Moment → Type 0
-AreAlike r page m (reading t) = (s : Serial) × (d : Doc) × (m ≡ reading (record s { input = s.input ++ page })) × (t ≡ own_of r d s) × Okay r s.parser s.side.doc d
-AreAlike r page m (tag_ended j t) = (i : NodeId) × (s : Serial) × (d : Doc) × (m ≡ tag_ended i (record s { input = s.input ++ page })) × (j ≡ r i) × (t ≡ own_of r d s) × Okay r s.parser s.side.doc d
-AreAlike r page m (awaits name t) = (s : Serial) × (d : Doc) × (m ≡ awaits name (record s { input = s.input ++ page })) × (t ≡ own_of r d s) × Okay r s.parser s.side.doc d
+AreAlike r page m (reading t) = (s : Serial) × (d : Doc) × (m ≡ reading (record s { input = s.input ++ page })) × (t ≡ own_of r d s) × Okay r s.parser s.side.doc d × (s.side.pending ≡ None)
+AreAlike r page m (tag_ended j t) =
+    (i : NodeId) × (s : Serial) × (d : Doc) × (m ≡ tag_ended i (record s { input = s.input ++ page })) × (j ≡ r i) × (t ≡ own_of r d s) × Okay r s.parser s.side.doc d × (s.side.pending ≡ None)
+AreAlike r page m (awaits name t) =
+    (s : Serial) × (d : Doc) × (m ≡ awaits name (record s { input = s.input ++ page })) × (t ≡ own_of r d s) × Okay r s.parser s.side.doc d × (s.side.pending ≡ None)
 AreAlike r page m (over o) = (u : Outcome) × (m ≡ over u) × (o.result ≡ u.result) × (o.last.side.lines ≡ u.last.side.lines) × SameUpTo r u.last.side.doc o.last.side.doc
 
 -- from a moment that isn't settled the next is the other's next

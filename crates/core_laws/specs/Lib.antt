@@ -2,3 +2,4 @@ pub mod Alike
 pub mod Rebasing
 pub mod Ways
 pub mod OneResult
+pub mod DeskLaws

@@ -4,6 +4,7 @@
 ghost use Rattle.core_laws.specs.Alike.{ScriptsRename, MomentsRename, FetchesRename};
 ghost use Rattle.core_laws.specs.Rebasing.{StatesRebase};
 ghost use Rattle.core_laws.specs.Ways.{LeadsSame, LeadsNext, LeadsThen, BatchesGoThrough, GoesOn, ThroughLeads, NoEndingMatters, ParsesItsFront};
+ghost use Rattle.core_laws.specs.DeskLaws.{AlwaysStandsFor, EndsAsSerial, EndStays, LinesBegin, FailuresAreEpochs, MoreMayFollow};
 ghost use Rattle.core_laws.specs.OneResult.{OneVerdict, SettlesOnce, OneMove};
 
 /// Scripts run alike where ids are renamed and where more of the page stands behind the input, up to a moment at which all that
@@ -44,4 +45,16 @@ pub fn one_result()
     ensures verdict { OneVerdict }
     ensures settles { SettlesOnce }
     ensures moves { OneMove }
+{}
+
+/// The document's side by itself, for every list of events that are enabled: it stands for a state that the serial parse passes through, and
+/// never for an earlier one; where it is done, result, lines and tree are the serial parse's; its lines begin that parse's; as many
+/// scripts of the page have failed as epochs are over.
+pub fn desk_stands()
+    ensures stands_for { AlwaysStandsFor }
+    ensures ends { EndsAsSerial }
+    ensures stays { EndStays }
+    ensures lines { LinesBegin }
+    ensures failures { FailuresAreEpochs }
+    ensures more { MoreMayFollow }
 {}

@@ -92,6 +92,10 @@ pieces_with [] None = []
 pieces_with [] (Some e) = of_ending e ∷ []
 pieces_with (t ∷ ts) e = of_text t ∷ pieces_with ts e
 
+-- more pieces, to be sent behind all others
+abbrev pub with_more : List Piece → Desk → Desk
+with_more xs d = record d { to_send = d.to_send ++ xs }
+
 -- ---- which events are enabled
 
 -- the requests whose replies weren't taken
