@@ -1,5 +1,5 @@
-use Rattle.op_exec.proofs.Renamed.{act-renamed, acts-renamed}
-use Rattle.op_exec.proofs.laws.same_up_to_renaming.Goals as goal
+use Rattle.act_laws.proofs.Renamed.{act-renamed, acts-renamed}
+use Rattle.act_laws.proofs.same_up_to_renaming.Goals as goal
 
 pub returns-clause-one : goal.returns-clause-one
 returns-clause-one c r one d d' same op = act-renamed r one d d' same op

@@ -1,5 +1,5 @@
 -- What ids are bound to, and operations under other ids.
-use Rattle.std.proofs.Common.{◌≡◌, ◌≢◌, ℕ, cond, true, false, List, [], ◌∷◌, length, map, Some, refl, sym, ap, ◌∙◌, inl, inr, ◌⊎◌}
+use Rattle.std.proofs.Common.{◌≡◌, ◌≢◌, ℕ, cond, true, false, List, [], ◌∷◌, length, map, Some, refl, sym, ap, ◌∙◌, inl, inr, ◌⊎◌, arith}
 use Rattle.std.specs.Prelude.{unwrap_or}
 use Rattle.std.specs.BTreeMap.{insert_entry}
 use Rattle.std.specs.Ordering.{nat_cmp, is_eq}
@@ -13,7 +13,10 @@ use Rattle.html_types.specs.declared.operation.Op.{Op}
 use Rattle.html_types.specs.declared.operation.Op.TheVariants.{Make, Put, Text, Note, Doctype, Detach, MoveChildren, AddAttributes}
 use Rattle.standard.specs.Act.{Bound, id_cmp, bound_to, node_of}
 use Rattle.standard.specs.Act.{Doc, act, acts, spot_of, rename_place, rename_op, SameUpTo}
-use Rattle.op_exec.proofs.Docs.{id_cmp-same}
+use Rattle.std.proofs.lemmas.Bool.Decides.{nat_tests}
+
+pub id_cmp-same : (id : NodeId) → id_cmp id id ≡ Equal
+id_cmp-same id = grind (arith, nat_tests)
 
 pub same_from_equal : (a b : NodeId) → id_cmp a b ≡ Equal → a ≡ b
 same_from_equal a b h = ap (λ (p : ℕ × ℕ). record { realm = p.0; n = p.1 }) (exact_pairs nat_cmp nat_cmp exact_unsigned exact_unsigned (a.realm, a.n) (b.realm, b.n) h)

@@ -1,4 +1,5 @@
-//! Laws of operations.
+//! Laws of operations on a document (13.2.6.1), whoever executes them.
+#![tactic(auto)]
 
 ghost use Rattle.std.specs.Prelude.{◌≡◌, List, map};
 ghost use Rattle.html_types.specs.declared.operation.NodeId.{NodeId};

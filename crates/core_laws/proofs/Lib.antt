@@ -1,0 +1,15 @@
+pub mod Okay
+pub mod Framing
+pub mod Through
+pub mod Rebasing
+pub mod OneResult
+pub mod Cutting
+pub mod Watching
+pub mod Back
+pub mod Known
+pub mod Doing
+pub mod Running
+pub mod Ledger
+pub mod Moving
+pub mod Standing
+pub mod Handing
