@@ -7,7 +7,7 @@ use html_types::instruction::Instr::*;
 use html_types::instruction::Test::*;
 use html_types::instruction::Who::*;
 use html_types::word::Word::*;
-use html_types::{Group, Instr, Mode, Reading, Scope, Word};
+use html_types::{Group, Instr, Mode, TokenizerSwitch, Scope, Word};
 
 /// "Close a p element", where one is in button scope.
 const CLOSE_P: Instr = Close(Scope::Button, The(P));
@@ -70,7 +70,7 @@ pub fn start(word: Word) -> &'static [Instr]
             CLOSE_P,
             Insert,
         ],
-        Plaintext => &[CLOSE_P, Insert, Switch(Reading::Plaintext)],
+        Plaintext => &[CLOSE_P, Insert, Switch(TokenizerSwitch::Plaintext)],
         Button => &[
             Close(Scope::Default, The(Button)),
             Reconstruct,
@@ -88,7 +88,7 @@ pub fn start(word: Word) -> &'static [Instr]
             NotOk,
             KeepMode,
             Enter(Mode::InText),
-            Switch(Reading::Rcdata),
+            Switch(TokenizerSwitch::Rcdata),
         ],
         Xmp => &[
             CLOSE_P,
@@ -97,20 +97,20 @@ pub fn start(word: Word) -> &'static [Instr]
             Insert,
             KeepMode,
             Enter(Mode::InText),
-            Switch(Reading::Rawtext),
+            Switch(TokenizerSwitch::Rawtext),
         ],
         Iframe => &[
             NotOk,
             Insert,
             KeepMode,
             Enter(Mode::InText),
-            Switch(Reading::Rawtext),
+            Switch(TokenizerSwitch::Rawtext),
         ],
         Noembed | Noscript => &[
             Insert,
             KeepMode,
             Enter(Mode::InText),
-            Switch(Reading::Rawtext),
+            Switch(TokenizerSwitch::Rawtext),
         ],
         Select => &[
             Reconstruct,

@@ -9,7 +9,7 @@ use html_types::word::Word::{
     Base, Basefont, Bgsound, Body, Br, Frameset, Head, Html, Link, Meta, Noframes, Script, Style,
     Template, Title,
 };
-use html_types::{Instr, Mode, Name, Reading, Token, Word};
+use html_types::{Instr, Mode, Name, TokenizerSwitch, Token, Word};
 
 const OTHERWISE: &[Instr] = &[InsertA(Body), Enter(Mode::InBody), Again];
 
@@ -58,7 +58,7 @@ fn start(word: Word) -> &'static [Instr]
             TakeHeadOff,
             KeepMode,
             Enter(Mode::InText),
-            Switch(Reading::Rcdata),
+            Switch(TokenizerSwitch::Rcdata),
         ],
         Noframes | Style => &[
             PushHead,
@@ -66,7 +66,7 @@ fn start(word: Word) -> &'static [Instr]
             TakeHeadOff,
             KeepMode,
             Enter(Mode::InText),
-            Switch(Reading::Rawtext),
+            Switch(TokenizerSwitch::Rawtext),
         ],
         Script => &[
             PushHead,
@@ -74,7 +74,7 @@ fn start(word: Word) -> &'static [Instr]
             TakeHeadOff,
             KeepMode,
             Enter(Mode::InText),
-            Switch(Reading::ScriptData),
+            Switch(TokenizerSwitch::ScriptData),
         ],
         Template => &[
             PushHead,

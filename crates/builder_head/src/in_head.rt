@@ -11,7 +11,7 @@ use html_types::word::Word::{
     Base, Basefont, Bgsound, Body, Br, Head, Html, Link, Meta, Noframes, Noscript, Script, Style,
     Template, Title,
 };
-use html_types::{Instr, Mode, Name, Reading, Token, Word};
+use html_types::{Instr, Mode, Name, TokenizerSwitch, Token, Word};
 
 const OTHERWISE: &[Instr] = &[Pop, Enter(Mode::AfterHead), Again];
 
@@ -55,19 +55,19 @@ fn start(word: Word) -> &'static [Instr]
             Insert,
             KeepMode,
             Enter(Mode::InText),
-            Switch(Reading::Rcdata),
+            Switch(TokenizerSwitch::Rcdata),
         ],
         Noscript | Noframes | Style => &[
             Insert,
             KeepMode,
             Enter(Mode::InText),
-            Switch(Reading::Rawtext),
+            Switch(TokenizerSwitch::Rawtext),
         ],
         Script => &[
             Insert,
             KeepMode,
             Enter(Mode::InText),
-            Switch(Reading::ScriptData),
+            Switch(TokenizerSwitch::ScriptData),
         ],
         Template => &[
             Insert,

@@ -11,7 +11,7 @@ use Rattle.html_types.specs.declared.state.TokState.{TokState}
 use Rattle.html_types.specs.declared.operation.NodeId.{NodeId}
 use Rattle.html_types.specs.declared.instruction.Next.{Next}
 use Rattle.html_types.specs.declared.instruction.Next.TheVariants as next
-use Rattle.html_types.specs.declared.instruction.Reading.{Reading}
+use Rattle.html_types.specs.declared.instruction.TokenizerSwitch.{TokenizerSwitch}
 use Rattle.html_types.specs.declared.instruction.Finish.{Finish}
 use Rattle.html_types.specs.declared.instruction.Finish.TheVariants as finale
 use Rattle.html_types.specs.declared.instruction.Stop.{Stop}
@@ -75,7 +75,7 @@ rests s cr t b rest (next.Script i) e = cc
 rests s cr t b rest next.Deep e = cc
 rests s cr t b rest _ e = refl
 
-pub goes_on_else : (n : Next) → ((r : Reading) → n ≡ next.Switch r → ⊥) → ((i : NodeId) → n ≡ next.Script i → ⊥) → (n ≡ next.Deep → ⊥) → goes_on n ≡ true
+pub goes_on_else : (n : Next) → ((r : TokenizerSwitch) → n ≡ next.Switch r → ⊥) → ((i : NodeId) → n ≡ next.Script i → ⊥) → (n ≡ next.Deep → ⊥) → goes_on n ≡ true
 goes_on_else (next.Switch r) a b c = absurd (a r refl)
 goes_on_else (next.Script i) a b c = absurd (b i refl)
 goes_on_else next.Deep a b c = absurd (c refl)
@@ -88,7 +88,7 @@ went_on t cr m m' b b' o o' n e is same =
     ∙ ap (λ k. after_ops o' k) (rests m.state cr t b' (λ s'. build s' cr m.tokens b') n is)
     ∙ build_token t m.tokens m.state cr b o b' o' n e
 
-pub went_switched : (t : Token) (cr : Bool) (m m' : Reached) (b b' : Open) (o o' : List Op) (n : Next) (r : Reading) (s' : TokState) → answer b' o' n ≡ construct t b o → n ≡ next.Switch r
+pub went_switched : (t : Token) (cr : Bool) (m m' : Reached) (b b' : Open) (o o' : List Op) (n : Next) (r : TokenizerSwitch) (s' : TokState) → answer b' o' n ≡ construct t b o → n ≡ next.Switch r
     → s' ≡ read_as r t → m'.tokens ≡ m.tokens → m'.state ≡ s' → WentTo cr m' b' o' went.On ≡ after_ops o (build m.state cr (t ∷ m.tokens) b)
 went_switched t cr m m' b b' o o' n r s' e is read tokens state =
     ap (λ ts. after_ops o' (build m'.state cr ts b')) tokens

@@ -17,7 +17,7 @@ use builder_state::Builder;
 use char_class::{class_of, first_mark};
 use entity_table::Table;
 use html_types::{
-    Finish, Name, Next, NoMemory, NodeId, Ops, RawText, Reading, Stop, TextState, TokState, Token,
+    Finish, Name, Next, NoMemory, NodeId, Ops, RawText, TokenizerSwitch, Stop, TextState, TokState, Token,
     Word, char_at,
 };
 use std::alloc::Global;
@@ -73,15 +73,15 @@ fn word_of_tag(token: &Token) -> Option<Word>
 }
 
 // How the tokenizer reads on where a rule switches it.
-fn read_as(reading: Reading, token: &Token) -> TokState
+fn read_as(reading: TokenizerSwitch, token: &Token) -> TokState
     ensures { result ≡ definition.read_as reading token.now }
 {
     let last = word_of_tag(token);
     match reading {
-        Reading::Rcdata => TokState::Text(TextState::Raw(RawText::Rcdata, last)),
-        Reading::Rawtext => TokState::Text(TextState::Raw(RawText::Rawtext, last)),
-        Reading::ScriptData => TokState::Text(TextState::Raw(RawText::ScriptData, last)),
-        Reading::Plaintext => TokState::Text(TextState::Plaintext),
+        TokenizerSwitch::Rcdata => TokState::Text(TextState::Raw(RawText::Rcdata, last)),
+        TokenizerSwitch::Rawtext => TokState::Text(TextState::Raw(RawText::Rawtext, last)),
+        TokenizerSwitch::ScriptData => TokState::Text(TextState::Raw(RawText::ScriptData, last)),
+        TokenizerSwitch::Plaintext => TokState::Text(TextState::Plaintext),
     }
 }
 

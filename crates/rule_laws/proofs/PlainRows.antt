@@ -4,7 +4,6 @@ use Rattle.std.proofs.lemmas.Bool.{and_parts}
 use Rattle.std.specs.Prelude.{if◌then◌else◌}
 use Rattle.html_types.specs.declared.word.Word.{Word}
 use Rattle.html_types.specs.declared.name.Name.{Name}
-use Rattle.html_types.specs.declared.name.Name.TheVariants.{Known, Other}
 use Rattle.html_types.specs.declared.instruction.Instr.{Instr}
 use Rattle.html_types.specs.declared.instruction.Instr.TheVariants as ins
 use Rattle.html_types.specs.declared.instruction.Mode.{Mode}

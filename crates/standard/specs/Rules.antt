@@ -211,9 +211,10 @@ abbrev pub go_round : (Mode → Answer) → Open → List Op → Round → Answe
 go_round more b o (once m) = more m
 go_round more b o (stop x) = answer b o x
 
--- by the rules of a mode, and of those that it is then to go by, at most so many times; no token goes by more
+-- by the rules of a mode, and of those that it is then to go by, at most so many times; where they are used up it still asks
+-- to go on, which no token comes to
 unfoldable pub process : ℕ → Mode → Token → Open → List Op → Answer
-process zero m t b o = answer b o next.Done
+process zero m t b o = answer b o next.Again
 process (suc n) m t b o =
     let a : Answer = by_rules m t b o in
     go_round (λ m'. process n m' t a.open_state a.ops) a.open_state a.ops (round_after a.open_state a.next)
