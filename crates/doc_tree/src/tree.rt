@@ -443,7 +443,7 @@ impl Tree {
         ensures err { OnErr result (self.new ≡ self.old) }
         ensures keeps { Keeps self.old self.new }
     {
-        self.nodes.add_attributes(self.alloc, node, more)?;
+        self.nodes.add_attributes(node, more)?;
         Ok(())
     }
 }
@@ -469,24 +469,24 @@ impl Tree {
 
     /// The first element of the Document, in tree order, with that `id`. An empty one finds nothing. The walk takes no
     /// memory.
-    pub fn find_id(&self, id: &str) -> Result<Option<usize>, NoMemory>
-        ensures found { IfOk result (λ n. n ≡ find_id self.now (chars id.now)) }
-        ensures here { IfOk result (λ n. ForSome n (λ k. k < length self.now)) }
+    pub fn find_id(&self, id: &str) -> Option<usize>
+        ensures found { result ≡ find_id self.now (chars id.now) }
+        ensures here { ForSome result (λ k. k < length self.now) }
     {
         if id.is_empty() {
-            return Ok(None);
+            return None;
         }
         if self.nodes.len() == 0 {
-            return Ok(None);
+            return None;
         }
         let mut left = Some(0);
         'walk: while let Some(node) = left {
             if has_id(self.nodes.kind(node), id) {
-                return Ok(Some(node));
+                return Some(node);
             }
             left = self.next(node);
         }
-        Ok(None)
+        None
     }
 
     /// The texts of the node's Text children, joined.

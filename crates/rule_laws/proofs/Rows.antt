@@ -54,10 +54,10 @@ rows-sound x t rows same h v m b o s w e =
 
 -- ---- all modes
 
-abbrev modes : List Mode
+abbrev pub modes : List Mode
 modes = Initial ∷ BeforeHtml ∷ BeforeHead ∷ InHead ∷ AfterHead ∷ InBody ∷ InText ∷ InTable ∷ InTableText ∷ InCaption ∷ InColumnGroup ∷ InTableBody ∷ InRow ∷ InCell ∷ InSelect ∷ InSelectInTable ∷ InTemplate ∷ AfterBody ∷ InFrameset ∷ AfterFrameset ∷ AfterAfterBody ∷ AfterAfterFrameset ∷ []
 
-abbrev every : (Mode → Bool) → List Mode → Bool
+abbrev pub every : (Mode → Bool) → List Mode → Bool
 every f [] = true
 every f (m ∷ ms) = f m && every f ms
 
@@ -99,7 +99,7 @@ index-mode : (m : Mode) → nth (index m) modes ≡ m
 index-mode Initial = refl
 index-mode _ = refl
 
-each : (f : Mode → Bool) → every f modes ≡ true → (m : Mode) → f m ≡ true
+pub each : (f : Mode → Bool) → every f modes ≡ true → (m : Mode) → f m ≡ true
 each f e m =
     let P : Mode → Type 0 = λ n. f n ≡ true in
     subst P (index-mode m) (nth-holds f modes (index m) (first e) e)
