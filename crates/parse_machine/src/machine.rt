@@ -17,8 +17,8 @@ use builder_state::Builder;
 use char_class::{class_of, first_mark};
 use entity_table::Table;
 use html_types::{
-    Finish, Name, Next, NoMemory, NodeId, Ops, RawText, TokenizerSwitch, Stop, TextState, TokState, Token,
-    Word, char_at,
+    Finish, Name, Next, NoMemory, NodeId, Ops, RawText, Stop, TextState, TokState, Token,
+    TokenizerSwitch, Word, char_at,
 };
 use std::alloc::Global;
 use std::marker::Model;
