@@ -13,3 +13,5 @@ pub mod Ledger
 pub mod Moving
 pub mod Standing
 pub mod Handing
+pub mod InStep
+pub mod Together

@@ -5,6 +5,8 @@ ghost use Rattle.core_laws.specs.Alike.{ScriptsRename, MomentsRename, FetchesRen
 ghost use Rattle.core_laws.specs.Rebasing.{StatesRebase};
 ghost use Rattle.core_laws.specs.Ways.{LeadsSame, LeadsNext, LeadsThen, BatchesGoThrough, GoesOn, ThroughLeads, NoEndingMatters, ParsesItsFront};
 ghost use Rattle.core_laws.specs.DeskLaws.{AlwaysStandsFor, EndsAsSerial, EndStays, LinesBegin, FailuresAreEpochs, MoreMayFollow};
+ghost use Rattle.core_laws.specs.CoreLaws.{CoreIsDesk, NeverStuck};
+ghost use Rattle.core_laws.specs.CoreLaws as core;
 ghost use Rattle.core_laws.specs.OneResult.{OneVerdict, SettlesOnce, OneMove};
 
 /// Scripts run alike where ids are renamed and where more of the page stands behind the input, up to a moment at which all that
@@ -57,4 +59,16 @@ pub fn desk_stands()
     ensures lines { LinesBegin }
     ensures failures { FailuresAreEpochs }
     ensures more { MoreMayFollow }
+{}
+
+/// Both sides, for every list of events that are enabled, in whatever order: the document's side takes the answers that are called for, so
+/// that all of `desk_stands` holds of it; and where no event but arrivals is enabled, the parse is over, or awaits a script that hasn't
+/// arrived.
+pub fn every_interleaving()
+    ensures desk { CoreIsDesk }
+    ensures stands_for { core.AlwaysStandsFor }
+    ensures ends { core.EndsAsSerial }
+    ensures stays { core.EndStays }
+    ensures lines { core.LinesBegin }
+    ensures never_stuck { NeverStuck }
 {}
