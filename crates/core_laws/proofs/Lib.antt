@@ -15,3 +15,6 @@ pub mod Standing
 pub mod Handing
 pub mod InStep
 pub mod Together
+pub mod Counting
+pub mod Comparing
+pub mod Bounding

@@ -4,3 +4,4 @@ pub mod Ways
 pub mod OneResult
 pub mod DeskLaws
 pub mod CoreLaws
+pub mod Bounds

@@ -7,6 +7,7 @@ ghost use Rattle.core_laws.specs.Ways.{LeadsSame, LeadsNext, LeadsThen, BatchesG
 ghost use Rattle.core_laws.specs.DeskLaws.{AlwaysStandsFor, EndsAsSerial, EndStays, LinesBegin, FailuresAreEpochs, MoreMayFollow};
 ghost use Rattle.core_laws.specs.CoreLaws.{CoreIsDesk, NeverStuck};
 ghost use Rattle.core_laws.specs.CoreLaws as core;
+ghost use Rattle.core_laws.specs.Bounds.{CreditIsKept, BoundedWhereItStands, BoundedByTheParse};
 ghost use Rattle.core_laws.specs.OneResult.{OneVerdict, SettlesOnce, OneMove};
 
 /// Scripts run alike where ids are renamed and where more of the page stands behind the input, up to a moment at which all that
@@ -71,4 +72,13 @@ pub fn every_interleaving()
     ensures stays { core.EndStays }
     ensures lines { core.LinesBegin }
     ensures never_stuck { NeverStuck }
+{}
+
+/// Never are more than `ahead` requests outstanding. The replies that were dropped number at most `ahead` times the failed scripts, and the
+/// requests sent at most pieces and ending times one more than these: those that failed at the moment for which the document's side
+/// stands, which are as many as epochs are over, and so those that fail in the whole parse.
+pub fn counts_are_bounded()
+    ensures credit { CreditIsKept }
+    ensures so_far { BoundedWhereItStands }
+    ensures in_all { BoundedByTheParse }
 {}
