@@ -21,7 +21,7 @@ pub struct Climb {
     /// The node that was put last.
     pub last: NodeId,
     /// The bookmark is just behind the entry of that element, or at that of the formatting element.
-    pub mark: Option<NodeId>,
+    pub bookmark: Option<NodeId>,
 }
 
 /// One element: where it has an entry it becomes its clone there and on the stack, and the last node is put into that one.
@@ -34,8 +34,8 @@ fn climb_one(
     reached: &mut Climb,
     ops: &mut Ops,
 ) -> Result<(), NoMemory>
-    ensures { IfOk result (λ _. climb_at formats.new next.new ops.new reached.new.kept.items reached.new.last reached.new.mark
-        ≡ climb_one left id (climb_at formats.old next.old ops.old reached.old.kept.items reached.old.last reached.old.mark)) }
+    ensures { IfOk result (λ _. climb_at formats.new next.new ops.new reached.new.kept.items reached.new.last reached.new.bookmark
+        ≡ climb_one left id (climb_at formats.old next.old ops.old reached.old.kept.items reached.old.last reached.old.bookmark)) }
 {
     if left == 0 {
         take_entry_off(formats, id);
@@ -55,8 +55,8 @@ fn climb_one(
         })?;
         reached.kept.push(OpenElement { id: clone, name })?;
         reached.last = clone;
-        if reached.mark.is_none() {
-            reached.mark = Some(clone);
+        if reached.bookmark.is_none() {
+            reached.bookmark = Some(clone);
         }
     }
     Ok(())
@@ -71,8 +71,8 @@ pub fn climb_all(
     reached: &mut Climb,
     ops: &mut Ops,
 ) -> Result<(), NoMemory>
-    ensures { IfOk result (λ _. climb_at formats.new next.new ops.new reached.new.kept.items reached.new.last reached.new.mark
-        ≡ climb 3 elements.now (climb_at formats.old next.old ops.old reached.old.kept.items reached.old.last reached.old.mark)) }
+    ensures { IfOk result (λ _. climb_at formats.new next.new ops.new reached.new.kept.items reached.new.last reached.new.bookmark
+        ≡ climb 3 elements.now (climb_at formats.old next.old ops.old reached.old.kept.items reached.old.last reached.old.bookmark)) }
 {
     let mut elements = elements;
     let mut left = KEPT;

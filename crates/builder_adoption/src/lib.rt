@@ -14,7 +14,7 @@ mod stack;
 
 use crate::entries::{has_entry, tag_of};
 use crate::rebuild::rebuild;
-use crate::stack::{block_above, drop_through};
+use crate::stack::{block_below, drop_through};
 pub use builder_state::Adopted;
 use builder_state::{Builder, entry_of, has_in_scope, has_open, take_entry_off};
 use html_types::{NoMemory, NodeId, Open, Ops, Scope, Turn, Word};
@@ -43,7 +43,7 @@ fn take_turn_at(
     let Some(tag) = tag_of(alloc, &state.formats, element)? else {
         return Ok(Turn::Over);
     };
-    match block_above(&state.stack, element) {
+    match block_below(&state.stack, element) {
         None => {
             drop_through(&mut state.stack, element);
             take_entry_off(&mut state.formats, element);

@@ -3,13 +3,13 @@
 ghost use Rattle.std.specs.Prelude.{◌≡◌, ◌++◌, ◌∷◌, [], Some, None, IfOk};
 ghost use Rattle.html_types.specs.declared.operation.Op.TheVariants as op;
 ghost use Rattle.html_types.specs.declared.operation.Place.TheVariants.{Inside};
-ghost use Rattle.standard.specs.Stack.{above, below};
+ghost use Rattle.standard.specs.Stack.{below, above};
 ghost use Rattle.standard.specs.Adoption as definition;
-ghost use Rattle.standard.specs.Adoption.{climb_at, climb, joined, turned, turn_with, put_mark};
+ghost use Rattle.standard.specs.Adoption.{climb_at, climb, joined, turned, turn_with, put_at_bookmark};
 
 use crate::climb::{Climb, climb_all};
 use crate::entries::{insert_behind, renew_entry};
-use crate::stack::{insert_above, place_below, put_back, take_above, take_through};
+use crate::stack::{insert_below, place_above, put_back, take_below, take_through};
 use builder_state::{take_entry_off, take_id, take_off};
 use html_types::{Format, Formats, NoMemory, NodeId, Op, Open, OpenElement, Ops, Place, Tag, Turn};
 use std::alloc::Global;
@@ -23,16 +23,16 @@ fn climb_between(
     block: NodeId,
     ops: &mut Ops,
 ) -> Result<(NodeId, Option<NodeId>), NoMemory>
-    ensures { IfOk result (λ r. let all : definition.Climb = climb 3 (above element (below block state.old.stack)) (climb_at state.old.formats state.old.next ops.old [] block None) in
+    ensures { IfOk result (λ r. let all : definition.Climb = climb 3 (below element (above block state.old.stack)) (climb_at state.old.formats state.old.next ops.old [] block None) in
         (state.new ≡ record state.old { stack = joined element block state.old.stack all.kept; formats = all.formats; next = all.next })
-        × (ops.new ≡ all.ops) × (r.0 ≡ all.last) × (r.1 ≡ all.mark)) }
+        × (ops.new ≡ all.ops) × (r.0 ≡ all.last) × (r.1 ≡ all.bookmark)) }
 {
     let upper = take_through(alloc, &mut state.stack, block)?;
-    let between = take_above(alloc, &mut state.stack, element)?;
+    let between = take_below(alloc, &mut state.stack, element)?;
     let mut climb = Climb {
         kept: Vec::new(alloc),
         last: block,
-        mark: None,
+        bookmark: None,
     };
     climb_all(
         alloc,
@@ -42,10 +42,14 @@ fn climb_between(
         &mut climb,
         ops,
     )?;
-    let Climb { kept, last, mark } = climb;
+    let Climb {
+        kept,
+        last,
+        bookmark,
+    } = climb;
     put_back(&mut state.stack, kept)?;
     put_back(&mut state.stack, upper)?;
-    Ok((last, mark))
+    Ok((last, bookmark))
 }
 
 /// Asks for a clone, which takes the children of the furthest block and stands in it.
@@ -82,22 +86,22 @@ fn mark_entry(
     element: NodeId,
     clone: NodeId,
     tag: Tag,
-    mark: Option<NodeId>,
+    bookmark: Option<NodeId>,
 ) -> Result<(), NoMemory>
-    ensures { IfOk result (λ _. formats.new ≡ put_mark element clone tag mark formats.old) }
+    ensures { IfOk result (λ _. formats.new ≡ put_at_bookmark element clone tag bookmark formats.old) }
 {
-    match mark {
+    match bookmark {
         None => renew_entry(alloc, formats, element, clone),
-        Some(mark) => {
-            insert_behind(alloc, formats, mark, Format::Element { id: clone, tag })?;
+        Some(bookmark) => {
+            insert_behind(alloc, formats, bookmark, Format::Element { id: clone, tag })?;
             take_entry_off(formats, element);
             Ok(())
         }
     }
 }
 
-/// The elements between the furthest block and the formatting element are rebuilt below the latter, and its clone takes its
-/// place just above the block.
+/// 13.2.6.4.7 steps 4.9 to 4.19: the elements between the formatting element and the furthest block are rebuilt, and the formatting
+/// element's clone takes its place on the stack just below the block.
 pub fn rebuild(
     alloc: Global,
     state: &mut Open,
@@ -108,19 +112,19 @@ pub fn rebuild(
 ) -> Result<Turn, NoMemory>
     ensures { IfOk result (λ t. turned state.new ops.new t ≡ turn_with element (Some tag) (Some block) state.old ops.old) }
 {
-    let (last, mark) = climb_between(alloc, state, element, block, ops)?;
-    let place = place_below(&state.stack, state.foster, element);
+    let (last, bookmark) = climb_between(alloc, state, element, block, ops)?;
+    let place = place_above(&state.stack, state.foster, element);
     ops.push(Op::Put { node: last, place })?;
     let clone = take_id(&mut state.next)?;
     make_clone(alloc, clone, &tag, block, ops)?;
     let name = tag.name.copy(alloc)?;
     take_off(&mut state.stack, element);
-    insert_above(
+    insert_below(
         alloc,
         &mut state.stack,
         block,
         OpenElement { id: clone, name },
     )?;
-    mark_entry(alloc, &mut state.formats, element, clone, tag, mark)?;
+    mark_entry(alloc, &mut state.formats, element, clone, tag, bookmark)?;
     Ok(Turn::More)
 }

@@ -1,20 +1,20 @@
 //! The stack of open elements, taken apart and put together again.
 
 ghost use Rattle.std.specs.Prelude.{◌≡◌, ◌++◌, None, IfOk};
-ghost use Rattle.standard.specs.Stack.{above, from_on, through, below, with_above, block_above, place_for};
+ghost use Rattle.standard.specs.Stack.{below, from_on, through, above, with_below, block_below, place_for};
 
 use builder_state::place_for_last;
 use html_types::{Group, NoMemory, NodeId, OpenElement, Place, Stack};
 use std::alloc::Global;
 use tag_sets::is_any;
 
-/// Takes the elements above one off, the current node first.
-pub fn take_above(
+/// Takes the elements below one off, the current node first.
+pub fn take_below(
     alloc: Global,
     stack: &mut Stack,
     id: NodeId,
 ) -> Result<Vec<OpenElement>, NoMemory>
-    ensures taken { IfOk result (λ taken. taken.items ≡ above id stack.old) }
+    ensures taken { IfOk result (λ taken. taken.items ≡ below id stack.old) }
     ensures left { IfOk result (λ _. stack.new ≡ from_on id stack.old) }
 {
     let mut taken = Vec::new(alloc);
@@ -35,7 +35,7 @@ pub fn take_through(
     id: NodeId,
 ) -> Result<Vec<OpenElement>, NoMemory>
     ensures taken { IfOk result (λ taken. taken.items ≡ through id stack.old) }
-    ensures left { IfOk result (λ _. stack.new ≡ below id stack.old) }
+    ensures left { IfOk result (λ _. stack.new ≡ above id stack.old) }
 {
     let mut taken = Vec::new(alloc);
     while let Some(last) = stack.pop() {
@@ -60,7 +60,7 @@ pub fn put_back(stack: &mut Stack, mut taken: Vec<OpenElement>) -> Result<(), No
 
 /// Pops until that element is popped.
 pub fn drop_through(stack: &mut Stack, id: NodeId)
-    ensures { stack.new ≡ below id stack.old }
+    ensures { stack.new ≡ above id stack.old }
 {
     while let Some(last) = stack.pop() {
         if last.id.same(id) {
@@ -69,23 +69,23 @@ pub fn drop_through(stack: &mut Stack, id: NodeId)
     }
 }
 
-/// Puts an element just above another.
-pub fn insert_above(
+/// Puts an element just below another.
+pub fn insert_below(
     alloc: Global,
     stack: &mut Stack,
     id: NodeId,
     element: OpenElement,
 ) -> Result<(), NoMemory>
-    ensures { IfOk result (λ _. stack.new ≡ with_above id element stack.old) }
+    ensures { IfOk result (λ _. stack.new ≡ with_below id element stack.old) }
 {
-    let taken = take_above(alloc, stack, id)?;
+    let taken = take_below(alloc, stack, id)?;
     stack.push(element)?;
     put_back(stack, taken)
 }
 
-/// Of the special elements above one, the one that is closest to it.
-pub fn block_above(stack: &Stack, id: NodeId) -> Option<NodeId>
-    ensures { result ≡ block_above id None stack.now }
+/// Of the special elements below one, the one that is closest to it.
+pub fn block_below(stack: &Stack, id: NodeId) -> Option<NodeId>
+    ensures { result ≡ block_below id None stack.now }
 {
     let mut found = None;
     let mut items = stack.as_slice();
@@ -101,9 +101,9 @@ pub fn block_above(stack: &Stack, id: NodeId) -> Option<NodeId>
     found
 }
 
-/// The appropriate place where the target is the element right below one.
-pub fn place_below(stack: &Stack, foster: bool, id: NodeId) -> Place
-    ensures { result ≡ place_for foster (below id stack.now) stack.now }
+/// The appropriate place where the target is the element right above one.
+pub fn place_above(stack: &Stack, foster: bool, id: NodeId) -> Place
+    ensures { result ≡ place_for foster (above id stack.now) stack.now }
 {
     let mut items = stack.as_slice();
     while let Some((last, rest)) = items.split_last() {

@@ -1,7 +1,7 @@
 //! The rows of "in body" for end tags (13.2.6.4.7).
 
 ghost use Rattle.std.specs.Prelude.{◌≡◌};
-ghost use Rattle.standard.specs.Rules.{known_end_row};
+ghost use Rattle.standard.specs.Rules.{end_row};
 
 use html_types::instruction::Instr::*;
 use html_types::instruction::Test::*;
@@ -10,7 +10,7 @@ use html_types::word::Word::*;
 use html_types::{Group, Instr, Mode, Scope, Word};
 
 pub fn end(word: Word) -> &'static [Instr]
-    ensures { result.now ≡ known_end_row Mode.InBody word }
+    ensures { result.now ≡ end_row Mode.InBody (Name.Known word) }
 {
     match word {
         Template => &[Using(Mode::InHead)],

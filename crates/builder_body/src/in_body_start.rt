@@ -1,19 +1,19 @@
 //! The rows of "in body" for start tags (13.2.6.4.7).
 
 ghost use Rattle.std.specs.Prelude.{◌≡◌};
-ghost use Rattle.standard.specs.Rules.{known_start_row};
+ghost use Rattle.standard.specs.Rules.{start_row};
 
 use html_types::instruction::Instr::*;
 use html_types::instruction::Test::*;
 use html_types::instruction::Who::*;
 use html_types::word::Word::*;
-use html_types::{Group, Instr, Mode, Reading, Scope, Word};
+use html_types::{Group, Instr, Mode, Scope, TokenizerSwitch, Word};
 
 /// "Close a p element", where one is in button scope.
 const CLOSE_P: Instr = Close(Scope::Button, The(P));
 
 pub fn start(word: Word) -> &'static [Instr]
-    ensures { result.now ≡ known_start_row Mode.InBody word }
+    ensures { result.now ≡ start_row Mode.InBody (Name.Known word) }
 {
     match word {
         Html => &[Forbid(OnStack(The(Template))), AddToFirst],
@@ -70,7 +70,7 @@ pub fn start(word: Word) -> &'static [Instr]
             CLOSE_P,
             Insert,
         ],
-        Plaintext => &[CLOSE_P, Insert, Switch(Reading::Plaintext)],
+        Plaintext => &[CLOSE_P, Insert, Switch(TokenizerSwitch::Plaintext)],
         Button => &[
             Close(Scope::Default, The(Button)),
             Reconstruct,
@@ -88,7 +88,7 @@ pub fn start(word: Word) -> &'static [Instr]
             NotOk,
             KeepMode,
             Enter(Mode::InText),
-            Switch(Reading::Rcdata),
+            Switch(TokenizerSwitch::Rcdata),
         ],
         Xmp => &[
             CLOSE_P,
@@ -97,20 +97,20 @@ pub fn start(word: Word) -> &'static [Instr]
             Insert,
             KeepMode,
             Enter(Mode::InText),
-            Switch(Reading::Rawtext),
+            Switch(TokenizerSwitch::Rawtext),
         ],
         Iframe => &[
             NotOk,
             Insert,
             KeepMode,
             Enter(Mode::InText),
-            Switch(Reading::Rawtext),
+            Switch(TokenizerSwitch::Rawtext),
         ],
         Noembed | Noscript => &[
             Insert,
             KeepMode,
             Enter(Mode::InText),
-            Switch(Reading::Rawtext),
+            Switch(TokenizerSwitch::Rawtext),
         ],
         Select => &[
             Reconstruct,

@@ -2,7 +2,7 @@
 
 ghost use Rattle.std.specs.Prelude.{◌≡◌};
 ghost use Rattle.html_types.specs.declared.instruction.Mode.TheVariants as mode;
-ghost use Rattle.standard.specs.Rules.{row, known_end_row};
+ghost use Rattle.standard.specs.Rules.{row, end_row};
 
 use html_types::instruction::Instr::*;
 use html_types::{Instr, Name, Token, Word};
@@ -29,7 +29,7 @@ pub fn in_text(token: &Token) -> &'static [Instr]
 }
 
 fn end(word: Word) -> &'static [Instr]
-    ensures { result.now ≡ known_end_row mode.InText word }
+    ensures { result.now ≡ end_row mode.InText (Name.Known word) }
 {
     match word {
         Word::Script => &[Restore, StopAtScript],

@@ -1,7 +1,7 @@
 //! The rows of "after head" (13.2.6.4.6).
 
 ghost use Rattle.std.specs.Prelude.{◌≡◌};
-ghost use Rattle.standard.specs.Rules.{row, known_start_row, known_end_row};
+ghost use Rattle.standard.specs.Rules.{row, start_row, end_row};
 
 use builder_state::is_space;
 use html_types::instruction::Instr::*;
@@ -9,7 +9,7 @@ use html_types::word::Word::{
     Base, Basefont, Bgsound, Body, Br, Frameset, Head, Html, Link, Meta, Noframes, Script, Style,
     Template, Title,
 };
-use html_types::{Instr, Mode, Name, Reading, Token, Word};
+use html_types::{Instr, Mode, Name, Token, TokenizerSwitch, Word};
 
 const OTHERWISE: &[Instr] = &[InsertA(Body), Enter(Mode::InBody), Again];
 
@@ -45,7 +45,7 @@ pub fn after_head(token: &Token) -> &'static [Instr]
 
 // What goes into the head is pushed on its node, which leaves the stack at once.
 fn start(word: Word) -> &'static [Instr]
-    ensures { result.now ≡ known_start_row Mode.AfterHead word }
+    ensures { result.now ≡ start_row Mode.AfterHead (Name.Known word) }
 {
     match word {
         Html => &[Using(Mode::InBody)],
@@ -58,7 +58,7 @@ fn start(word: Word) -> &'static [Instr]
             TakeHeadOff,
             KeepMode,
             Enter(Mode::InText),
-            Switch(Reading::Rcdata),
+            Switch(TokenizerSwitch::Rcdata),
         ],
         Noframes | Style => &[
             PushHead,
@@ -66,7 +66,7 @@ fn start(word: Word) -> &'static [Instr]
             TakeHeadOff,
             KeepMode,
             Enter(Mode::InText),
-            Switch(Reading::Rawtext),
+            Switch(TokenizerSwitch::Rawtext),
         ],
         Script => &[
             PushHead,
@@ -74,7 +74,7 @@ fn start(word: Word) -> &'static [Instr]
             TakeHeadOff,
             KeepMode,
             Enter(Mode::InText),
-            Switch(Reading::ScriptData),
+            Switch(TokenizerSwitch::ScriptData),
         ],
         Template => &[
             PushHead,
@@ -91,7 +91,7 @@ fn start(word: Word) -> &'static [Instr]
 }
 
 fn end(word: Word) -> &'static [Instr]
-    ensures { result.now ≡ known_end_row Mode.AfterHead word }
+    ensures { result.now ≡ end_row Mode.AfterHead (Name.Known word) }
 {
     match word {
         Template => &[Using(Mode::InHead)],

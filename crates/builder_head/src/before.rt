@@ -1,7 +1,7 @@
 //! The rows of "initial" (13.2.6.4.1), "before html" (13.2.6.4.2) and "before head" (13.2.6.4.3).
 
 ghost use Rattle.std.specs.Prelude.{◌≡◌};
-ghost use Rattle.standard.specs.Rules.{row, known_start_row, known_end_row, character_row};
+ghost use Rattle.standard.specs.Rules.{row, start_row, end_row, character_row};
 
 use builder_state::is_space;
 use html_types::instruction::Instr::*;
@@ -60,7 +60,7 @@ pub fn before_html(token: &Token) -> &'static [Instr]
 }
 
 fn before_html_start(word: Word) -> &'static [Instr]
-    ensures { result.now ≡ known_start_row Mode.BeforeHtml word }
+    ensures { result.now ≡ start_row Mode.BeforeHtml (Name.Known word) }
 {
     match word {
         Html => &[InsertRoot, Enter(Mode::BeforeHead)],
@@ -69,7 +69,7 @@ fn before_html_start(word: Word) -> &'static [Instr]
 }
 
 fn before_html_end(word: Word) -> &'static [Instr]
-    ensures { result.now ≡ known_end_row Mode.BeforeHtml word }
+    ensures { result.now ≡ end_row Mode.BeforeHtml (Name.Known word) }
 {
     match word {
         Head | Body | Html | Br => NO_HTML,
@@ -102,7 +102,7 @@ pub fn before_head(token: &Token) -> &'static [Instr]
 }
 
 fn before_head_start(word: Word) -> &'static [Instr]
-    ensures { result.now ≡ known_start_row Mode.BeforeHead word }
+    ensures { result.now ≡ start_row Mode.BeforeHead (Name.Known word) }
 {
     match word {
         Html => &[Using(Mode::InBody)],
@@ -112,7 +112,7 @@ fn before_head_start(word: Word) -> &'static [Instr]
 }
 
 fn before_head_end(word: Word) -> &'static [Instr]
-    ensures { result.now ≡ known_end_row Mode.BeforeHead word }
+    ensures { result.now ≡ end_row Mode.BeforeHead (Name.Known word) }
 {
     match word {
         Head | Body | Html | Br => NO_HEAD,

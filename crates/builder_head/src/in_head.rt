@@ -1,7 +1,7 @@
 //! The rows of "in head" (13.2.6.4.4).
 
 ghost use Rattle.std.specs.Prelude.{◌≡◌};
-ghost use Rattle.standard.specs.Rules.{row, known_start_row, known_end_row};
+ghost use Rattle.standard.specs.Rules.{row, start_row, end_row};
 
 use builder_state::is_space;
 use html_types::instruction::Instr::*;
@@ -11,7 +11,7 @@ use html_types::word::Word::{
     Base, Basefont, Bgsound, Body, Br, Head, Html, Link, Meta, Noframes, Noscript, Script, Style,
     Template, Title,
 };
-use html_types::{Instr, Mode, Name, Reading, Token, Word};
+use html_types::{Instr, Mode, Name, Token, TokenizerSwitch, Word};
 
 const OTHERWISE: &[Instr] = &[Pop, Enter(Mode::AfterHead), Again];
 
@@ -46,7 +46,7 @@ pub fn in_head(token: &Token) -> &'static [Instr]
 }
 
 fn start(word: Word) -> &'static [Instr]
-    ensures { result.now ≡ known_start_row Mode.InHead word }
+    ensures { result.now ≡ start_row Mode.InHead (Name.Known word) }
 {
     match word {
         Html => &[Using(Mode::InBody)],
@@ -55,19 +55,19 @@ fn start(word: Word) -> &'static [Instr]
             Insert,
             KeepMode,
             Enter(Mode::InText),
-            Switch(Reading::Rcdata),
+            Switch(TokenizerSwitch::Rcdata),
         ],
         Noscript | Noframes | Style => &[
             Insert,
             KeepMode,
             Enter(Mode::InText),
-            Switch(Reading::Rawtext),
+            Switch(TokenizerSwitch::Rawtext),
         ],
         Script => &[
             Insert,
             KeepMode,
             Enter(Mode::InText),
-            Switch(Reading::ScriptData),
+            Switch(TokenizerSwitch::ScriptData),
         ],
         Template => &[
             Insert,
@@ -82,7 +82,7 @@ fn start(word: Word) -> &'static [Instr]
 }
 
 fn end(word: Word) -> &'static [Instr]
-    ensures { result.now ≡ known_end_row Mode.InHead word }
+    ensures { result.now ≡ end_row Mode.InHead (Name.Known word) }
 {
     match word {
         Head => &[Pop, Enter(Mode::AfterHead)],

@@ -1,7 +1,7 @@
 //! The rows of "after body" (13.2.6.4.19) and "after after body" (13.2.6.4.22).
 
 ghost use Rattle.std.specs.Prelude.{◌≡◌};
-ghost use Rattle.standard.specs.Rules.{row, known_start_row, known_end_row};
+ghost use Rattle.standard.specs.Rules.{row, start_row, end_row};
 
 use builder_state::is_space;
 use html_types::instruction::Instr::*;
@@ -40,7 +40,7 @@ pub fn after_body(token: &Token) -> &'static [Instr]
 }
 
 fn after_body_start(word: Word) -> &'static [Instr]
-    ensures { result.now ≡ known_start_row Mode.AfterBody word }
+    ensures { result.now ≡ start_row Mode.AfterBody (Name.Known word) }
 {
     match word {
         Word::Html => &[Using(Mode::InBody)],
@@ -49,7 +49,7 @@ fn after_body_start(word: Word) -> &'static [Instr]
 }
 
 fn after_body_end(word: Word) -> &'static [Instr]
-    ensures { result.now ≡ known_end_row Mode.AfterBody word }
+    ensures { result.now ≡ end_row Mode.AfterBody (Name.Known word) }
 {
     match word {
         Word::Html => &[Enter(Mode::AfterAfterBody)],
@@ -85,7 +85,7 @@ pub fn after_after_body(token: &Token) -> &'static [Instr]
 }
 
 fn after_after_body_start(word: Word) -> &'static [Instr]
-    ensures { result.now ≡ known_start_row Mode.AfterAfterBody word }
+    ensures { result.now ≡ start_row Mode.AfterAfterBody (Name.Known word) }
 {
     match word {
         Word::Html => &[Using(Mode::InBody)],

@@ -1,7 +1,7 @@
 //! The rows of "in frameset" (13.2.6.4.20), "after frameset" (13.2.6.4.21) and "after after frameset" (13.2.6.4.23).
 
 ghost use Rattle.std.specs.Prelude.{◌≡◌};
-ghost use Rattle.standard.specs.Rules.{row, known_start_row, known_end_row};
+ghost use Rattle.standard.specs.Rules.{row, start_row, end_row};
 
 use builder_state::is_space;
 use html_types::instruction::Instr::*;
@@ -35,7 +35,7 @@ pub fn in_frameset(token: &Token) -> &'static [Instr]
 }
 
 fn in_frameset_start(word: Word) -> &'static [Instr]
-    ensures { result.now ≡ known_start_row Mode.InFrameset word }
+    ensures { result.now ≡ start_row Mode.InFrameset (Name.Known word) }
 {
     match word {
         Html => &[Using(Mode::InBody)],
@@ -47,7 +47,7 @@ fn in_frameset_start(word: Word) -> &'static [Instr]
 }
 
 fn in_frameset_end(word: Word) -> &'static [Instr]
-    ensures { result.now ≡ known_end_row Mode.InFrameset word }
+    ensures { result.now ≡ end_row Mode.InFrameset (Name.Known word) }
 {
     match word {
         Frameset => &[
@@ -85,7 +85,7 @@ pub fn after_frameset(token: &Token) -> &'static [Instr]
 }
 
 fn after_frameset_start(word: Word) -> &'static [Instr]
-    ensures { result.now ≡ known_start_row Mode.AfterFrameset word }
+    ensures { result.now ≡ start_row Mode.AfterFrameset (Name.Known word) }
 {
     match word {
         Html => &[Using(Mode::InBody)],
@@ -95,7 +95,7 @@ fn after_frameset_start(word: Word) -> &'static [Instr]
 }
 
 fn after_frameset_end(word: Word) -> &'static [Instr]
-    ensures { result.now ≡ known_end_row Mode.AfterFrameset word }
+    ensures { result.now ≡ end_row Mode.AfterFrameset (Name.Known word) }
 {
     match word {
         Html => &[Enter(Mode::AfterAfterFrameset)],
@@ -131,7 +131,7 @@ pub fn after_after_frameset(token: &Token) -> &'static [Instr]
 }
 
 fn after_after_frameset_start(word: Word) -> &'static [Instr]
-    ensures { result.now ≡ known_start_row Mode.AfterAfterFrameset word }
+    ensures { result.now ≡ start_row Mode.AfterAfterFrameset (Name.Known word) }
 {
     match word {
         Html => &[Using(Mode::InBody)],

@@ -1,7 +1,7 @@
 //! The rows of "in select" (13.2.6.4.16) and "in select in table" (13.2.6.4.17).
 
 ghost use Rattle.std.specs.Prelude.{◌≡◌};
-ghost use Rattle.standard.specs.Rules.{row, known_start_row, known_end_row};
+ghost use Rattle.standard.specs.Rules.{row, start_row, end_row};
 
 use html_types::instruction::Instr::*;
 use html_types::instruction::Test::{Current, InScope, OptionInOptgroup};
@@ -44,7 +44,7 @@ pub fn in_select(token: &Token) -> &'static [Instr]
 }
 
 fn in_select_start(word: Word) -> &'static [Instr]
-    ensures { result.now ≡ known_start_row Mode.InSelect word }
+    ensures { result.now ≡ start_row Mode.InSelect (Name.Known word) }
 {
     match word {
         Html => &[Using(Mode::InBody)],
@@ -76,7 +76,7 @@ fn in_select_start(word: Word) -> &'static [Instr]
 }
 
 fn in_select_end(word: Word) -> &'static [Instr]
-    ensures { result.now ≡ known_end_row Mode.InSelect word }
+    ensures { result.now ≡ end_row Mode.InSelect (Name.Known word) }
 {
     match word {
         Optgroup => &[
@@ -117,7 +117,7 @@ pub fn in_select_in_table(token: &Token) -> &'static [Instr]
 }
 
 fn in_select_in_table_start(word: Word) -> &'static [Instr]
-    ensures { result.now ≡ known_start_row Mode.InSelectInTable word }
+    ensures { result.now ≡ start_row Mode.InSelectInTable (Name.Known word) }
 {
     match word {
         Caption | Table | Tbody | Tfoot | Thead | Tr | Td | Th => {
@@ -128,7 +128,7 @@ fn in_select_in_table_start(word: Word) -> &'static [Instr]
 }
 
 fn in_select_in_table_end(word: Word) -> &'static [Instr]
-    ensures { result.now ≡ known_end_row Mode.InSelectInTable word }
+    ensures { result.now ≡ end_row Mode.InSelectInTable (Name.Known word) }
 {
     match word {
         Caption | Table | Tbody | Tfoot | Thead | Tr | Td | Th => &[

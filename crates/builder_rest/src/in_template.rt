@@ -1,7 +1,7 @@
 //! The rows of "in template" (13.2.6.4.18).
 
 ghost use Rattle.std.specs.Prelude.{◌≡◌};
-ghost use Rattle.standard.specs.Rules.{row, known_start_row, known_end_row};
+ghost use Rattle.standard.specs.Rules.{row, start_row, end_row};
 
 use html_types::instruction::Instr::*;
 use html_types::instruction::Test::OnStack;
@@ -54,7 +54,7 @@ pub fn in_template(token: &Token) -> &'static [Instr]
 
 // The template's mode is replaced by one that fits what comes.
 fn start(word: Word) -> &'static [Instr]
-    ensures { result.now ≡ known_start_row Mode.InTemplate word }
+    ensures { result.now ≡ start_row Mode.InTemplate (Name.Known word) }
 {
     match word {
         Base | Basefont | Bgsound | Link | Meta | Noframes | Script | Style | Template | Title => {
@@ -89,7 +89,7 @@ fn start(word: Word) -> &'static [Instr]
 }
 
 fn end(word: Word) -> &'static [Instr]
-    ensures { result.now ≡ known_end_row Mode.InTemplate word }
+    ensures { result.now ≡ end_row Mode.InTemplate (Name.Known word) }
 {
     match word {
         Template => &[Using(Mode::InHead)],

@@ -8,7 +8,7 @@ use Rattle.html_types.specs.declared.operation.Op.{Op}
 use Rattle.html_types.specs.declared.instruction.Flow.{Flow}
 use Rattle.html_types.specs.declared.instruction.Flow.TheVariants.{On, Skip, Leave}
 use Rattle.html_types.specs.declared.open.Open.{Open}
-use Rattle.standard.specs.Space.{is_space}
+use Rattle.standard.specs.WhiteSpace.{is_space}
 use Rattle.standard.specs.Formatting.{lost, kept}
 use Rattle.standard.specs.Instructions.{Config, config, on, room, reopen, reopen_all, reconstruct, all_space, body_text, body_character, body_characters, insert_pending}
 

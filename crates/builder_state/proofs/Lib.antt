@@ -1,5 +1,5 @@
 pub mod Runs
-pub mod Bottom
+pub mod Top
 pub mod Literals
 pub mod Lowered
 pub mod Characters

@@ -332,7 +332,7 @@ pub fn insert_doctype(
 }
 
 /// Adds the attributes of the token's tag to the first element of the stack, where it lacks them.
-#[tactic(auto, using(std::proofs::lemmas::Grind::common_steps, crate::proofs::Bottom::first_open_reverse))]
+#[tactic(auto, using(std::proofs::lemmas::Grind::common_steps, crate::proofs::Top::first_open_reverse))]
 pub fn add_to_first(
     alloc: Global,
     state: &Open,
@@ -351,7 +351,7 @@ pub fn add_to_first(
 }
 
 /// Adds them to the second element of the stack.
-#[tactic(auto, using(std::proofs::lemmas::Grind::common_steps, crate::proofs::Bottom::second_open_reverse, crate::proofs::Bottom::second_open_few))]
+#[tactic(auto, using(std::proofs::lemmas::Grind::common_steps, crate::proofs::Top::second_open_reverse, crate::proofs::Top::second_open_few))]
 pub fn add_to_second(
     alloc: Global,
     state: &Open,
@@ -377,7 +377,7 @@ fn add_to(alloc: Global, node: NodeId, tag: &Tag, ops: &mut Ops) -> Result<(), N
 }
 
 /// Takes the second element of the stack out of its parent. It stays on the stack.
-#[tactic(auto, using(std::proofs::lemmas::Grind::common_steps, crate::proofs::Bottom::second_open_reverse, crate::proofs::Bottom::second_open_few))]
+#[tactic(auto, using(std::proofs::lemmas::Grind::common_steps, crate::proofs::Top::second_open_reverse, crate::proofs::Top::second_open_few))]
 pub fn take_second_out(state: &Open, ops: &mut Ops) -> Result<(), NoMemory>
     ensures { IfOk result (λ _. on state.now ops.new ≡ detach_second (second_open state.now.stack) state.now ops.old) }
 {

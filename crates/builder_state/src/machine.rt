@@ -42,7 +42,7 @@ fn take_head_off(state: &mut Open)
     }
 }
 
-/// The mode is the original mode again. (There always is one in the modes "text" and "in table text".)
+/// The mode is the original mode again. (There always is one in the modes "text" and "in table text": `open_state_is_proper` of `rule_laws`.)
 fn restore(state: &mut Open)
     ensures { state.new ≡ record state.old { mode = original_or Mode.InBody state.old.original; original = None } }
 {

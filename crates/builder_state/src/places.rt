@@ -68,7 +68,7 @@ fn fostered(all: &[OpenElement]) -> Place
 }
 
 /// The end of the first element of the stack.
-#[tactic(auto, using(std::proofs::lemmas::Grind::common_steps, crate::proofs::Bottom::first_open_reverse))]
+#[tactic(auto, using(std::proofs::lemmas::Grind::common_steps, crate::proofs::Top::first_open_reverse))]
 pub fn root_place(stack: &Stack) -> Place
     ensures { result ≡ end_of (first_open stack.now) }
 {
@@ -85,7 +85,7 @@ pub fn second_is_body(stack: &Stack) -> bool
     second_of_items_is_body(stack.as_slice())
 }
 
-#[tactic(auto, using(std::proofs::lemmas::Grind::common_steps, crate::proofs::Bottom::second_open_reverse, crate::proofs::Bottom::second_open_few))]
+#[tactic(auto, using(std::proofs::lemmas::Grind::common_steps, crate::proofs::Top::second_open_reverse, crate::proofs::Top::second_open_few))]
 fn second_of_items_is_body(items: &[OpenElement]) -> bool
     ensures { result ≡ is_the Word.Body (second_open (reverse items.now)) }
 {

@@ -17,7 +17,7 @@ pub fn is_table_mode(mode: Mode) -> bool
     )
 }
 
-/// The mode of a select that stands right above these elements: "in select in table" where it stands in a table, with no
+/// The mode of a select that stands right below these elements: "in select in table" where it stands in a table, with no
 /// template between.
 fn mode_of_select(all: &[OpenElement]) -> Mode
     ensures { result ≡ select_mode (reverse all.now) }
@@ -55,22 +55,22 @@ fn mode_of_root(head: Option<NodeId>) -> Mode
     }
 }
 
-/// The mode that an element tells, which stands right above these elements.
+/// The mode that an element tells, which stands right below these elements.
 fn told_mode(
     element: &OpenElement,
-    below: &[OpenElement],
+    above: &[OpenElement],
     head: Option<NodeId>,
     modes: &Modes,
 ) -> Option<Mode>
-    ensures { let mode = reset_mode (element.now ∷ reverse below.now) head modes.now in MatchOption result
-        (mode ≡ reset_mode (reverse below.now) head modes.now)
+    ensures { let mode = reset_mode (element.now ∷ reverse above.now) head modes.now in MatchOption result
+        (mode ≡ reset_mode (reverse above.now) head modes.now)
         (λ told. mode ≡ told) }
 {
     let Name::Known(word) = &element.name else {
         return None;
     };
     match *word {
-        Word::Select => Some(mode_of_select(below)),
+        Word::Select => Some(mode_of_select(above)),
         Word::Td | Word::Th => Some(Mode::InCell),
         Word::Tr => Some(Mode::InRow),
         Word::Tbody | Word::Thead | Word::Tfoot => Some(Mode::InTableBody),

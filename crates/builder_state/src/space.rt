@@ -1,7 +1,7 @@
 //! White space, as tree construction takes it (13.2.6).
 
 ghost use Rattle.std.specs.Prelude.{◌≡◌};
-ghost use Rattle.standard.specs.Space.{is_space as is_white};
+ghost use Rattle.standard.specs.WhiteSpace.{is_space as is_white};
 
 /// TAB, LF, FF, CR, SPACE. (A CR can come from a character reference.)
 pub fn is_space(c: char) -> bool

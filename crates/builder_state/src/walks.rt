@@ -58,7 +58,7 @@ pub fn is_on_stack(stack: &Stack, who: Who, token: &Token) -> bool
     false
 }
 
-/// Whether the current node is an option right above an optgroup.
+/// Whether the current node is an option right below an optgroup.
 pub fn is_option_in_optgroup(stack: &Stack) -> bool
     ensures { result ≡ option_in_optgroup stack.now }
 {
@@ -67,7 +67,7 @@ pub fn is_option_in_optgroup(stack: &Stack) -> bool
     };
     match rest.split_last() {
         None => false,
-        Some((below, _)) => is_the(Word::Option, &last.name) && is_the(Word::Optgroup, &below.name),
+        Some((above, _)) => is_the(Word::Option, &last.name) && is_the(Word::Optgroup, &above.name),
     }
 }
 
@@ -128,7 +128,7 @@ pub fn pop_back_to(stack: &mut Stack, group: Group)
 }
 
 /// Pops all but the first element.
-#[tactic(auto, using(std::proofs::lemmas::Grind::common_steps, crate::proofs::Bottom::pop_to_root_few))]
+#[tactic(auto, using(std::proofs::lemmas::Grind::common_steps, crate::proofs::Top::pop_to_root_few))]
 pub fn pop_to_first(stack: &mut Stack)
     ensures left { stack.new ≡ pop_to_root stack.old }
     ensures shorter { length stack.new ≤ length stack.old }
@@ -229,7 +229,7 @@ pub fn close_other_end(stack: &mut Stack, token: &Token)
     }
 }
 
-/// Where the element of that id stands, counted from the bottom.
+/// Where the element of that id stands, counted from the top.
 fn place_of(all: &[OpenElement], id: NodeId) -> Option<usize>
     ensures { MatchOption result
         (without_open (Some id) (reverse all.now) ≡ reverse all.now)

@@ -1,7 +1,7 @@
 //! The rows of "in caption" (13.2.6.4.11).
 
 ghost use Rattle.std.specs.Prelude.{◌≡◌};
-ghost use Rattle.standard.specs.Rules.{row, known_start_row, known_end_row};
+ghost use Rattle.standard.specs.Rules.{row, start_row, end_row};
 
 use html_types::instruction::Instr::*;
 use html_types::instruction::Test::InScope;
@@ -46,7 +46,7 @@ pub fn in_caption(token: &Token) -> &'static [Instr]
 }
 
 fn start(word: Word) -> &'static [Instr]
-    ensures { result.now ≡ known_start_row Mode.InCaption word }
+    ensures { result.now ≡ start_row Mode.InCaption (Name.Known word) }
 {
     match word {
         Caption | Col | Colgroup | Tbody | Td | Tfoot | Th | Thead | Tr => CLOSE_AGAIN,
@@ -55,7 +55,7 @@ fn start(word: Word) -> &'static [Instr]
 }
 
 fn end(word: Word) -> &'static [Instr]
-    ensures { result.now ≡ known_end_row Mode.InCaption word }
+    ensures { result.now ≡ end_row Mode.InCaption (Name.Known word) }
 {
     match word {
         Caption => &[

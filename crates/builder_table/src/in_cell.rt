@@ -1,7 +1,7 @@
 //! The rows of "in cell" (13.2.6.4.15).
 
 ghost use Rattle.std.specs.Prelude.{◌≡◌};
-ghost use Rattle.standard.specs.Rules.{row, known_start_row, known_end_row};
+ghost use Rattle.standard.specs.Rules.{row, start_row, end_row};
 
 use html_types::instruction::Instr::*;
 use html_types::instruction::Test::InScope;
@@ -37,7 +37,7 @@ pub fn in_cell(token: &Token) -> &'static [Instr]
 
 // "Close the cell", then once more.
 fn start(word: Word) -> &'static [Instr]
-    ensures { result.now ≡ known_start_row Mode.InCell word }
+    ensures { result.now ≡ start_row Mode.InCell (Name.Known word) }
 {
     match word {
         Caption | Col | Colgroup | Tbody | Td | Tfoot | Th | Thead | Tr => &[
@@ -52,7 +52,7 @@ fn start(word: Word) -> &'static [Instr]
 }
 
 fn end(word: Word) -> &'static [Instr]
-    ensures { result.now ≡ known_end_row Mode.InCell word }
+    ensures { result.now ≡ end_row Mode.InCell (Name.Known word) }
 {
     match word {
         Td | Th => &[

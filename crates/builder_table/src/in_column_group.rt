@@ -1,7 +1,7 @@
 //! The rows of "in column group" (13.2.6.4.12).
 
 ghost use Rattle.std.specs.Prelude.{◌≡◌};
-ghost use Rattle.standard.specs.Rules.{row, known_start_row, known_end_row};
+ghost use Rattle.standard.specs.Rules.{row, start_row, end_row};
 
 use builder_state::is_space;
 use html_types::instruction::Instr::*;
@@ -48,7 +48,7 @@ pub fn in_column_group(token: &Token) -> &'static [Instr]
 }
 
 fn start(word: Word) -> &'static [Instr]
-    ensures { result.now ≡ known_start_row Mode.InColumnGroup word }
+    ensures { result.now ≡ start_row Mode.InColumnGroup (Name.Known word) }
 {
     match word {
         Html => &[Using(Mode::InBody)],
@@ -59,7 +59,7 @@ fn start(word: Word) -> &'static [Instr]
 }
 
 fn end(word: Word) -> &'static [Instr]
-    ensures { result.now ≡ known_end_row Mode.InColumnGroup word }
+    ensures { result.now ≡ end_row Mode.InColumnGroup (Name.Known word) }
 {
     match word {
         Colgroup => &[Need(Current(The(Colgroup))), Pop, Enter(Mode::InTable)],

@@ -1,7 +1,7 @@
 //! The rows of "in row" (13.2.6.4.14).
 
 ghost use Rattle.std.specs.Prelude.{◌≡◌};
-ghost use Rattle.standard.specs.Rules.{row, known_start_row, known_end_row};
+ghost use Rattle.standard.specs.Rules.{row, start_row, end_row};
 
 use html_types::instruction::Instr::*;
 use html_types::instruction::Test::InScope;
@@ -48,7 +48,7 @@ pub fn in_row(token: &Token) -> &'static [Instr]
 }
 
 fn start(word: Word) -> &'static [Instr]
-    ensures { result.now ≡ known_start_row Mode.InRow word }
+    ensures { result.now ≡ start_row Mode.InRow (Name.Known word) }
 {
     match word {
         Th | Td => &[CLEAR, Insert, Enter(Mode::InCell), Marker],
@@ -58,7 +58,7 @@ fn start(word: Word) -> &'static [Instr]
 }
 
 fn end(word: Word) -> &'static [Instr]
-    ensures { result.now ≡ known_end_row Mode.InRow word }
+    ensures { result.now ≡ end_row Mode.InRow (Name.Known word) }
 {
     match word {
         Tr => &[

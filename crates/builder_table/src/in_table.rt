@@ -1,7 +1,7 @@
 //! The rows of "in table" (13.2.6.4.9).
 
 ghost use Rattle.std.specs.Prelude.{◌≡◌};
-ghost use Rattle.standard.specs.Rules.{row, known_start_row, known_end_row};
+ghost use Rattle.standard.specs.Rules.{row, start_row, end_row};
 
 use html_types::instruction::Instr::*;
 use html_types::instruction::Test::{Current, HiddenInput, InForm, InScope, OnStack};
@@ -46,7 +46,7 @@ pub fn in_table(token: &Token) -> &'static [Instr]
 }
 
 fn start(word: Word) -> &'static [Instr]
-    ensures { result.now ≡ known_start_row Mode.InTable word }
+    ensures { result.now ≡ start_row Mode.InTable (Name.Known word) }
 {
     match word {
         Caption => &[CLEAR, Marker, Insert, Enter(Mode::InCaption)],
@@ -74,7 +74,7 @@ fn start(word: Word) -> &'static [Instr]
 }
 
 fn end(word: Word) -> &'static [Instr]
-    ensures { result.now ≡ known_end_row Mode.InTable word }
+    ensures { result.now ≡ end_row Mode.InTable (Name.Known word) }
 {
     match word {
         Table => &[

@@ -1,7 +1,7 @@
 //! The rows of "in table body" (13.2.6.4.13).
 
 ghost use Rattle.std.specs.Prelude.{◌≡◌};
-ghost use Rattle.standard.specs.Rules.{row, known_start_row, known_end_row};
+ghost use Rattle.standard.specs.Rules.{row, start_row, end_row};
 
 use html_types::instruction::Instr::*;
 use html_types::instruction::Test::InScope;
@@ -48,7 +48,7 @@ pub fn in_table_body(token: &Token) -> &'static [Instr]
 }
 
 fn start(word: Word) -> &'static [Instr]
-    ensures { result.now ≡ known_start_row Mode.InTableBody word }
+    ensures { result.now ≡ start_row Mode.InTableBody (Name.Known word) }
 {
     match word {
         Tr => &[CLEAR, Insert, Enter(Mode::InRow)],
@@ -59,7 +59,7 @@ fn start(word: Word) -> &'static [Instr]
 }
 
 fn end(word: Word) -> &'static [Instr]
-    ensures { result.now ≡ known_end_row Mode.InTableBody word }
+    ensures { result.now ≡ end_row Mode.InTableBody (Name.Known word) }
 {
     match word {
         Tbody | Tfoot | Thead => &[

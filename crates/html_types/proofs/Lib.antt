@@ -3,4 +3,5 @@ pub mod CharLemmas
 pub mod WordLemmas
 pub mod ListLemmas
 pub mod Counts
+pub mod AttributeLemmas
 mod Examples

@@ -1,8 +1,15 @@
--- The names that the rules speak of: their texts are ASCII, and `==` tells them apart.
-use Rattle.std.proofs.Common.{◌≡◌, Decides, refl, rules}
-use Rattle.std.specs.Str.{chars}
+-- The names that the rules speak of: their texts are ASCII and tell them apart, and so does `==`.
+use Rattle.std.proofs.Common.{◌≡◌, Decides, Bool, true, false, true≢false, ◌||◌, cond, List, [], ◌∷◌, ℕ, suc, ◌+◌, ◌<◌, ◌≤◌, length, get_or, drop, drop-cons, drop_of_length-le, add-one, refl, sym, ap, subst, ◌∙◌, rules}
+use Rattle.std.specs.Prelude.{Option, None, Some, IsTrue, is_some, slice_get}
+use Rattle.std.specs.List.{list_any}
+use Rattle.std.specs.Str.{chars, IsUtf8}
+use Rattle.std.specs.Cmp.Lexicographic.{bytes_decides}
+use Rattle.std.proofs.Math.Utf8.{encodes}
+use Rattle.std.proofs.lemmas.Str.{encodes-chars}
 use denote.Enum.Bare.{same_true, true_same}
-use Rattle.html_types.specs.Words.{same_word, word_text}
+use Rattle.html_types.specs.Text.{same_text}
+use Rattle.html_types.specs.Words.{same_word, word_text, words}
+use Rattle.html_types.specs.Names.{known_word, word_among}
 use Rattle.html_types.specs.contracts.word.Word.{the_type}
 use Rattle.html_types.specs.declared.word.Word.{Word}
 use Rattle.html_types.specs.declared.word.Word.TheVariants as word
@@ -13,108 +20,51 @@ word_decides v w = (same_true the_type (search rules) v w, true_same the_type v 
 pub chars_word : (w : Word) → chars (word_text w) ≡ word_text w
 unfolding chars
 chars_word word.A = refl
-chars_word word.Address = refl
-chars_word word.Applet = refl
-chars_word word.Area = refl
-chars_word word.Article = refl
-chars_word word.Aside = refl
-chars_word word.B = refl
-chars_word word.Base = refl
-chars_word word.Basefont = refl
-chars_word word.Bgsound = refl
-chars_word word.Big = refl
-chars_word word.Blockquote = refl
-chars_word word.Body = refl
-chars_word word.Br = refl
-chars_word word.Button = refl
-chars_word word.Caption = refl
-chars_word word.Center = refl
-chars_word word.Code = refl
-chars_word word.Col = refl
-chars_word word.Colgroup = refl
-chars_word word.Dd = refl
-chars_word word.Details = refl
-chars_word word.Dialog = refl
-chars_word word.Dir = refl
-chars_word word.Div = refl
-chars_word word.Dl = refl
-chars_word word.Dt = refl
-chars_word word.Em = refl
-chars_word word.Embed = refl
-chars_word word.Fieldset = refl
-chars_word word.Figcaption = refl
-chars_word word.Figure = refl
-chars_word word.Font = refl
-chars_word word.Footer = refl
-chars_word word.Form = refl
-chars_word word.Frame = refl
-chars_word word.Frameset = refl
-chars_word word.H1 = refl
-chars_word word.H2 = refl
-chars_word word.H3 = refl
-chars_word word.H4 = refl
-chars_word word.H5 = refl
-chars_word word.H6 = refl
-chars_word word.Head = refl
-chars_word word.Header = refl
-chars_word word.Hgroup = refl
-chars_word word.Hr = refl
-chars_word word.Html = refl
-chars_word word.I = refl
-chars_word word.Iframe = refl
-chars_word word.Image = refl
-chars_word word.Img = refl
-chars_word word.Input = refl
-chars_word word.Keygen = refl
-chars_word word.Li = refl
-chars_word word.Link = refl
-chars_word word.Listing = refl
-chars_word word.Main = refl
-chars_word word.Marquee = refl
-chars_word word.Menu = refl
-chars_word word.Meta = refl
-chars_word word.Nav = refl
-chars_word word.Nobr = refl
-chars_word word.Noembed = refl
-chars_word word.Noframes = refl
-chars_word word.Noscript = refl
-chars_word word.Object = refl
-chars_word word.Ol = refl
-chars_word word.Optgroup = refl
-chars_word word.Option = refl
-chars_word word.P = refl
-chars_word word.Param = refl
-chars_word word.Plaintext = refl
-chars_word word.Pre = refl
-chars_word word.Rb = refl
-chars_word word.Rp = refl
-chars_word word.Rt = refl
-chars_word word.Rtc = refl
-chars_word word.Ruby = refl
-chars_word word.S = refl
-chars_word word.Script = refl
-chars_word word.Search = refl
-chars_word word.Section = refl
-chars_word word.Select = refl
-chars_word word.Small = refl
-chars_word word.Source = refl
-chars_word word.Strike = refl
-chars_word word.Strong = refl
-chars_word word.Style = refl
-chars_word word.Summary = refl
-chars_word word.Table = refl
-chars_word word.Tbody = refl
-chars_word word.Td = refl
-chars_word word.Template = refl
-chars_word word.Textarea = refl
-chars_word word.Tfoot = refl
-chars_word word.Th = refl
-chars_word word.Thead = refl
-chars_word word.Title = refl
-chars_word word.Tr = refl
-chars_word word.Track = refl
-chars_word word.Tt = refl
-chars_word word.U = refl
-chars_word word.Ul = refl
-chars_word word.Wbr = refl
-chars_word word.Xmp = refl
+chars_word _ = refl
+
+encodes_word : (w : Word) → encodes (word_text w) ≡ word_text w
+unfolding lib.Utf8.encode
+encodes_word word.A = refl
+encodes_word _ = refl
+
+-- each word is known by its text
+pub word_known : (w : Word) → known_word (word_text w) ≡ Some w
+word_known word.A = refl
+word_known _ = refl
+
+-- bytes that are a word's text
+pub word_found : (t : List ℕ) (w : Word) → t ≡ word_text w → known_word (chars t) ≡ Some w
+word_found t w e = ap (λ s. known_word (chars s)) e ∙ ap known_word (chars_word w) ∙ word_known w
+
+other : (a : Bool) (w : Word) (o : Option Word) → (a ≡ true → ⊥) → o ≡ None → cond a (Some w) o ≡ None
+other true w o not e = absurd (not refl)
+other false w o not e = e
+
+none_among : (ws : List Word) (t : List ℕ) → ((w : Word) → t ≡ word_text w → ⊥) → word_among ws t ≡ None
+none_among [] t not = refl
+none_among (w ∷ ws) t not = other (same_text t (word_text w)) w (word_among ws t) (λ e. not w ((bytes_decides t (word_text w)).0 e)) (none_among ws t not)
+
+-- bytes that are no word's text
+pub no_word : (t : List ℕ) → IsUtf8 t → ((w : Word) → t ≡ word_text w → ⊥) → known_word (chars t) ≡ None
+no_word t u not = none_among words (chars t) (λ w e. not w (sym (encodes-chars t u) ∙ ap encodes e ∙ encodes_word w))
+
+has_letter : (w : Word) → is_some (slice_get (word_text w) 0) ≡ true
+has_letter word.A = refl
+has_letter _ = refl
+
+-- no bytes are no word's text
+pub empty_no_word : (t : List ℕ) → IsUtf8 t → None ≡ slice_get t 0 → known_word (chars t) ≡ None
+empty_no_word t u first = no_word t u (λ w e. true≢false (sym (has_letter w) ∙ ap (λ s. is_some (slice_get s 0)) (sym e) ∙ ap is_some (sym first)))
+
+second : (a b : Bool) → (a || b) ≡ true → (a ≡ true → ⊥) → b ≡ true
+second true b e not = absurd (not refl)
+second false b e not = e
+
+-- a word among those left that isn't the next one
+pub word_behind : (w v : Word) (ws : List Word) (i : ℕ) → i < length ws → IsTrue (list_any (same_word w) (drop i ws)) → (w ≡ get_or ws i v → ⊥) → IsTrue (list_any (same_word w) (drop (i + 1) ws))
+word_behind w v ws i h e not =
+    let here : IsTrue (list_any (same_word w) (get_or ws i v ∷ drop (suc i) ws)) = subst (λ l. IsTrue (list_any (same_word w) l)) (drop-cons ws i v h) e in
+    rw (add-one i) (second (same_word w (get_or ws i v)) (list_any (same_word w) (drop (suc i) ws)) here (λ s. not ((word_decides w (get_or ws i v)).0 s)))
+
+pub none_left : (w : Word) (ws : List Word) (i : ℕ) → length ws ≤ i → IsTrue (list_any (same_word w) (drop i ws)) → ⊥
+none_left w ws i h e = true≢false (sym e ∙ ap (list_any (same_word w)) (drop_of_length-le ws h))

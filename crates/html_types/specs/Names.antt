@@ -1,19 +1,37 @@
 -- The names of elements.
-use Rattle.std.specs.Prelude.{ℕ, Bool, false, List, [], ◌∷◌, if◌then◌else◌, length}
+use Rattle.std.specs.Prelude.{◌≡◌, ℕ, Bool, false, List, [], ◌∷◌, Option, None, Some, IsTrue, if◌then◌else◌, slice_get}
+use Rattle.std.specs.List.{list_any}
 use Rattle.html_types.specs.Text.{same_text}
-use Rattle.html_types.specs.Words.{word_text, words_of_length, same_word}
+use Rattle.html_types.specs.Words.{word_text, words, same_word}
 use Rattle.html_types.specs.declared.word.Word.{Word}
 use Rattle.html_types.specs.declared.name.Name.{Name}
 use Rattle.html_types.specs.declared.name.Name.TheVariants.{Known, Other}
 
--- the first of the words whose text it is, and else a name of its own
-abbrev pub name_among : List Word → List ℕ → Name
-name_among [] t = Other t
-name_among (w ∷ ws) t = if same_text t (word_text w) then Known w else name_among ws t
+-- the first of the words whose text it is
+abbrev pub word_among : List Word → List ℕ → Option Word
+word_among [] t = None
+word_among (w ∷ ws) t = if same_text t (word_text w) then Some w else word_among ws t
+
+-- the word that is written so
+abbrev pub known_word : List ℕ → Option Word
+known_word = word_among words
+
+-- These have all words that begin with the letter.
+abbrev pub HasAllFrom : ℕ → List Word → Type 0
+HasAllFrom letter ws = (w : Word) → slice_get (word_text w) 0 ≡ Some letter → IsTrue (list_any (same_word w) ws)
+
+-- the word's name, and else a name of its own
+abbrev pub name_from : Option Word → List ℕ → Name
+name_from (Some w) t = Known w
+name_from None t = Other t
 
 -- the name that is written so
 abbrev pub name_of : List ℕ → Name
-name_of t = name_among (words_of_length (length t)) t
+name_of t = name_from (known_word t) t
+
+-- Each word is known by its text.
+abbrev pub NamesAreKnown : Type 0
+NamesAreKnown = (w : Word) → name_of (word_text w) ≡ Known w
 
 -- the name as it is written
 abbrev pub name_text : Name → List ℕ

@@ -1,5 +1,5 @@
 -- The names that the rules of tree construction speak of, and their texts.
-use Rattle.std.specs.Prelude.{ℕ, Bool, List, [], ◌∷◌, ◌==◌, if◌then◌else◌, codes}
+use Rattle.std.specs.Prelude.{ℕ, Bool, List, [], ◌∷◌, codes}
 use denote.Enum.Bare.{sameb}
 use Rattle.html_types.specs.contracts.word.Word.{the_type}
 use Rattle.html_types.specs.declared.word.Word.{Word}
@@ -117,17 +117,14 @@ word_text Ul = codes "ul"
 word_text Wbr = codes "wbr"
 word_text Xmp = codes "xmp"
 
--- the words of so many characters
-abbrev pub words_of_length : ℕ → List Word
-words_of_length n =
-    if n == 1 then A ∷ B ∷ I ∷ P ∷ S ∷ U ∷ []
-    else (if n == 2 then Br ∷ Dd ∷ Dl ∷ Dt ∷ Em ∷ H1 ∷ H2 ∷ H3 ∷ H4 ∷ H5 ∷ H6 ∷ Hr ∷ Li ∷ Ol ∷ Rb ∷ Rp ∷ Rt ∷ Td ∷ Th ∷ Tr ∷ Tt ∷ Ul ∷ []
-    else (if n == 3 then Big ∷ Col ∷ Dir ∷ Div ∷ Img ∷ Nav ∷ Pre ∷ Rtc ∷ Wbr ∷ Xmp ∷ []
-    else (if n == 4 then Area ∷ Base ∷ Body ∷ Code ∷ Font ∷ Form ∷ Head ∷ Html ∷ Link ∷ Main ∷ Menu ∷ Meta ∷ Nobr ∷ Ruby ∷ []
-    else (if n == 5 then Aside ∷ Embed ∷ Frame ∷ Image ∷ Input ∷ Param ∷ Small ∷ Style ∷ Table ∷ Tbody ∷ Tfoot ∷ Thead ∷ Title ∷ Track ∷ []
-    else (if n == 6 then Applet ∷ Button ∷ Center ∷ Dialog ∷ Figure ∷ Footer ∷ Header ∷ Hgroup ∷ Iframe ∷ Keygen ∷ Object ∷ Option ∷ Script ∷ Search ∷ Select ∷ Source ∷ Strike ∷ Strong ∷ []
-    else (if n == 7 then Address ∷ Article ∷ Bgsound ∷ Caption ∷ Details ∷ Listing ∷ Marquee ∷ Noembed ∷ Section ∷ Summary ∷ []
-    else (if n == 8 then Basefont ∷ Colgroup ∷ Fieldset ∷ Frameset ∷ Noframes ∷ Noscript ∷ Optgroup ∷ Template ∷ Textarea ∷ []
-    else (if n == 9 then Plaintext ∷ []
-    else (if n == 10 then Blockquote ∷ Figcaption ∷ []
-    else [])))))))))
+-- all words
+abbrev pub words : List Word
+words =
+    A ∷ Address ∷ Applet ∷ Area ∷ Article ∷ Aside ∷ B ∷ Base ∷ Basefont ∷ Bgsound ∷ Big ∷ Blockquote ∷ Body ∷ Br ∷
+    Button ∷ Caption ∷ Center ∷ Code ∷ Col ∷ Colgroup ∷ Dd ∷ Details ∷ Dialog ∷ Dir ∷ Div ∷ Dl ∷ Dt ∷ Em ∷ Embed ∷
+    Fieldset ∷ Figcaption ∷ Figure ∷ Font ∷ Footer ∷ Form ∷ Frame ∷ Frameset ∷ H1 ∷ H2 ∷ H3 ∷ H4 ∷ H5 ∷ H6 ∷ Head ∷
+    Header ∷ Hgroup ∷ Hr ∷ Html ∷ I ∷ Iframe ∷ Image ∷ Img ∷ Input ∷ Keygen ∷ Li ∷ Link ∷ Listing ∷ Main ∷ Marquee ∷
+    Menu ∷ Meta ∷ Nav ∷ Nobr ∷ Noembed ∷ Noframes ∷ Noscript ∷ Object ∷ Ol ∷ Optgroup ∷ Option ∷ P ∷ Param ∷ Plaintext ∷
+    Pre ∷ Rb ∷ Rp ∷ Rt ∷ Rtc ∷ Ruby ∷ S ∷ Script ∷ Search ∷ Section ∷ Select ∷ Small ∷ Source ∷ Strike ∷ Strong ∷
+    Style ∷ Summary ∷ Table ∷ Tbody ∷ Td ∷ Template ∷ Textarea ∷ Tfoot ∷ Th ∷ Thead ∷ Title ∷ Tr ∷ Track ∷ Tt ∷
+    U ∷ Ul ∷ Wbr ∷ Xmp ∷ []

@@ -1,12 +1,14 @@
 //! The attributes of a tag or an element, in their order.
 
 ghost use Rattle.std.specs.Prelude.{◌≡◌, [], ◌∷◌, ◌++◌, IsTrue, ◌↔◌, IfOk, OnOk, OnErr};
-ghost use Rattle.html_types.specs.Attributes.{has_name};
+ghost use Rattle.html_types.specs.Attributes.{has_name, with_missing};
 
+use crate::attribute_list::AttributeList;
 use crate::memory::NoMemory;
 use crate::text::Text;
 use std::alloc::Global;
 use std::marker::Model;
+use std::sync::Arc;
 
 /// An attribute.
 #[derive(Drop)]
@@ -33,19 +35,23 @@ impl Attribute {
     }
 }
 
-/// Attributes in their order: a contract sees the list of them.
+/// Attributes in their order: a contract sees the list of them. A name is found in the logarithm of their number. A copy
+/// shares them, until one of the two changes.
 #[derive(Drop)]
 pub struct Attributes {
-    list: Vec<Attribute>,
+    alloc: Global,
+    // None where there were never any.
+    shared: Option<Arc<AttributeList>>,
 }
 
 impl Model for Attributes {
     ghost use Rattle.std.specs.Prelude.{List};
     ghost use Rattle.html_types.specs.declared.attributes.Attribute.{Attribute};
+    ghost use Rattle.html_types.specs.Attributes.{shared_list};
 
     ghost Value = { List Attribute };
 
-    ghost view = { λ a. a.list.items };
+    ghost view = { λ a. shared_list a.shared };
 }
 
 impl Attributes {
@@ -54,7 +60,8 @@ impl Attributes {
         ensures { result ≡ [] }
     {
         Attributes {
-            list: Vec::new(alloc),
+            alloc,
+            shared: None,
         }
     }
 
@@ -63,52 +70,85 @@ impl Attributes {
         ensures ok { OnOk result (self.new ≡ self.old ++ attribute ∷ []) }
         ensures err { OnErr result (self.new ≡ self.old) }
     {
-        self.list.push(attribute)?;
-        Ok(())
+        match &mut self.shared {
+            Some(shared) => Arc::make_mut(shared)?.push(attribute),
+            None => {
+                let mut list = AttributeList::new(self.alloc);
+                list.push(attribute)?;
+                self.shared = Some(Arc::new(self.alloc, list)?);
+                Ok(())
+            }
+        }
+    }
+
+    /// Adds at the end, in order, copies of those of the attributes whose names are lacking.
+    pub fn add_missing(&mut self, more: &Attributes) -> Result<(), NoMemory>
+        ensures ok { OnOk result (self.new ≡ with_missing self.old more.now) }
+        ensures err { OnErr result (self.new ≡ self.old) }
+    {
+        match &mut self.shared {
+            Some(shared) => Arc::make_mut(shared)?.add_missing(more.as_slice()),
+            None => {
+                let mut list = AttributeList::new(self.alloc);
+                list.add_missing(more.as_slice())?;
+                self.shared = Some(Arc::new(self.alloc, list)?);
+                Ok(())
+            }
+        }
     }
 
     /// Whether an attribute has this name.
     pub fn has(&self, name: &Text) -> bool
         ensures { result ≡ has_name name.now self.now }
     {
-        for attribute in &self.list {
-            if attribute.name.same(name) {
-                return true;
-            }
+        match &self.shared {
+            Some(shared) => shared.has(name),
+            None => false,
         }
-        false
     }
 
     /// The attributes as a slice.
     pub fn as_slice(&self) -> &[Attribute]
         ensures { result.now ≡ self.now }
     {
-        self.list.as_slice()
+        match &self.shared {
+            Some(shared) => shared.as_slice(),
+            None => &[],
+        }
     }
 
     /// Whether two lists are the same, in order.
     pub fn same(&self, other: &Attributes) -> bool
         ensures { IsTrue result ↔ (self.now ≡ other.now) }
     {
-        if self.list.len() != other.list.len() {
-            return false;
-        }
-        for i in 0..self.list.len() {
-            if !self.list[i].same(&other.list[i]) {
-                return false;
-            }
-        }
-        true
+        same_lists(self.as_slice(), other.as_slice())
     }
 
-    /// A copy.
+    /// A copy, which shares them.
     pub fn copy(&self, alloc: Global) -> Result<Attributes, NoMemory>
         ensures { IfOk result (λ a. a ≡ self.now) }
     {
-        let mut copied = Attributes::new(alloc);
-        for attribute in &self.list {
-            copied.push(attribute.copy(alloc)?)?;
+        match &self.shared {
+            Some(shared) => Ok(Attributes {
+                alloc,
+                shared: Some(shared.clone()?),
+            }),
+            None => Ok(Attributes::new(alloc)),
         }
-        Ok(copied)
     }
+}
+
+// Whether two lists are the same, in order.
+fn same_lists(list: &[Attribute], other: &[Attribute]) -> bool
+    ensures { IsTrue result ↔ (list.now ≡ other.now) }
+{
+    if list.len() != other.len() {
+        return false;
+    }
+    for i in 0..list.len() {
+        if !list[i].same(&other[i]) {
+            return false;
+        }
+    }
+    true
 }

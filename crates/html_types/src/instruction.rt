@@ -33,7 +33,7 @@ pub enum Mode {
 
 /// How the tokenizer reads on behind a start tag.
 #[derive(Clone, Copy, Debug, PartialEq, Eq)]
-pub enum Reading {
+pub enum TokenizerSwitch {
     Rcdata,
     Rawtext,
     ScriptData,
@@ -113,7 +113,7 @@ pub enum Test {
     InTemplates,
     /// The mode is "in table", "in caption", "in table body", "in row" or "in cell".
     InTables,
-    /// The current node is an option right above an optgroup.
+    /// The current node is an option right below an optgroup.
     OptionInOptgroup,
 }
 
@@ -229,7 +229,7 @@ pub enum Instr {
     /// The same for `nobr`, which is then made.
     AdoptNobr,
     /// The tokenizer reads on in another way.
-    Switch(Reading),
+    Switch(TokenizerSwitch),
     /// The token is processed by the rules of another mode.
     Using(Mode),
     /// The token is processed by the rules of "in body", with foster parenting on.
@@ -275,7 +275,7 @@ pub enum Next {
     /// By the rules of "in body", with foster parenting on.
     Foster,
     /// The tokenizer reads on in that way.
-    Switch(Reading),
+    Switch(TokenizerSwitch),
     /// The end tag of that script element was met.
     Script(NodeId),
     /// An element more than 512 would be open; it isn't made.

@@ -3,6 +3,7 @@
 //! A contract sees each of them as plain data: a text is the list of its characters.
 #![tactic(auto)]
 
+mod attribute_list;
 pub mod attributes;
 pub mod children;
 pub mod class;
@@ -10,6 +11,7 @@ pub mod instruction;
 pub mod mark_state;
 pub mod memory;
 pub mod name;
+mod name_index;
 pub mod open;
 pub mod operation;
 pub mod reference_state;
@@ -24,7 +26,7 @@ pub use attributes::{Attribute, Attributes};
 pub use children::Children;
 pub use class::Class;
 pub use instruction::{
-    Finish, Flow, Group, Instr, Mode, Next, Reading, Scope, Stop, Test, Then, Turn, Who,
+    Finish, Flow, Group, Instr, Mode, Next, Scope, Stop, Test, Then, TokenizerSwitch, Turn, Who,
 };
 pub use mark_state::{CommentState, DoctypeState, MarkState};
 pub use memory::NoMemory;

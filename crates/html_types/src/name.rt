@@ -2,7 +2,7 @@
 
 ghost use Rattle.std.specs.Prelude.{◌≡◌, ◌↔◌, IsTrue, IfOk};
 ghost use Rattle.std.specs.Str.{chars};
-ghost use Rattle.html_types.specs.Names.{name_of, name_text, same_name};
+ghost use Rattle.html_types.specs.Names.{name_of, name_text, same_name, NamesAreKnown};
 
 use crate::memory::NoMemory;
 use crate::text::Text;
@@ -21,12 +21,10 @@ impl Name {
     pub fn from_text(text: Text) -> Name
         ensures { result ≡ name_of text }
     {
-        for word in Word::of_length(text.len()) {
-            if text.is(word.text()) {
-                return Name::Known(*word);
-            }
+        match Word::find(text.as_str()) {
+            Some(word) => Name::Known(word),
+            None => Name::Other(text),
         }
-        Name::Other(text)
     }
 
     /// The name as it is written.
@@ -61,3 +59,8 @@ impl Name {
         }
     }
 }
+
+/// A name is known by its text: the text of a word is the name of that word, and of no other.
+pub fn names_are_known()
+    ensures { NamesAreKnown }
+{}

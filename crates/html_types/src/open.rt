@@ -352,10 +352,10 @@ pub struct Open {
     /// The form element pointer.
     pub form: Option<NodeId>,
     pub mode: Mode,
-    /// The original insertion mode, in the modes "text" and "in table text" alone.
+    /// The original insertion mode, in the modes "text" and "in table text" alone (`open_state_is_proper` of `rule_laws`).
     pub original: Option<Mode>,
     pub template_modes: Modes,
-    /// The pending table character tokens, in the mode "in table text" alone.
+    /// The pending table character tokens, in the mode "in table text" alone (`open_state_is_proper`).
     pub pending_text: Text,
     pub frameset_ok: bool,
     pub quirks: bool,

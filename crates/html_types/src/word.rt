@@ -2,7 +2,8 @@
 
 ghost use Rattle.std.specs.Prelude.{◌≡◌, ◌↔◌, IsTrue};
 ghost use Rattle.std.specs.Str.{chars};
-ghost use Rattle.html_types.specs.Words.{word_text, words_of_length, same_word};
+ghost use Rattle.html_types.specs.Names.{known_word, HasAllFrom};
+ghost use Rattle.html_types.specs.Words.{word_text, same_word};
 
 /// A name that the rules speak of.
 #[derive(Clone, Copy, Debug, PartialEq, Eq)]
@@ -245,125 +246,129 @@ impl Word {
         self == other
     }
 
-    /// The words of so many characters.
-    pub fn of_length(length: usize) -> &'static [Word]
-        ensures { result.now ≡ words_of_length length }
+    /// The word that is written so.
+    pub fn find(text: &str) -> Option<Word>
+        ensures { result ≡ known_word (chars text.now) }
     {
-        match length {
-            1 => &[Word::A, Word::B, Word::I, Word::P, Word::S, Word::U],
-            2 => &[
+        let Some(letter) = text.as_bytes().first() else {
+            return None;
+        };
+        for word in Word::beginning_with(*letter) {
+            if text == word.written() {
+                return Some(*word);
+            }
+        }
+        None
+    }
+
+    /// The words that begin with a letter.
+    fn beginning_with(letter: u8) -> &'static [Word]
+        ensures { HasAllFrom letter result.now }
+    {
+        match letter {
+            b'a' => &[
+                Word::A,
+                Word::Address,
+                Word::Applet,
+                Word::Area,
+                Word::Article,
+                Word::Aside,
+            ],
+            b'b' => &[
+                Word::B,
+                Word::Base,
+                Word::Basefont,
+                Word::Bgsound,
+                Word::Big,
+                Word::Blockquote,
+                Word::Body,
                 Word::Br,
+                Word::Button,
+            ],
+            b'c' => &[
+                Word::Caption,
+                Word::Center,
+                Word::Code,
+                Word::Col,
+                Word::Colgroup,
+            ],
+            b'd' => &[
                 Word::Dd,
+                Word::Details,
+                Word::Dialog,
+                Word::Dir,
+                Word::Div,
                 Word::Dl,
                 Word::Dt,
-                Word::Em,
+            ],
+            b'e' => &[Word::Em, Word::Embed],
+            b'f' => &[
+                Word::Fieldset,
+                Word::Figcaption,
+                Word::Figure,
+                Word::Font,
+                Word::Footer,
+                Word::Form,
+                Word::Frame,
+                Word::Frameset,
+            ],
+            b'h' => &[
                 Word::H1,
                 Word::H2,
                 Word::H3,
                 Word::H4,
                 Word::H5,
                 Word::H6,
-                Word::Hr,
-                Word::Li,
-                Word::Ol,
-                Word::Rb,
-                Word::Rp,
-                Word::Rt,
-                Word::Td,
-                Word::Th,
-                Word::Tr,
-                Word::Tt,
-                Word::Ul,
-            ],
-            3 => &[
-                Word::Big,
-                Word::Col,
-                Word::Dir,
-                Word::Div,
-                Word::Img,
-                Word::Nav,
-                Word::Pre,
-                Word::Rtc,
-                Word::Wbr,
-                Word::Xmp,
-            ],
-            4 => &[
-                Word::Area,
-                Word::Base,
-                Word::Body,
-                Word::Code,
-                Word::Font,
-                Word::Form,
                 Word::Head,
-                Word::Html,
-                Word::Link,
-                Word::Main,
-                Word::Menu,
-                Word::Meta,
-                Word::Nobr,
-                Word::Ruby,
-            ],
-            5 => &[
-                Word::Aside,
-                Word::Embed,
-                Word::Frame,
-                Word::Image,
-                Word::Input,
-                Word::Param,
-                Word::Small,
-                Word::Style,
-                Word::Table,
-                Word::Tbody,
-                Word::Tfoot,
-                Word::Thead,
-                Word::Title,
-                Word::Track,
-            ],
-            6 => &[
-                Word::Applet,
-                Word::Button,
-                Word::Center,
-                Word::Dialog,
-                Word::Figure,
-                Word::Footer,
                 Word::Header,
                 Word::Hgroup,
-                Word::Iframe,
-                Word::Keygen,
-                Word::Object,
-                Word::Option,
+                Word::Hr,
+                Word::Html,
+            ],
+            b'i' => &[Word::I, Word::Iframe, Word::Image, Word::Img, Word::Input],
+            b'k' => &[Word::Keygen],
+            b'l' => &[Word::Li, Word::Link, Word::Listing],
+            b'm' => &[Word::Main, Word::Marquee, Word::Menu, Word::Meta],
+            b'n' => &[
+                Word::Nav,
+                Word::Nobr,
+                Word::Noembed,
+                Word::Noframes,
+                Word::Noscript,
+            ],
+            b'o' => &[Word::Object, Word::Ol, Word::Optgroup, Word::Option],
+            b'p' => &[Word::P, Word::Param, Word::Plaintext, Word::Pre],
+            b'r' => &[Word::Rb, Word::Rp, Word::Rt, Word::Rtc, Word::Ruby],
+            b's' => &[
+                Word::S,
                 Word::Script,
                 Word::Search,
+                Word::Section,
                 Word::Select,
+                Word::Small,
                 Word::Source,
                 Word::Strike,
                 Word::Strong,
-            ],
-            7 => &[
-                Word::Address,
-                Word::Article,
-                Word::Bgsound,
-                Word::Caption,
-                Word::Details,
-                Word::Listing,
-                Word::Marquee,
-                Word::Noembed,
-                Word::Section,
+                Word::Style,
                 Word::Summary,
             ],
-            8 => &[
-                Word::Basefont,
-                Word::Colgroup,
-                Word::Fieldset,
-                Word::Frameset,
-                Word::Noframes,
-                Word::Noscript,
-                Word::Optgroup,
+            b't' => &[
+                Word::Table,
+                Word::Tbody,
+                Word::Td,
                 Word::Template,
                 Word::Textarea,
+                Word::Tfoot,
+                Word::Th,
+                Word::Thead,
+                Word::Title,
+                Word::Tr,
+                Word::Track,
+                Word::Tt,
             ],
-            9 => &[Word::Plaintext],
-            10 => &[Word::Blockquote, Word::Figcaption],
+            b'u' => &[Word::U, Word::Ul],
+            b'w' => &[Word::Wbr],
+            b'x' => &[Word::Xmp],
             _ => &[],
         }
     }

@@ -7,6 +7,7 @@ pub keeps-same : (port : Port) (s : Seen) → KeepsOthers port s s
 keeps-same port s = record {
   files = refl;
   left = λ other ne. refl;
+  begun = λ other ne. refl;
   other_faults = λ other ne. refl;
   other_absences = λ other ne. refl;
   faults = λ p. omega arith;
@@ -17,6 +18,7 @@ pub keeps-then : (port : Port) (before now after : Seen) → KeepsOthers port be
 keeps-then port before now after a b = record {
   files = b.files ∙ a.files;
   left = λ other ne. b.left other ne ∙ a.left other ne;
+  begun = λ other ne. b.begun other ne ∙ a.begun other ne;
   other_faults = λ other ne. b.other_faults other ne ∙ a.other_faults other ne;
   other_absences = λ other ne. b.other_absences other ne ∙ a.other_absences other ne;
   faults = λ p. let first = a.faults p in let second = b.faults p in omega arith;

@@ -1,8 +1,8 @@
 -- What contracts see of files in memory with calls that fail.
 use Rattle.std.specs.Prelude.{ℕ, ◌+◌, ◌-◌, ◌^◌, min, List, Some}
 use Rattle.outside.specs.ByPort.{at_port}
-use Rattle.outside.specs.Outside.{Files, Seen}
-use Rattle.outside.specs.Memory.{files_of, left_of, absences_of}
+use Rattle.outside.specs.Outside.{Files, Paths, Seen}
+use Rattle.outside.specs.Memory.{files_of, left_of, begun_of, absences_of}
 use Rattle.outside.specs.declared.traits.Port.{Port}
 use Rattle.outside.specs.declared.mem_files.MemFiles.{MemFiles}
 
@@ -12,6 +12,9 @@ files_in all = files_of all.files
 abbrev pub left_in : MemFiles → Port → List ℕ
 left_in all = left_of all.files
 
+abbrev pub begun_in : MemFiles → Port → Paths
+begun_in all = begun_of all.files
+
 abbrev pub faults_in : MemFiles → Port → ℕ
 faults_in all = at_port all.faults
 
@@ -19,7 +22,7 @@ abbrev pub absences_in : MemFiles → Port → ℕ
 absences_in all = absences_of all.files
 
 abbrev pub shown : MemFiles → Seen
-shown all = record { files = Some (files_in all); left = λ port. Some (left_in all port); faults = faults_in all; absences = absences_in all }
+shown all = record { files = Some (files_in all); left = λ port. Some (left_in all port); begun = begun_in all; faults = faults_in all; absences = absences_in all }
 
 -- the calls that are to fail: the port, and the call's number at that port
 abbrev pub failing : MemFiles → List (Port × ℕ)

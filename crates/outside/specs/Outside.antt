@@ -1,10 +1,14 @@
 -- What the calls of an outside do to its files and its counts.
-use Rattle.std.specs.Prelude.{◌<◌, ◌≡◌, ◌≢◌, ◌⊎◌, ℕ, ◌+◌, ◌^◌, ◌≤◌, List, Option}
+use Rattle.std.specs.Prelude.{◌<◌, ◌≡◌, ◌≢◌, ◌⊎◌, ℕ, ◌+◌, ◌^◌, ◌≤◌, List, ◌++◌, Option, IfSome, IsSomeAnd}
 use Rattle.outside.specs.declared.traits.Port.{Port}
 
 -- the bytes of the file at a path
 abbrev pub Files : Type 0
 Files = List ℕ → Option (List ℕ)
+
+-- paths in the order in which they were begun, where they are told
+abbrev pub Paths : Type 0
+Paths = Option (List (List ℕ))
 
 -- The count is greater than before, or stands at the last value of a u64.
 abbrev pub Rose : ℕ → ℕ → Type 0
@@ -18,21 +22,24 @@ NeverFall before after = (port : Port) → before port ≤ after port
 abbrev pub OthersStay : {X : Type 0} → Port → (Port → X) → (Port → X) → Type 0
 OthersStay port before after = (other : Port) → other ≢ port → after other ≡ before other
 
--- What contracts see of an outside at a moment: the files and what each port has left, where they are told, and the counts.
+-- These paths were begun: where the paths are told now, those so far were told before, and these come behind them.
+abbrev pub Begun : Paths → Paths → List (List ℕ) → Type 0
+Begun before after paths = IfSome after (λ now. IsSomeAnd before (λ so_far. now ≡ so_far ++ paths))
+
+-- What contracts see of an outside at a moment: the files, what each port has left and the paths that were begun at it, where
+-- they are told, and the counts.
 pub record Seen : Type 0 where
   pub files : Option Files
   pub left : Port → Option (List ℕ)
+  pub begun : Port → Paths
   pub faults : Port → ℕ
   pub absences : Port → ℕ
-
-module _ {F : Type 0} (files : F → Option Files) (left : F → Port → Option (List ℕ)) (faults absences : F → Port → ℕ) where
-  abbrev pub seen : F → Seen
-  seen f = record { files = files f; left = left f; faults = faults f; absences = absences f }
 
 -- What a call at a port leaves alone: the files, all of the other ports, and that no count falls.
 pub record KeepsOthers (port : Port) (before after : Seen) : Type 0 where
   pub files : after.files ≡ before.files
   pub left : OthersStay port before.left after.left
+  pub begun : OthersStay port before.begun after.begun
   pub other_faults : OthersStay port before.faults after.faults
   pub other_absences : OthersStay port before.absences after.absences
   pub faults : NeverFall before.faults after.faults

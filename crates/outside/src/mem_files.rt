@@ -1,10 +1,10 @@
 // Files in memory, where the calls that a list names fail.
-ghost use Rattle.std.specs.Prelude.{◌≡◌, ◌↔◌, ◌<◌, ◌≤◌, ◌+◌, ◌-◌, ◌^◌, [], Some, None, min, length, take, drop, if◌then◌else◌, IsTrue, IsErr, IfOk, IfSome, IsSome, OnOk, OnErr, Contains};
+ghost use Rattle.std.specs.Prelude.{◌≡◌, ◌↔◌, ◌<◌, ◌≤◌, ◌+◌, ◌-◌, ◌^◌, [], ◌∷◌, Some, None, min, length, take, drop, if◌then◌else◌, IsTrue, IsErr, IfOk, IfSome, IsSome, OnOk, OnErr, Contains};
 ghost use Rattle.std.specs.Bool.{OnTrue, OnFalse};
 ghost use Rattle.std.specs.Str.{bytes_eq};
 ghost use Rattle.outside.specs.ByPort.{at_port};
-ghost use Rattle.outside.specs.Outside.{Rose, NeverFall, OthersStay, KeepsOthers};
-ghost use Rattle.outside.specs.MemFiles.{files_in, left_in, faults_in, absences_in, shown, failing, number_at};
+ghost use Rattle.outside.specs.Outside.{Rose, NeverFall, OthersStay, Begun, KeepsOthers};
+ghost use Rattle.outside.specs.MemFiles.{files_in, left_in, begun_in, faults_in, absences_in, shown, failing, number_at};
 
 use crate::by_port::ByPort;
 use crate::{Failed, NeverFails, Outside, Port};
@@ -38,6 +38,7 @@ impl MemFiles {
         ensures files { IfOk result (λ all. (path : _) → files_in all path ≡ None) }
         ensures failing { IfOk result (λ all. failing all ≡ fail.now) }
         ensures number { IfOk result (λ all. (port : _) → number_at all port ≡ 1) }
+        ensures begun { IfOk result (λ all. (port : _) → begun_in all port ≡ Some []) }
     {
         Ok(MemFiles {
             files: NeverFails::new(alloc),
@@ -84,13 +85,7 @@ impl MemFiles {
 }
 
 impl Outside for MemFiles {
-    ghost files = { λ all. Some (files_in all) };
-
-    ghost left = { λ all port. Some (left_in all port) };
-
-    ghost faults = { faults_in };
-
-    ghost absences = { absences_in };
+    ghost seen = { shown };
 
     fn begin(&mut self, port: Port, path: &str) -> Result<bool, Failed>
         // It fails exactly where the list names it.
@@ -104,13 +99,15 @@ impl Outside for MemFiles {
         ensures absent { IfOk result (λ there. OnFalse there (files_in self.old path.now ≡ None)) }
         ensures none_left { IfOk result (λ there. OnFalse there (left_in self.new port ≡ [])) }
         ensures none_left_failed { OnErr result (left_in self.new port ≡ []) }
+        ensures begun { Begun (begun_in self.old port) (begun_in self.new port) (path.now ∷ []) }
         ensures absences_rose { IfOk result (λ there. OnFalse there (Rose (absences_in self.old port) (absences_in self.new port))) }
         ensures faults_rose { OnErr result (Rose (faults_in self.old port) (faults_in self.new port)) }
+        ensures no_fault { OnOk result (faults_in self.new port ≡ faults_in self.old port) }
         ensures others { KeepsOthers port (shown self.old) (shown self.new) }
     {
         if self.fails(port) {
             self.count_fault(port);
-            self.files.close(port);
+            self.files.close(port, path);
             return Err(Failed);
         }
         self.files.begin(port, path)
@@ -128,8 +125,10 @@ impl Outside for MemFiles {
             × (take n into.new ≡ take n (left_in self.old port)) × (left_in self.new port ≡ drop n (left_in self.old port))) }
         ensures end { IfOk result (λ n. n ≡ 0 → 0 < length into.old → left_in self.old port ≡ []) }
         ensures failed { OnErr result (left_in self.new port ≡ left_in self.old port) }
+        ensures begun { begun_in self.new ≡ begun_in self.old }
         ensures faults_rose { OnErr result (Rose (faults_in self.old port) (faults_in self.new port)) }
         ensures absences { absences_in self.new ≡ absences_in self.old }
+        ensures no_fault { OnOk result (faults_in self.new port ≡ faults_in self.old port) }
         ensures others { KeepsOthers port (shown self.old) (shown self.new) }
     {
         if self.fails(port) {

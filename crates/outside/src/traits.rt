@@ -1,8 +1,7 @@
 // The traits of the outside.
-ghost use Rattle.std.specs.Prelude.{◌≡◌, ◌<◌, ◌≤◌, ◌++◌, [], ℕ, List, Option, Some, None, Bool, false, length, take, drop, IfOk, IfSome, OnOk, OnErr, IsSome, IsTrue};
+ghost use Rattle.std.specs.Prelude.{◌≡◌, ◌<◌, ◌≤◌, ◌++◌, [], ◌∷◌, ℕ, List, Option, Some, None, Bool, false, length, take, drop, IfOk, IfSome, OnOk, OnErr, IsSome, IsTrue};
 ghost use Rattle.std.specs.Bool.{OnTrue, OnFalse};
-ghost use Rattle.outside.specs.declared.traits.Port.{Port};
-ghost use Rattle.outside.specs.Outside.{Files, Rose, seen, KeepsOthers};
+ghost use Rattle.outside.specs.Outside.{Seen, Rose, Begun, KeepsOthers};
 
 /// What a file is read for. At each port one file is read at a time.
 #[derive(Clone, Copy, Debug, PartialEq, Eq)]
@@ -19,35 +18,31 @@ pub enum Port {
 #[derive(Clone, Copy, Debug, PartialEq, Eq)]
 pub struct Failed;
 
-/// Files that are read by port. Contracts see the files and what each port has left, where an outside tells them,
-/// and of each port how often a call has failed and how often a file wasn't there.
+/// Files that are read by port.
 pub trait Outside {
-    /// The files, where they are told: the bytes at each path.
-    ghost files: { Self → Option Files };
-
-    /// What a port has left to read, where it is told. Where nothing is begun that is nothing.
-    ghost left: { Self → Port → Option (List ℕ) };
-
-    /// How often a call at a port has failed.
-    ghost faults: { Self → Port → ℕ };
-
-    /// How often a file that was to be begun at a port wasn't there.
-    ghost absences: { Self → Port → ℕ };
+    /// What contracts see: the files, what each port has left to read (where nothing is begun that is nothing) and the
+    /// paths that were begun at it so far, where an outside tells them; and of each port how often a call has failed and
+    /// how often a file wasn't there.
+    ghost seen: { Self → Seen };
 
     /// Begins the file at this path anew. `false` says that there is no such file; the port then has nothing left,
     /// and nor has it where the call failed.
     fn begin(&mut self, port: Port, path: &str) -> Result<bool, Failed>
         // Where the files are told, true is answered only where the path is one of them, and false only where it is none.
-        ensures found { IfOk result (λ there. OnTrue there (IfSome (files self.old) (λ map.
-            IsSome (map path.now) × (left self.new port ≡ map path.now)))) }
-        ensures absent { IfOk result (λ there. OnFalse there (IfSome (files self.old) (λ map. map path.now ≡ None))) }
+        ensures found { IfOk result (λ there. OnTrue there (IfSome (seen self.old).files (λ map.
+            IsSome (map path.now) × ((seen self.new).left port ≡ map path.now)))) }
+        ensures absent { IfOk result (λ there. OnFalse there (IfSome (seen self.old).files (λ map. map path.now ≡ None))) }
 
-        ensures none_left { IfOk result (λ there. OnFalse there (IfSome (left self.new port) (λ rest. rest ≡ []))) }
-        ensures none_left_failed { OnErr result (IfSome (left self.new port) (λ rest. rest ≡ [])) }
+        ensures none_left { IfOk result (λ there. OnFalse there (IfSome ((seen self.new).left port) (λ rest. rest ≡ []))) }
+        ensures none_left_failed { OnErr result (IfSome ((seen self.new).left port) (λ rest. rest ≡ [])) }
 
-        ensures absences_rose { IfOk result (λ there. OnFalse there (Rose (absences self.old port) (absences self.new port))) }
-        ensures faults_rose { OnErr result (Rose (faults self.old port) (faults self.new port)) }
-        ensures others { KeepsOthers port (seen files left faults absences self.old) (seen files left faults absences self.new) };
+        // Whatever it answers, the path is one more of those that were begun.
+        ensures begun { Begun ((seen self.old).begun port) ((seen self.new).begun port) (path.now ∷ []) }
+
+        ensures absences_rose { IfOk result (λ there. OnFalse there (Rose ((seen self.old).absences port) ((seen self.new).absences port))) }
+        ensures faults_rose { OnErr result (Rose ((seen self.old).faults port) ((seen self.new).faults port)) }
+        ensures no_fault { OnOk result ((seen self.new).faults port ≡ (seen self.old).faults port) }
+        ensures others { KeepsOthers port (seen self.old) (seen self.new) };
 
     /// Reads on at the port, and says how many bytes it put to the front of the piece. On a piece that isn't empty,
     /// 0 is answered only at the end. One that fails reads nothing.
@@ -55,14 +50,16 @@ pub trait Outside {
         ensures count { IfOk result (λ n. n ≤ length into.old) }
 
         // Where it is told what the port has left, the first n bytes of that are moved to the front of the piece.
-        ensures moved { IfOk result (λ n. IfSome (left self.old port) (λ rest.
-            (n ≤ length rest) × (take n into.new ≡ take n rest) × (left self.new port ≡ Some (drop n rest)))) }
-        ensures end { IfOk result (λ n. n ≡ 0 → 0 < length into.old → IfSome (left self.old port) (λ rest. rest ≡ [])) }
-        ensures failed { OnErr result (left self.new port ≡ left self.old port) }
+        ensures moved { IfOk result (λ n. IfSome ((seen self.old).left port) (λ rest.
+            (n ≤ length rest) × (take n into.new ≡ take n rest) × ((seen self.new).left port ≡ Some (drop n rest)))) }
+        ensures end { IfOk result (λ n. n ≡ 0 → 0 < length into.old → IfSome ((seen self.old).left port) (λ rest. rest ≡ [])) }
+        ensures failed { OnErr result ((seen self.new).left port ≡ (seen self.old).left port) }
 
-        ensures faults_rose { OnErr result (Rose (faults self.old port) (faults self.new port)) }
-        ensures absences { absences self.new ≡ absences self.old }
-        ensures others { KeepsOthers port (seen files left faults absences self.old) (seen files left faults absences self.new) };
+        ensures begun { (seen self.new).begun ≡ (seen self.old).begun }
+        ensures absences { (seen self.new).absences ≡ (seen self.old).absences }
+        ensures faults_rose { OnErr result (Rose ((seen self.old).faults port) ((seen self.new).faults port)) }
+        ensures no_fault { OnOk result ((seen self.new).faults port ≡ (seen self.old).faults port) }
+        ensures others { KeepsOthers port (seen self.old) (seen self.new) };
 }
 
 /// What takes the output. Contracts see the bytes taken, where a sink tells them, how often a call has failed,

@@ -20,7 +20,7 @@ use Rattle.standard.specs.Parser.{Parser}
 use Rattle.standard.specs.Scripts.{Fetched, got, missing, faulted, is_lawful, file_statements}
 use Rattle.standard.specs.Statements.{statements}
 use Rattle.standard.specs.Serial.{World, fetched_if, fetched, Serial, Flow, goes, refuses, awaiting, run_text, Moment, reading, tag_ended, awaits, over, behind_script, refusal, Leads}
-use Rattle.standard_laws.specs.Laws.{HasParsed, FileComesTo, moment_at, lines_of}
+use Rattle.standard_laws.specs.Laws.{HasParsed, EndsIn, FileComesTo, moment_at, lines_of}
 use Rattle.standard.specs.Output.{line_text}
 use Rattle.standard_laws.proofs.Passing.{leads-batch, parse-left}
 use Rattle.standard_laws.proofs.Scripts.{awaits-missing, awaits-fault, awaits-got, awaits-refuses}
@@ -282,7 +282,7 @@ module _ (es : Entities) (files : ScriptFiles) (old : View) (name : List ℕ) (p
         let runs : Runs es old new (statements (chars (string_bytes text))) = subst (λ h. HasRun es h old new (statements (chars (string_bytes text)))) halted run in
         let file = stands_text text (fetched w name) (subst (λ s. StandsFor s (fetched w name)) is (fetched_is es files w name script suits lawful met)) in
         let comes = runs.comes w before page suits.entities in
-        let there : FileComesTo w file.0 (serial_of old before page) comes.0 = (comes.2.0, subst (λ t. run_text comes.2.0 w t (serial_of old before page) ≡ comes.0) file.2 comes.2.1) in
+        let there : FileComesTo w file.0 (serial_of old before page) comes.0 = subst (λ t. EndsIn (λ n. run_text n w t (serial_of old before page)) comes.0) file.2 comes.2 in
         behind e w m before page file.0 comes.0 new.halted comes.1 there (subst (λ k. Leads e w m k) await at) file.1;
   }
     where

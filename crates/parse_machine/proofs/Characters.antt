@@ -13,7 +13,7 @@ use Rattle.html_types.specs.declared.instruction.Instr.TheVariants.{Reconstruct,
 use Rattle.html_types.specs.declared.instruction.Mode.{Mode}
 use Rattle.html_types.specs.declared.instruction.Mode.TheVariants.{InBody, InCell, InText}
 use Rattle.html_types.specs.declared.instruction.Next.TheVariants as next
-use Rattle.standard.specs.Space.{is_space}
+use Rattle.standard.specs.WhiteSpace.{is_space}
 use Rattle.standard.specs.Formatting.{lost, kept}
 use Rattle.html_types.specs.declared.operation.Op.TheVariants as op
 use Rattle.standard.specs.Instructions.{Config, config, on, here, room, reopen, reopen_all, reconstruct, run, body_text, body_character}

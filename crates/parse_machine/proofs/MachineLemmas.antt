@@ -11,7 +11,7 @@ use Rattle.html_types.specs.declared.state.TokState.{TokState}
 use Rattle.html_types.specs.declared.operation.NodeId.{NodeId}
 use Rattle.html_types.specs.declared.instruction.Next.{Next}
 use Rattle.html_types.specs.declared.instruction.Next.TheVariants as next
-use Rattle.html_types.specs.declared.instruction.Reading.{Reading}
+use Rattle.html_types.specs.declared.instruction.TokenizerSwitch.{TokenizerSwitch}
 use Rattle.html_types.specs.declared.instruction.Finish.{Finish}
 use Rattle.html_types.specs.declared.instruction.Finish.TheVariants as finale
 use Rattle.html_types.specs.declared.instruction.Stop.{Stop}
@@ -75,7 +75,7 @@ rests s cr t b rest (next.Script i) e = cc
 rests s cr t b rest next.Deep e = cc
 rests s cr t b rest _ e = refl
 
-pub goes_on_else : (n : Next) → ((r : Reading) → n ≡ next.Switch r → ⊥) → ((i : NodeId) → n ≡ next.Script i → ⊥) → (n ≡ next.Deep → ⊥) → goes_on n ≡ true
+pub goes_on_else : (n : Next) → ((r : TokenizerSwitch) → n ≡ next.Switch r → ⊥) → ((i : NodeId) → n ≡ next.Script i → ⊥) → (n ≡ next.Deep → ⊥) → goes_on n ≡ true
 goes_on_else (next.Switch r) a b c = absurd (a r refl)
 goes_on_else (next.Script i) a b c = absurd (b i refl)
 goes_on_else next.Deep a b c = absurd (c refl)
@@ -88,7 +88,7 @@ went_on t cr m m' b b' o o' n e is same =
     ∙ ap (λ k. after_ops o' k) (rests m.state cr t b' (λ s'. build s' cr m.tokens b') n is)
     ∙ build_token t m.tokens m.state cr b o b' o' n e
 
-pub went_switched : (t : Token) (cr : Bool) (m m' : Reached) (b b' : Open) (o o' : List Op) (n : Next) (r : Reading) (s' : TokState) → answer b' o' n ≡ construct t b o → n ≡ next.Switch r
+pub went_switched : (t : Token) (cr : Bool) (m m' : Reached) (b b' : Open) (o o' : List Op) (n : Next) (r : TokenizerSwitch) (s' : TokState) → answer b' o' n ≡ construct t b o → n ≡ next.Switch r
     → s' ≡ read_as r t → m'.tokens ≡ m.tokens → m'.state ≡ s' → WentTo cr m' b' o' went.On ≡ after_ops o (build m.state cr (t ∷ m.tokens) b)
 went_switched t cr m m' b b' o o' n r s' e is read tokens state =
     ap (λ ts. after_ops o' (build m'.state cr ts b')) tokens
@@ -294,7 +294,7 @@ one-took es (took ops p stop.InputEnd) o o' p' s e = record {
 }
 one-took es (took ops p _) o o' p' s e = record { ops = sym (ap took_ops e); state = sym (ap took_parser e); used = refl; at_stop = sym (ap took_stop e) }
 
-one-character : (es : Entities) (p : Parser) (c : ℕ) (o o' : List Op) (p' : Parser) (s : Stop) → after_ops o (take_character es p c) ≡ took o' p' s
+pub one-character : (es : Entities) (p : Parser) (c : ℕ) (o o' : List Op) (p' : Parser) (s : Stop) → after_ops o (take_character es p c) ≡ took o' p' s
     → IsOver (parse es p (c ∷ [])) o 1 p' o' s
 unfolding parse
 one-character es p c o o' p' s e = one-took es (take_character es p c) o o' p' s e
@@ -321,24 +321,9 @@ over-more es p0 o0 x p o c p' o' s over e =
     subst (λ (w : Parsed). IsOver w o0 (length (x ++ c ∷ [])) p' o' s) whole
     (subst (λ (k : ℕ). IsOver (joined r (parse es r.parser (c ∷ []))) o0 k p' o' s) n (over-both o0 o o' p p' s (length x) r (parse es r.parser (c ∷ [])) over one))
 
-not_stopped : (s : Stop) → stops s ≡ false → s ≡ stop.InputEnd
+pub not_stopped : (s : Stop) → stops s ≡ false → s ≡ stop.InputEnd
 not_stopped stop.InputEnd e = refl
 not_stopped _ e = cc
-
--- one more character, at which the parser doesn't stop
-pub over-goes_on : (es : Entities) (p0 : Parser) (o0 : List Op) (x y : List ℕ) (p : Parser) (o : List Op) (c : ℕ) (p' : Parser) (o' : List Op) (s : Stop)
-    → y ≡ x ++ c ∷ [] → stops s ≡ false → IsOver (parse es p0 x) o0 (length x) p o stop.InputEnd → after_ops o (take_character es p c) ≡ took o' p' s
-    → IsOver (parse es p0 y) o0 (length y) p' o' stop.InputEnd
-over-goes_on es p0 o0 x y p o c p' o' s e going over is =
-    subst (λ (z : List ℕ). IsOver (parse es p0 z) o0 (length z) p' o' stop.InputEnd) (sym e)
-    (over-more es p0 o0 x p o c p' o' stop.InputEnd over (is ∙ ap (took o' p') (not_stopped s going)))
-
--- one more character, at which it stops
-pub over-stopped : (es : Entities) (p0 : Parser) (o0 : List Op) (x y : List ℕ) (p : Parser) (o : List Op) (c : ℕ) (p' : Parser) (o' : List Op) (s : Stop)
-    → y ≡ x ++ c ∷ [] → IsOver (parse es p0 x) o0 (length x) p o stop.InputEnd → after_ops o (take_character es p c) ≡ took o' p' s
-    → IsOver (parse es p0 y) o0 (length y) p' o' s
-over-stopped es p0 o0 x y p o c p' o' s e over is =
-    subst (λ (z : List ℕ). IsOver (parse es p0 z) o0 (length z) p' o' s) (sym e) (over-more es p0 o0 x p o c p' o' s over is)
 
 -- behind a stop nothing more is parsed
 stays-stopped : (s : Stop) (r : Parsed) (f : Parser → Parsed) → stops s ≡ true → unless_stopped s r f ≡ r

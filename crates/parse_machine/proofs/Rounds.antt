@@ -5,7 +5,7 @@ use Rattle.html_types.specs.declared.token.Token.{Token}
 use Rattle.html_types.specs.declared.open.Open.{Open}
 use Rattle.html_types.specs.declared.instruction.Mode.{Mode}
 use Rattle.html_types.specs.declared.instruction.Next.{Next}
-use Rattle.html_types.specs.declared.instruction.Next.TheVariants.{Again, Using, Foster, Done}
+use Rattle.html_types.specs.declared.instruction.Next.TheVariants.{Again, Using, Foster}
 use Rattle.standard.specs.Rules.{Answer, answer, by_rules, go_round, round_after, process}
 use Rattle.parse_machine.specs.declared.token.Round.{Round}
 use Rattle.parse_machine.specs.declared.token.Round.TheVariants.{Once}
@@ -30,7 +30,7 @@ rounds_turn (suc n) m t b b' o o' r h e =
 
 -- no round is left
 pub rounds_end : (n : ℕ) (m : Mode) (t : Token) (b : Open) (o : List Op) (r : Round) (x : Answer) → n ≤ 0 → r ≡ Once m
-    → rounds_left n t (rounded b o r) ≡ x → answer b o Done ≡ x
+    → rounds_left n t (rounded b o r) ≡ x → answer b o Again ≡ x
 unfolding process
 rounds_end zero m t b o r x h e is = sym (ap (λ v. rounds_left 0 t (rounded b o v)) e) ∙ is
 rounds_end (suc n) m t b o r x h e is = absurd (omega (arith, h))

@@ -134,7 +134,7 @@ fn by_all_rules(
         left -= 1;
     }
     match round {
-        Round::Once(_) => Ok(Next::Done),
+        Round::Once(_) => Ok(Next::Again),
         Round::Over(next) => Ok(next),
     }
 }

@@ -13,12 +13,12 @@ use Rattle.html_types.specs.declared.operation.Op.{Op}
 use Rattle.html_types.specs.declared.open.OpenElement.{OpenElement}
 use Rattle.html_types.specs.declared.open.Open.{Open}
 use Rattle.standard.specs.Elements.{is_word}
-use Rattle.standard.specs.Stack.{is_open, current_id, pop, open_in_scope, above, below, block_above}
+use Rattle.standard.specs.Stack.{is_open, current_id, pop, open_in_scope, below, above, block_below}
 use Rattle.standard.specs.Formatting.{entry_named, tag_of_entry, without_entry, with_id}
-use Rattle.standard.specs.Adoption.{Climb, climb_at, mark_or, climb_clone, climb_drop, climb_one, climb, Turned, turned, joined, rebuilt, turn_with, turn_at, turn, turns, Adopted, adopted, adopted_by, is_plain, adopt}
+use Rattle.standard.specs.Adoption.{Climb, climb_at, bookmark_or, climb_clone, climb_drop, climb_one, climb, Turned, turned, joined, rebuilt, turn_with, turn_at, turn, turns, Adopted, adopted, adopted_by, is_plain, adopt}
 
 abbrev climb_behind : List Op → Climb → Climb
-climb_behind p c = climb_at c.formats c.next (p ++ c.ops) c.kept c.last c.mark
+climb_behind p c = climb_at c.formats c.next (p ++ c.ops) c.kept c.last c.bookmark
 
 abbrev turned_behind : List Op → Turned → Turned
 turned_behind p c = turned c.open_state (p ++ c.ops) c.turn
@@ -33,13 +33,13 @@ by_test g false x y x' y' e h = h
 climb_clone-framed : (p : List Op) (id : NodeId) (tag : Option Tag) (c : Climb) → climb_clone id tag (climb_behind p c) ≡ climb_behind p (climb_clone id tag c)
 climb_clone-framed p id None c = refl
 climb_clone-framed p id (Some tag) c =
-    ap (λ o. climb_at (with_id id c.next c.formats) (later 1 c.next) o (c.kept ++ record { id = c.next; name = tag.name } ∷ []) c.next (mark_or c.mark c.next)) (simp append_assoc)
+    ap (λ o. climb_at (with_id id c.next c.formats) (later 1 c.next) o (c.kept ++ record { id = c.next; name = tag.name } ∷ []) c.next (bookmark_or c.bookmark c.next)) (simp append_assoc)
 
 climb-framed : (p : List Op) (left : ℕ) (es : List OpenElement) (c : Climb) → climb left es (climb_behind p c) ≡ climb_behind p (climb left es c)
 climb-framed p left [] c = refl
 climb-framed p left (e ∷ es) c =
     let fs = climb_drop left e.id c.formats in
-    ap (climb (left - 1) es) (climb_clone-framed p e.id (tag_of_entry e.id fs) (climb_at fs c.next c.ops c.kept c.last c.mark))
+    ap (climb (left - 1) es) (climb_clone-framed p e.id (tag_of_entry e.id fs) (climb_at fs c.next c.ops c.kept c.last c.bookmark))
     ∙ climb-framed p (left - 1) es (climb_one left e.id c)
 
 rebuilt-framed : (p : List Op) (f : NodeId) (tag : Tag) (block : NodeId) (b : Open) (c : Climb) (st : List OpenElement)
@@ -51,7 +51,7 @@ turn_with-framed p f None block b o = refl
 turn_with-framed p f (Some tag) None b o = refl
 turn_with-framed p f (Some tag) (Some block) b o =
     let start : Climb = climb_at b.formats b.next o [] block None in
-    let es : List OpenElement = above f (below block b.stack) in
+    let es : List OpenElement = below f (above block b.stack) in
     let c : Climb = climb 3 es start in
     ap (λ (x : Climb). rebuilt f tag block b x (joined f block b.stack x.kept)) (climb-framed p 3 es start) ∙ rebuilt-framed p f tag block b c (joined f block b.stack c.kept)
 
@@ -59,8 +59,8 @@ turn_at-framed : (p : List Op) (f : Option NodeId) (b : Open) (o : List Op) → 
 turn_at-framed p None b o = refl
 turn_at-framed p (Some f) b o =
     by_test (turned_behind p) (not (is_open f b.stack)) (turned (record b { formats = without_entry f b.formats }) o Over) _ _ _ refl
-    (by_test (turned_behind p) (not (open_in_scope scope.Default f b.stack)) (turned b o Over) (turn_with f (tag_of_entry f b.formats) (block_above f None b.stack) b o) _ _ refl
-    (turn_with-framed p f (tag_of_entry f b.formats) (block_above f None b.stack) b o))
+    (by_test (turned_behind p) (not (open_in_scope scope.Default f b.stack)) (turned b o Over) (turn_with f (tag_of_entry f b.formats) (block_below f None b.stack) b o) _ _ refl
+    (turn_with-framed p f (tag_of_entry f b.formats) (block_below f None b.stack) b o))
 
 turns-framed : (p : List Op) (n : ℕ) (is : Name → Bool) (b : Open) (o : List Op) (t : Turn) → turns n is (turned b (p ++ o) t) ≡ turned_behind p (turns n is (turned b o t))
 turns-framed p zero is b o t = refl

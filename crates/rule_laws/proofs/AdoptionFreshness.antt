@@ -18,13 +18,13 @@ use Rattle.html_types.specs.declared.open.Format.{Format}
 use Rattle.html_types.specs.declared.open.Format.TheVariants.{Element}
 use Rattle.html_types.specs.declared.open.Open.{Open}
 use Rattle.standard.specs.Elements.{is_word}
-use Rattle.standard.specs.Stack.{is_open, current_id, pop, without_open, open_in_scope, above, from_on, through, below, block_above, place_for}
+use Rattle.standard.specs.Stack.{is_open, current_id, pop, without_open, open_in_scope, below, from_on, through, above, block_below, place_for}
 use Rattle.standard.specs.Formatting.{entry_named, tag_of_entry, without_entry, with_behind}
-use Rattle.standard.specs.Adoption.{Climb, climb_at, climb_clone, climb_drop, climb_one, climb, Turned, turned, put_mark, joined, rebuilt, turn_with, turn_at, turn, turns, Adopted, adopted, adopted_by, is_plain, adopt}
+use Rattle.standard.specs.Adoption.{Climb, climb_at, climb_clone, climb_drop, climb_one, climb, Turned, turned, put_at_bookmark, joined, rebuilt, turn_with, turn_at, turn, turns, Adopted, adopted, adopted_by, is_plain, adopt}
 use Rattle.standard.specs.Act.{IsPlaceBound, IsOpBound, AreOpsBound, known_after}
 use Rattle.rule_laws.specs.Naming.{AreOpenBound, AreFormatsBound, IsBoundIfAny, Serves, known_after_all}
 use Rattle.rule_laws.proofs.FreshnessOps.{known-append, bound-append, same-itself, Follows, known-grows}
-use Rattle.rule_laws.proofs.FreshnessWalks.{pop-bound, without_open-bound, open-append, from_on-bound, through-bound, below-bound, with_above-bound, block_above-bound, place_for-bound, without_entry-bound, with_id-bound, with_behind-bound, open-more, formats-more, pointer-more}
+use Rattle.rule_laws.proofs.FreshnessWalks.{pop-bound, without_open-bound, open-append, from_on-bound, through-bound, above-bound, with_below-bound, block_below-bound, place_for-bound, without_entry-bound, with_id-bound, with_behind-bound, open-more, formats-more, pointer-more}
 
 module _ (Coming : (NodeId → Bool) → NodeId → Type 0) (law : Follows Coming) (known : NodeId → Bool) where
   abbrev after : List Op → NodeId → Bool
@@ -113,7 +113,7 @@ module _ (Coming : (NodeId → Bool) → NodeId → Type 0) (law : Follows Comin
   climb-fits o left [] c f = f
   climb-fits o left (e ∷ es) c f =
       let fs : List Format = climb_drop left e.id c.formats in
-      climb-fits o (left - 1) es (climb_one left e.id c) (clone-fits o e.id (tag_of_entry e.id fs) (climb_at fs c.next c.ops c.kept c.last c.mark) (record {
+      climb-fits o (left - 1) es (climb_one left e.id c) (clone-fits o e.id (tag_of_entry e.id fs) (climb_at fs c.next c.ops c.kept c.last c.bookmark) (record {
         bound = f.bound;
         more = f.more;
         formats_bound = drop-bound (after c.ops) left e.id c.formats f.formats_bound;
@@ -126,20 +126,20 @@ module _ (Coming : (NodeId → Bool) → NodeId → Type 0) (law : Follows Comin
   abbrev TurnFits : Turned → Type 0
   TurnFits c = AreOpsBound known c.ops × Serves Coming (after c.ops) c.open_state
 
-  mark-bound : (k : NodeId → Bool) (f clone : NodeId) (tag : Tag) (m : Option NodeId) (fs : List Format) → IsTrue (k clone) → AreFormatsBound k fs → AreFormatsBound k (put_mark f clone tag m fs)
-  mark-bound k f clone tag None fs i a = with_id-bound k f clone fs i a
-  mark-bound k f clone tag (Some m) fs i a = without_entry-bound k f (with_behind m (Element clone tag) fs) (with_behind-bound k m clone tag fs i a)
+  bookmark-bound : (k : NodeId → Bool) (f clone : NodeId) (tag : Tag) (m : Option NodeId) (fs : List Format) → IsTrue (k clone) → AreFormatsBound k fs → AreFormatsBound k (put_at_bookmark f clone tag m fs)
+  bookmark-bound k f clone tag None fs i a = with_id-bound k f clone fs i a
+  bookmark-bound k f clone tag (Some m) fs i a = without_entry-bound k f (with_behind m (Element clone tag) fs) (with_behind-bound k m clone tag fs i a)
 
   joined-bound : (k : NodeId → Bool) (f block : NodeId) (st kept : List OpenElement) → AreOpenBound k st → AreOpenBound k kept → AreOpenBound k (joined f block st kept)
   joined-bound k f block st kept a b =
-      open-append k (through block st ++ kept) (from_on f (below block st)) (open-append k (through block st) kept (through-bound k block st a) b)
-      (from_on-bound k f (below block st) (below-bound k block st a))
+      open-append k (through block st ++ kept) (from_on f (above block st)) (open-append k (through block st) kept (through-bound k block st a) b)
+      (from_on-bound k f (above block st) (above-bound k block st a))
 
   rebuilt-fits : (o : List Op) (f : NodeId) (tag : Tag) (block : NodeId) (b : Open) (c : Climb) (st : List OpenElement)
       → Serves Coming (after o) b → IsTrue (after o block) → ClimbFits o c → AreOpenBound (after c.ops) st → TurnFits (rebuilt f tag block b c st)
   unfolding make
   rebuilt-fits o f tag block b c st s i g a =
-      let at : Place = place_for b.foster (below f st) st in
+      let at : Place = place_for b.foster (above f st) st in
       let o1 : List Op = c.ops ++ op.Put c.last at ∷ [] in
       let o2 : List Op = o1 ++ make c.next tag ∷ [] in
       let o3 : List Op = o2 ++ op.MoveChildren block c.next ∷ [] in
@@ -151,14 +151,14 @@ module _ (Coming : (NodeId → Bool) → NodeId → Type 0) (law : Follows Comin
       let clone : IsTrue (after o2 c.next) = made-known o1 c.next tag in
       let clone3 : IsTrue (after o3 c.next) = more-known o2 _ c.next clone in
       let clone4 : IsTrue (after o4 c.next) = more-known o3 _ c.next clone3 in
-      let put : Bound o1 c.next = put-bound c.ops c.next c.last at g.bound g.last_bound (place_for-bound (after c.ops) b.foster (below f st) st (below-bound (after c.ops) f st a) a) in
+      let put : Bound o1 c.next = put-bound c.ops c.next c.last at g.bound g.last_bound (place_for-bound (after c.ops) b.foster (above f st) st (above-bound (after c.ops) f st a) a) in
       let moved : Bound o3 (later 1 c.next) = moved-bound o2 (later 1 c.next) block c.next (made-bound o1 c.next tag put) (second block (g.more block i)) clone in
       let done : Bound o4 (later 1 c.next) = put-bound o3 (later 1 c.next) c.next (Inside block) moved clone3 (third block (g.more block i)) in (
         done.ops_bound,
         record {
-          stack_bound = with_above-bound (after o4) block (record { id = c.next; name = tag.name }) (without_open (Some f) st) clone4
+          stack_bound = with_below-bound (after o4) block (record { id = c.next; name = tag.name }) (without_open (Some f) st) clone4
               (without_open-bound (after o4) (Some f) st (open-more (after c.ops) (after o4) on st a));
-          formats_bound = mark-bound (after o4) f c.next tag c.mark c.formats clone4 (formats-more (after c.ops) (after o4) on c.formats g.formats_bound);
+          formats_bound = bookmark-bound (after o4) f c.next tag c.bookmark c.formats clone4 (formats-more (after c.ops) (after o4) on c.formats g.formats_bound);
           head_bound = pointer-more (after o) (after o4) all b.head s.head_bound;
           form_bound = pointer-more (after o) (after o4) all b.form s.form_bound;
           coming = done.coming;
@@ -171,7 +171,7 @@ module _ (Coming : (NodeId → Bool) → NodeId → Type 0) (law : Follows Comin
   turn_with-fits f (Some tag) None b o a s i = (
     a,
     record {
-      stack_bound = below-bound (after o) f b.stack s.stack_bound;
+      stack_bound = above-bound (after o) f b.stack s.stack_bound;
       formats_bound = without_entry-bound (after o) f b.formats s.formats_bound;
       head_bound = s.head_bound;
       form_bound = s.form_bound;
@@ -180,7 +180,7 @@ module _ (Coming : (NodeId → Bool) → NodeId → Type 0) (law : Follows Comin
   )
   turn_with-fits f (Some tag) (Some block) b o a s i =
       let start : Climb = climb_at b.formats b.next o [] block None in
-      let es : List OpenElement = above f (below block b.stack) in
+      let es : List OpenElement = below f (above block b.stack) in
       let c : Climb = climb 3 es start in
       let g : ClimbFits o c = climb-fits o 3 es start (record {
         bound = record { ops_bound = a; coming = s.coming };
@@ -209,8 +209,8 @@ module _ (Coming : (NodeId → Bool) → NodeId → Type 0) (law : Follows Comin
           coming = s.coming;
         },
       )
-      (of_two (not (open_in_scope scope.Default f b.stack)) (turned b o Over) (turn_with f (tag_of_entry f b.formats) (block_above f None b.stack) b o) (a, s)
-      (turn_with-fits f (tag_of_entry f b.formats) (block_above f None b.stack) b o a s (block_above-bound (after o) f None b.stack tt s.stack_bound)))
+      (of_two (not (open_in_scope scope.Default f b.stack)) (turned b o Over) (turn_with f (tag_of_entry f b.formats) (block_below f None b.stack) b o) (a, s)
+      (turn_with-fits f (tag_of_entry f b.formats) (block_below f None b.stack) b o a s (block_below-bound (after o) f None b.stack tt s.stack_bound)))
 
   turns-fit : (n : ℕ) (is : Name → Bool) (b : Open) (o : List Op) (t : Turn) → AreOpsBound known o → Serves Coming (after o) b → TurnFits (turns n is (turned b o t))
   turns-fit zero is b o t a s = (a, s)

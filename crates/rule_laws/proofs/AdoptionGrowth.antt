@@ -13,7 +13,7 @@ use Rattle.html_types.specs.declared.operation.Op.{Op}
 use Rattle.html_types.specs.declared.open.OpenElement.{OpenElement}
 use Rattle.html_types.specs.declared.open.Open.{Open}
 use Rattle.standard.specs.Elements.{is_word}
-use Rattle.standard.specs.Stack.{is_open, current_id, pop, open_in_scope, above, below, block_above}
+use Rattle.standard.specs.Stack.{is_open, current_id, pop, open_in_scope, below, above, block_below}
 use Rattle.standard.specs.Formatting.{entry_named, tag_of_entry, without_entry}
 use Rattle.standard.specs.Adoption.{Climb, climb_at, climb_clone, climb_drop, climb_one, climb, Turned, turned, turn_with, turn_at, turn, turns, Adopted, adopted, adopted_by, is_plain, adopt}
 
@@ -24,7 +24,7 @@ module _ (P : NodeId → Type 0) (one : (id : NodeId) → P id → P (later 1 id
 
   pub climb_one-grows : (left : ℕ) (id : NodeId) (c : Climb) → P c.next → P (climb_one left id c).next
   climb_one-grows left id c h =
-      let fs = climb_drop left id c.formats in climb_clone-grows id (tag_of_entry id fs) (climb_at fs c.next c.ops c.kept c.last c.mark) h
+      let fs = climb_drop left id c.formats in climb_clone-grows id (tag_of_entry id fs) (climb_at fs c.next c.ops c.kept c.last c.bookmark) h
 
   pub climb-grows : (left : ℕ) (es : List OpenElement) (c : Climb) → P c.next → P (climb left es c).next
   climb-grows left [] c h = h
@@ -33,7 +33,7 @@ module _ (P : NodeId → Type 0) (one : (id : NodeId) → P id → P (later 1 id
   turn_with-grows : (f : NodeId) (tag : Option Tag) (block : Option NodeId) (b : Open) (o : List Op) → P b.next → P (turn_with f tag block b o).open_state.next
   turn_with-grows f None block b o h = h
   turn_with-grows f (Some tag) None b o h = h
-  turn_with-grows f (Some tag) (Some block) b o h = one _ (climb-grows 3 (above f (below block b.stack)) (climb_at b.formats b.next o [] block None) h)
+  turn_with-grows f (Some tag) (Some block) b o h = one _ (climb-grows 3 (below f (above block b.stack)) (climb_at b.formats b.next o [] block None) h)
 
   of_two : (v : Bool) (x y : Turned) → P x.open_state.next → P y.open_state.next → P (if v then x else y).open_state.next
   of_two true x y a b = a
@@ -43,8 +43,8 @@ module _ (P : NodeId → Type 0) (one : (id : NodeId) → P id → P (later 1 id
   turn_at-grows None b o h = h
   turn_at-grows (Some f) b o h =
       of_two (not (is_open f b.stack)) (turned (record b { formats = without_entry f b.formats }) o Over) _ h
-      (of_two (not (open_in_scope scope.Default f b.stack)) (turned b o Over) (turn_with f (tag_of_entry f b.formats) (block_above f None b.stack) b o) h
-      (turn_with-grows f (tag_of_entry f b.formats) (block_above f None b.stack) b o h))
+      (of_two (not (open_in_scope scope.Default f b.stack)) (turned b o Over) (turn_with f (tag_of_entry f b.formats) (block_below f None b.stack) b o) h
+      (turn_with-grows f (tag_of_entry f b.formats) (block_below f None b.stack) b o h))
 
   pub turn-grows : (is : Name → Bool) (b : Open) (o : List Op) → P b.next → P (turn is b o).open_state.next
   turn-grows is b o h = turn_at-grows (entry_named is b.formats) b o h

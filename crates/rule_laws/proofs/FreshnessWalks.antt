@@ -14,7 +14,7 @@ use Rattle.html_types.specs.declared.token.Tag.{Tag}
 use Rattle.html_types.specs.declared.open.Format.{Format}
 use Rattle.html_types.specs.declared.open.Format.TheVariants.{Marker, Element}
 use Rattle.standard.specs.Elements.{is_word, is_one_of}
-use Rattle.standard.specs.Stack.{in_scope, is_open, current_id, is_empty, pop, until, pop_to, pop_to_root, implied, implied_thoroughly, close, item_found, close_item, end_found, other_end, id_or, foster_place, place_in, place, first_open, second_open, without_open, above, from_on, through, below, with_above, block_above, place_for}
+use Rattle.standard.specs.Stack.{in_scope, is_open, current_id, is_empty, pop, until, pop_to, pop_to_root, implied, implied_thoroughly, close, item_found, close_item, end_found, other_end, id_or, foster_place, place_in, place, first_open, second_open, without_open, below, from_on, through, above, with_below, block_below, place_for}
 use Rattle.standard.specs.Formatting.{clear_to_marker, kept, is_like, likes, without_earliest, later_than, entry_on, before_first, renewed, without_entry, with_id, with_behind}
 use Rattle.standard.specs.Instructions.{list_current}
 use Rattle.standard.specs.Act.{IsPlaceBound}
@@ -139,9 +139,9 @@ module _ (known : NodeId → Bool) where
   open-append [] ds a b = b
   open-append (e ∷ es) ds a b = (a.0, open-append es ds a.1 b)
 
-  pub above-bound : (id : NodeId) (es : List OpenElement) → AreOpenBound known es → AreOpenBound known (above id es)
-  above-bound id [] a = tt
-  above-bound id (e ∷ es) a = of_two (same_id e.id id) [] (e ∷ above id es) tt (a.0, above-bound id es a.1)
+  pub below-bound : (id : NodeId) (es : List OpenElement) → AreOpenBound known es → AreOpenBound known (below id es)
+  below-bound id [] a = tt
+  below-bound id (e ∷ es) a = of_two (same_id e.id id) [] (e ∷ below id es) tt (a.0, below-bound id es a.1)
 
   pub from_on-bound : (id : NodeId) (es : List OpenElement) → AreOpenBound known es → AreOpenBound known (from_on id es)
   from_on-bound id [] a = tt
@@ -151,23 +151,23 @@ module _ (known : NodeId → Bool) where
   through-bound id [] a = tt
   through-bound id (e ∷ es) a = of_two (same_id e.id id) (e ∷ []) (e ∷ through id es) (a.0, tt) (a.0, through-bound id es a.1)
 
-  pub below-bound : (id : NodeId) (es : List OpenElement) → AreOpenBound known es → AreOpenBound known (below id es)
-  below-bound id [] a = tt
-  below-bound id (e ∷ es) a = of_two (same_id e.id id) es (below id es) a.1 (below-bound id es a.1)
+  pub above-bound : (id : NodeId) (es : List OpenElement) → AreOpenBound known es → AreOpenBound known (above id es)
+  above-bound id [] a = tt
+  above-bound id (e ∷ es) a = of_two (same_id e.id id) es (above id es) a.1 (above-bound id es a.1)
 
-  pub with_above-bound : (id : NodeId) (e : OpenElement) (es : List OpenElement) → IsTrue (known e.id) → AreOpenBound known es → AreOpenBound known (with_above id e es)
-  with_above-bound id e es i a = open-append (above id es) (e ∷ from_on id es) (above-bound id es a) (i, from_on-bound id es a)
+  pub with_below-bound : (id : NodeId) (e : OpenElement) (es : List OpenElement) → IsTrue (known e.id) → AreOpenBound known es → AreOpenBound known (with_below id e es)
+  with_below-bound id e es i a = open-append (below id es) (e ∷ from_on id es) (below-bound id es a) (i, from_on-bound id es a)
 
   of_pointers : (v : Bool) (x y : Option NodeId) → IsBoundIfAny known x → IsBoundIfAny known y → IsBoundIfAny known (if v then x else y)
   of_pointers true x y a b = a
   of_pointers false x y a b = b
 
-  pub block_above-bound : (id : NodeId) (found : Option NodeId) (es : List OpenElement) → IsBoundIfAny known found → AreOpenBound known es → IsBoundIfAny known (block_above id found es)
-  block_above-bound id found [] i a = i
-  block_above-bound id found (e ∷ es) i a =
+  pub block_below-bound : (id : NodeId) (found : Option NodeId) (es : List OpenElement) → IsBoundIfAny known found → AreOpenBound known es → IsBoundIfAny known (block_below id found es)
+  block_below-bound id found [] i a = i
+  block_below-bound id found (e ∷ es) i a =
       let more : Option NodeId = if is_one_of group.Special e.name then Some e.id else found in
-      of_pointers (same_id e.id id) found (block_above id more es) i
-      (block_above-bound id more es (of_pointers (is_one_of group.Special e.name) (Some e.id) found a.0 i) a.1)
+      of_pointers (same_id e.id id) found (block_below id more es) i
+      (block_below-bound id more es (of_pointers (is_one_of group.Special e.name) (Some e.id) found a.0 i) a.1)
 
   pub place_for-bound : (foster : Bool) (es st : List OpenElement) → AreOpenBound known es → AreOpenBound known st → IsPlaceBound known (place_for foster es st)
   place_for-bound foster [] st a b = tt

@@ -23,3 +23,6 @@ mod Takes
 mod Walk
 mod Rows
 mod Rounds
+mod Thinned
+mod Closed
+mod Proper

@@ -36,7 +36,7 @@ use Rattle.html_types.specs.declared.open.Open.{Open}
 use Rattle.standard.specs.Elements.{is_word, is_meant, is_one_of}
 use Rattle.standard.specs.Stack.{in_scope, on_stack, until, implied, first_open, second_open, is_the, without_open, open_in_scope}
 use Rattle.standard.specs.Formatting.{kept, lost, entry_named, without_entry}
-use Rattle.standard.specs.Space.{is_space}
+use Rattle.standard.specs.WhiteSpace.{is_space}
 use Rattle.standard.specs.Instructions.{Config, config, on, holds, room, made, pushed, insert_at, here, insert, insert_root, void, tag_of, named, void_as, for_tag, list_current, enlist, reopen, reopen_all, reconstruct, insert_text, insert_comment, append_doctype, end_of, add_attributes, detach_second, append_pending, all_space, texts, body_text, body_character, body_characters, none_pending, insert_pending, push_head, form_closed, form_closed_in_template, end_form, stop_at_script, adopt_name, adopt_own, adopt_anchor, step, turn, run}
 use Rattle.standard.specs.Adoption.{Adopted, adopt}
 use Rattle.standard.specs.RulesBody.{after_adopt}

@@ -17,7 +17,7 @@ use Rattle.html_types.specs.declared.open.Format.{Format}
 use Rattle.html_types.specs.declared.open.Format.TheVariants.{Marker, Element}
 use Rattle.html_types.specs.declared.token.Tag.{Tag}
 use Rattle.standard.specs.Elements.{is_word, is_one_of, ends_scope}
-use Rattle.standard.specs.Stack.{in_scope, on_stack, is_open, current_is, option_in_optgroup, current_id, is_empty, pop, until, pop_to, pop_to_root, implied, implied_thoroughly, close, item_found, close_item, end_found, other_end, id_or, foster_place, place_in, place, first_open, second_open, is_the, without_open, open_in_scope, above, from_on, through, below, with_above, block_above, place_for}
+use Rattle.standard.specs.Stack.{in_scope, on_stack, is_open, current_is, option_in_optgroup, current_id, is_empty, pop, until, pop_to, pop_to_root, implied, implied_thoroughly, close, item_found, close_item, end_found, other_end, id_or, foster_place, place_in, place, first_open, second_open, is_the, without_open, open_in_scope, below, from_on, through, above, with_below, block_below, place_for}
 use Rattle.standard.specs.Reset.{select_mode, template_mode, root_mode, reset_mode}
 use Rattle.standard.specs.Formatting.{listed, clear_to_marker, kept, lost, is_like, likes, without_earliest, list_element, entry_named, has_entry, tag_of_entry, later_than, entry_on, before_first, renewed, without_entry, with_id, with_behind}
 use Rattle.standard.specs.Act.{rename_place}
@@ -31,9 +31,9 @@ of_two g v w x y x' y' e p q = ap (λ u. if u then x' else y') e ∙ by v
     by true = p
     by false = q
 
--- the mode that an element of that name tells, or the one that those below it tell
+-- the mode that an element of that name tells, or the one that those above it tell
 abbrev told : Name → Mode → Mode → Mode → Mode → Mode
-told n selects template root below =
+told n selects template root above =
     if is_word word.Select n then selects
     else (if is_one_of group.Cells n then mode.InCell
     else (if is_word word.Tr n then mode.InRow
@@ -46,7 +46,7 @@ told n selects template root below =
     else (if is_word word.Body n then mode.InBody
     else (if is_word word.Frameset n then mode.InFrameset
     else (if is_word word.Html n then root
-    else below)))))))))))
+    else above)))))))))))
 
 module _ (r : NodeId → NodeId) where
   abbrev stack_of : List OpenElement → List OpenElement
@@ -272,10 +272,10 @@ module _ (r : NodeId → NodeId) where
 
     -- ---- what the adoption agency algorithm asks for
 
-    pub above-renamed : (id : NodeId) (es : List OpenElement) → above (r id) (map (rename_element r) es) ≡ map (rename_element r) (above id es)
-    above-renamed id [] = refl
-    above-renamed id (e ∷ es) =
-        of_two stack_of (same_id e.id id) (same_id (r e.id) (r id)) [] (e ∷ above id es) _ _ (apart e.id id) refl (ap (λ l. rename_element r e ∷ l) (above-renamed id es))
+    pub below-renamed : (id : NodeId) (es : List OpenElement) → below (r id) (map (rename_element r) es) ≡ map (rename_element r) (below id es)
+    below-renamed id [] = refl
+    below-renamed id (e ∷ es) =
+        of_two stack_of (same_id e.id id) (same_id (r e.id) (r id)) [] (e ∷ below id es) _ _ (apart e.id id) refl (ap (λ l. rename_element r e ∷ l) (below-renamed id es))
 
     pub from_on-renamed : (id : NodeId) (es : List OpenElement) → from_on (r id) (map (rename_element r) es) ≡ map (rename_element r) (from_on id es)
     from_on-renamed id [] = refl
@@ -287,25 +287,25 @@ module _ (r : NodeId → NodeId) where
     through-renamed id (e ∷ es) =
         of_two stack_of (same_id e.id id) (same_id (r e.id) (r id)) (e ∷ []) (e ∷ through id es) _ _ (apart e.id id) refl (ap (λ l. rename_element r e ∷ l) (through-renamed id es))
 
-    pub below-renamed : (id : NodeId) (es : List OpenElement) → below (r id) (map (rename_element r) es) ≡ map (rename_element r) (below id es)
-    below-renamed id [] = refl
-    below-renamed id (e ∷ es) = of_two stack_of (same_id e.id id) (same_id (r e.id) (r id)) es (below id es) _ _ (apart e.id id) refl (below-renamed id es)
+    pub above-renamed : (id : NodeId) (es : List OpenElement) → above (r id) (map (rename_element r) es) ≡ map (rename_element r) (above id es)
+    above-renamed id [] = refl
+    above-renamed id (e ∷ es) = of_two stack_of (same_id e.id id) (same_id (r e.id) (r id)) es (above id es) _ _ (apart e.id id) refl (above-renamed id es)
 
-    pub with_above-renamed : (id : NodeId) (e : OpenElement) (es : List OpenElement)
-        → with_above (r id) (rename_element r e) (map (rename_element r) es) ≡ map (rename_element r) (with_above id e es)
-    with_above-renamed id e es =
-        ap (λ l. l ++ rename_element r e ∷ from_on (r id) (stack_of es)) (above-renamed id es)
-        ∙ (ap (λ l. stack_of (above id es) ++ rename_element r e ∷ l) (from_on-renamed id es)
-        ∙ sym (map-append (rename_element r) (above id es) (e ∷ from_on id es)))
+    pub with_below-renamed : (id : NodeId) (e : OpenElement) (es : List OpenElement)
+        → with_below (r id) (rename_element r e) (map (rename_element r) es) ≡ map (rename_element r) (with_below id e es)
+    with_below-renamed id e es =
+        ap (λ l. l ++ rename_element r e ∷ from_on (r id) (stack_of es)) (below-renamed id es)
+        ∙ (ap (λ l. stack_of (below id es) ++ rename_element r e ∷ l) (from_on-renamed id es)
+        ∙ sym (map-append (rename_element r) (below id es) (e ∷ from_on id es)))
 
-    pub block_above-renamed : (id : NodeId) (found : Option NodeId) (es : List OpenElement)
-        → block_above (r id) (option_map r found) (map (rename_element r) es) ≡ option_map r (block_above id found es)
-    block_above-renamed id found [] = refl
-    block_above-renamed id found (e ∷ es) =
+    pub block_below-renamed : (id : NodeId) (found : Option NodeId) (es : List OpenElement)
+        → block_below (r id) (option_map r found) (map (rename_element r) es) ≡ option_map r (block_below id found es)
+    block_below-renamed id found [] = refl
+    block_below-renamed id found (e ∷ es) =
         let v : Bool = is_one_of group.Special e.name in
-        of_two (option_map r) (same_id e.id id) (same_id (r e.id) (r id)) found (block_above id (if v then Some e.id else found) es) _ _ (apart e.id id) refl
-        (ap (λ x. block_above (r id) x (stack_of es)) (of_two (option_map r) v v (Some e.id) found _ _ refl refl refl)
-        ∙ block_above-renamed id (if v then Some e.id else found) es)
+        of_two (option_map r) (same_id e.id id) (same_id (r e.id) (r id)) found (block_below id (if v then Some e.id else found) es) _ _ (apart e.id id) refl
+        (ap (λ x. block_below (r id) x (stack_of es)) (of_two (option_map r) v v (Some e.id) found _ _ refl refl refl)
+        ∙ block_below-renamed id (if v then Some e.id else found) es)
 
     pub has_entry-renamed : (id : NodeId) (fs : List Format) → has_entry (r id) (map (rename_format r) fs) ≡ has_entry id fs
     has_entry-renamed id [] = refl

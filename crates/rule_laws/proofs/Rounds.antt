@@ -14,7 +14,7 @@ use Rattle.html_types.specs.declared.token.Token.{Token}
 use Rattle.html_types.specs.declared.token.Token.TheVariants.{StartTag, EndTag, Character, Comment, Doctype, EndOfFile}
 use Rattle.html_types.specs.declared.operation.Op.{Op}
 use Rattle.html_types.specs.declared.open.Open.{Open}
-use Rattle.standard.specs.Space.{is_space}
+use Rattle.standard.specs.WhiteSpace.{is_space}
 use Rattle.standard.specs.Instructions.{Config, on, run}
 use Rattle.standard.specs.Adoption.{Adopted, adopt}
 use Rattle.standard.specs.RulesBody.{after_adopt}

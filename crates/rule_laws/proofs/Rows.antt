@@ -16,7 +16,7 @@ use Rattle.html_types.specs.declared.token.Token.{Token}
 use Rattle.html_types.specs.declared.token.Token.TheVariants.{Character, EndOfFile}
 use Rattle.html_types.specs.declared.operation.Op.{Op}
 use Rattle.html_types.specs.declared.open.Open.{Open}
-use Rattle.standard.specs.Space.{is_space}
+use Rattle.standard.specs.WhiteSpace.{is_space}
 use Rattle.standard.specs.Elements.{is_meant}
 use Rattle.standard.specs.Stack.{on_stack, until}
 use Rattle.standard.specs.Instructions.{config, on, run}
@@ -24,7 +24,7 @@ use Rattle.standard.specs.RulesHead.{initial_anything, before_html_anything, bef
 use Rattle.standard.specs.RulesBody.{in_body_space, in_body_character, after_body_anything, after_after_body_anything}
 use Rattle.standard.specs.RulesTable.{in_table_character, in_caption_anything, in_column_group_anything, in_table_body_anything, in_row_anything, in_cell_anything}
 use Rattle.standard.specs.RulesRest.{in_select_in_table_anything, in_frameset_anything, after_frameset_anything, after_after_frameset_anything}
-use Rattle.standard.specs.Rules.{row, known_start_row, other_start_row, known_end_row, other_end_row, start_row, end_row, comment_row, doctype_row, end_of_file_row}
+use Rattle.standard.specs.Rules.{row, start_row, end_row, comment_row, doctype_row, end_of_file_row}
 use Rattle.rule_laws.proofs.Counts.{until-falls, until-fewer, all, is_weighty, weighty-word}
 use Rattle.rule_laws.proofs.Readings.{weight_of, Small, no_more, fallen, walk, Fine}
 use Rattle.rule_laws.proofs.Calm.{split}
@@ -54,10 +54,10 @@ rows-sound x t rows same h v m b o s w e =
 
 -- ---- all modes
 
-abbrev modes : List Mode
+abbrev pub modes : List Mode
 modes = Initial ∷ BeforeHtml ∷ BeforeHead ∷ InHead ∷ AfterHead ∷ InBody ∷ InText ∷ InTable ∷ InTableText ∷ InCaption ∷ InColumnGroup ∷ InTableBody ∷ InRow ∷ InCell ∷ InSelect ∷ InSelectInTable ∷ InTemplate ∷ AfterBody ∷ InFrameset ∷ AfterFrameset ∷ AfterAfterBody ∷ AfterAfterFrameset ∷ []
 
-abbrev every : (Mode → Bool) → List Mode → Bool
+abbrev pub every : (Mode → Bool) → List Mode → Bool
 every f [] = true
 every f (m ∷ ms) = f m && every f ms
 
@@ -99,7 +99,7 @@ index-mode : (m : Mode) → nth (index m) modes ≡ m
 index-mode Initial = refl
 index-mode _ = refl
 
-each : (f : Mode → Bool) → every f modes ≡ true → (m : Mode) → f m ≡ true
+pub each : (f : Mode → Bool) → every f modes ≡ true → (m : Mode) → f m ≡ true
 each f e m =
     let P : Mode → Type 0 = λ n. f n ≡ true in
     subst P (index-mode m) (nth-holds f modes (index m) (first e) e)
@@ -154,31 +154,31 @@ characters-settle nul space m = each (λ m'. settles (by_rows true (character_ro
 
 -- ---- tags
 
-words-start : (w : Word) → every (λ m. settles (by_rows false (λ m'. known_start_row m' w)) chain m) modes ≡ true
+words-start : (w : Word) → every (λ m. settles (by_rows false (λ m'. start_row m' (Known w))) chain m) modes ≡ true
 unfolding settles
 words-start A = refl
 words-start _ = refl
 
-others-start : every (λ m. settles (by_rows false other_start_row) chain m) modes ≡ true
+others-start : (t : List ℕ) → every (λ m. settles (by_rows false (λ m'. start_row m' (Other t))) chain m) modes ≡ true
 unfolding settles
-others-start = refl
+others-start t = refl
 
 pub starts-settle : (n : Name) (m : Mode) → settles (by_rows false (λ m'. start_row m' n)) chain m ≡ true
-starts-settle (Known w) m = each (λ m'. settles (by_rows false (λ m''. known_start_row m'' w)) chain m') (words-start w) m
-starts-settle (Other t) m = each (λ m'. settles (by_rows false other_start_row) chain m') others-start m
+starts-settle (Known w) m = each (λ m'. settles (by_rows false (λ m''. start_row m'' (Known w))) chain m') (words-start w) m
+starts-settle (Other t) m = each (λ m'. settles (by_rows false (λ m''. start_row m'' (Other t))) chain m') (others-start t) m
 
-words-end : (w : Word) → every (λ m. settles (by_rows false (λ m'. known_end_row m' w)) chain m) modes ≡ true
+words-end : (w : Word) → every (λ m. settles (by_rows false (λ m'. end_row m' (Known w))) chain m) modes ≡ true
 unfolding settles
 words-end A = refl
 words-end _ = refl
 
-others-end : every (λ m. settles (by_rows false other_end_row) chain m) modes ≡ true
+others-end : (t : List ℕ) → every (λ m. settles (by_rows false (λ m'. end_row m' (Other t))) chain m) modes ≡ true
 unfolding settles
-others-end = refl
+others-end t = refl
 
 pub ends-settle : (n : Name) (m : Mode) → settles (by_rows false (λ m'. end_row m' n)) chain m ≡ true
-ends-settle (Known w) m = each (λ m'. settles (by_rows false (λ m''. known_end_row m'' w)) chain m') (words-end w) m
-ends-settle (Other t) m = each (λ m'. settles (by_rows false other_end_row) chain m') others-end m
+ends-settle (Known w) m = each (λ m'. settles (by_rows false (λ m''. end_row m'' (Known w))) chain m') (words-end w) m
+ends-settle (Other t) m = each (λ m'. settles (by_rows false (λ m''. end_row m'' (Other t))) chain m') (others-end t) m
 
 -- ---- comments and doctypes
 

@@ -13,7 +13,8 @@ abbrev pub RoundsSuffice : Type 0
 RoundsSuffice =
     (n : ℕ) (m : Mode) (t : Token) (b : Open) (o : List Op) → length b.stack ≤ 512 → process (rounds + n) m t b o ≡ process rounds m t b o
 
--- no more of the rules is asked for: the token is done, the tokenizer is to read on in another way, or parsing stops
+-- no more of the rules is asked for, as it would be where the rounds were used up: the token is done, the tokenizer is to
+-- read on in another way, or parsing stops
 abbrev pub is_answer : Next → Bool
 is_answer next.Again = false
 is_answer (next.Using m) = false

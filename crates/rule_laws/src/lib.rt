@@ -9,6 +9,7 @@ ghost use Rattle.rule_laws.specs.NamingLaws.{ActsBind, NewDocServes, DocsServeTe
 ghost use Rattle.rule_laws.specs.NamingLaws.{RowsRename, TokensRename, CharactersRename, EndsRename, TextsRename, LaterRenames};
 ghost use Rattle.rule_laws.specs.NamingLaws.{TokensGrow, CharactersGrow, EndsGrow, TextsGrow};
 ghost use Rattle.rule_laws.specs.Depth.{TokensStayShallow, RoundsStayShallow, OpeningIsShallow};
+ghost use Rattle.rule_laws.specs.Proper.{OpeningIsProper, TokensStayProper};
 ghost use Rattle.rule_laws.specs.Rounds.{RoundsSuffice, RoundsAnswer};
 
 /// Processing a token again, or by the rules of another mode (13.2.6), comes to an end within the rounds that the definition
@@ -17,6 +18,14 @@ ghost use Rattle.rule_laws.specs.Rounds.{RoundsSuffice, RoundsAnswer};
 pub fn rounds_suffice()
     ensures suffice { RoundsSuffice }
     ensures answer { RoundsAnswer }
+{}
+
+/// The open state (13.2.4) is proper, at the beginning and behind every token that doesn't ask for one element too many: an
+/// original mode is there exactly in the modes "text" and "in table text", and is neither; table text is pending in "in table
+/// text" alone; and no template insertion mode is one of the two.
+pub fn open_state_is_proper()
+    ensures opening { OpeningIsProper }
+    ensures tokens { TokensStayProper }
 {}
 
 /// At most 512 elements are ever open (13.2.4.2): so it is at the beginning, and so it stays behind every token.

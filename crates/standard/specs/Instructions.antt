@@ -33,7 +33,7 @@ use Rattle.html_types.specs.declared.open.Format.{Format}
 use Rattle.html_types.specs.declared.open.Format.TheVariants.{Marker, Element}
 use Rattle.html_types.specs.declared.open.Open.{Open}
 use Rattle.standard.specs.Tree.{attribute}
-use Rattle.standard.specs.Space.{is_space}
+use Rattle.standard.specs.WhiteSpace.{is_space}
 use Rattle.standard.specs.Elements.{is_word, is_meant, is_one_of}
 use Rattle.standard.specs.Stack.{in_scope, on_stack, current_is, option_in_optgroup, current_id, pop, until, pop_to, pop_to_root, implied, implied_thoroughly, close, close_item, other_end, place, first_open, second_open, is_the, without_open, open_in_scope}
 use Rattle.standard.specs.Reset.{reset_mode}

@@ -9,7 +9,7 @@ pub mod DoctypeStates
 pub mod MarkStates
 pub mod ReferenceStates
 pub mod Tokenizer
-pub mod Space
+pub mod WhiteSpace
 pub mod Rows
 pub mod Groups
 pub mod Elements

@@ -9,7 +9,7 @@ use Rattle.html_types.specs.declared.name.Name.{Name}
 use Rattle.html_types.specs.declared.name.Name.TheVariants.{Known, Other}
 use Rattle.html_types.specs.declared.tree.Kind.{Kind}
 use Rattle.html_types.specs.declared.tree.Kind.TheVariants as kind
-use Rattle.standard.specs.Rows.{has_word}
+use Rattle.standard.specs.Rows.{is_among}
 use Rattle.standard.specs.Tree.{Nodes, kind_of, parent_of, shown_of, fold_nodes}
 
 -- elements without an end tag; their children are not shown
@@ -19,10 +19,6 @@ void_words = Area ∷ Base ∷ Basefont ∷ Bgsound ∷ Br ∷ Col ∷ Embed ∷
 -- elements under which text stands as it is
 abbrev pub literal_words : List Word
 literal_words = Style ∷ Script ∷ Xmp ∷ Iframe ∷ Noembed ∷ Noframes ∷ Plaintext ∷ Noscript ∷ []
-
-abbrev pub is_among : List Word → Name → Bool
-is_among ws (Known w) = has_word ws w
-is_among ws (Other t) = false
 
 abbrev pub is_void : Kind → Bool
 is_void (kind.Element name attributes) = is_among void_words name

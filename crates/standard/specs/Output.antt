@@ -26,16 +26,6 @@ refusal_text why.Fault = []
 abbrev pub tree_text : Nodes → List ℕ
 tree_text t = codes "tree " ++ json_string (document_text t) ++ codes "\n"
 
-abbrev pub result_text : Result → Nodes → List ℕ
-result_text finished t = tree_text t
-result_text (refused w) t = refusal_text w
-
--- the lines of the scripts in order, then what the parse came to
-unfoldable pub output : Outcome → List ℕ
-output o = flat_map line_text o.last.side.lines ++ result_text o.result o.last.side.doc.tree
-
--- ---- with the dump of the tree or without
-
 -- the text of the tree, or its dump
 abbrev pub tree_lines : Bool → Nodes → List ℕ
 tree_lines false t = tree_text t
@@ -45,6 +35,10 @@ abbrev pub result_with : Bool → Result → Nodes → List ℕ
 result_with dump finished t = tree_lines dump t
 result_with dump (refused w) t = refusal_text w
 
--- the same lines, and the result with the tree's dump in place of its text where it is asked for
+-- the lines of the scripts in order, then what the parse came to, with the tree's dump in place of its text where it is asked for
 unfoldable pub output_with : Bool → Outcome → List ℕ
 output_with dump o = flat_map line_text o.last.side.lines ++ result_with dump o.result o.last.side.doc.tree
+
+-- without the dump
+abbrev pub output : Outcome → List ℕ
+output = output_with false

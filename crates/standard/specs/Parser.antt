@@ -10,8 +10,8 @@ use Rattle.html_types.specs.declared.state.TokState.{TokState}
 use Rattle.html_types.specs.declared.state.TextState.TheVariants as text_state
 use Rattle.html_types.specs.declared.state.RawText.TheVariants as raw
 use Rattle.html_types.specs.declared.instruction.Mode.TheVariants as mode
-use Rattle.html_types.specs.declared.instruction.Reading.{Reading}
-use Rattle.html_types.specs.declared.instruction.Reading.TheVariants.{Rcdata, Rawtext, ScriptData, Plaintext}
+use Rattle.html_types.specs.declared.instruction.TokenizerSwitch.{TokenizerSwitch}
+use Rattle.html_types.specs.declared.instruction.TokenizerSwitch.TheVariants.{Rcdata, Rawtext, ScriptData, Plaintext}
 use Rattle.html_types.specs.declared.instruction.Next.{Next}
 use Rattle.html_types.specs.declared.instruction.Next.TheVariants as next
 use Rattle.html_types.specs.declared.instruction.Stop.{Stop}
@@ -71,7 +71,7 @@ abbrev pub word_of_tag : Token → Option Word
 word_of_tag (StartTag tag) = word_of tag.name
 word_of_tag _ = None
 
-abbrev pub read_as : Reading → Token → TokState
+abbrev pub read_as : TokenizerSwitch → Token → TokState
 read_as Rcdata t = in_text (text_state.Raw raw.Rcdata (word_of_tag t))
 read_as Rawtext t = in_text (text_state.Raw raw.Rawtext (word_of_tag t))
 read_as ScriptData t = in_text (text_state.Raw raw.ScriptData (word_of_tag t))

@@ -8,7 +8,7 @@ use Rattle.html_types.specs.declared.operation.NodeId.{NodeId}
 use Rattle.html_types.specs.declared.open.OpenElement.{OpenElement}
 use Rattle.standard.specs.Elements.{is_word, is_one_of}
 
--- the mode of a select, by what lies below it: a table with no template between, or not
+-- the mode of a select, by what lies above it: a table with no template between, or not
 abbrev pub select_mode : List OpenElement → Mode
 select_mode [] = mode.InSelect
 select_mode (e ∷ es) =

@@ -17,7 +17,7 @@ use Rattle.html_types.specs.declared.token.Token.{Token}
 use Rattle.html_types.specs.declared.token.Token.TheVariants.{StartTag, EndTag, Character, Comment, Doctype, EndOfFile}
 use Rattle.html_types.specs.declared.operation.Op.{Op}
 use Rattle.html_types.specs.declared.open.Open.{Open}
-use Rattle.standard.specs.Space.{is_space}
+use Rattle.standard.specs.WhiteSpace.{is_space}
 use Rattle.standard.specs.Rows.{row_for}
 use Rattle.standard.specs.Instructions.{Config, on, run}
 use Rattle.standard.specs.Adoption.{Adopted, adopt}
@@ -53,103 +53,55 @@ character_row AfterFrameset c = if is_space c then ins.InsertText ∷ [] else af
 character_row AfterAfterBody c = if is_space c then ins.Using InBody ∷ [] else after_after_body_anything
 character_row AfterAfterFrameset c = if is_space c then ins.Using InBody ∷ [] else after_after_frameset_anything
 
-abbrev pub known_start_row : Mode → Word → List Instr
-known_start_row Initial w = initial_anything
-known_start_row BeforeHtml w = row_for before_html_start before_html_anything w
-known_start_row BeforeHead w = row_for before_head_start before_head_anything w
-known_start_row InHead w = row_for in_head_start in_head_anything w
-known_start_row AfterHead w = row_for after_head_start after_head_anything w
-known_start_row InBody w = row_for in_body_start in_body_any_start w
-known_start_row InText w = []
-known_start_row InTable w = row_for in_table_start in_table_any_start w
-known_start_row InTableText w = in_table_text_anything
-known_start_row InCaption w = row_for in_caption_start in_caption_anything w
-known_start_row InColumnGroup w = row_for in_column_group_start in_column_group_anything w
-known_start_row InTableBody w = row_for in_table_body_start in_table_body_anything w
-known_start_row InRow w = row_for in_row_start in_row_anything w
-known_start_row InCell w = row_for in_cell_start in_cell_anything w
-known_start_row InSelect w = row_for in_select_start in_select_any_start w
-known_start_row InSelectInTable w = row_for in_select_in_table_start in_select_in_table_anything w
-known_start_row InTemplate w = row_for in_template_start in_template_any_start w
-known_start_row AfterBody w = row_for after_body_start after_body_anything w
-known_start_row InFrameset w = row_for in_frameset_start in_frameset_anything w
-known_start_row AfterFrameset w = row_for after_frameset_start after_frameset_anything w
-known_start_row AfterAfterBody w = row_for after_after_body_start after_after_body_anything w
-known_start_row AfterAfterFrameset w = row_for after_after_frameset_start after_after_frameset_anything w
+-- a start tag
+abbrev pub start_row : Mode → Name → List Instr
+start_row Initial n = initial_anything
+start_row BeforeHtml n = row_for before_html_start before_html_anything n
+start_row BeforeHead n = row_for before_head_start before_head_anything n
+start_row InHead n = row_for in_head_start in_head_anything n
+start_row AfterHead n = row_for after_head_start after_head_anything n
+start_row InBody n = row_for in_body_start in_body_any_start n
+start_row InText n = []
+start_row InTable n = row_for in_table_start in_table_any_start n
+start_row InTableText n = in_table_text_anything
+start_row InCaption n = row_for in_caption_start in_caption_anything n
+start_row InColumnGroup n = row_for in_column_group_start in_column_group_anything n
+start_row InTableBody n = row_for in_table_body_start in_table_body_anything n
+start_row InRow n = row_for in_row_start in_row_anything n
+start_row InCell n = row_for in_cell_start in_cell_anything n
+start_row InSelect n = row_for in_select_start in_select_any_start n
+start_row InSelectInTable n = row_for in_select_in_table_start in_select_in_table_anything n
+start_row InTemplate n = row_for in_template_start in_template_any_start n
+start_row AfterBody n = row_for after_body_start after_body_anything n
+start_row InFrameset n = row_for in_frameset_start in_frameset_anything n
+start_row AfterFrameset n = row_for after_frameset_start after_frameset_anything n
+start_row AfterAfterBody n = row_for after_after_body_start after_after_body_anything n
+start_row AfterAfterFrameset n = row_for after_after_frameset_start after_after_frameset_anything n
 
--- a start tag that the rules don't name
-abbrev pub other_start_row : Mode → List Instr
-other_start_row Initial = initial_anything
-other_start_row BeforeHtml = before_html_anything
-other_start_row BeforeHead = before_head_anything
-other_start_row InHead = in_head_anything
-other_start_row AfterHead = after_head_anything
-other_start_row InBody = in_body_any_start
-other_start_row InText = []
-other_start_row InTable = in_table_any_start
-other_start_row InTableText = in_table_text_anything
-other_start_row InCaption = in_caption_anything
-other_start_row InColumnGroup = in_column_group_anything
-other_start_row InTableBody = in_table_body_anything
-other_start_row InRow = in_row_anything
-other_start_row InCell = in_cell_anything
-other_start_row InSelect = in_select_any_start
-other_start_row InSelectInTable = in_select_in_table_anything
-other_start_row InTemplate = in_template_any_start
-other_start_row AfterBody = after_body_anything
-other_start_row InFrameset = in_frameset_anything
-other_start_row AfterFrameset = after_frameset_anything
-other_start_row AfterAfterBody = after_after_body_anything
-other_start_row AfterAfterFrameset = after_after_frameset_anything
-
-abbrev pub known_end_row : Mode → Word → List Instr
-known_end_row Initial w = initial_anything
-known_end_row BeforeHtml w = row_for before_html_end [] w
-known_end_row BeforeHead w = row_for before_head_end [] w
-known_end_row InHead w = row_for in_head_end [] w
-known_end_row AfterHead w = row_for after_head_end [] w
-known_end_row InBody w = row_for in_body_end in_body_any_end w
-known_end_row InText w = row_for in_text_end in_text_any_end w
-known_end_row InTable w = row_for in_table_end in_table_any_end w
-known_end_row InTableText w = in_table_text_anything
-known_end_row InCaption w = row_for in_caption_end in_caption_anything w
-known_end_row InColumnGroup w = row_for in_column_group_end in_column_group_anything w
-known_end_row InTableBody w = row_for in_table_body_end in_table_body_anything w
-known_end_row InRow w = row_for in_row_end in_row_anything w
-known_end_row InCell w = row_for in_cell_end in_cell_anything w
-known_end_row InSelect w = row_for in_select_end in_select_any_end w
-known_end_row InSelectInTable w = row_for in_select_in_table_end in_select_in_table_anything w
-known_end_row InTemplate w = row_for in_template_end in_template_any_end w
-known_end_row AfterBody w = row_for after_body_end after_body_anything w
-known_end_row InFrameset w = row_for in_frameset_end in_frameset_anything w
-known_end_row AfterFrameset w = row_for after_frameset_end after_frameset_anything w
-known_end_row AfterAfterBody w = after_after_body_anything
-known_end_row AfterAfterFrameset w = after_after_frameset_anything
-
--- an end tag that the rules don't name
-abbrev pub other_end_row : Mode → List Instr
-other_end_row Initial = initial_anything
-other_end_row BeforeHtml = []
-other_end_row BeforeHead = []
-other_end_row InHead = []
-other_end_row AfterHead = []
-other_end_row InBody = in_body_any_end
-other_end_row InText = in_text_any_end
-other_end_row InTable = in_table_any_end
-other_end_row InTableText = in_table_text_anything
-other_end_row InCaption = in_caption_anything
-other_end_row InColumnGroup = in_column_group_anything
-other_end_row InTableBody = in_table_body_anything
-other_end_row InRow = in_row_anything
-other_end_row InCell = in_cell_anything
-other_end_row InSelect = in_select_any_end
-other_end_row InSelectInTable = in_select_in_table_anything
-other_end_row InTemplate = in_template_any_end
-other_end_row AfterBody = after_body_anything
-other_end_row InFrameset = in_frameset_anything
-other_end_row AfterFrameset = after_frameset_anything
-other_end_row AfterAfterBody = after_after_body_anything
-other_end_row AfterAfterFrameset = after_after_frameset_anything
+-- an end tag
+abbrev pub end_row : Mode → Name → List Instr
+end_row Initial n = initial_anything
+end_row BeforeHtml n = row_for before_html_end [] n
+end_row BeforeHead n = row_for before_head_end [] n
+end_row InHead n = row_for in_head_end [] n
+end_row AfterHead n = row_for after_head_end [] n
+end_row InBody n = row_for in_body_end in_body_any_end n
+end_row InText n = row_for in_text_end in_text_any_end n
+end_row InTable n = row_for in_table_end in_table_any_end n
+end_row InTableText n = in_table_text_anything
+end_row InCaption n = row_for in_caption_end in_caption_anything n
+end_row InColumnGroup n = row_for in_column_group_end in_column_group_anything n
+end_row InTableBody n = row_for in_table_body_end in_table_body_anything n
+end_row InRow n = row_for in_row_end in_row_anything n
+end_row InCell n = row_for in_cell_end in_cell_anything n
+end_row InSelect n = row_for in_select_end in_select_any_end n
+end_row InSelectInTable n = row_for in_select_in_table_end in_select_in_table_anything n
+end_row InTemplate n = row_for in_template_end in_template_any_end n
+end_row AfterBody n = row_for after_body_end after_body_anything n
+end_row InFrameset n = row_for in_frameset_end in_frameset_anything n
+end_row AfterFrameset n = row_for after_frameset_end after_frameset_anything n
+end_row AfterAfterBody n = after_after_body_anything
+end_row AfterAfterFrameset n = after_after_frameset_anything
 
 -- where a mode says nothing of comments they go to the appropriate place
 abbrev pub comment_row : Mode → List Instr
@@ -192,14 +144,6 @@ end_of_file_row InFrameset = ins.Finish ∷ []
 end_of_file_row AfterFrameset = ins.Finish ∷ []
 end_of_file_row AfterAfterBody = ins.Finish ∷ []
 end_of_file_row AfterAfterFrameset = ins.Finish ∷ []
-
-abbrev pub start_row : Mode → Name → List Instr
-start_row m (Known w) = known_start_row m w
-start_row m (Other t) = other_start_row m
-
-abbrev pub end_row : Mode → Name → List Instr
-end_row m (Known w) = known_end_row m w
-end_row m (Other t) = other_end_row m
 
 -- the row of a mode for a token
 unfoldable pub row : Mode → Token → List Instr
@@ -267,9 +211,10 @@ abbrev pub go_round : (Mode → Answer) → Open → List Op → Round → Answe
 go_round more b o (once m) = more m
 go_round more b o (stop x) = answer b o x
 
--- by the rules of a mode, and of those that it is then to go by, at most so many times; no token goes by more
+-- by the rules of a mode, and of those that it is then to go by, at most so many times; where they are used up it still asks
+-- to go on, which no token comes to
 unfoldable pub process : ℕ → Mode → Token → Open → List Op → Answer
-process zero m t b o = answer b o next.Done
+process zero m t b o = answer b o next.Again
 process (suc n) m t b o =
     let a : Answer = by_rules m t b o in
     go_round (λ m'. process n m' t a.open_state a.ops) a.open_state a.ops (round_after a.open_state a.next)

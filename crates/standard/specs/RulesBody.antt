@@ -13,8 +13,8 @@ use Rattle.html_types.specs.declared.instruction.Who.TheVariants.{Own, The, Any}
 use Rattle.html_types.specs.declared.instruction.Group.TheVariants.{Headings, DefinitionItems}
 use Rattle.html_types.specs.declared.instruction.Scope.TheVariants as scope
 use Rattle.html_types.specs.declared.instruction.Mode.TheVariants.{InHead, InBody, InText, InTable, InSelect, InSelectInTable, InTemplate, AfterBody, InFrameset, AfterAfterBody}
-use Rattle.html_types.specs.declared.instruction.Reading.TheVariants.{Rcdata, Rawtext}
-use Rattle.html_types.specs.declared.instruction.Reading.TheVariants as reading
+use Rattle.html_types.specs.declared.instruction.TokenizerSwitch.TheVariants.{Rcdata, Rawtext}
+use Rattle.html_types.specs.declared.instruction.TokenizerSwitch.TheVariants as reading
 
 -- 13.2.6.4.7 The "in body" insertion mode: NUL is left out
 abbrev pub in_body_space : List Instr

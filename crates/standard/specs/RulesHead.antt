@@ -7,7 +7,7 @@ use Rattle.html_types.specs.declared.instruction.Instr.TheVariants.{Need, When, 
 use Rattle.html_types.specs.declared.instruction.Test.TheVariants.{OnStack, QuirkyDoctype}
 use Rattle.html_types.specs.declared.instruction.Who.TheVariants.{The}
 use Rattle.html_types.specs.declared.instruction.Mode.TheVariants.{BeforeHtml, BeforeHead, InHead, AfterHead, InBody, InText, InTemplate, InFrameset}
-use Rattle.html_types.specs.declared.instruction.Reading.TheVariants.{Rcdata, Rawtext, ScriptData}
+use Rattle.html_types.specs.declared.instruction.TokenizerSwitch.TheVariants.{Rcdata, Rawtext, ScriptData}
 
 -- 13.2.6.4.1 The "initial" insertion mode: white space is left out, a comment goes to the Document
 abbrev pub initial_doctype : List Instr

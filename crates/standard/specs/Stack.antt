@@ -1,4 +1,5 @@
--- The stack of open elements (13.2.4.2), as a list that begins with the current node.
+-- The stack of open elements (13.2.4.2), as a list that begins with the current node. It grows downwards, as in the standard: the html
+-- element is at the top, and the current node, the first of the list, at the bottom.
 use Rattle.std.specs.Prelude.{Bool, true, false, not, ◌&&◌, ◌||◌, if◌then◌else◌, List, [], ◌∷◌, ◌++◌, Option, Some, None}
 use Rattle.html_types.specs.declared.word.Word.{Word}
 use Rattle.html_types.specs.declared.word.Word.TheVariants as word
@@ -28,7 +29,7 @@ abbrev pub current_is : (Name → Bool) → List OpenElement → Bool
 current_is is [] = false
 current_is is (e ∷ es) = is e.name
 
--- the current node is an option, right above an optgroup
+-- the current node is an option, right below an optgroup
 abbrev pub option_in_optgroup : List OpenElement → Bool
 option_in_optgroup [] = false
 option_in_optgroup (e ∷ []) = false
@@ -56,7 +57,7 @@ abbrev pub pop_to : (Name → Bool) → List OpenElement → List OpenElement
 pop_to is [] = []
 pop_to is (e ∷ es) = if is e.name then e ∷ es else pop_to is es
 
--- popped but for the bottom
+-- popped but for the topmost, the html element
 abbrev pub pop_to_root : List OpenElement → List OpenElement
 pop_to_root [] = []
 pop_to_root (e ∷ []) = e ∷ []
@@ -114,7 +115,7 @@ abbrev pub place : Bool → List OpenElement → Place
 place foster [] = Page
 place foster (e ∷ es) = if foster && is_one_of group.FosterTargets e.name then foster_place (e ∷ es) else place_in e
 
--- the bottom of the stack, and what stands on it
+-- the top of the stack, and the element right below it
 abbrev pub first_open : List OpenElement → Option OpenElement
 first_open [] = None
 first_open (e ∷ []) = Some e
@@ -143,33 +144,33 @@ open_in_scope s id (e ∷ es) = if same_id e.id id then true else (if ends_scope
 
 -- ---- what the adoption agency algorithm asks of the stack
 
--- the elements above the one of that id, and those from it on
-abbrev pub above : NodeId → List OpenElement → List OpenElement
-above id [] = []
-above id (e ∷ es) = if same_id e.id id then [] else e ∷ above id es
+-- the elements below the one of that id, and those from it on
+abbrev pub below : NodeId → List OpenElement → List OpenElement
+below id [] = []
+below id (e ∷ es) = if same_id e.id id then [] else e ∷ below id es
 
 abbrev pub from_on : NodeId → List OpenElement → List OpenElement
 from_on id [] = []
 from_on id (e ∷ es) = if same_id e.id id then e ∷ es else from_on id es
 
--- the elements through the one of that id, and those below it
+-- the elements through the one of that id, and those above it
 abbrev pub through : NodeId → List OpenElement → List OpenElement
 through id [] = []
 through id (e ∷ es) = if same_id e.id id then e ∷ [] else e ∷ through id es
 
-abbrev pub below : NodeId → List OpenElement → List OpenElement
-below id [] = []
-below id (e ∷ es) = if same_id e.id id then es else below id es
+abbrev pub above : NodeId → List OpenElement → List OpenElement
+above id [] = []
+above id (e ∷ es) = if same_id e.id id then es else above id es
 
--- another one put right above the one of that id
-abbrev pub with_above : NodeId → OpenElement → List OpenElement → List OpenElement
-with_above id entry es = above id es ++ entry ∷ from_on id es
+-- another one put right below the one of that id
+abbrev pub with_below : NodeId → OpenElement → List OpenElement → List OpenElement
+with_below id entry es = below id es ++ entry ∷ from_on id es
 
--- of the special elements above that one, the one that is closest to it; `found` is the one so far
-abbrev pub block_above : NodeId → Option NodeId → List OpenElement → Option NodeId
-block_above id found [] = found
-block_above id found (e ∷ es) =
-    if same_id e.id id then found else block_above id (if is_one_of group.Special e.name then Some e.id else found) es
+-- of the special elements below that one, the one that is closest to it; `found` is the one so far
+abbrev pub block_below : NodeId → Option NodeId → List OpenElement → Option NodeId
+block_below id found [] = found
+block_below id found (e ∷ es) =
+    if same_id e.id id then found else block_below id (if is_one_of group.Special e.name then Some e.id else found) es
 
 -- the appropriate place where the target is the first of these elements, on that stack
 abbrev pub place_for : Bool → List OpenElement → List OpenElement → Place

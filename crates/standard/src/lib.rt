@@ -2,7 +2,7 @@
 //! `standard_laws`, worked pages in `standard_examples`.
 //!
 //! Reading order of `specs/`: Class, Step, TextStates, EscapeStates, TagStates, CommentStates, DoctypeStates, MarkStates,
-//! Entities, ReferenceStates, Tokenizer (13.2.5); Space, Groups, Elements, Stack, Reset, Formatting, Instructions
+//! Entities, ReferenceStates, Tokenizer (13.2.5); WhiteSpace, Groups, Elements, Stack, Reset, Formatting, Instructions
 //! (13.2.4); Rows, RulesHead, RulesBody, RulesTable, RulesRest, Adoption, Rules (13.2.6); Tree, Act, Outer, Dump (the tree
 //! and its texts); Page, Statements, Prepare, Scripts (scripts and their files); Parser, Serial (the serial parse); Output.
 #![tactic(auto)]

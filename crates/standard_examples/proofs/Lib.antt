@@ -1,4 +1,4 @@
-mod OnLiterals
+pub mod OnLiterals
 mod Rows
 mod TableRows
 mod ScriptRows

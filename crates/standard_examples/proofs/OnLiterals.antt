@@ -15,8 +15,8 @@ use Rattle.standard.specs.Prepare.{prepare}
 use Rattle.standard.specs.Scripts.{is_lawful, file_statements}
 use Rattle.standard.specs.Parser.{build, take_character, build_end, finish}
 use Rattle.standard.specs.Serial.{advance, execute, moment_after, serial_with}
-use Rattle.standard.specs.Output.{output}
+use Rattle.standard.specs.Output.{output_with}
 
 unfoldable pub serial_on_literals : ⊤
-unfolding chars digits encode_utf8 is_utf8 json_on_literals settle run row by_mode process construct is_connected first_element find_id script_text act acts outer_text statements prepare is_lawful file_statements build take_character build_end finish advance execute moment_after serial_with output
+unfolding chars digits encode_utf8 is_utf8 json_on_literals settle run row by_mode process construct is_connected first_element find_id script_text act acts outer_text statements prepare is_lawful file_statements build take_character build_end finish advance execute moment_after serial_with output_with
 serial_on_literals = tt

@@ -1,2 +1,55 @@
-//! Worked pages and texts: what the definitions in `standard` come to, by computation.
+//! Worked pages and texts: what the definitions in `standard` come to, by computation. `specs/Pages` has the pages, each with what is written
+//! for it, a list a group; what doesn't fit that form stands in `proofs/`.
 #![tactic(auto)]
+
+ghost use Rattle.standard_examples.specs.Pages.{AllWrite, blocks, scripts, formatting, tables, foster_parenting, captions_and_columns, rows_and_cells, selects, templates, framesets};
+
+/// Text, blocks and lists (13.2.6.4.1 to 13.2.6.4.7).
+pub fn blocks()
+    ensures { AllWrite blocks }
+{}
+
+/// Scripts: what they write, remove and read (the insertion point, 13.2.6.4.8).
+pub fn scripts()
+    ensures { AllWrite scripts }
+{}
+
+/// Formatting elements and the adoption agency algorithm (13.2.4.3, 13.2.6.4.7).
+pub fn formatting()
+    ensures { AllWrite formatting }
+{}
+
+/// Tables (13.2.6.4.9).
+pub fn tables()
+    ensures { AllWrite tables }
+{}
+
+/// Foster parenting (13.2.6.1) and pending text (13.2.6.4.10).
+pub fn foster_parenting()
+    ensures { AllWrite foster_parenting }
+{}
+
+/// Captions and columns (13.2.6.4.11, 13.2.6.4.12).
+pub fn captions_and_columns()
+    ensures { AllWrite captions_and_columns }
+{}
+
+/// Rows and cells (13.2.6.4.13 to 13.2.6.4.15).
+pub fn rows_and_cells()
+    ensures { AllWrite rows_and_cells }
+{}
+
+/// Select (13.2.6.4.16, 13.2.6.4.17).
+pub fn selects()
+    ensures { AllWrite selects }
+{}
+
+/// Templates (13.2.6.4.18).
+pub fn templates()
+    ensures { AllWrite templates }
+{}
+
+/// Framesets (13.2.6.4.20 to 13.2.6.4.23).
+pub fn framesets()
+    ensures { AllWrite framesets }
+{}

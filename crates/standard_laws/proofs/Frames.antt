@@ -17,7 +17,7 @@ use Rattle.standard.specs.Scripts.{file_statements}
 use Rattle.standard.specs.Statements.{statements}
 use Rattle.standard.specs.Parser.{Parser}
 use Rattle.standard.specs.Serial.{World, Serial, Flow, goes, refuses, starved, ◌then◌, advanced, advance, before_point, after_point, moved, inside, back_at, insert, remove, with_line, read, execute, run_statements, on_element, write, go_on, stopped, end_of_script, run_prepared}
-use Rattle.standard_laws.specs.Laws.{HasParsed}
+use Rattle.standard_laws.specs.Laws.{HasParsed, HasEnded, EndsIn}
 use Rattle.standard_laws.specs.Frames.{Frame, Nest, rests, state_of, back_in, resume_in, resume, NestComesTo, TagComesTo, FramesEnd, ScriptsEnter, FilesEnter, StillTags, ExternalTags, InlineTags, outside_language, OutsideTexts, TextsBegin, begun, parsed_to, RestsEnd, RestsStop, RestsRefuse, Waits, frame_ended, FrameEnds, wrote, WritesFit, WritesRefuse, Removes, ReadsById, ReadsRoot, LacksElement, thrown, Throws}
 use Rattle.standard_laws.proofs.Fuel.{Refines, Refines_refl, Refines_trans, Refines_then, run_statements-more, go_on-more}
 use Rattle.standard_laws.proofs.Parse.{advance-parse}
@@ -35,11 +35,11 @@ then_goes starved = refl
 then_goes (goes s) = refl
 then_goes (refuses w t) = refl
 
--- what has come to g comes to g with more fuel; nothing needs fuel to run out of it
-raised : (h : ℕ → Flow) → h 0 ≡ starved → (f g : Flow) (k : ℕ) → f ≡ g → Refines f (h k) → (m : ℕ) × (h m ≡ g)
-raised h none starved g k q r = (0, none ∙ q)
-raised h none (goes s) g k q r = (k, r ∙ q)
-raised h none (refuses w t) g k q r = (k, r ∙ q)
+-- what has come to g comes to g with more fuel
+raised : (h : ℕ → Flow) (f g : Flow) (k : ℕ) → f ≡ g → HasEnded g → Refines f (h k) → EndsIn h g
+raised h starved g k q ended r = absurd (subst HasEnded (sym q) ended)
+raised h (goes s) g k q ended r = (k, r ∙ q, ended)
+raised h (refuses w t) g k q ended r = (k, r ∙ q, ended)
 
 -- ---- more fuel
 
@@ -128,16 +128,16 @@ nothing-waits (Some name) = tt
 -- ---- no frame
 
 pub frames-end : FramesEnd
-frames-end w x e = at_frames (λ y. NestComesTo w y (goes (state_of y))) x [] e (0, refl)
+frames-end w x e = at_frames (λ y. NestComesTo w y (goes (state_of y))) x [] e (0, refl, tt)
 
 pub scripts-enter : ScriptsEnter
-scripts-enter w i x g e (n, q) =
+scripts-enter w i x g e (n, q, ended) =
     let t : (end_of_script n w i (state_of x) then λ t. resume_in n w [] x.behind t) ≡ g =
     subst (λ fs. (end_of_script n w i (state_of x) then λ t. resume_in n w fs x.behind t) ≡ g) e q in
-    (n, sym (then_goes (end_of_script n w i (state_of x))) ∙ t)
+    (n, sym (then_goes (end_of_script n w i (state_of x))) ∙ t, ended)
 
 pub files-enter : FilesEnter
-files-enter w bytes x g e (n, q) = (n, subst (λ fs. (execute n w (file_statements bytes) (inside (state_of x)) then λ t. resume_in n w fs x.behind (back_at (state_of x) t)) ≡ g) e q)
+files-enter w bytes x g e (n, q, ended) = (n, subst (λ fs. (execute n w (file_statements bytes) (inside (state_of x)) then λ t. resume_in n w fs x.behind (back_at (state_of x) t)) ≡ g) e q, ended)
 
 -- ---- the end tag of a script
 
@@ -146,20 +146,20 @@ tag w i x n = end_of_script n w i (state_of x) then λ t. resume_in n w x.frames
 
 pub still-tag : StillTags
 unfolding execute
-still-tag w i x g h (n, q) =
+still-tag w i x g h (n, q, ended) =
     let s : Serial = state_of x in
     let is : tag w i x (suc (suc n)) ≡ resume (suc (suc n)) w x =
     ap (λ k. (run_prepared (suc n) w k (inside s) then λ t. goes (back_at s t)) then λ t. resume_in (suc (suc n)) w x.frames x.behind t) h in
-    raised (tag w i x) refl _ g (suc (suc n)) q (rw is (resume_in-two x.frames n w x.behind s))
+    raised (tag w i x) _ g (suc (suc n)) q ended (rw is (resume_in-two x.frames n w x.behind s))
 
 pub external-tag : ExternalTags
 unfolding execute
-external-tag w i x name g h (n, q) =
+external-tag w i x name g h (n, q, ended) =
     let s : Serial = state_of x in
     let y : Nest = record x { pending = Some name } in
     let is : tag w i x (suc (suc n)) ≡ resume (suc (suc n)) w y =
     ap (λ k. (run_prepared (suc n) w k (inside s) then λ t. goes (back_at s t)) then λ t. resume_in (suc (suc n)) w x.frames x.behind t) h in
-    raised (tag w i x) refl _ g (suc (suc n)) q (rw is (resume_in-two x.frames n w x.behind (state_of y)))
+    raised (tag w i x) _ g (suc (suc n)) q ended (rw is (resume_in-two x.frames n w x.behind (state_of y)))
 
 -- a script's text and what follows it
 abbrev text_in : World → Option (List Statement) → Nest → ℕ → Flow
@@ -167,32 +167,32 @@ text_in w text x n = execute n w text (inside (state_of x)) then λ t. resume_in
 
 pub inline-tag : InlineTags
 unfolding execute
-inline-tag w i x t g h (n, q) =
+inline-tag w i x t g h (n, q, ended) =
     let s : Serial = state_of x in
     let behind : Serial → Flow = λ u. resume_in (suc (suc n)) w x.frames x.behind u in
     let is : tag w i x (suc (suc n)) ≡ execute n w (statements t) (inside s) then λ u. behind (back_at s u) =
     ap (λ k. (run_prepared (suc n) w k (inside s) then λ u. goes (back_at s u)) then behind) h
     ∙ then_assoc (execute n w (statements t) (inside s)) (λ u. goes (back_at s u)) behind in
-    raised (tag w i x) refl (text_in w (statements t) x n) g (suc (suc n)) q
+    raised (tag w i x) (text_in w (statements t) x n) g (suc (suc n)) q ended
     (rw is (Refines_then _ _ _ _ (Refines_refl (execute n w (statements t) (inside s))) (λ u. resume_in-two x.frames n w x.behind (back_at s u))))
 
 -- ---- a text
 
 pub outside-text : OutsideTexts
 unfolding execute
-outside-text w text x g none (n, q) =
+outside-text w text x g none (n, q, ended) =
     let is : text_in w text x (suc n) ≡ resume (suc n) w (outside_language x) = ap (λ k. text_in w k x (suc n)) none in
-    raised (text_in w text x) refl _ g (suc n) q (rw is (resume_in-more x.frames n w x.behind (state_of (outside_language x))))
+    raised (text_in w text x) _ g (suc n) q ended (rw is (resume_in-more x.frames n w x.behind (state_of (outside_language x))))
 
 -- behind a text that was begun the frames are those of before
 pub text-begins : TextsBegin
 unfolding execute
-text-begins w text list x g some (n, q) =
+text-begins w text list x g some (n, q, ended) =
     let y : Nest = begun list x in
     let k : ℕ = suc x.executed in
     let is : text_in w text x (suc n) ≡ run_statements n w k list (state_of y) then λ u. resume_in (suc n) w x.frames x.behind (back_in x.frames x.behind u) =
     ap (λ o. text_in w o x (suc n)) some in
-    raised (text_in w text x) refl (resume n w y) g (suc n) q
+    raised (text_in w text x) (resume n w y) g (suc n) q ended
     (rw is
     (Refines_then (go_on n w x.pending (state_of y)) (goes (state_of y)) _ _ (waits-refines n w x.pending (record { number = k; list = list; rest = [] }) x.frames (record x { executed = k }) (nothing-waits x.pending))
     (λ t. Refines_then _ _ _ _ (Refines_refl (run_statements n w k list t)) (λ u. resume_in-more x.frames n w x.behind (back_in x.frames x.behind u)))))
@@ -225,13 +225,13 @@ unfolding execute
 rest-ends w x f fs p d left g e none b c = at_frames (λ y. NestComesTo w y g) x (f ∷ fs) e (framed-ends c)
   where
     framed-ends : NestComesTo w (parsed_to p d [] f fs x) g → NestComesTo w (framed f fs x) g
-    framed-ends (n, q) =
+    framed-ends (n, q, ended) =
         let y : Nest = parsed_to p d [] f fs x in
         let none_left : left ≡ [] = parse-left w.entities x.parser p x.doc d f.rest left b in
         let is : resume (suc (suc n)) w (framed f fs x) ≡ after_rest (suc (suc n)) w f fs x.behind (state_of y) =
         resumed (suc n) w f fs x p d left stop.InputEnd none b
         ∙ (ap (after_rest (suc (suc n)) w f fs x.behind) (moved-is p d left f fs x) ∙ ap (λ t. after_rest (suc (suc n)) w f fs x.behind (state_of (parsed_to p d t f fs x))) none_left) in
-        raised (λ m. resume m w (framed f fs x)) refl (resume n w y) g (suc (suc n)) q
+        raised (λ m. resume m w (framed f fs x)) (resume n w y) g (suc (suc n)) q ended
         (rw is
         (Refines_then (go_on n w x.pending (state_of y)) (goes (state_of y)) _ _ (waits-refines n w x.pending (record f { rest = [] }) fs (record x { parser = p; doc = d }) (nothing-waits x.pending))
         (λ t. after_rest-two n w f fs x.behind t)))
@@ -241,21 +241,21 @@ unfolding execute
 rest-stops w x f fs p d left i g e none b c = at_frames (λ y. NestComesTo w y g) x (f ∷ fs) e (framed-stops c)
   where
     framed-stops : TagComesTo w i (parsed_to p d left f fs x) g → NestComesTo w (framed f fs x) g
-    framed-stops (n, q) =
+    framed-stops (n, q, ended) =
         let y : Nest = parsed_to p d left f fs x in
         let onward : Serial → Flow = λ t. go_on n w t.side.pending t in
         let is : resume (suc (suc n)) w (framed f fs x) ≡ end_of_script n w i (state_of y) then λ t. onward t then after_rest (suc (suc n)) w f fs x.behind =
         resumed (suc n) w f fs x p d left (stop.Script i) none b
         ∙ (ap (λ s. (end_of_script n w i s then onward) then after_rest (suc (suc n)) w f fs x.behind) (moved-is p d left f fs x)
         ∙ then_assoc (end_of_script n w i (state_of y)) onward (after_rest (suc (suc n)) w f fs x.behind)) in
-        raised (λ m. resume m w (framed f fs x)) refl (tag w i y n) g (suc (suc n)) q
+        raised (λ m. resume m w (framed f fs x)) (tag w i y n) g (suc (suc n)) q ended
         (rw is
         (Refines_then _ _ _ _ (Refines_refl (end_of_script n w i (state_of y)))
         (λ t. Refines_then _ _ _ _ (Refines_refl (go_on n w t.side.pending t)) (λ u. after_rest-two n w f fs x.behind u))))
 
 pub rest-refuses : RestsRefuse
 unfolding execute
-rest-refuses w x f fs p d left e none b = at_frames (λ y. NestComesTo w y (refuses why.Depth (state_of (parsed_to p d left f fs x)))) x (f ∷ fs) e (2, framed-refuses)
+rest-refuses w x f fs p d left e none b = at_frames (λ y. NestComesTo w y (refuses why.Depth (state_of (parsed_to p d left f fs x)))) x (f ∷ fs) e (2, framed-refuses, tt)
   where
     framed-refuses : resume 2 w (framed f fs x) ≡ refuses why.Depth (state_of (parsed_to p d left f fs x))
     framed-refuses = resumed 1 w f fs x p d left stop.Deep none b ∙ ap (refuses why.Depth) (moved-is p d left f fs x)
@@ -287,20 +287,20 @@ unfolding execute
 frame-ends w x f fs g e none h c = at_frames (λ y. NestComesTo w y g) x (f ∷ fs) e (framed-ends c)
   where
     framed-ends : NestComesTo w (frame_ended f.rest fs x) g → NestComesTo w (framed f fs x) g
-    framed-ends (n, q) =
+    framed-ends (n, q, ended) =
         let y : Nest = frame_ended f.rest fs x in
         let is : resume (suc (suc n)) w (framed f fs x) ≡ resume (suc (suc n)) w y =
         statements-next n w f fs x [] h none
         ∙ (around-ended (suc (suc n)) w f fs x (back_in fs x.behind (state_of (framed f fs x)))
         ∙ ap (resume_in (suc (suc n)) w y.frames y.behind) (ended-is f fs x)) in
-        raised (λ m. resume m w (framed f fs x)) refl (resume n w y) g (suc (suc n)) q (rw is (resume_in-two y.frames n w y.behind (state_of y)))
+        raised (λ m. resume m w (framed f fs x)) (resume n w y) g (suc (suc n)) q ended (rw is (resume_in-two y.frames n w y.behind (state_of y)))
 
 pub write-fits : WritesFit
 unfolding execute
 write-fits w x f fs t list g e l h le c = at_frames (λ y. NestComesTo w y g) x (f ∷ fs) e (framed-writes c)
   where
     framed-writes : NestComesTo w (wrote t list f fs x) g → NestComesTo w (framed f fs x) g
-    framed-writes (n, q) =
+    framed-writes (n, q, ended) =
         let s : Serial = state_of (framed f fs x) in
         let y : Nest = wrote t list f fs x in
         let behind : Serial → Flow = λ u. resume_in (suc (suc n)) w fs x.behind (back_in fs x.behind u) in
@@ -310,14 +310,14 @@ write-fits w x f fs t list g e l h le c = at_frames (λ y. NestComesTo w y g) x 
         ∙ (ap (λ k. (write (suc n) w k t s then rest) then behind) (le-leb _ _ le)
         ∙ (ap (λ u. (go_on n w x.pending u then rest) then behind) (insert-is t list f fs x)
         ∙ then_assoc (go_on n w x.pending (state_of y)) rest behind)) in
-        raised (λ m. resume m w (framed f fs x)) refl (resume n w y) g (suc (suc n)) q
+        raised (λ m. resume m w (framed f fs x)) (resume n w y) g (suc (suc n)) q ended
         (rw is
         (Refines_then _ _ _ _ (Refines_refl (go_on n w x.pending (state_of y)))
         (λ u. Refines_then _ _ _ _ (run_statements-more n w f.number list u) (λ v. resume_in-two fs n w x.behind (back_in fs x.behind v)))))
 
 pub write-refuses : WritesRefuse
 unfolding execute
-write-refuses w x f fs t list e l h lt = at_frames (λ y. NestComesTo w y (refuses why.Writes (state_of y))) x (f ∷ fs) e (2, framed-refuses)
+write-refuses w x f fs t list e l h lt = at_frames (λ y. NestComesTo w y (refuses why.Writes (state_of y))) x (f ∷ fs) e (2, framed-refuses, tt)
   where
     framed-refuses : resume 2 w (framed f fs x) ≡ refuses why.Writes (state_of (framed f fs x))
     framed-refuses =
@@ -340,7 +340,7 @@ unfolding execute
 statement-done w x f fs a more list d lines g e l h step c = at_frames (λ y. NestComesTo w y g) x (f ∷ fs) e (framed-done c)
   where
     framed-done : NestComesTo w (done d lines list f fs x) g → NestComesTo w (framed f fs x) g
-    framed-done (n, q) =
+    framed-done (n, q, ended) =
         let y : Nest = done d lines list f fs x in
         let s : Serial = state_of (framed f fs x) in
         let is : resume (suc (suc n)) w (framed f fs x) ≡ run_statements (suc (suc n)) w f.number (a ∷ more) s then λ u. resume_in (suc (suc n)) w fs x.behind (back_in fs x.behind u) =
@@ -350,7 +350,7 @@ statement-done w x f fs a more list d lines g e l h step c = at_frames (λ y. Ne
         (λ t. Refines_refl (after_rest n w (record f { list = list }) fs x.behind t)) in
         let next : Refines (after_rest n w (record f { list = list }) fs x.behind (state_of y)) (resume (suc (suc n)) w (framed f fs x)) =
         rw is (Refines_then _ _ _ _ (step n) (λ u. resume_in-two fs n w x.behind (back_in fs x.behind u))) in
-        raised (λ m. resume m w (framed f fs x)) refl (resume n w y) g (suc (suc n)) q (Refines_trans _ _ _ waited next)
+        raised (λ m. resume m w (framed f fs x)) (resume n w y) g (suc (suc n)) q ended (Refines_trans _ _ _ waited next)
 
 -- on an element that is there the other statements follow
 on_element-next : (n : ℕ) (w : World) (k : ℕ) (list : List Statement) (work : ℕ → Serial → Serial) (e : ℕ) (found : Option ℕ) (s : Serial) → found ≡ Some e →

@@ -1,5 +1,5 @@
 -- The lines of every moment that a parse passes through begin those of its outcome.
-use Rattle.std.proofs.Common.{◌≡◌, ℕ, false, zero, suc, ◌+◌, List, [], ◌∷◌, ◌++◌, Option, Some, None, option_and_then, refl, sym, ◌∙◌, ap, arith, append_assoc, append-nil, flat_map}
+use Rattle.std.proofs.Common.{◌≡◌, ℕ, zero, suc, ◌+◌, List, [], ◌∷◌, ◌++◌, Option, Some, None, option_and_then, refl, sym, ◌∙◌, ap, arith, append_assoc, append-nil, flat_map}
 use Rattle.std.proofs.lemmas.Grind.{flat_map-append}
 use Rattle.html_types.specs.declared.script.Ending.{Ending}
 use Rattle.html_types.specs.declared.script.Ending.TheVariants as ending
@@ -10,12 +10,11 @@ use Rattle.html_types.specs.declared.instruction.Finish.{Finish}
 use Rattle.html_types.specs.declared.instruction.Finish.TheVariants as finale
 use Rattle.standard.specs.Page.{Page}
 use Rattle.standard.specs.Scripts.{Fetched, got, missing, faulted, file_statements}
-use Rattle.standard.specs.Tree.{Nodes}
 use Rattle.standard.specs.Act.{Doc, acts}
 use Rattle.standard.specs.Parser.{Parser, Took, took, take_character, Finished, finish}
-use Rattle.standard.specs.Serial.{World, fetched, Outcome, Serial, Flow, goes, refuses, starved, Moment, reading, tag_ended, awaits, over, at_end, after_character, unless_pending, after_script, after_fetch, read_next, moment_after, moments_on, first, Passes, IsSerial, Result, finished, refused}
-use Rattle.standard.specs.Output.{line_text, result_text, output, result_with, output_with}
-use Rattle.standard_laws.specs.Laws.{outcome_at, lines_of, GoesOnFrom, LinesBegin, OutputBegins, OutputWithBegins}
+use Rattle.standard.specs.Serial.{World, fetched, Outcome, Serial, Flow, goes, refuses, starved, Moment, reading, tag_ended, awaits, over, at_end, after_character, unless_pending, after_script, after_fetch, read_next, moment_after, moments_on, first, Passes, IsSerial}
+use Rattle.standard.specs.Output.{line_text, result_with, output_with}
+use Rattle.standard_laws.specs.Laws.{outcome_at, lines_of, GoesOnFrom, LinesBegin, OutputBegins}
 use Rattle.standard_laws.proofs.Kept.{Kept, Grows, Grows-steps, end_of_script-kept, run_text-kept}
 use Rattle.standard_laws.proofs.Fuel.{moments_on-by, over-by, serial-over}
 use Rattle.standard_laws.proofs.Passing.{moments-add, finished-at}
@@ -105,18 +104,5 @@ passed_before page w m o tail p q =
     )
 
 pub passed-output : OutputBegins
-unfolding output
-passed-output page w m o p q = passed_before page w m o (result_text o.result o.last.side.doc.tree) p q
-
-pub passed-output_with : OutputWithBegins
 unfolding output_with
-passed-output_with dump page w m o p q = passed_before page w m o (result_with dump o.result o.last.side.doc.tree) p q
-
-result-plain : (r : Result) (t : Nodes) → result_with false r t ≡ result_text r t
-result-plain finished t = refl
-result-plain (refused w) t = refl
-
--- without the dump it is what is written
-pub output-plain : (o : Outcome) → output_with false o ≡ output o
-unfolding output output_with
-output-plain o = ap (λ (r : List ℕ). flat_map line_text o.last.side.lines ++ r) (result-plain o.result o.last.side.doc.tree)
+passed-output dump page w m o p q = passed_before page w m o (result_with dump o.result o.last.side.doc.tree) p q

@@ -40,7 +40,7 @@ use Rattle.standard.specs.Scripts.{file_statements}
 use Rattle.standard.specs.Statements.{statements}
 use Rattle.standard.specs.Parser.{Parser}
 use Rattle.standard.specs.Serial.{World, Serial, Flow, goes, refuses, ◌then◌, at_level, at_point, back_at, inside, write_limit, execute, run_statements, go_on, end_of_script}
-use Rattle.standard_laws.specs.Laws.{HasParsed, ScriptComesTo, FileComesTo}
+use Rattle.standard_laws.specs.Laws.{HasParsed, EndsIn, ScriptComesTo, FileComesTo}
 
 -- ---- the state
 
@@ -101,16 +101,15 @@ resume n w x = resume_in n w x.frames x.behind (state_of x)
 
 -- what a state comes to, with enough fuel
 abbrev pub NestComesTo : World → Nest → Flow → Type 0
-NestComesTo w x g = (n : ℕ) × (resume n w x ≡ g)
+NestComesTo w x = EndsIn (λ n. resume n w x)
 
 -- the same from the end tag of a script
 abbrev pub TagComesTo : World → NodeId → Nest → Flow → Type 0
-TagComesTo w i x g = (n : ℕ) × ((end_of_script n w i (state_of x) then λ t. resume_in n w x.frames x.behind t) ≡ g)
+TagComesTo w i x = EndsIn (λ n. end_of_script n w i (state_of x) then λ t. resume_in n w x.frames x.behind t)
 
 -- and from the beginning of a script's text
 abbrev pub TextComesTo : World → Option (List Statement) → Nest → Flow → Type 0
-TextComesTo w text x g =
-    (n : ℕ) × ((execute n w text (inside (state_of x)) then λ t. resume_in n w x.frames x.behind (back_at (state_of x) t)) ≡ g)
+TextComesTo w text x = EndsIn (λ n. execute n w text (inside (state_of x)) then λ t. resume_in n w x.frames x.behind (back_at (state_of x) t))
 
 -- ---- at level 0
 

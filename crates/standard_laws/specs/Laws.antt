@@ -1,5 +1,5 @@
 -- What is proved of the serial parse itself.
-use Rattle.std.specs.Prelude.{◌≡◌, ℕ, suc, ◌+◌, Bool, List, [], ◌++◌, drop, flat_map, Some, None}
+use Rattle.std.specs.Prelude.{◌≡◌, ℕ, suc, ◌+◌, ⊤, Bool, List, [], ◌++◌, drop, flat_map, Some, None}
 use Rattle.html_types.specs.declared.operation.NodeId.{NodeId}
 use Rattle.html_types.specs.declared.script.Ending.{Ending}
 use Rattle.html_types.specs.declared.script.Ending.TheVariants as ending
@@ -18,8 +18,8 @@ use Rattle.standard.specs.Prepare.{still, inline, external}
 use Rattle.standard.specs.Scripts.{got, missing, faulted, file_statements}
 use Rattle.standard.specs.Parser.{Parser, Parsed, parse, finish}
 use Rattle.standard.specs.Page.{Page}
-use Rattle.standard.specs.Serial.{World, fetched, Outcome, IsSerial, Advanced, advanced, advance, Serial, Flow, goes, refuses, with_line, awaiting, one_more_executed, end_of_script, prepared, run_text, Moment, reading, tag_ended, awaits, over, behind_script, finished, refusal, taken, ended, Leads, Passes}
-use Rattle.standard.specs.Output.{line_text, output, output_with}
+use Rattle.standard.specs.Serial.{World, fetched, Outcome, IsSerial, Advanced, advanced, advance, Serial, Flow, goes, refuses, starved, with_line, awaiting, one_more_executed, end_of_script, prepared, run_text, Moment, reading, tag_ended, awaits, over, behind_script, finished, refusal, taken, ended, Leads, Passes}
+use Rattle.standard.specs.Output.{line_text, output_with}
 
 -- ---- outcomes
 
@@ -111,9 +111,18 @@ OverIsSerial = (page : Page) (w : World) (o : Outcome) → Passes page w (over o
 
 -- ---- scripts
 
+-- a part of the parse that ran to its end
+abbrev pub HasEnded : Flow → Type 0
+HasEnded starved = ⊥
+HasEnded _ = ⊤
+
+-- With fuel enough it runs to its end, and comes to that.
+abbrev pub EndsIn : (ℕ → Flow) → Flow → Type 0
+EndsIn run f = (n : ℕ) × (run n ≡ f) × HasEnded f
+
 -- what a script whose end tag was met comes to; level and insertion point are then again those of s
 abbrev pub ScriptComesTo : World → NodeId → Serial → Flow → Type 0
-ScriptComesTo w i s f = (n : ℕ) × (end_of_script n w i s ≡ f)
+ScriptComesTo w i s = EndsIn (λ n. end_of_script n w i s)
 
 -- The moment behind a script: it comes to that moment, or the parse is over.
 abbrev pub ScriptLeads : Type 0
@@ -150,7 +159,7 @@ AwaitsFault = (e : Ending) (w : World) (m : Moment) (name : List ℕ) (s : Seria
 
 -- what a file of these bytes comes to; level and insertion point are then again those of s
 abbrev pub FileComesTo : World → List ℕ → Serial → Flow → Type 0
-FileComesTo w bytes s f = (n : ℕ) × (run_text n w (file_statements bytes) s ≡ f)
+FileComesTo w bytes s = EndsIn (λ n. run_text n w (file_statements bytes) s)
 
 abbrev pub AwaitsGot : Type 0
 AwaitsGot = (e : Ending) (w : World) (m : Moment) (name bytes : List ℕ) (s t : Serial) →
@@ -181,12 +190,7 @@ lines_of (over o) = o.last.side.lines
 abbrev pub LinesBegin : Type 0
 LinesBegin = (page : Page) (w : World) (m : Moment) (o : Outcome) → Passes page w m → IsSerial page w o → GoesOnFrom (lines_of m) o.last.side.lines
 
--- what is written for them begins what is written for the page
+-- what is written for them begins what is written for the page, with the dump of the tree or without
 abbrev pub OutputBegins : Type 0
-OutputBegins = (page : Page) (w : World) (m : Moment) (o : Outcome) → Passes page w m → IsSerial page w o →
-    (rest : List ℕ) × (output o ≡ flat_map line_text (lines_of m) ++ rest)
-
--- so it does with the dump of the tree, or without
-abbrev pub OutputWithBegins : Type 0
-OutputWithBegins = (dump : Bool) (page : Page) (w : World) (m : Moment) (o : Outcome) → Passes page w m → IsSerial page w o →
+OutputBegins = (dump : Bool) (page : Page) (w : World) (m : Moment) (o : Outcome) → Passes page w m → IsSerial page w o →
     (rest : List ℕ) × (output_with dump o ≡ flat_map line_text (lines_of m) ++ rest)

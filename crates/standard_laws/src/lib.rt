@@ -4,7 +4,7 @@
 #![tactic(auto)]
 
 ghost use Rattle.standard_laws.specs.Laws.{HasOneOutcome, ParsesInPieces, AdvancesByParse, BatchesLead, WholeBatchesLead, LeavesNothing, EndLeads, FinishLeads, OverIsSerial};
-ghost use Rattle.standard_laws.specs.Laws.{ScriptLeads, ScriptRefuses, StillScripts, ExternalScripts, SyntaxErrors, AwaitsMissing, AwaitsFault, AwaitsGot, AwaitsRefuses, FileSyntaxErrors, LinesBegin, OutputBegins, OutputWithBegins};
+ghost use Rattle.standard_laws.specs.Laws.{ScriptLeads, ScriptRefuses, StillScripts, ExternalScripts, SyntaxErrors, AwaitsMissing, AwaitsFault, AwaitsGot, AwaitsRefuses, FileSyntaxErrors, LinesBegin, OutputBegins};
 ghost use Rattle.standard_laws.specs.Frames.{FramesEnd, ScriptsEnter, FilesEnter, StillTags, ExternalTags, InlineTags, OutsideTexts, TextsBegin, RestsEnd, RestsStop, RestsRefuse, FrameEnds, WritesFit, WritesRefuse, Removes, ReadsById, ReadsRoot, Throws};
 
 /// Every page has exactly one outcome.
@@ -102,5 +102,4 @@ pub fn statements_run()
 pub fn lines_begin()
     ensures lines { LinesBegin }
     ensures output { OutputBegins }
-    ensures output_with { OutputWithBegins }
 {}

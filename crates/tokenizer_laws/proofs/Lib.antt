@@ -5,3 +5,4 @@ pub mod EscapeLaws
 pub mod MarkLaws
 pub mod ReferenceLaws
 pub mod TokenizerLaws
+pub mod EndLaws

@@ -10,7 +10,7 @@ use Rattle.standard.specs.Entities.{Entities}
 use Rattle.standard.specs.Act.{Doc}
 use Rattle.standard.specs.Parser.{Parser}
 use Rattle.standard.specs.Statements.{statements}
-use Rattle.standard_laws.specs.Laws.{HasParsed, moment_at}
+use Rattle.standard_laws.specs.Laws.{HasParsed, EndsIn, moment_at}
 use Rattle.standard.specs.Serial.{World, Flow, goes, refuses, awaiting, run_text, Moment, reading, tag_ended, over, refusal, taken, unless_pending, behind_script, Leads}
 use Rattle.standard_laws.specs.Frames.{rests, state_of, NestComesTo, TagComesTo, TextComesTo}
 use Rattle.write_parser.specs.declared.left.Limit.{Limit}
@@ -112,7 +112,7 @@ pub text-runs : (es : Entities) (text : List ℕ) (old : Live) (spent : Bool) (n
 text-runs es text old spent new runs = record { comes = λ w before page is. by w before page new.halted (runs.comes w before page is) }
   where
     by : (w : World) (before : List Line) (page : List ℕ) (h : Option Limit) → ThenBy h w (TextComesTo w (statements text) (nest_of (awaits_none old) [] before page)) new [] before page →
-        (f : Flow) × ComesBy (halted_of h) (view_of new false) before page f × ((n : ℕ) × (run_text n w (statements text) (serial_of (view_of old false) before page) ≡ f))
+        (f : Flow) × ComesBy (halted_of h) (view_of new false) before page f × EndsIn (λ n. run_text n w (statements text) (serial_of (view_of old false) before page)) f
     by w before page None each =
         (goes (state_of (nest_of new [] before page)), refl, each (goes (state_of (nest_of new [] before page))) (frames-end w (nest_of new [] before page) refl))
     by w before page (Some l) (g, refusal, come) = (g, refusal, come)

@@ -20,8 +20,8 @@ use Rattle.write_parser.specs.declared.nesting.Nesting.{Nesting}
 use Rattle.write_parser.specs.declared.live.Live.{Live}
 use Rattle.write_parser.specs.declared.live.Did.{Did}
 use Rattle.write_parser.specs.declared.live.Did.TheVariants as did
-use Rattle.write_parser.specs.declared.live.Turn.{Turn}
-use Rattle.write_parser.specs.declared.live.Turn.TheVariants as turn
+use Rattle.write_parser.specs.declared.live.Progress.{Progress}
+use Rattle.write_parser.specs.declared.live.Progress.TheVariants as turn
 use Rattle.write_parser.specs.Parsing.{IsServed, RestParsed}
 use Rattle.write_parser.specs.Writing.{scripts_awaited}
 use Rattle.write_parser.specs.Steps.{Steps, IsGoing, framed, frame_of, frames_of, nest_of, ThenBy, Then, weight, steps_of, Moves, frames_at, Prepares, Nests, left_by, IsLight, Does, RunsOn, Continues, ParsesOn}
@@ -317,36 +317,36 @@ parse-nests es old mid new n m n' p d left s id going goes parsed stops is is' n
 
 -- ---- turns
 
-pub turn-on : (t : Turn) → (t ≡ turn.Over → ⊥) → t ≡ turn.On
+pub turn-on : (t : Progress) → (t ≡ turn.Over → ⊥) → t ≡ turn.On
 turn-on turn.On not = refl
 turn-on turn.Over not = absurd (not refl)
 
 -- no script is left, or the page is refused
-pub runs-over : (old mid new : Live) (n m n' : Nesting) (t : Turn) → t ≡ turn.Over → IsGoing mid → ((es : Entities) → Moves es old (frames_of n) mid (frames_of m)) → Steps mid m new n' t →
+pub runs-over : (old mid new : Live) (n m n' : Nesting) (t : Progress) → t ≡ turn.Over → IsGoing mid → ((es : Entities) → Moves es old (frames_of n) mid (frames_of m)) → Steps mid m new n' t →
     RunsOn old n new n' turn.Over
 runs-over old mid new n m n' t over going moves step = record {
   moves = λ es. moves-then es old mid new (frames_of n) (frames_of m) [] going.halted (moves es) (subst (λ k. Moves es mid (frames_of m) new (frames_at k n')) over (step.moves es));
   on = λ on. absurd (cc on);
 }
 
-pub moves-over : (es : Entities) (old mid new : Live) (fs : List Frame) (n n' : Nesting) (t : Turn) → t ≡ turn.Over → IsGoing mid → Moves es old fs mid (frames_of n) →
+pub moves-over : (es : Entities) (old mid new : Live) (fs : List Frame) (n n' : Nesting) (t : Progress) → t ≡ turn.Over → IsGoing mid → Moves es old fs mid (frames_of n) →
     Moves es mid (frames_of n) new (frames_at t n') → Moves es old fs new []
 moves-over es old mid new fs n n' t over going first second =
     moves-then es old mid new fs (frames_of n) [] going.halted first (subst (λ k. Moves es mid (frames_of n) new (frames_at k n')) over second)
 
-pub moves-on : (es : Entities) (old mid new : Live) (fs : List Frame) (n n' : Nesting) (t : Turn) → t ≡ turn.On → IsGoing mid → Moves es old fs mid (frames_of n) →
+pub moves-on : (es : Entities) (old mid new : Live) (fs : List Frame) (n n' : Nesting) (t : Progress) → t ≡ turn.On → IsGoing mid → Moves es old fs mid (frames_of n) →
     Moves es mid (frames_of n) new (frames_at t n') → Moves es old fs new (frames_of n')
 moves-on es old mid new fs n n' t on going first second =
     moves-then es old mid new fs (frames_of n) (frames_of n') going.halted first (subst (λ k. Moves es mid (frames_of n) new (frames_at k n')) on second)
 
-pub runs-going : (old new : Live) (n n' : Nesting) (t : Turn) → t ≡ turn.On → RunsOn old n new n' t → IsGoing new
+pub runs-going : (old new : Live) (n n' : Nesting) (t : Progress) → t ≡ turn.On → RunsOn old n new n' t → IsGoing new
 runs-going old new n n' t on runs = record { served = (runs.moves []).served; halted = (runs.on on).0 }
 
-pub parses-going : (es : Entities) (old new : Live) (n n' : Nesting) (t : Turn) → t ≡ turn.On → ParsesOn es old n new n' t → IsGoing new
+pub parses-going : (es : Entities) (old new : Live) (n n' : Nesting) (t : Progress) → t ≡ turn.On → ParsesOn es old n new n' t → IsGoing new
 parses-going es old new n n' t on parses = record { served = parses.moves.served; halted = (parses.on on).0 }
 
 -- a turn of the loop makes what is left less
-pub turn-lighter : (es : Entities) (old mid new : Live) (n m n' : Nesting) (t s : Turn) → t ≡ turn.On → s ≡ turn.On → RunsOn old n mid m t → ParsesOn es mid m new n' s →
+pub turn-lighter : (es : Entities) (old mid new : Live) (n m n' : Nesting) (t s : Progress) → t ≡ turn.On → s ≡ turn.On → RunsOn old n mid m t → ParsesOn es mid m new n' s →
     weight new (frames_of n') < weight old (frames_of n)
 turn-lighter es old mid new n m n' t s on on' runs parses =
     let first : Moves es old (frames_of n) mid (frames_of m) = subst (λ k. Moves es old (frames_of n) mid (frames_at k m)) on (runs.moves es) in

@@ -19,8 +19,8 @@ use Rattle.write_parser.specs.declared.nesting.Nesting.{Nesting}
 use Rattle.write_parser.specs.declared.live.Live.{Live}
 use Rattle.write_parser.specs.declared.live.Did.{Did}
 use Rattle.write_parser.specs.declared.live.Did.TheVariants as did
-use Rattle.write_parser.specs.declared.live.Turn.{Turn}
-use Rattle.write_parser.specs.declared.live.Turn.TheVariants as turn
+use Rattle.write_parser.specs.declared.live.Progress.{Progress}
+use Rattle.write_parser.specs.declared.live.Progress.TheVariants as turn
 use Rattle.write_parser.specs.Parsing.{IsServed}
 use Rattle.write_parser.specs.Writing.{View, first_view, why_of, IsRefusal, LeadsTo, Stands, left_to_do}
 
@@ -111,7 +111,7 @@ pub record Moves (es : Entities) (old : Live) (fs : List Frame) (new : Live) (fs
   pub weight : weight new fs' ≤ weight old fs
 
 -- no script is left, or the page is refused
-abbrev pub frames_at : Turn → Nesting → List Frame
+abbrev pub frames_at : Progress → Nesting → List Frame
 frames_at turn.On n = frames_of n
 frames_at turn.Over n = []
 
@@ -192,17 +192,17 @@ pub record Does (k : ℕ) (a : Statement) (old : Live) (rest : List ℕ) (new : 
   pub light : IsLight old rest new rest'
 
 -- One step of the innermost script.
-pub record Steps (old : Live) (n : Nesting) (new : Live) (n' : Nesting) (t : Turn) : Type 0 where
+pub record Steps (old : Live) (n : Nesting) (new : Live) (n' : Nesting) (t : Progress) : Type 0 where
   pub moves : (es : Entities) → Moves es old (frames_of n) new (frames_at t n')
   pub on : t ≡ turn.On → (new.halted ≡ None) × (steps_of (frames_of n') < steps_of (frames_of n))
 
 -- Statements ran up to a text that is to be parsed, or to the end.
-pub record RunsOn (old : Live) (n : Nesting) (new : Live) (n' : Nesting) (t : Turn) : Type 0 where
+pub record RunsOn (old : Live) (n : Nesting) (new : Live) (n' : Nesting) (t : Progress) : Type 0 where
   pub moves : (es : Entities) → Moves es old (frames_of n) new (frames_at t n')
   pub on : t ≡ turn.On → (new.halted ≡ None) × Continues new.pending n'.top.rest
 
 -- The text that the innermost script wrote was parsed up to a stop.
-pub record ParsesOn (es : Entities) (old : Live) (n : Nesting) (new : Live) (n' : Nesting) (t : Turn) : Type 0 where
+pub record ParsesOn (es : Entities) (old : Live) (n : Nesting) (new : Live) (n' : Nesting) (t : Progress) : Type 0 where
   pub moves : Moves es old (frames_of n) new (frames_at t n')
   pub on : t ≡ turn.On → (new.halted ≡ None) × (weight new (frames_of n') < weight old (frames_of n))
 

@@ -15,7 +15,7 @@ use Rattle.standard.specs.Act.{Doc, new_doc, is_bound}
 use Rattle.standard.specs.Parser.{Parser, new_parser}
 use Rattle.rule_laws.specs.Naming.{IsStopBound}
 use Rattle.standard.specs.Serial.{World, Serial, Flow, goes, refuses, awaiting, run_text, write_limit, Moment, reading, tag_ended, awaits, over, refusal, Leads}
-use Rattle.standard_laws.specs.Laws.{HasParsed, HasFinished}
+use Rattle.standard_laws.specs.Laws.{HasParsed, HasFinished, EndsIn}
 use Rattle.parse_machine.specs.declared.machine.Ran.{Ran}
 use Rattle.write_parser.specs.declared.left.Limit.{Limit}
 use Rattle.write_parser.specs.declared.left.Limit.TheVariants as limit
@@ -133,7 +133,7 @@ Comes v before page f = ComesBy v.halted v before page f
 -- The text of a script ran, one level up: none is a text outside the language.
 pub record Runs (es : Entities) (old new : View) (text : Option (List Statement)) : Type 0 where
   pub comes : (w : World) (before : List Line) (page : List ℕ) → w.entities ≡ es →
-      (f : Flow) × Comes new before page f × ((n : ℕ) × (run_text n w text (serial_of old before page) ≡ f))
+      (f : Flow) × Comes new before page f × EndsIn (λ n. run_text n w text (serial_of old before page)) f
 
 -- nothing runs once the page is refused
 abbrev pub HasRun : Entities → Option Why → View → View → Option (List Statement) → Type 0

@@ -25,7 +25,7 @@ const WRITE_LIMIT: usize = 1_048_576;
 
 /// How the scripts that were begun go on.
 #[derive(Clone, Copy, Debug, PartialEq, Eq)]
-pub(crate) enum Turn {
+pub(crate) enum Progress {
     On,
     /// No script is left, or the page is refused.
     Over,
@@ -171,7 +171,7 @@ impl Live {
     fn remove(&mut self, id: &Text) -> Result<Did, NoMemory>
         ensures { IfOk result (λ did. HasRemoved (find_id self.old.doc.tree id.now) self.old self.new did) }
     {
-        match self.doc.find_id(id.as_str())? {
+        match self.doc.find_id(id.as_str()) {
             None => Ok(Did::Nothing),
             Some(node) => {
                 self.doc.remove(node);
@@ -210,7 +210,7 @@ impl Live {
             Statement::Write(text) => self.write(text, rest),
             Statement::Remove(id) => self.remove(id),
             Statement::LogById(id) => {
-                let node = self.doc.find_id(id.as_str())?;
+                let node = self.doc.find_id(id.as_str());
                 self.read(number, node)
             }
             Statement::LogRoot => {
@@ -242,7 +242,7 @@ impl Live {
 // Nested scripts.
 impl Live {
     // The innermost script ends: what it wrote and isn't parsed stands before what the script around it wrote, or at level 0.
-    fn end_script(&mut self, nesting: &mut Nesting) -> Result<Turn, NoMemory>
+    fn end_script(&mut self, nesting: &mut Nesting) -> Result<Progress, NoMemory>
         requires going { IsGoing self.old }
         requires waits { Waits self.old.pending nesting.old.top.rest }
         requires ended { length nesting.old.top.script ≤ nesting.old.top.done }
@@ -252,18 +252,18 @@ impl Live {
         match nesting.below.pop() {
             None => {
                 self.rest.put_front(rest)?;
-                Ok(Turn::Over)
+                Ok(Progress::Over)
             }
             Some(around) => {
                 nesting.top = around;
                 nesting.top.rest.put_front(rest)?;
-                Ok(Turn::On)
+                Ok(Progress::On)
             }
         }
     }
 
     // The next statement of the innermost script, or its end.
-    fn step(&mut self, nesting: &mut Nesting) -> Result<Turn, NoMemory>
+    fn step(&mut self, nesting: &mut Nesting) -> Result<Progress, NoMemory>
         requires going { IsGoing self.old }
         requires waits { Waits self.old.pending nesting.old.top.rest }
         ensures { IfOk result (λ turn. Steps self.old nesting.old self.new nesting.new turn) }
@@ -277,22 +277,22 @@ impl Live {
             Did::Nothing => nesting.top.done = statements.len(),
         }
         if self.halted.is_some() {
-            return Ok(Turn::Over);
+            return Ok(Progress::Over);
         }
-        Ok(Turn::On)
+        Ok(Progress::On)
     }
 
     // Runs statements up to a text that is to be parsed, or to the end.
-    fn run_statements(&mut self, nesting: &mut Nesting) -> Result<Turn, NoMemory>
+    fn run_statements(&mut self, nesting: &mut Nesting) -> Result<Progress, NoMemory>
         requires { IsGoing self.old }
         ensures { IfOk result (λ turn. RunsOn self.old nesting.old self.new nesting.new turn) }
     {
         'steps: while !self.goes_on(&nesting.top.rest) {
-            if self.step(nesting)? == Turn::Over {
-                return Ok(Turn::Over);
+            if self.step(nesting)? == Progress::Over {
+                return Ok(Progress::Over);
             }
         }
-        Ok(Turn::On)
+        Ok(Progress::On)
     }
 
     // A script more inside those that were begun, if its end tag began it.
@@ -308,21 +308,21 @@ impl Live {
     }
 
     // Parses what the innermost script wrote up to a stop.
-    fn parse_written(&mut self, table: &Table, nesting: &mut Nesting) -> Result<Turn, NoMemory>
+    fn parse_written(&mut self, table: &Table, nesting: &mut Nesting) -> Result<Progress, NoMemory>
         requires going { IsGoing self.old }
         requires goes { Continues self.old.pending nesting.old.top.rest }
         ensures { IfOk result (λ turn. ParsesOn table.now self.old nesting.old self.new nesting.new turn) }
     {
         let rest = &mut nesting.top.rest;
         match rest.parse(self.alloc, table, &mut self.machine, &mut self.doc)? {
-            Stop::InputEnd => Ok(Turn::On),
+            Stop::InputEnd => Ok(Progress::On),
             Stop::Script(id) => {
                 self.nest(id, nesting)?;
-                Ok(Turn::On)
+                Ok(Progress::On)
             }
             Stop::Deep => {
                 self.halted = Some(Limit::Depth);
-                Ok(Turn::Over)
+                Ok(Progress::Over)
             }
         }
     }
@@ -333,10 +333,10 @@ impl Live {
         ensures { OnOk result (Moves table.now self.old (frames_of nesting.old) self.new []) }
     {
         'texts: loop {
-            if self.run_statements(nesting)? == Turn::Over {
+            if self.run_statements(nesting)? == Progress::Over {
                 return Ok(());
             }
-            if self.parse_written(table, nesting)? == Turn::Over {
+            if self.parse_written(table, nesting)? == Progress::Over {
                 return Ok(());
             }
         }

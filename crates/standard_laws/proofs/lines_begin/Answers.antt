@@ -1,4 +1,4 @@
-use Rattle.standard_laws.proofs.Lines.{passed-lines, passed-output, passed-output_with}
+use Rattle.standard_laws.proofs.Lines.{passed-lines, passed-output}
 use Rattle.standard_laws.proofs.lines_begin.Goals as goal
 
 pub returns-clause-lines : goal.returns-clause-lines
@@ -6,6 +6,3 @@ returns-clause-lines c = passed-lines
 
 pub returns-clause-output : goal.returns-clause-output
 returns-clause-output c = passed-output
-
-pub returns-clause-output_with : goal.returns-clause-output_with
-returns-clause-output_with c = passed-output_with

@@ -1,9 +1,9 @@
 use Rattle.std.proofs.Common.{◌≡◌, length}
-use Rattle.standard.specs.Stack.{below}
+use Rattle.standard.specs.Stack.{above}
 use Rattle.builder_adoption.proofs.stack.drop_through.Given as goal
 
 abbrev pub invariant-loop-last : goal.invariant-loop-last
-invariant-loop-last l = below l.id l.stack ≡ below l.id l.initial.stack
+invariant-loop-last l = above l.id l.stack ≡ above l.id l.initial.stack
 
 abbrev pub decreases-loop-last : goal.decreases-loop-last
 decreases-loop-last l = length l.stack

@@ -2,7 +2,7 @@ use Rattle.std.proofs.Common.{◌∙◌, rules}
 use Rattle.std.specs.Str.{chars}
 use Rattle.std.proofs.lemmas.Iterator.{YieldsList-from_chars}
 use Rattle.std.proofs.lemmas.Iterator.Search.{all_from_yields_List}
-use Rattle.standard.specs.Space.{is_space}
+use Rattle.standard.specs.WhiteSpace.{is_space}
 use Rattle.builder_state.proofs.Characters.{all_space_all}
 use Rattle.builder_state.proofs.pending.is_all_space.Goals as goal
 

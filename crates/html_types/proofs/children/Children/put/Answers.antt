@@ -1,5 +1,4 @@
-use Rattle.std.proofs.Common.{◌≤◌, ◌∙◌}
-use Rattle.html_types.specs.Numbers.{count_of}
+use Rattle.std.proofs.Common.{◌∙◌}
 use Rattle.html_types.proofs.Counts.{count_of-fewer}
 use Rattle.html_types.proofs.children.Children.put.Goals as goal
 

@@ -1,5 +1,5 @@
 use Rattle.std.proofs.Common.{rules, ◌≡◌}
-use Rattle.write_parser.specs.declared.live.Turn.TheVariants as turn
+use Rattle.write_parser.specs.declared.live.Progress.TheVariants as turn
 use Rattle.write_parser.specs.Steps.{IsGoing, frames_of, Moves}
 use Rattle.write_parser.proofs.NestingLemmas.{turn-on, moves-over, moves-on, runs-going, parses-going, turn-lighter}
 use Rattle.write_parser.proofs.live.Live.run.Goals as goal

@@ -1,6 +1,0 @@
-use Rattle.std.proofs.Common.{◌≡◌, drop}
-use Rattle.html_types.specs.Attributes.{has_name}
-use Rattle.html_types.proofs.attributes.Attributes.has.Given as goal
-
-abbrev pub invariant-loop-attribute : goal.invariant-loop-attribute
-invariant-loop-attribute l = has_name l.name l.self ≡ has_name l.name (drop l.attribute-index l.attribute-items)

@@ -1,0 +1,228 @@
+-- What a relation between the open states before and behind has to be closed under, so that each instruction is in it, and so
+-- each row, each round and each token.
+use Rattle.std.proofs.Common.{◌≡◌, refl, sym, true≢false, ℕ, Bool, true, false, ◌&&◌, List, [], ◌∷◌, Option, Some, None, reverse}
+use Rattle.std.specs.Prelude.{if◌then◌else◌}
+use Rattle.html_types.specs.Operations.{later}
+use Rattle.html_types.specs.declared.word.Word.TheVariants as word
+use Rattle.html_types.specs.declared.name.Name.{Name}
+use Rattle.html_types.specs.declared.name.Name.TheVariants.{Known}
+use Rattle.html_types.specs.declared.instruction.Instr.{Instr}
+use Rattle.html_types.specs.declared.instruction.Instr.TheVariants as ins
+use Rattle.html_types.specs.declared.instruction.Who.TheVariants as who
+use Rattle.html_types.specs.declared.instruction.Flow.{Flow}
+use Rattle.html_types.specs.declared.instruction.Flow.TheVariants.{On, Skip, Leave}
+use Rattle.html_types.specs.declared.instruction.Next.TheVariants as next
+use Rattle.html_types.specs.declared.token.Tag.{Tag}
+use Rattle.html_types.specs.declared.token.Token.{Token}
+use Rattle.html_types.specs.declared.token.Token.TheVariants.{StartTag, EndTag, Character, Comment, Doctype}
+use Rattle.html_types.specs.declared.operation.NodeId.{NodeId}
+use Rattle.html_types.specs.declared.operation.Place.{Place}
+use Rattle.html_types.specs.declared.operation.Place.TheVariants.{Page}
+use Rattle.html_types.specs.declared.operation.Op.{Op}
+use Rattle.html_types.specs.declared.open.Open.{Open}
+use Rattle.html_types.specs.declared.open.OpenElement.{OpenElement}
+use Rattle.html_types.specs.declared.open.Format.{Format}
+use Rattle.html_types.specs.declared.open.Format.TheVariants.{Element}
+use Rattle.standard.specs.WhiteSpace.{is_space}
+use Rattle.standard.specs.Elements.{is_word, is_meant, is_one_of}
+use Rattle.standard.specs.Stack.{on_stack, pop, until, pop_to, pop_to_root, implied, implied_thoroughly, close, close_item, other_end, first_open, second_open, without_open}
+use Rattle.standard.specs.Formatting.{lost, kept}
+use Rattle.standard.specs.Instructions.{Config, config, on, room, here, made, pushed, insert_at, insert, insert_root, void, void_as, named, tag_of, for_tag, enlist, reopen, reopen_all, reconstruct, insert_text, insert_comment, append_doctype, end_of, add_attributes, detach_second, body_text, body_characters, push_head, form_closed, form_closed_in_template, end_form, step}
+use Rattle.rule_laws.proofs.Thinned.{Thinned, thin-pop, thin-until, thin-pop_to, thin-pop_to_root, thin-implied, thin-implied_thoroughly, thin-close, thin-close_item, thin-other_end, thin-without_open, thin-form_closed, thin-form_closed_in_template}
+
+-- All parts of the open state but the modes and the pending table text may change so.
+pub record IsClosed (R : Open → Open → Type 0) : Type 0 where
+  pub same : (b : Open) → R b b
+  pub onward : (a b c : Open) → R a b → R b c → R a c
+  -- an element is opened where there is room; elements are taken off the stack
+  pub opens : (b : Open) (e : OpenElement) → room b ≡ true → R b (record b { stack = e ∷ b.stack })
+  pub thins : (b : Open) (es : List OpenElement) → Thinned b.stack es → R b (record b { stack = es })
+  -- an id is given
+  pub gives : (b : Open) → R b (record b { next = later 1 b.next })
+  pub lists : (b : Open) (fs : List Format) → R b (record b { formats = fs })
+  pub points : (b : Open) (head form : Option NodeId) → R b (record b { head = head; form = form })
+  pub marks : (b : Open) (ok quirks skip foster : Bool) → R b (record b { frameset_ok = ok; quirks = quirks; skip_line_feed = skip; foster = foster })
+
+-- the row goes on, or no other element may be opened
+abbrev pub goes_on : Flow → Bool
+goes_on On = true
+goes_on (Leave next.Deep) = true
+goes_on _ = false
+
+abbrev pub Went : (Open → Open → Type 0) → Open → Config → Type 0
+Went R b c = R b c.open_state × (goes_on c.flow ≡ true)
+
+-- the instructions that neither leave a row, nor leave out the next one, nor touch the modes or the pending table text
+abbrev pub is_plain : Instr → Bool
+is_plain (ins.Need c) = false
+is_plain (ins.Forbid c) = false
+is_plain (ins.When c) = false
+is_plain (ins.Unless c) = false
+is_plain (ins.Enter m) = false
+is_plain ins.KeepMode = false
+is_plain ins.Restore = false
+is_plain (ins.PushTemplateMode m) = false
+is_plain ins.PopTemplateMode = false
+is_plain ins.Reset = false
+is_plain ins.AppendPending = false
+is_plain ins.InsertPending = false
+is_plain ins.Adopt = false
+is_plain ins.AdoptAnchor = false
+is_plain ins.AdoptNobr = false
+is_plain (ins.Switch r) = false
+is_plain (ins.Using m) = false
+is_plain ins.Foster = false
+is_plain ins.Again = false
+is_plain ins.StopAtScript = false
+is_plain ins.Finish = false
+is_plain _ = true
+
+module _ (R : Open → Open → Type 0) (c : IsClosed R) where
+  went : (b : Open) (o : List Op) → Went R b (on b o)
+  went b o = (c.same b, refl)
+
+  thinned : (b : Open) (o : List Op) (es : List OpenElement) → Thinned b.stack es → Went R b (on (record b { stack = es }) o)
+  thinned b o es h = (c.thins b es h, refl)
+
+  marked : (b : Open) (o : List Op) (ok quirks skip : Bool) → Went R b (on (record b { frameset_ok = ok; quirks = quirks; skip_line_feed = skip }) o)
+  marked b o ok quirks skip = (c.marks b ok quirks skip b.foster, refl)
+
+  pointed : (b : Open) (o : List Op) (head form : Option NodeId) → Went R b (on (record b { head = head; form = form }) o)
+  pointed b o head form = (c.points b head form, refl)
+
+  roomy : (b b' : Open) (o o' : List Op) → (room b ≡ true → R b b') → Went R b (if room b then on b' o' else config b o (Leave next.Deep))
+  roomy b b' o o' there = by (room b) refl
+    where
+      by : (v : Bool) → room b ≡ v → Went R b (if v then on b' o' else config b o (Leave next.Deep))
+      by true e = (there e, refl)
+      by false e = (c.same b, refl)
+
+  for_tag-went : (f : Tag → Open → List Op → Config) → ((tag : Tag) (b : Open) (o : List Op) → Went R b (f tag b o)) → (t : Token) (b : Open) (o : List Op) → Went R b (for_tag f t b o)
+  for_tag-went f h (StartTag tag) b o = h tag b o
+  for_tag-went f h (EndTag tag) b o = h tag b o
+  for_tag-went f h _ b o = went b o
+
+  pushed-in : (tag : Tag) (b : Open) → room b ≡ true → R b (pushed tag b)
+  pushed-in tag b e =
+      let top : OpenElement = record { id = b.next; name = tag.name } in
+      c.onward b (record b { stack = top ∷ b.stack }) (pushed tag b) (c.opens b top e) (c.gives (record b { stack = top ∷ b.stack }))
+
+  insert_at-went : (p : Place) (tag : Tag) (b : Open) (o : List Op) → Went R b (insert_at p tag b o)
+  insert_at-went p tag b o = roomy b (pushed tag b) o (made p tag b o) (pushed-in tag b)
+
+  insert-went : (tag : Tag) (b : Open) (o : List Op) → Went R b (insert tag b o)
+  insert-went tag b o = insert_at-went (here b) tag b o
+
+  void-went : (tag : Tag) (b : Open) (o : List Op) → Went R b (void tag b o)
+  void-went tag b o = roomy b _ o _ (λ e. c.gives b)
+
+  insert_text-went : (t : Token) (b : Open) (o : List Op) → Went R b (insert_text t b o)
+  insert_text-went (Character k) b o = (c.same b, refl)
+  insert_text-went _ b o = went b o
+
+  insert_comment-went : (p : Place) (t : Token) (b : Open) (o : List Op) → Went R b (insert_comment p t b o)
+  insert_comment-went p (Comment text) b o = (c.same b, refl)
+  insert_comment-went p _ b o = went b o
+
+  append_doctype-went : (t : Token) (b : Open) (o : List Op) → Went R b (append_doctype t b o)
+  append_doctype-went (Doctype name force) b o = (c.same b, refl)
+  append_doctype-went _ b o = went b o
+
+  add_attributes-went : (e : Option OpenElement) (tag : Tag) (b : Open) (o : List Op) → Went R b (add_attributes e tag b o)
+  add_attributes-went None tag b o = went b o
+  add_attributes-went (Some e) tag b o = (c.same b, refl)
+
+  detach_second-went : (e : Option OpenElement) (b : Open) (o : List Op) → Went R b (detach_second e b o)
+  detach_second-went None b o = went b o
+  detach_second-went (Some e) b o = (c.same b, refl)
+
+  push_head-went : (i : Option NodeId) (b : Open) (o : List Op) → Went R b (push_head i b o)
+  push_head-went None b o = went b o
+  push_head-went (Some i) b o = roomy b _ o o (c.opens b (record { id = i; name = Known word.Head }))
+
+  end_form-went : (nobody : Name → Bool) (b : Open) (o : List Op) → Went R b (end_form nobody b o)
+  end_form-went nobody b o = by (on_stack (is_word word.Template) b.stack)
+    where
+      by : (v : Bool) → Went R b (if v then on (record b { stack = form_closed_in_template nobody b.stack }) o else on (record b { stack = form_closed nobody b.form b.stack; form = None }) o)
+      by true = thinned b o (form_closed_in_template nobody b.stack) (thin-form_closed_in_template nobody b.stack)
+      by false =
+          let b' : Open = record b { stack = form_closed nobody b.form b.stack } in
+          (c.onward b b' (record b' { form = None }) (c.thins b (form_closed nobody b.form b.stack) (thin-form_closed nobody b.form b.stack)) (c.points b' b.head None), refl)
+
+  -- ---- elements opened again, and characters
+
+  reopen-went : (tag : Tag) (b : Open) (o : List Op) → Went R b (reopen tag b o)
+  reopen-went tag b o = roomy b _ o _ (λ e. c.onward b (pushed tag b) _ (pushed-in tag b e) (c.lists (pushed tag b) (Element b.next tag ∷ b.formats)))
+
+  reopen_all-went : (tags : List Tag) (a b : Open) (o : List Op) (f : Flow) → R a b → goes_on f ≡ true → Went R a (reopen_all tags (config b o f))
+  reopen_all-went [] a b o f r s = (r, s)
+  reopen_all-went (tag ∷ tags) a b o On r s =
+      let d : Config = reopen tag b o in
+      let w = reopen-went tag b o in
+      reopen_all-went tags a d.open_state d.ops d.flow (c.onward a b d.open_state r w.0) w.1
+  reopen_all-went (tag ∷ tags) a b o Skip r s = absurd (true≢false (sym s))
+  reopen_all-went (tag ∷ tags) a b o (Leave n) r s = (r, s)
+
+  pub reconstruct-went : (b : Open) (o : List Op) → Went R b (reconstruct b o)
+  reconstruct-went b o = reopen_all-went (reverse (lost b.stack b.formats)) b (record b { formats = kept b.stack b.formats }) o On (c.lists b (kept b.stack b.formats)) refl
+
+  body_text-went : (k : ℕ) (a b : Open) (o : List Op) (f : Flow) → R a b → goes_on f ≡ true → Went R a (body_text k (config b o f))
+  body_text-went k a b o On r s = (c.onward a b _ r (c.marks b (is_space k && b.frameset_ok) b.quirks b.skip_line_feed b.foster), refl)
+  body_text-went k a b o Skip r s = absurd (true≢false (sym s))
+  body_text-went k a b o (Leave n) r s = (r, s)
+
+  pub body_characters-went : (ks : List ℕ) (a b : Open) (o : List Op) (f : Flow) → R a b → goes_on f ≡ true → Went R a (body_characters ks (config b o f))
+  body_characters-went [] a b o f r s = (r, s)
+  body_characters-went (k ∷ ks) a b o On r s =
+      let again : Config = reconstruct b o in
+      let d : Config = body_text k again in
+      let w = reconstruct-went b o in
+      let v = body_text-went k b again.open_state again.ops again.flow w.0 w.1 in
+      body_characters-went ks a d.open_state d.ops d.flow (c.onward a b d.open_state r v.0) v.1
+  body_characters-went (k ∷ ks) a b o Skip r s = absurd (true≢false (sym s))
+  body_characters-went (k ∷ ks) a b o (Leave n) r s = (r, s)
+
+  -- ---- every plain instruction
+
+  pub step-went : (i : Instr) (t : Token) (b : Open) (o : List Op) → is_plain i ≡ true → Went R b (step i t b o)
+  step-went ins.Insert t b o p = for_tag-went insert insert-went t b o
+  step-went (ins.InsertA w) t b o p = insert-went (tag_of w) b o
+  step-went ins.InsertRoot t b o p = for_tag-went insert_root (insert_at-went Page) t b o
+  step-went ins.InsertRootA t b o p = insert_at-went Page (tag_of word.Html) b o
+  step-went ins.Void t b o p = for_tag-went void void-went t b o
+  step-went (ins.VoidA w) t b o p = void-went (tag_of w) b o
+  step-went (ins.VoidAs w) t b o p = for_tag-went (void_as w) (λ tag. void-went (named w tag)) t b o
+  step-went ins.InsertText t b o p = insert_text-went t b o
+  step-went ins.InsertComment t b o p = insert_comment-went (here b) t b o
+  step-went ins.CommentToPage t b o p = insert_comment-went Page t b o
+  step-went ins.CommentToRoot t b o p = insert_comment-went (end_of (first_open b.stack)) t b o
+  step-went ins.AppendDoctype t b o p = append_doctype-went t b o
+  step-went ins.Pop t b o p = thinned b o (pop b.stack) (thin-pop b.stack)
+  step-went (ins.Until w) t b o p = thinned b o (until (is_meant w t) b.stack) (thin-until (is_meant w t) b.stack)
+  step-went (ins.PopTo g) t b o p = thinned b o (pop_to (is_one_of g) b.stack) (thin-pop_to (is_one_of g) b.stack)
+  step-went ins.PopToRoot t b o p = thinned b o (pop_to_root b.stack) (thin-pop_to_root b.stack)
+  step-went ins.Implied t b o p = thinned b o (implied (is_meant who.Nobody t) b.stack) (thin-implied (is_meant who.Nobody t) b.stack)
+  step-went ins.ImpliedThoroughly t b o p = thinned b o (implied_thoroughly b.stack) (thin-implied_thoroughly b.stack)
+  step-went (ins.ImpliedBut w) t b o p = thinned b o (implied (is_meant w t) b.stack) (thin-implied (is_meant w t) b.stack)
+  step-went (ins.Close s w) t b o p = thinned b o (close s (is_meant w t) b.stack) (thin-close s (is_meant w t) b.stack)
+  step-went (ins.CloseItem w) t b o p = thinned b o (close_item (is_meant w t) b.stack) (thin-close_item (is_meant w t) b.stack)
+  step-went ins.AnyOtherEnd t b o p = thinned b o (other_end (is_meant who.Own t) b.stack) (thin-other_end (is_meant who.Own t) b.stack)
+  step-went ins.Reconstruct t b o p = reconstruct-went b o
+  step-went ins.List t b o p = for_tag-went enlist (λ tag b' o'. (c.lists b' _, refl)) t b o
+  step-went ins.Marker t b o p = (c.lists b _, refl)
+  step-went ins.ClearToMarker t b o p = (c.lists b _, refl)
+  step-went (ins.TakeOff i) t b o p =
+      let b' : Open = record b { stack = without_open (Some i) b.stack } in
+      (c.onward b b' _ (c.thins b (without_open (Some i) b.stack) (thin-without_open (Some i) b.stack)) (c.lists b' _), refl)
+  step-went ins.NotOk t b o p = marked b o false b.quirks b.skip_line_feed
+  step-went ins.BecomeQuirky t b o p = marked b o b.frameset_ok true b.skip_line_feed
+  step-went ins.SkipLineFeed t b o p = marked b o b.frameset_ok b.quirks true
+  step-went ins.PointHead t b o p = pointed b o _ b.form
+  step-went ins.PushHead t b o p = push_head-went b.head b o
+  step-went ins.TakeHeadOff t b o p = thinned b o (without_open b.head b.stack) (thin-without_open b.head b.stack)
+  step-went ins.PointForm t b o p = pointed b o b.head _
+  step-went ins.EndForm t b o p = end_form-went (is_meant who.Nobody t) b o
+  step-went ins.AddToFirst t b o p = for_tag-went (add_attributes (first_open b.stack)) (add_attributes-went (first_open b.stack)) t b o
+  step-went ins.AddToSecond t b o p = for_tag-went (add_attributes (second_open b.stack)) (add_attributes-went (second_open b.stack)) t b o
+  step-went ins.DetachSecond t b o p = detach_second-went (second_open b.stack) b o
+  step-went _ t b o p = absurd (true≢false (sym p))

@@ -1,0 +1,46 @@
+-- The open state is proper: the original mode, the pending table text and the template insertion modes are there where the mode says so.
+use Rattle.std.specs.Prelude.{◌≡◌, ℕ, Bool, true, false, ⊤, List, [], Option, None, not, IsSomeAnd, IsTrue, IsFalse}
+use Rattle.std.specs.List.{list_all}
+use Rattle.html_types.specs.declared.instruction.Mode.{Mode}
+use Rattle.html_types.specs.declared.instruction.Mode.TheVariants.{InText, InTableText}
+use Rattle.html_types.specs.declared.instruction.Next.{Next}
+use Rattle.html_types.specs.declared.instruction.Next.TheVariants as next
+use Rattle.html_types.specs.declared.token.Token.{Token}
+use Rattle.html_types.specs.declared.operation.Op.{Op}
+use Rattle.html_types.specs.declared.open.Open.{Open}
+use Rattle.standard.specs.Rules.{Answer, construct}
+use Rattle.standard.specs.Parser.{opening}
+
+-- the modes from which the parser goes back to the original mode
+abbrev pub is_text_mode : Mode → Bool
+is_text_mode InText = true
+is_text_mode InTableText = true
+is_text_mode _ = false
+
+-- an original mode is there exactly in the modes "text" and "in table text", and it is neither of them
+abbrev pub HasOriginal : Mode → Option Mode → Type 0
+HasOriginal InText original = IsSomeAnd original (λ m. IsFalse (is_text_mode m))
+HasOriginal InTableText original = IsSomeAnd original (λ m. IsFalse (is_text_mode m))
+HasOriginal _ original = original ≡ None
+
+-- table text is pending in the mode "in table text" alone
+abbrev pub HasPending : Mode → List ℕ → Type 0
+HasPending InTableText text = ⊤
+HasPending _ text = text ≡ []
+
+pub record IsProper (b : Open) : Type 0 where
+  pub original : HasOriginal b.mode b.original
+  pub pending : HasPending b.mode b.pending_text
+  -- no template's contents go by those two modes
+  pub templates : IsTrue (list_all (λ m. not (is_text_mode m)) b.template_modes)
+
+abbrev pub OpeningIsProper : Type 0
+OpeningIsProper = (realm : ℕ) → IsProper (opening realm)
+
+-- unless one element more than 512 would be open
+abbrev pub ProperUnlessDeep : Next → Open → Type 0
+ProperUnlessDeep next.Deep b = ⊤
+ProperUnlessDeep _ b = IsProper b
+
+abbrev pub TokensStayProper : Type 0
+TokensStayProper = (t : Token) (b : Open) (o : List Op) → IsProper b → (let a : Answer = construct t b o in ProperUnlessDeep a.next a.open_state)
