@@ -18,3 +18,5 @@ pub mod Together
 pub mod Counting
 pub mod Comparing
 pub mod Bounding
+pub mod Replaying
+pub mod Existing

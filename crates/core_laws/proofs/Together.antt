@@ -60,7 +60,7 @@ module _ (x : Setup) where
       subst (λ z. UnlessDone z.phase (InStep es z (to_come es (sent_from (y ∷ ys) c)) (end_to_come es (sent_from (y ∷ ys) c)))) (sym is)
       (map-unless d.phase _ _ (λ s. subst (λ l. InStep es d' (to_come es (sent_from (y ∷ ys) c)) l) end (subst (λ rs. InStep es d' rs (answer_to es last r).parser) all (sends-in-step es d (to_come es c) last y ys s))) f)
 
-  sent-desk : (c : Core) (ps : List Piece) → IsTrue (not (is_empty ps)) → (sent_from ps c).desk ≡ sends_first c.desk.to_send c.desk
+  pub sent-desk : (c : Core) (ps : List Piece) → IsTrue (not (is_empty ps)) → (sent_from ps c).desk ≡ sends_first c.desk.to_send c.desk
   sent-desk c [] some = absurd (true≢false (sym some))
   sent-desk c (y ∷ ys) some = refl
 
@@ -93,7 +93,7 @@ module _ (x : Setup) where
 
   -- ---- Take
 
-  free-of : (p : Phase) → is_free p ≡ true → p ≡ free
+  pub free-of : (p : Phase) → is_free p ≡ true → p ≡ free
   free-of free q = refl
   free-of (tagged i held) q = absurd (true≢false (sym q))
   free-of (waits name held) q = absurd (true≢false (sym q))
@@ -103,7 +103,7 @@ module _ (x : Setup) where
   nil-of [] q = refl
   nil-of (b ∷ bs) q = absurd (true≢false (sym q))
 
-  both : (a b : Bool) → a ≡ true → b ≡ true → (a && b) ≡ true
+  pub both : (a b : Bool) → a ≡ true → b ≡ true → (a && b) ≡ true
   both a b p q = ap (λ y. y && b) p ∙ q
 
   abbrev Took : Core → Core → Type 0
@@ -179,7 +179,7 @@ module _ (x : Setup) where
       let more = runs-together vs c1 c' rest one.1 in
       (subst (λ us. MovesBy x.ahead x.world us c.desk c'.desk) (own-one v vs) (moves-then (own_events (v ∷ [])) (own_events vs) c.desk c1.desk c'.desk one.0 more.0), more.1)
 
-  first-together : Together (first_core x)
+  pub first-together : Together (first_core x)
   first-together = record {
     holds = first-holds x;
     follows = record { count = refl; old = []; new = []; are = refl; ended = tt; called = tt; next = sym (blank-end es (new_parser 0)) };

@@ -4,8 +4,11 @@ use Rattle.standard.specs.Serial.{Moment, Result, Outcome, IsSerial, Passes, Lea
 use Rattle.standard_laws.specs.Laws.{GoesOnFrom}
 use Rattle.core_rules.specs.declared.event.Event.{Event}
 use Rattle.core_rules.specs.declared.event.Event.TheVariants.{Arrive}
+use Rattle.standard.specs.Parser.{Parser}
+use Rattle.core_rules.specs.declared.verdict.Verdict.{Verdict}
+use Rattle.core_rules.specs.Verdict.{IsVerdict}
 use Rattle.core_rules.specs.Desk.{Phase, free, tagged, waits, done, Desk, has_arrived}
-use Rattle.core_rules.specs.Core.{Setup, whole_page, Core, first_core, enabled, Runs}
+use Rattle.core_rules.specs.Core.{Setup, whole_page, Core, first_core, enabled, Steps, Runs}
 use Rattle.core_rules.specs.StandsFor.{StandsFor}
 use Rattle.core_rules.specs.Journal.{own_events}
 use Rattle.core_laws.specs.DeskLaws.{IsReached}
@@ -53,3 +56,16 @@ IsOverOrAwaits (done r) d = Unit {0}
 
 abbrev pub NeverStuck : Type 0
 NeverStuck = (x : Setup) (vs : List Event) (c : Core) → 0 < x.ahead → Runs x vs (first_core x) c → IsIdle x c → IsOverOrAwaits c.desk.phase c.desk
+
+-- ---- steps
+
+-- whether two states are the same can be told, as `Machine::same` does
+abbrev pub DecidesSame : Type 0
+DecidesSame = (held now : Parser) → (c : Verdict) × IsVerdict held now c
+
+-- each event that is enabled has its step, and only one
+abbrev pub EnabledSteps : Type 0
+EnabledSteps = DecidesSame → (x : Setup) (vs : List Event) (c : Core) (v : Event) → Runs x vs (first_core x) c → IsTrue (enabled x v c) → (c' : Core) × Steps x v c c'
+
+abbrev pub OneStep : Type 0
+OneStep = (x : Setup) (v : Event) (c a b : Core) → Steps x v c a → Steps x v c b → a ≡ b

@@ -5,3 +5,4 @@ pub mod OneResult
 pub mod DeskLaws
 pub mod CoreLaws
 pub mod Bounds
+pub mod Replaying

@@ -1,4 +1,6 @@
 use Rattle.core_laws.proofs.Together as law
+use Rattle.core_laws.proofs.Existing.{enabled-steps}
+use Rattle.core_laws.proofs.OneResult.{one-step}
 use Rattle.core_laws.proofs.every_interleaving.Goals as goal
 
 pub returns-clause-desk : goal.returns-clause-desk
@@ -18,3 +20,9 @@ returns-clause-lines c = law.core-lines
 
 pub returns-clause-never_stuck : goal.returns-clause-never_stuck
 returns-clause-never_stuck c = law.never-stuck
+
+pub returns-clause-steps : goal.returns-clause-steps
+returns-clause-steps c = enabled-steps
+
+pub returns-clause-one_step : goal.returns-clause-one_step
+returns-clause-one_step c = one-step
