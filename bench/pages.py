@@ -33,8 +33,8 @@ KINDS = {
     "scripts": ("<body>", '<script>document.write("<i>x</i>");</script>', ""),
     "writer": ("<body>", '<script>document.write("' + "<i>x</i>" * 100 + '");</script>', ""),
 }
-# scripts: as many as the characters that scripts may write allow; numbered attributes: seconds of today's program
-MOST = {"scripts": 100000, "writer": 1300, "attributes": 10000, "html tags": 4000}
+# as many as the characters that scripts may write allow
+MOST = {"scripts": 100000, "writer": 1300}
 
 
 def write(kind, size, path, refused=False):

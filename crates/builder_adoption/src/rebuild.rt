@@ -42,7 +42,11 @@ fn climb_between(
         &mut climb,
         ops,
     )?;
-    let Climb { kept, last, bookmark } = climb;
+    let Climb {
+        kept,
+        last,
+        bookmark,
+    } = climb;
     put_back(&mut state.stack, kept)?;
     put_back(&mut state.stack, upper)?;
     Ok((last, bookmark))

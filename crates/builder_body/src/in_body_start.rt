@@ -7,7 +7,7 @@ use html_types::instruction::Instr::*;
 use html_types::instruction::Test::*;
 use html_types::instruction::Who::*;
 use html_types::word::Word::*;
-use html_types::{Group, Instr, Mode, TokenizerSwitch, Scope, Word};
+use html_types::{Group, Instr, Mode, Scope, TokenizerSwitch, Word};
 
 /// "Close a p element", where one is in button scope.
 const CLOSE_P: Instr = Close(Scope::Button, The(P));

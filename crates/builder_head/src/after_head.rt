@@ -9,7 +9,7 @@ use html_types::word::Word::{
     Base, Basefont, Bgsound, Body, Br, Frameset, Head, Html, Link, Meta, Noframes, Script, Style,
     Template, Title,
 };
-use html_types::{Instr, Mode, Name, TokenizerSwitch, Token, Word};
+use html_types::{Instr, Mode, Name, Token, TokenizerSwitch, Word};
 
 const OTHERWISE: &[Instr] = &[InsertA(Body), Enter(Mode::InBody), Again];
 

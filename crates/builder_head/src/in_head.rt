@@ -11,7 +11,7 @@ use html_types::word::Word::{
     Base, Basefont, Bgsound, Body, Br, Head, Html, Link, Meta, Noframes, Noscript, Script, Style,
     Template, Title,
 };
-use html_types::{Instr, Mode, Name, TokenizerSwitch, Token, Word};
+use html_types::{Instr, Mode, Name, Token, TokenizerSwitch, Word};
 
 const OTHERWISE: &[Instr] = &[Pop, Enter(Mode::AfterHead), Again];
 

@@ -20,6 +20,7 @@ use Rattle.standard.specs.Elements.{is_word}
 use Rattle.standard.specs.Act.{Bound, Doc, id_cmp, bound_to, node_of, is_bound, element_made}
 use Rattle.doc_tree.proofs.Trees.{node_at-push}
 use Rattle.op_exec.specs.Docs.{IsPlain, IsDoc}
+use Rattle.act_laws.proofs.Renamed.{id_cmp-same}
 
 pub IsPlain-kept : (t s : Nodes) (n : ℕ) → Keeps t s → IsPlain t n → IsPlain s n
 IsPlain-kept t s n kept plain = (omega (arith, kept.nodes, plain.0), plain.1, kept.hosts n plain.0 ∙ plain.2)
@@ -54,9 +55,6 @@ pub IsPlain-read : (d : Doc) (t : Nodes) (bound : Bound) (id : NodeId) (n : ℕ)
 IsPlain-read d t bound id n view is doc there =
     let here : IsTrue (is_bound bound id) = subst (λ (x : Doc). IsTrue (is_bound x.bound id)) (sym view) there in
     subst (λ (x : Doc). IsPlain x.tree n) view (subst (IsPlain t) (sym is) (IsPlain-node_of t bound id doc here))
-
-pub id_cmp-same : (id : NodeId) → id_cmp id id ≡ Equal
-id_cmp-same id = grind (arith, nat_tests)
 
 -- taking a new id out again leaves all as it was
 pub remove_entry-insert_entry : (bound : Bound) (id : NodeId) (n : ℕ) → bound_to bound id ≡ None → remove_entry (is_at (id_cmp id)) (insert_entry id_cmp bound id n) ≡ bound

@@ -11,8 +11,7 @@ use Rattle.html_types.specs.declared.operation.NodeId.{NodeId}
 use Rattle.standard.specs.Act.{Bound, id_cmp, bound_to, node_of}
 use Rattle.op_exec.specs.declared.bound.Realm.{Realm}
 use Rattle.op_exec.specs.Ids.{with_nodes, with_realms, listed, IsNext}
-use Rattle.op_exec.proofs.Docs.{id_cmp-same}
-use Rattle.op_exec.proofs.Renamed.{same_from_equal, tells, bound_to-insert}
+use Rattle.act_laws.proofs.Renamed.{id_cmp-same, same_from_equal, tells, bound_to-insert}
 
 -- ---- the order of two new pairs
 

@@ -1,5 +1,4 @@
 pub mod Docs
-pub mod Renamed
 pub mod Runs
 pub mod Types
 pub mod Literals

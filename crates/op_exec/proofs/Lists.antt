@@ -10,7 +10,7 @@ use Rattle.html_types.specs.declared.operation.Op.{Op}
 use Rattle.html_types.specs.declared.operation.Op.TheVariants.{Make, Put, Text, Note, Doctype, Detach, MoveChildren, AddAttributes}
 use Rattle.standard.specs.Act.{Doc, id_cmp, bound_to, act, acts, is_bound, IsPlaceBound, IsOpBound, known_after, AreOpsBound}
 use Rattle.op_exec.specs.Docs.{inserts_nothing, IsDoneInPart}
-use Rattle.op_exec.proofs.Renamed.{tells, bound_to-insert}
+use Rattle.act_laws.proofs.Renamed.{tells, bound_to-insert}
 
 pub acts-append : (d : Doc) (xs ys : List Op) → acts d (xs ++ ys) ≡ acts (acts d xs) ys
 unfolding acts

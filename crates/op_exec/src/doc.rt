@@ -299,9 +299,9 @@ impl Doc {
     }
 
     /// The first element of the Document, in tree order, with that `id`. An empty one finds nothing.
-    pub fn find_id(&self, id: &str) -> Result<Option<usize>, NoMemory>
-        ensures found { IfOk result (λ n. n ≡ find_id self.now.tree (chars id.now)) }
-        ensures here { IfOk result (λ n. ForSome n (λ k. k < length self.now.tree)) }
+    pub fn find_id(&self, id: &str) -> Option<usize>
+        ensures found { result ≡ find_id self.now.tree (chars id.now) }
+        ensures here { ForSome result (λ k. k < length self.now.tree) }
     {
         self.tree.find_id(id)
     }

@@ -4,11 +4,9 @@
 mod bound;
 mod doc;
 mod element;
-mod laws;
 mod script;
 
 pub use doc::Doc;
-pub use laws::same_up_to_renaming;
 pub use script::ScriptKind;
 
 #[cfg(test)]

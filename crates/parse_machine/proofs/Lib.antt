@@ -3,3 +3,4 @@ pub mod Rounds
 pub mod Characters
 pub mod Marks
 pub mod Runs
+pub mod Tags

@@ -294,7 +294,7 @@ one-took es (took ops p stop.InputEnd) o o' p' s e = record {
 }
 one-took es (took ops p _) o o' p' s e = record { ops = sym (ap took_ops e); state = sym (ap took_parser e); used = refl; at_stop = sym (ap took_stop e) }
 
-one-character : (es : Entities) (p : Parser) (c : ℕ) (o o' : List Op) (p' : Parser) (s : Stop) → after_ops o (take_character es p c) ≡ took o' p' s
+pub one-character : (es : Entities) (p : Parser) (c : ℕ) (o o' : List Op) (p' : Parser) (s : Stop) → after_ops o (take_character es p c) ≡ took o' p' s
     → IsOver (parse es p (c ∷ [])) o 1 p' o' s
 unfolding parse
 one-character es p c o o' p' s e = one-took es (take_character es p c) o o' p' s e
@@ -321,24 +321,9 @@ over-more es p0 o0 x p o c p' o' s over e =
     subst (λ (w : Parsed). IsOver w o0 (length (x ++ c ∷ [])) p' o' s) whole
     (subst (λ (k : ℕ). IsOver (joined r (parse es r.parser (c ∷ []))) o0 k p' o' s) n (over-both o0 o o' p p' s (length x) r (parse es r.parser (c ∷ [])) over one))
 
-not_stopped : (s : Stop) → stops s ≡ false → s ≡ stop.InputEnd
+pub not_stopped : (s : Stop) → stops s ≡ false → s ≡ stop.InputEnd
 not_stopped stop.InputEnd e = refl
 not_stopped _ e = cc
-
--- one more character, at which the parser doesn't stop
-pub over-goes_on : (es : Entities) (p0 : Parser) (o0 : List Op) (x y : List ℕ) (p : Parser) (o : List Op) (c : ℕ) (p' : Parser) (o' : List Op) (s : Stop)
-    → y ≡ x ++ c ∷ [] → stops s ≡ false → IsOver (parse es p0 x) o0 (length x) p o stop.InputEnd → after_ops o (take_character es p c) ≡ took o' p' s
-    → IsOver (parse es p0 y) o0 (length y) p' o' stop.InputEnd
-over-goes_on es p0 o0 x y p o c p' o' s e going over is =
-    subst (λ (z : List ℕ). IsOver (parse es p0 z) o0 (length z) p' o' stop.InputEnd) (sym e)
-    (over-more es p0 o0 x p o c p' o' stop.InputEnd over (is ∙ ap (took o' p') (not_stopped s going)))
-
--- one more character, at which it stops
-pub over-stopped : (es : Entities) (p0 : Parser) (o0 : List Op) (x y : List ℕ) (p : Parser) (o : List Op) (c : ℕ) (p' : Parser) (o' : List Op) (s : Stop)
-    → y ≡ x ++ c ∷ [] → IsOver (parse es p0 x) o0 (length x) p o stop.InputEnd → after_ops o (take_character es p c) ≡ took o' p' s
-    → IsOver (parse es p0 y) o0 (length y) p' o' s
-over-stopped es p0 o0 x y p o c p' o' s e over is =
-    subst (λ (z : List ℕ). IsOver (parse es p0 z) o0 (length z) p' o' s) (sym e) (over-more es p0 o0 x p o c p' o' s over is)
 
 -- behind a stop nothing more is parsed
 stays-stopped : (s : Stop) (r : Parsed) (f : Parser → Parsed) → stops s ≡ true → unless_stopped s r f ≡ r

@@ -1,4 +1,4 @@
--- Runs of characters that are parsed at once.
+-- Runs of characters, and tags, that are parsed at once.
 use Rattle.std.specs.Prelude.{◌≡◌, ℕ, Bool, true, false, List, ◌++◌, length, take}
 use Rattle.std.specs.List.{list_any}
 use Rattle.std.specs.Str.{chars}
@@ -12,6 +12,8 @@ use Rattle.builder_state.specs.Texts.{TakesText}
 use Rattle.standard.specs.Class.{is_mark}
 use Rattle.standard.specs.Entities.{Entities}
 use Rattle.standard.specs.Parser.{Parser, parse}
+use Rattle.standard.specs.Step.{data_state}
+use Rattle.parse_machine.specs.declared.machine.Ran.{Ran}
 
 -- no NUL, CR, `&` or `<` among them
 abbrev pub ArePlain : List ℕ → Type 0
@@ -38,3 +40,17 @@ pub record TakesRun (text : List ℕ) (from end : ℕ) (was : Parser) (before : 
   pub front : chars (take end text) ≡ chars (take from text) ++ run
   pub ops : after ≡ before ++ added
   pub parsed : (es : Entities) → parse es was run ≡ record { ops = added; parser = now; used = length run; stop = InputEnd }
+
+-- A tag that stands whole in the text may be read at once.
+pub record ReadsTags (p : Parser) : Type 0 where
+  pub tokenizer : p.tokenizer ≡ data_state
+  pub after_cr : p.after_cr ≡ false
+
+-- The characters of the text from a place to where the parser came were parsed.
+pub record Takes (es : Entities) (text : List ℕ) (from : ℕ) (ran : Ran) (was : Parser) (before : List Op) (now : Parser) (after : List Op) : Type 0 where
+  pub run : List ℕ
+  pub front : chars (take ran.used text) ≡ chars (take from text) ++ run
+  pub ops : after ≡ before ++ (parse es was run).ops
+  pub state : now ≡ (parse es was run).parser
+  pub used : (parse es was run).used ≡ length run
+  pub stop : ran.stop ≡ (parse es was run).stop

@@ -9,7 +9,7 @@ ghost use Rattle.standard.specs.Parser as definition;
 ghost use Rattle.standard.specs.Parser.{new_parser, took, after_ops, build, build_end, take_character, finish as finished, parse, AreSame, after_all};
 ghost use Rattle.builder_state.specs.Texts.{behind_text};
 ghost use Rattle.standard.specs.Instructions.{here, texts};
-ghost use Rattle.parse_machine.specs.Runs.{ArePlain, reads_runs as state_reads_runs, TakesRuns, TakesRun};
+ghost use Rattle.parse_machine.specs.Runs.{ArePlain, reads_runs as state_reads_runs, ReadsTags, Takes, TakesRuns, TakesRun};
 ghost use Rattle.parse_machine.specs.Machine.{WentTo, EndedTo, Builds, BuildsLast, RanAs, stops as stops_at};
 
 use crate::token::construct;
@@ -17,13 +17,14 @@ use builder_state::Builder;
 use char_class::{class_of, first_mark};
 use entity_table::Table;
 use html_types::{
-    Finish, Name, Next, NoMemory, NodeId, Ops, RawText, TokenizerSwitch, Stop, TextState, TokState, Token,
-    Word, char_at,
+    Finish, Name, Next, NoMemory, NodeId, Ops, RawText, Stop, TextState, TokState, Token,
+    TokenizerSwitch, Word, char_at,
 };
 use std::alloc::Global;
 use std::marker::Model;
 use tokenizer::Tokenizer;
 use tokenizer::reading::is_plain;
+use tokenizer::whole::whole_tag;
 
 /// A parser: contracts see the tokenizer's state, whether the last character was a CR, and the open state.
 #[derive(Drop)]
@@ -412,6 +413,84 @@ impl Machine {
         Ok(from + run.len())
     }
 
+    // Whether the parser is in the data state, where a tag that stands whole in the text may be read at once.
+    fn reads_tags(&self) -> bool
+        ensures { IsTrue result → ReadsTags self.now }
+    {
+        !self.after_cr && matches!(self.tokenizer.state(), TokState::Text(TextState::Data))
+    }
+
+    // Processes a token that the tokenizer makes of some characters, and stays in its state.
+    fn take_token(&mut self, alloc: Global, token: &Token, ops: &mut Ops) -> Result<Stop, NoMemory>
+        ensures { IfOk result (λ stop. after_ops ops.old (build self.old.tokenizer self.old.after_cr (token.now ∷ []) self.old.open_state) ≡ took ops.new self.new stop) }
+    {
+        match process_alone(alloc, &mut self.tokenizer, &mut self.builder, token, ops) {
+            Ok(stop) => Ok(stop),
+            Err(error) => {
+                self.tokenizer.clear(alloc);
+                Err(error)
+            }
+        }
+    }
+
+    // Takes the tag that begins at a place with a character, where it is read at once.
+    fn take_tag(
+        &mut self,
+        alloc: Global,
+        text: &str,
+        from: usize,
+        c: char,
+        ops: &mut Ops,
+    ) -> Result<Option<Ran>, NoMemory>
+        requires { IsCharBoundary text.now from }
+        ensures boundary { IfOk result (λ o. IfSome o (λ ran. IsCharBoundary text.now ran.used)) }
+        ensures onward { IfOk result (λ o. IfSome o (λ ran. from < ran.used)) }
+        ensures parsed { IfOk result (λ o. IfSome o (λ ran. (es : Entities) → Takes es text.now from ran self.old ops.old self.new ops.new)) }
+        ensures none { IfOk result (λ o. o ≡ None → self.new ≡ self.old) }
+        ensures none_added { IfOk result (λ o. o ≡ None → ops.new ≡ ops.old) }
+    {
+        if c != '<' || !self.reads_tags() {
+            return Ok(None);
+        }
+        let Some(whole) = whole_tag(alloc, text, from)? else {
+            return Ok(None);
+        };
+        let stop = self.take_token(alloc, &whole.token, ops)?;
+        Ok(Some(Ran {
+            stop,
+            used: whole.end,
+        }))
+    }
+
+    // Takes a tag, or else one character, and says what it took; none at the end of the text.
+    fn take_next(
+        &mut self,
+        alloc: Global,
+        table: &Table,
+        text: &str,
+        from: usize,
+        ops: &mut Ops,
+    ) -> Result<Option<Ran>, NoMemory>
+        requires { IsCharBoundary text.now from }
+        ensures boundary { IfOk result (λ o. IfSome o (λ ran. IsCharBoundary text.now ran.used)) }
+        ensures onward { IfOk result (λ o. IfSome o (λ ran. from < ran.used)) }
+        ensures parsed { IfOk result (λ o. IfSome o (λ ran. Takes table.now text.now from ran self.old ops.old self.new ops.new)) }
+        ensures end { IfOk result (λ o. o ≡ None → from ≡ length text.now) }
+        ensures none { IfOk result (λ o. o ≡ None → self.new ≡ self.old) }
+        ensures none_added { IfOk result (λ o. o ≡ None → ops.new ≡ ops.old) }
+    {
+        let Some((c, behind)) = char_at(text, from) else {
+            return Ok(None);
+        };
+        match self.take_tag(alloc, text, from, c, ops)? {
+            Some(ran) => Ok(Some(ran)),
+            None => {
+                let stop = self.take(alloc, table, c, ops)?;
+                Ok(Some(Ran { stop, used: behind }))
+            }
+        }
+    }
+
     /// Takes the characters of a text, up to the first stop, with the named character references of `table`. Operations are added at the end of `ops`.
     /// Where it answers want of memory, the machine and the operations only keep their types.
     pub fn run(
@@ -426,12 +505,11 @@ impl Machine {
         ensures parsed { IfOk result (λ ran. RanAs (parse table.now self.old (chars text.now)) ops.old self.new ops.new ran text.now) }
     {
         let mut used = 0;
-        while let Some((c, behind)) = char_at(text, used) {
-            let stop = self.take(alloc, table, c, ops)?;
-            if stops(stop) {
-                return Ok(Ran { stop, used: behind });
+        while let Some(ran) = self.take_next(alloc, table, text, used, ops)? {
+            if stops(ran.stop) {
+                return Ok(ran);
             }
-            used = self.take_run(alloc, text, behind, ops)?;
+            used = self.take_run(alloc, text, ran.used, ops)?;
         }
         Ok(Ran {
             stop: Stop::InputEnd,

@@ -4,5 +4,6 @@
 mod discard;
 pub mod reading;
 pub mod run;
+pub mod whole;
 
 pub use run::{Pause, Ran, Tokenizer};

@@ -171,7 +171,7 @@ impl Live {
     fn remove(&mut self, id: &Text) -> Result<Did, NoMemory>
         ensures { IfOk result (λ did. HasRemoved (find_id self.old.doc.tree id.now) self.old self.new did) }
     {
-        match self.doc.find_id(id.as_str())? {
+        match self.doc.find_id(id.as_str()) {
             None => Ok(Did::Nothing),
             Some(node) => {
                 self.doc.remove(node);
@@ -210,7 +210,7 @@ impl Live {
             Statement::Write(text) => self.write(text, rest),
             Statement::Remove(id) => self.remove(id),
             Statement::LogById(id) => {
-                let node = self.doc.find_id(id.as_str())?;
+                let node = self.doc.find_id(id.as_str());
                 self.read(number, node)
             }
             Statement::LogRoot => {

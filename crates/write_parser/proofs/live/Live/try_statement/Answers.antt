@@ -16,9 +16,9 @@ returns-in-Remove c =
     (if_ok c.remove.result _ _ (λ d has. does-remove c.args.number c.in-Remove.id c.args.self.now c.args.rest.now c.remove.new.self c.args.rest.now d c.requires.going c.requires.waits refl has)
     c.remove.ensures)
 
-pub returns-in_ok-node-in-LogById : goal.returns-in_ok-node-in-LogById
-returns-in_ok-node-in-LogById c =
-    let found : c.in_ok-node-in-LogById.node ≡ find_id c.args.self.now.doc.tree c.in-LogById.id = c.in_ok-node-in-LogById.ensures.found ∙ ap (find_id c.args.self.now.doc.tree) c.as_str.ensures in
+pub returns-in-LogById : goal.returns-in-LogById
+returns-in-LogById c =
+    let found : c.find_id-node.result ≡ find_id c.args.self.now.doc.tree c.in-LogById.id = c.find_id-node.ensures.found ∙ ap (find_id c.args.self.now.doc.tree) c.as_str.ensures in
     subst (λ a. IfOk c.read.result (λ d. DoesMost c.args.number a c.args.self.now c.args.rest.now c.read.new.self c.args.rest.now d)) (sym c.in-LogById.is)
     (if_ok c.read.result _ _
     (λ d has. does-read-by_id c.args.number c.in-LogById.id c.args.self.now c.args.rest.now c.read.new.self c.args.rest.now d c.requires.going c.requires.waits refl

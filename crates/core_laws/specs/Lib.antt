@@ -1,0 +1,7 @@
+pub mod Alike
+pub mod Rebasing
+pub mod Ways
+pub mod OneResult
+pub mod DeskLaws
+pub mod CoreLaws
+pub mod Bounds

@@ -1,8 +1,0 @@
-use Rattle.op_exec.proofs.Renamed.{act-renamed, acts-renamed}
-use Rattle.op_exec.proofs.laws.same_up_to_renaming.Goals as goal
-
-pub returns-clause-one : goal.returns-clause-one
-returns-clause-one c r one d d' same op = act-renamed r one d d' same op
-
-pub returns-clause-all : goal.returns-clause-all
-returns-clause-all c r one d d' same ops = acts-renamed r one d d' same ops

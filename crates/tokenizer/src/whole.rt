@@ -1,0 +1,508 @@
+//! A tag that stands whole in a text, read at once in the data state.
+
+ghost use Rattle.std.specs.Prelude.{◌≡◌, ◌+◌, ◌<◌, ◌≤◌, ◌==◌, [], ◌∷◌, true, false, length, IfOk, IfSome, IsTrue};
+ghost use Rattle.std.specs.List.{list_any};
+ghost use Rattle.std.specs.Str.{chars, IsCharBoundary};
+ghost use Rattle.standard.specs.Step.{finished, tag_token};
+ghost use Rattle.tokenizer.specs.Whole.{all_of, is_gap, begins_name, begins_with, has_cr, quote_mark, close_text, may_close, piece, Opens, Gives, HasValue, MakesAlone};
+ghost use Rattle.tokenizer.specs.Whole as parts;
+ghost use Rattle.tokenizer.specs.declared.whole.Part.TheVariants as part;
+
+use char_class::{class_of, name_char, shown};
+use html_types::{Attribute, Attributes, Class, Name, NoMemory, Quote, Tag, TagKind, Text, Token};
+use std::alloc::Global;
+
+/// A tag, and the place behind it.
+#[derive(Drop)]
+pub struct Whole {
+    pub token: Token,
+    pub end: usize,
+}
+
+// The ASCII character at a place; none at the end, or where another stands.
+fn ascii_at(text: &str, place: usize) -> Option<char>
+    requires { IsCharBoundary text.now place }
+    ensures within { IfSome result (λ _. place < length text.now) }
+    ensures boundary { IfSome result (λ _. IsCharBoundary text.now (place + 1)) }
+    ensures read { IfSome result (λ c. piece text.now place (place + 1) ≡ c ∷ []) }
+{
+    let bytes = text.as_bytes();
+    if place < bytes.len() && bytes[place] < 128 {
+        Some(bytes[place] as char)
+    } else {
+        None
+    }
+}
+
+/// A part of a tag.
+#[derive(Clone, Copy)]
+pub enum Part {
+    TagName,
+    /// White space between parts.
+    Gap,
+    AttributeName,
+    /// A value between quotes.
+    Quoted(Quote),
+    /// A value without quotes.
+    Unquoted,
+}
+
+/// What stands right behind a part of a tag.
+#[derive(Clone, Copy)]
+pub enum Behind {
+    /// White space: any part or the tag's end may follow.
+    Space,
+    /// Nothing: the end may follow, with a slash or without.
+    Nothing,
+    /// Nothing, and the part is a value without quotes, to which a slash would belong: only `>` may follow.
+    Value,
+}
+
+fn in_name(class: Class) -> bool
+    ensures { result ≡ parts.in_name class }
+{
+    !matches!(
+        class,
+        Class::Space | Class::Slash | Class::Greater | Class::InputEnd
+    )
+}
+
+fn in_attribute_name(class: Class) -> bool
+    ensures { result ≡ parts.in_attribute_name class }
+{
+    in_name(class) && !matches!(class, Class::Equals)
+}
+
+fn in_quoted(quote: Quote, class: Class) -> bool
+    ensures { result ≡ parts.in_quoted quote class }
+{
+    match (quote, class) {
+        (Quote::Double, Class::DoubleQuote) => false,
+        (Quote::Single, Class::SingleQuote) => false,
+        (_, Class::Ampersand | Class::InputEnd) => false,
+        _ => true,
+    }
+}
+
+fn in_unquoted(class: Class) -> bool
+    ensures { result ≡ parts.in_unquoted class }
+{
+    !matches!(
+        class,
+        Class::Space
+            | Class::DoubleQuote
+            | Class::SingleQuote
+            | Class::Ampersand
+            | Class::Greater
+            | Class::InputEnd
+    )
+}
+
+// Whether this part of a tag goes on over a character, and gets it as it is.
+fn is_of(part: Part, c: char) -> bool
+    ensures { result ≡ parts.is_of part c }
+{
+    match part {
+        Part::TagName => in_name(class_of(c)) && name_char(c) == c,
+        Part::Gap => matches!(class_of(c), Class::Space),
+        Part::AttributeName => in_attribute_name(class_of(c)) && name_char(c) == c,
+        Part::Quoted(quote) => in_quoted(quote, class_of(c)) && shown(c) == c,
+        Part::Unquoted => in_unquoted(class_of(c)) && shown(c) == c,
+    }
+}
+
+// The end of what is left of a part.
+fn rest_of(text: &str, from: usize, part: Part) -> usize
+    requires { IsCharBoundary text.now from }
+    ensures boundary { IsCharBoundary text.now result }
+    ensures onward { from ≤ result }
+    ensures all { all_of part (piece text.now from result) ≡ true }
+{
+    let mut at = from;
+    while let Some(c) = ascii_at(text, at) {
+        if !is_of(part, c) {
+            return at;
+        }
+        at += 1;
+    }
+    at
+}
+
+// The end of the tag's name that begins at a place.
+fn name_end(text: &str, from: usize) -> Option<usize>
+    requires { IsCharBoundary text.now from }
+    ensures boundary { IfSome result (λ to. IsCharBoundary text.now to) }
+    ensures onward { IfSome result (λ to. from < to) }
+    ensures begins { IfSome result (λ to. begins_name (piece text.now from to) ≡ true) }
+    ensures name { IfSome result (λ to. all_of part.TagName (piece text.now from to) ≡ true) }
+{
+    let Some(c) = ascii_at(text, from) else {
+        return None;
+    };
+    if matches!(class_of(c), Class::Alpha) && is_of(Part::TagName, c) {
+        Some(rest_of(text, from + 1, Part::TagName))
+    } else {
+        None
+    }
+}
+
+// The place behind the character at a place, if it is of this kind.
+fn past(text: &str, from: usize, kind: char) -> Option<usize>
+    requires { IsCharBoundary text.now from }
+    ensures boundary { IfSome result (λ to. IsCharBoundary text.now to) }
+    ensures onward { IfSome result (λ to. from < to) }
+    ensures read { IfSome result (λ to. piece text.now from to ≡ kind ∷ []) }
+{
+    let Some(c) = ascii_at(text, from) else {
+        return None;
+    };
+    if c == kind { Some(from + 1) } else { None }
+}
+
+// The kind of a tag, and where its name begins.
+#[derive(Drop)]
+struct Head {
+    kind: TagKind,
+    name: usize,
+}
+
+// What stands before the name of a tag.
+fn head_at(text: &str, from: usize) -> Option<Head>
+    requires { IsCharBoundary text.now from }
+    ensures boundary { IfSome result (λ h. IsCharBoundary text.now h.name) }
+    ensures onward { IfSome result (λ h. from < h.name) }
+    ensures opens { IfSome result (λ h. Opens (piece text.now from h.name) h.kind) }
+{
+    let Some(open) = past(text, from, '<') else {
+        return None;
+    };
+    match past(text, open, '/') {
+        Some(name) => Some(Head {
+            kind: TagKind::End,
+            name,
+        }),
+        None => Some(Head {
+            kind: TagKind::Start,
+            name: open,
+        }),
+    }
+}
+
+// What stands behind a part, and where the white space there ends.
+#[derive(Drop)]
+struct Gap {
+    behind: Behind,
+    at: usize,
+}
+
+// What stands at a place, where a part ends; it may be a value without quotes.
+fn gap_at(text: &str, from: usize, unquoted: bool) -> Gap
+    requires { IsCharBoundary text.now from }
+    ensures boundary { IsCharBoundary text.now result.at }
+    ensures onward { from ≤ result.at }
+    ensures gap { is_gap unquoted result.behind (piece text.now from result.at) ≡ true }
+{
+    if let Some(c) = ascii_at(text, from) {
+        if is_of(Part::Gap, c) {
+            return Gap {
+                behind: Behind::Space,
+                at: rest_of(text, from + 1, Part::Gap),
+            };
+        }
+    }
+    Gap {
+        behind: if unquoted {
+            Behind::Value
+        } else {
+            Behind::Nothing
+        },
+        at: from,
+    }
+}
+
+// The end of the part that begins at a place, if one does.
+fn part_end(text: &str, from: usize, part: Part) -> Option<usize>
+    requires { IsCharBoundary text.now from }
+    ensures boundary { IfSome result (λ to. IsCharBoundary text.now to) }
+    ensures onward { IfSome result (λ to. from < to) }
+    ensures begins { IfSome result (λ to. begins_with part (piece text.now from to) ≡ true) }
+    ensures all { IfSome result (λ to. all_of part (piece text.now from to) ≡ true) }
+{
+    let Some(c) = ascii_at(text, from) else {
+        return None;
+    };
+    if is_of(part, c) {
+        Some(rest_of(text, from + 1, part))
+    } else {
+        None
+    }
+}
+
+// Which quote stands at a place.
+fn quote_at(text: &str, from: usize) -> Option<Quote>
+    requires { IsCharBoundary text.now from }
+    ensures boundary { IfSome result (λ _. IsCharBoundary text.now (from + 1)) }
+    ensures within { IfSome result (λ _. from < length text.now) }
+    ensures read { IfSome result (λ q. piece text.now from (from + 1) ≡ quote_mark q ∷ []) }
+{
+    let Some(c) = ascii_at(text, from) else {
+        return None;
+    };
+    if c == '"' {
+        Some(Quote::Double)
+    } else if c == '\'' {
+        Some(Quote::Single)
+    } else {
+        None
+    }
+}
+
+fn mark_of(quote: Quote) -> char
+    ensures { result ≡ quote_mark quote }
+{
+    match quote {
+        Quote::Double => '"',
+        Quote::Single => '\'',
+    }
+}
+
+// The value of an attribute, and what stands behind it.
+#[derive(Drop)]
+struct Value {
+    value: Text,
+    gap: Gap,
+}
+
+// What stands behind an attribute's name that has no value.
+fn no_value(alloc: Global, text: &str, from: usize) -> Value
+    requires { IsCharBoundary text.now from }
+    ensures boundary { IsCharBoundary text.now result.gap.at }
+    ensures onward { from ≤ result.gap.at }
+    ensures value { HasValue result.gap.behind (piece text.now from result.gap.at) result.value }
+{
+    Value {
+        value: Text::new(alloc),
+        gap: gap_at(text, from, false),
+    }
+}
+
+// The value behind `=` and a quote.
+fn quoted_value(
+    alloc: Global,
+    text: &str,
+    from: usize,
+    start: usize,
+    quote: Quote,
+) -> Result<Option<Value>, NoMemory>
+    requires boundary { IsCharBoundary text.now from }
+    requires behind { IsCharBoundary text.now start }
+    requires onward { from < start }
+    requires opens { piece text.now from start ≡ 61 ∷ quote_mark quote ∷ [] }
+    ensures boundary { IfOk result (λ o. IfSome o (λ v. IsCharBoundary text.now v.gap.at)) }
+    ensures onward { IfOk result (λ o. IfSome o (λ v. from ≤ v.gap.at)) }
+    ensures value { IfOk result (λ o. IfSome o (λ v. HasValue v.gap.behind (piece text.now from v.gap.at) v.value)) }
+{
+    let end = rest_of(text, start, Part::Quoted(quote));
+    let Some(close) = past(text, end, mark_of(quote)) else {
+        return Ok(None);
+    };
+    let gap = gap_at(text, close, false);
+    let value = Text::from_str(alloc, &text[start..end])?;
+    Ok(Some(Value { value, gap }))
+}
+
+// The value behind `=`, where no quote stands.
+fn unquoted_value(
+    alloc: Global,
+    text: &str,
+    from: usize,
+    start: usize,
+) -> Result<Option<Value>, NoMemory>
+    requires boundary { IsCharBoundary text.now from }
+    requires behind { IsCharBoundary text.now start }
+    requires onward { from < start }
+    requires opens { piece text.now from start ≡ 61 ∷ [] }
+    ensures boundary { IfOk result (λ o. IfSome o (λ v. IsCharBoundary text.now v.gap.at)) }
+    ensures onward { IfOk result (λ o. IfSome o (λ v. from ≤ v.gap.at)) }
+    ensures value { IfOk result (λ o. IfSome o (λ v. HasValue v.gap.behind (piece text.now from v.gap.at) v.value)) }
+{
+    let Some(end) = part_end(text, start, Part::Unquoted) else {
+        return Ok(None);
+    };
+    let gap = gap_at(text, end, true);
+    let value = Text::from_str(alloc, &text[start..end])?;
+    Ok(Some(Value { value, gap }))
+}
+
+// What stands behind an attribute's name; none where it is not read so.
+fn value_at(alloc: Global, text: &str, from: usize) -> Result<Option<Value>, NoMemory>
+    requires { IsCharBoundary text.now from }
+    ensures boundary { IfOk result (λ o. IfSome o (λ v. IsCharBoundary text.now v.gap.at)) }
+    ensures onward { IfOk result (λ o. IfSome o (λ v. from ≤ v.gap.at)) }
+    ensures value { IfOk result (λ o. IfSome o (λ v. HasValue v.gap.behind (piece text.now from v.gap.at) v.value)) }
+{
+    let Some(equals) = past(text, from, '=') else {
+        return Ok(Some(no_value(alloc, text, from)));
+    };
+    match quote_at(text, equals) {
+        Some(quote) => quoted_value(alloc, text, from, equals + 1, quote),
+        None => unquoted_value(alloc, text, from, equals),
+    }
+}
+
+// An attribute, and what stands behind it.
+#[derive(Drop)]
+struct Found {
+    attribute: Attribute,
+    gap: Gap,
+}
+
+// The attribute that begins at a place.
+fn attribute_at(alloc: Global, text: &str, from: usize) -> Result<Option<Found>, NoMemory>
+    requires { IsCharBoundary text.now from }
+    ensures boundary { IfOk result (λ o. IfSome o (λ f. IsCharBoundary text.now f.gap.at)) }
+    ensures onward { IfOk result (λ o. IfSome o (λ f. from < f.gap.at)) }
+    ensures begins { IfOk result (λ o. IfSome o (λ f. begins_with part.AttributeName (piece text.now from f.gap.at) ≡ true)) }
+    ensures gives { IfOk result (λ o. IfSome o (λ f. Gives f.gap.behind (piece text.now from f.gap.at) f.attribute)) }
+{
+    let Some(end) = part_end(text, from, Part::AttributeName) else {
+        return Ok(None);
+    };
+    let Some(held) = value_at(alloc, text, end)? else {
+        return Ok(None);
+    };
+    let name = Text::from_str(alloc, &text[from..end])?;
+    Ok(Some(Found {
+        attribute: Attribute {
+            name,
+            value: held.value,
+        },
+        gap: held.gap,
+    }))
+}
+
+// The tag with these parts.
+fn tag_of(
+    alloc: Global,
+    kind: TagKind,
+    name: &str,
+    attributes: Attributes,
+    self_closing: bool,
+) -> Result<Token, NoMemory>
+    ensures { IfOk result (λ t. t ≡ tag_token kind (finished self_closing (record { kind = kind; name = chars name.now; attributes = attributes }))) }
+{
+    let tag = Tag {
+        name: Name::from_text(Text::from_str(alloc, name)?),
+        attributes,
+        self_closing,
+    };
+    match kind {
+        TagKind::Start => Ok(Token::StartTag(tag)),
+        TagKind::End => Ok(Token::EndTag(tag)),
+    }
+}
+
+// Whether the tag ends with a slash, and the place behind it.
+#[derive(Drop)]
+struct Close {
+    self_closing: bool,
+    end: usize,
+}
+
+// The end of the tag at a place; none where the tag goes on.
+fn close_at(text: &str, from: usize, behind: Behind) -> Option<Close>
+    requires { IsCharBoundary text.now from }
+    ensures boundary { IfSome result (λ e. IsCharBoundary text.now e.end) }
+    ensures onward { IfSome result (λ e. from < e.end) }
+    ensures read { IfSome result (λ e. piece text.now from e.end ≡ close_text e.self_closing) }
+    ensures may { IfSome result (λ e. may_close behind e.self_closing ≡ true) }
+{
+    if let Some(end) = past(text, from, '>') {
+        return Some(Close {
+            self_closing: false,
+            end,
+        });
+    }
+    if matches!(behind, Behind::Value) {
+        return None;
+    }
+    let Some(slash) = past(text, from, '/') else {
+        return None;
+    };
+    match past(text, slash, '>') {
+        None => None,
+        Some(end) => Some(Close {
+            self_closing: true,
+            end,
+        }),
+    }
+}
+
+// The tag that begins at a place, whose characters may have a CR among them.
+fn tag_at(alloc: Global, text: &str, from: usize) -> Result<Option<Whole>, NoMemory>
+    requires { IsCharBoundary text.now from }
+    ensures boundary { IfOk result (λ o. IfSome o (λ w. IsCharBoundary text.now w.end)) }
+    ensures onward { IfOk result (λ o. IfSome o (λ w. from < w.end)) }
+    ensures alone { IfOk result (λ o. IfSome o (λ w. MakesAlone (piece text.now from w.end) w.token)) }
+{
+    let Some(head) = head_at(text, from) else {
+        return Ok(None);
+    };
+    let Some(to) = name_end(text, head.name) else {
+        return Ok(None);
+    };
+    let mut attributes = Attributes::new(alloc);
+    let mut gap = gap_at(text, to, false);
+    'attributes: loop {
+        if let Some(close) = close_at(text, gap.at, gap.behind) {
+            let name = &text[head.name..to];
+            let token = tag_of(alloc, head.kind, name, attributes, close.self_closing)?;
+            return Ok(Some(Whole {
+                token,
+                end: close.end,
+            }));
+        }
+        if !matches!(gap.behind, Behind::Space) {
+            return Ok(None);
+        }
+        let Some(found) = attribute_at(alloc, text, gap.at)? else {
+            return Ok(None);
+        };
+        if attributes.has(&found.attribute.name) {
+            return Ok(None);
+        }
+        attributes.push(found.attribute)?;
+        gap = found.gap;
+    }
+}
+
+fn has_cr_byte(bytes: &[u8]) -> bool
+    ensures { result ≡ list_any (λ x. x == 13) bytes.now }
+{
+    bytes.iter().any(|byte| *byte == b'\r')
+}
+
+fn lacks_cr(text: &str) -> bool
+    ensures { IsTrue result → has_cr (chars text.now) ≡ false }
+{
+    !has_cr_byte(text.as_bytes())
+}
+
+/// The tag that begins at a place, and the place behind it; none where the text has none there, or where it is not read so.
+/// A CR would be read as a line feed (13.2.3.5), so a tag with one is left to the tokenizer.
+pub fn whole_tag(alloc: Global, text: &str, from: usize) -> Result<Option<Whole>, NoMemory>
+    requires { IsCharBoundary text.now from }
+    ensures boundary { IfOk result (λ o. IfSome o (λ w. IsCharBoundary text.now w.end)) }
+    ensures onward { IfOk result (λ o. IfSome o (λ w. from < w.end)) }
+    ensures alone { IfOk result (λ o. IfSome o (λ w. MakesAlone (piece text.now from w.end) w.token)) }
+    ensures no_cr { IfOk result (λ o. IfSome o (λ w. has_cr (piece text.now from w.end) ≡ false)) }
+{
+    let Some(whole) = tag_at(alloc, text, from)? else {
+        return Ok(None);
+    };
+    if lacks_cr(&text[from..whole.end]) {
+        Ok(Some(whole))
+    } else {
+        Ok(None)
+    }
+}
