@@ -4,6 +4,7 @@
 mod discard;
 pub mod laws;
 pub mod reading;
+pub mod reference;
 pub mod run;
 pub mod whole;
 
