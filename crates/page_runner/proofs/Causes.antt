@@ -3,7 +3,7 @@ use Rattle.std.proofs.Common.{◌≡◌, ℕ, Bool, List, [], Option, Some, None
 use Rattle.std.specs.Prelude.{◌⊎◌, true}
 use Rattle.html_types.specs.declared.script.Why.TheVariants as why
 use Rattle.outside.specs.Outside.{Rose, Seen}
-use Rattle.outside.specs.declared.traits.Port.TheVariants.{Entities, Page, Script}
+use Rattle.outside.specs.declared.traits.Port.TheVariants.{Entities}
 use Rattle.standard.specs.Entities.{Entities as Table}
 use Rattle.standard.specs.Scripts.{Fetched}
 use Rattle.standard.specs.Scripts as fetched
@@ -12,8 +12,8 @@ use Rattle.page_runner.specs.declared.command.TheConstants.{ENTITIES_LIMIT}
 use Rattle.page_runner.specs.declared.status.Status.{Status}
 use Rattle.page_runner.specs.declared.status.Status.TheVariants as status
 use Rattle.page_runner.specs.Words.{Asked}
-use Rattle.page_runner.specs.Given.{Given, unmet, missing, faulted, got, FaultsRose, MayGive}
-use Rattle.page_runner.specs.Scripts.{MayFetch, AreScriptsOf}
+use Rattle.page_runner.specs.Given.{Given, unmet, missing, faulted, got, MayGive}
+use Rattle.page_runner.specs.Scripts.{MayFetch}
 use Rattle.page_runner.specs.Pages.{world_of}
 use Rattle.page_runner.specs.Answers.{PageMet, MayGivePage, IsParsed, status_with, answer_to_page, answer_over, answer_to, table_of, Gives, RunsTo, Exactly, AbsenceRose, FaultRose}
 use Rattle.page_runner.proofs.PageFaults.{fault_met}

@@ -1,6 +1,6 @@
 -- What fetching does to the scripts that were met.
 use Rattle.std.proofs.Common.{◌≡◌, ℕ, Bool, true, false, List, [], ◌∷◌, ◌++◌, Option, Some, None, IfSome, refl, sym, ap, ◌∙◌, subst, inl, inr, cond, take, ◌+◌}
-use Rattle.std.specs.Prelude.{◌⊎◌, ◌≤◌, ◌≢◌, map, IsSome, IsSomeAnd, IfNone, IsErr, is_some, is_ok, Result, Ok, Err}
+use Rattle.std.specs.Prelude.{◌⊎◌, ◌≢◌, IsSome, IsSomeAnd, IfNone, IsErr, is_some, is_ok, Result, Ok, Err}
 use Rattle.std.specs.List.{AllByRecursion}
 use Rattle.std.proofs.lemmas.List.{map-append}
 use denote.Bor.{Bor}
@@ -12,7 +12,7 @@ use Rattle.std.specs.Cmp.Lexicographic.{slice_cmp}
 use Rattle.std.specs.Str.{chars, bytes_eq, IsUtf8}
 use Rattle.std.specs.String.{string_bytes}
 use Rattle.std.proofs.lemmas.Slice.Eq.{bytes_eq-Decides}
-use Rattle.outside.specs.Outside.{Rose, Seen, Files, Paths, Begun, NeverFall, KeepsOthers}
+use Rattle.outside.specs.Outside.{Seen, Paths, Begun, KeepsOthers}
 use Rattle.outside.specs.declared.traits.Port.{Port}
 use Rattle.outside.specs.declared.traits.Port.TheVariants as port
 use Rattle.standard.specs.Scripts.{Fetched, got, missing, faulted, is_lawful, file_statements}
@@ -23,8 +23,8 @@ use Rattle.page_runner.specs.declared.scripts.TheConstants.{SCRIPT_LIMIT}
 use Rattle.page_runner.specs.declared.scripts.Script.{Script}
 use Rattle.page_runner.specs.declared.scripts.Script.TheVariants.{Text, Missing, Faulted}
 use Rattle.page_runner.specs.declared.scripts.ScriptFiles.{ScriptFiles}
-use Rattle.page_runner.specs.Given.{given_of, FaultsRose, NoFault, AbsencesRose, file_at, MayGive, AreRead, ReadTo, untouched, unbegun, begun}
-use Rattle.page_runner.specs.Scripts.{path_of, IsAbsent, MayFetch, ReadScriptsTo, none_begun, last, met_of, StandsFor, IsScriptOf, Knows, Suits, MayMeet, AreDistinct, NamesOnce, BeginsNew, Fetches}
+use Rattle.page_runner.specs.Given.{given_of, NoFault, AbsencesRose, file_at, MayGive, AreRead, ReadTo, untouched, unbegun, begun}
+use Rattle.page_runner.specs.Scripts.{path_of, IsAbsent, MayFetch, ReadScriptsTo, none_begun, last, met_of, IsScriptOf, MayMeet, AreDistinct, NamesOnce, BeginsNew, Fetches}
 use Rattle.page_runner.proofs.KeepsLemmas.{begun_none, begun_then, rose-on, rose-stays, Later, later-others}
 use Rattle.page_runner.proofs.FetchLemmas.{cut-statements, lawful-bytes}
 

@@ -10,7 +10,7 @@ use Rattle.html_types.specs.declared.script.Why.TheVariants as why
 use Rattle.outside.specs.Outside.{Rose, Seen, KeepsOthers}
 use Rattle.outside.specs.declared.traits.Port.TheVariants as port
 use Rattle.standard.specs.Entities.{Entities}
-use Rattle.standard.specs.Page.{ending_of, shown, is_text_so_far}
+use Rattle.standard.specs.Page.{shown, is_text_so_far}
 use Rattle.utf8_pieces.specs.declared.decoder.Decoder.{Decoder}
 use Rattle.utf8_pieces.specs.Decoder.{HasRead}
 use Rattle.utf8_pieces.proofs.DecoderLemmas.{text_is_so_far, not_lt}

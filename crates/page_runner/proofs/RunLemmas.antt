@@ -1,9 +1,8 @@
 -- From the parts of a run to its answer.
-use Rattle.std.proofs.Common.{◌≡◌, ℕ, ◌<◌, ◌≤◌, ◌+◌, List, [], ◌∷◌, ◌++◌, Bool, true, false, Option, Some, None, IfSome, flat_map, refl, sym, ap, subst, ◌∙◌, inl, inr, arith, length}
+use Rattle.std.proofs.Common.{◌≡◌, ℕ, ◌≤◌, ◌+◌, List, [], ◌∷◌, ◌++◌, Bool, true, false, Option, Some, None, IfSome, flat_map, refl, sym, ap, subst, ◌∙◌, inl, inr, arith}
 use Rattle.std.specs.Prelude.{◌⊎◌, IsSome, IsSomeAnd, IsTrue}
 use Rattle.std.specs.Bool.{OnTrue, OnFalse}
 use Rattle.std.specs.Option.{option_map}
-use Rattle.std.proofs.lemmas.Bool.{lt-leb}
 use Rattle.html_types.specs.declared.script.Why.TheVariants as why
 use Rattle.outside.specs.Outside.{Rose, Files, Begun, Seen, KeepsOthers}
 use Rattle.outside.specs.declared.traits.Port.{Port}
@@ -12,7 +11,7 @@ use Rattle.standard.specs.Act.{Doc}
 use Rattle.standard.specs.Entities.{Entities as Table}
 use Rattle.standard.specs.Scripts.{Fetched, is_lawful}
 use Rattle.standard.specs.Scripts as fetched
-use Rattle.standard.specs.Serial.{World, Result, finished, refused}
+use Rattle.standard.specs.Serial.{World}
 use Rattle.standard.specs.Output.{line_text, result_with, output_with}
 use Rattle.standard.proofs.Total.{has_outcome}
 use Rattle.write_parser.specs.Writing.{View}
@@ -30,7 +29,7 @@ use Rattle.page_runner.specs.declared.status.Status.TheVariants as status
 use Rattle.page_runner.specs.Words.{Asked}
 use Rattle.page_runner.specs.Given.{Given, unmet, missing, faulted, got, FaultsRose, NoFault, AbsencesRose, file_at, MayGive, AreRead, ReadTo, untouched, unbegun, begun, KeepsEntities}
 use Rattle.page_runner.specs.Taken.{Took, TookFront}
-use Rattle.page_runner.specs.Scripts.{path_of, IsAbsent, MayFetch, AreScriptsOf, ReadScriptsTo, NamesOnce, none_begun, last}
+use Rattle.page_runner.specs.Scripts.{path_of, IsAbsent, MayFetch, ReadScriptsTo, NamesOnce, none_begun, last}
 use Rattle.page_runner.specs.Shown.{result_of, status_of}
 use Rattle.page_runner.specs.Pages.{PageRead, page_at, world_of, AreTaken, ReadsOn, IsReadFrom, MeetsFaults, Ended, EndsWithScripts, FrontWithScripts}
 use Rattle.page_runner.specs.Answers.{IsPageOf, PageMet, MayGivePage, FaultsMet, IsParsed, Answer, status_with, answer_to_page, answer_over, answer_to, table_of, status_for, Gives, is_answered, IsBegun, PageAnswers, ReadsPage, ReadsTable, ReadsNone, answer_without, Answers, RunsTo, StopsAtEach, StopsAtLimits, BeginsEach, BeginsOnce, is_finished}

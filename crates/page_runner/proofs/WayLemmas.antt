@@ -10,7 +10,6 @@ use Rattle.html_types.specs.declared.script.Why.{Why}
 use Rattle.html_types.specs.declared.script.Why.TheVariants as why
 use Rattle.html_types.specs.declared.script.Line.{Line}
 use Rattle.html_types.specs.declared.script.Line.TheVariants as line
-use Rattle.html_types.specs.declared.script.Statement.{Statement}
 use Rattle.html_types.specs.declared.instruction.Stop.{Stop}
 use Rattle.html_types.specs.declared.instruction.Stop.TheVariants as stop
 use Rattle.outside.specs.Outside.{Seen}
@@ -20,15 +19,13 @@ use Rattle.standard.specs.Act.{Doc}
 use Rattle.standard.specs.Parser.{Parser}
 use Rattle.standard.specs.Scripts.{Fetched, got, missing, faulted, is_lawful, file_statements}
 use Rattle.standard.specs.Statements.{statements}
-use Rattle.standard.specs.Serial.{World, fetched_if, fetched, Serial, Flow, goes, refuses, awaiting, run_text, Moment, reading, tag_ended, awaits, over, behind_script, refusal, Leads}
+use Rattle.standard.specs.Serial.{World, fetched_if, fetched, Serial, Flow, awaiting, run_text, Moment, reading, tag_ended, awaits, over, behind_script, refusal, Leads}
 use Rattle.standard.specs.Laws.{HasParsed, FileComesTo, moment_at, lines_of}
 use Rattle.standard.specs.Output.{line_text}
 use Rattle.standard.proofs.Passing.{leads-batch, parse-left}
 use Rattle.standard.proofs.Scripts.{awaits-missing, awaits-fault, awaits-got, awaits-refuses}
 use Rattle.parse_machine.specs.declared.machine.Ran.{Ran}
-use Rattle.write_parser.specs.declared.left.Left.{Left}
-use Rattle.write_parser.specs.declared.left.Left.TheVariants as left
-use Rattle.write_parser.specs.Writing.{View, serial_of, moment_by, moment_of, StandsBy, Stands, IsOver, AtTag, LeadsTo, Parses, IsRefusal, ComesBy, Comes, Runs, HasRun, HasMissed, LeftIs}
+use Rattle.write_parser.specs.Writing.{View, serial_of, moment_by, moment_of, StandsBy, Stands, AtTag, LeadsTo, Parses, ComesBy, Runs, HasRun, HasMissed}
 use Rattle.page_runner.specs.declared.driver.Went.{Went}
 use Rattle.page_runner.specs.declared.driver.Went.TheVariants.{On, Refused}
 use Rattle.page_runner.specs.declared.scripts.Script.{Script}
@@ -37,7 +34,7 @@ use Rattle.page_runner.specs.declared.scripts.ScriptFiles.{ScriptFiles}
 use Rattle.page_runner.specs.Taken.{Took, TookFront}
 use Rattle.page_runner.specs.Scripts.{met_of, StandsFor, Suits, Fetches}
 use Rattle.page_runner.specs.Given.{NoFault}
-use Rattle.page_runner.specs.Moments.{StopsAtFault, IsReady, IsLeft, AtText, IsRefused, AtStop, Arrives, Resumes, HasLines, Way, Reaches, ReachesInPart, Takes}
+use Rattle.page_runner.specs.Moments.{StopsAtFault, IsReady, AtText, IsRefused, AtStop, Arrives, Resumes, HasLines, Way, Reaches, ReachesInPart}
 use Rattle.page_runner.proofs.PageTakenLemmas.{took_nothing, front_nothing, took_then, front_then, front_longer}
 
 -- what a failed call owes

@@ -1,5 +1,5 @@
 -- What a run answers: its status and the bytes that the sink took, as a function of what it met outside.
-use Rattle.std.specs.Prelude.{◌≡◌, ◌⊎◌, ℕ, Bool, true, false, List, [], ◌∷◌, ◌++◌, length, nat_le, if◌then◌else◌, Option, Some, None, IfSome, IsSome, IsTrue}
+use Rattle.std.specs.Prelude.{◌≡◌, ◌⊎◌, ℕ, Bool, true, false, List, [], ◌++◌, length, nat_le, if◌then◌else◌, Option, Some, None, IfSome, IsSome, IsTrue}
 use Rattle.html_types.specs.declared.script.Why.TheVariants as why
 use Rattle.outside.specs.Outside.{Rose, Begun, Seen}
 use Rattle.outside.specs.declared.traits.Port.TheVariants.{Entities, Page, Script}

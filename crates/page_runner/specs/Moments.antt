@@ -1,6 +1,5 @@
 -- The driver against the serial parse: from which moments its parts lead to which, and what the sink took on the way.
 use Rattle.std.specs.Prelude.{◌≡◌, ◌⊎◌, ℕ, List, [], ◌++◌, flat_map, Option, Some, None}
-use Rattle.std.specs.Str.{chars}
 use Rattle.html_types.specs.declared.script.Ending.{Ending}
 use Rattle.html_types.specs.declared.script.Why.{Why}
 use Rattle.html_types.specs.declared.script.Why.TheVariants as why

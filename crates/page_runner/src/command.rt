@@ -71,13 +71,7 @@ fn write_end<K: Sink>(
 }
 
 // The same, and the status of the run.
-fn end_page<K: Sink>(
-    alloc: Global,
-    out: &mut K,
-    doc: &Doc,
-    outcome: Outcome,
-    dump: bool,
-) -> Status
+fn end_page<K: Sink>(alloc: Global, out: &mut K, doc: &Doc, outcome: Outcome, dump: bool) -> Status
     ensures gives { Gives (Rose (K.faults out.old) (K.faults out.new)) (K.taken out.old) (K.taken out.new)
         (status_of outcome, result_with dump (result_of outcome) doc.now.tree) result }
     ensures clean { IsTrue (is_finished result) → IsTrue (K.clean out.new) }

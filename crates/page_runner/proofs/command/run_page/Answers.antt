@@ -1,4 +1,4 @@
-use Rattle.std.proofs.Common.{refl, inl, inr}
+use Rattle.std.proofs.Common.{refl, inr}
 use Rattle.std.specs.String.{string_bytes}
 use Rattle.page_runner.proofs.RunLemmas.{page_since, page_faulted, page_absent, page_unbegun, reads_since, found_there}
 use Rattle.page_runner.proofs.command.run_page.Goals as goal

@@ -1,4 +1,4 @@
-use Rattle.std.proofs.Common.{ap, sym, subst, ◌∙◌, refl, inl}
+use Rattle.std.proofs.Common.{ap, sym, subst, ◌∙◌}
 use Rattle.std.specs.Prelude.{is_some, is_ok}
 use Rattle.std.specs.Str.{chars}
 use Rattle.standard.specs.Statements.{statements}
