@@ -14,7 +14,7 @@ use Rattle.standard.specs.Entities.{Entity, Entities, begins_some, longest}
 use Rattle.standard.specs.ReferenceStates.{ampersand_row, named_row, named_step}
 use Rattle.standard.specs.Step.{Step, data_state, in_reference, to, again}
 use Rattle.standard.specs.Tokenizer.{Reached, after_tokens, row, settle, readings, reading, read, feed}
-use Rattle.standard.proofs.SettleLemmas.{settle-again, settle-done}
+use Rattle.tokenizer_laws.proofs.SettleLemmas.{settle-again, settle-done}
 use Rattle.entity_table.specs.Held.{Holds}
 use Rattle.entity_table.specs.declared.cursor.Cursor.{Cursor}
 use Rattle.entity_table.specs.Matches.{IsMatch, Tells}
