@@ -1,6 +1,6 @@
 -- A named character reference that stands whole in a text, read character by character.
-use Rattle.std.proofs.Common.{◌≡◌, ℕ, suc, ◌+◌, Bool, true, false, true≢false, List, [], ◌∷◌, ◌++◌, length, drop, refl, sym, ap, subst, ◌∙◌, append-nil, append_assoc, arith}
-use Rattle.std.specs.Prelude.{map, Option, Some, None, if◌then◌else◌}
+use Rattle.std.proofs.Common.{◌≡◌, ℕ, ◌+◌, true, false, true≢false, List, [], ◌∷◌, ◌++◌, length, drop, refl, sym, ap, subst, ◌∙◌, append-nil, append_assoc, arith}
+use Rattle.std.specs.Prelude.{map, Option, Some}
 use Rattle.std.proofs.Math.Seq.{drop-length}
 use Rattle.std.proofs.lemmas.List.{length-append}
 use Rattle.html_types.specs.declared.class.Class.{Class}
@@ -13,7 +13,7 @@ use Rattle.standard.specs.Class.{class_of}
 use Rattle.standard.specs.Entities.{Entity, Entities, begins_some, longest}
 use Rattle.standard.specs.ReferenceStates.{ampersand_row, named_row, named_step}
 use Rattle.standard.specs.Step.{Step, data_state, in_reference, to, again}
-use Rattle.standard.specs.Tokenizer.{Reached, after_tokens, row, settle, readings, reading, read, feed}
+use Rattle.standard.specs.Tokenizer.{Reached, after_tokens, row, settle, readings, read, feed}
 use Rattle.tokenizer_laws.proofs.SettleLemmas.{settle-again, settle-done}
 use Rattle.entity_table.specs.Held.{Holds}
 use Rattle.entity_table.specs.declared.cursor.Cursor.{Cursor}

@@ -1,4 +1,4 @@
-use Rattle.std.proofs.Common.{length, arith}
+use Rattle.std.proofs.Common.{arith}
 use Rattle.tokenizer.specs.Whole.{piece}
 use Rattle.tokenizer.proofs.ReferenceLemmas.{refers}
 use Rattle.tokenizer.proofs.reference.found.Goals as goal
