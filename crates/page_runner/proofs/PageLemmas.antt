@@ -14,7 +14,7 @@ use Rattle.standard.specs.Serial.{World, Serial, Outcome, refusal, Moment, readi
 use Rattle.standard_laws.specs.Laws.{HasFinished, lines_of, outcome_at}
 use Rattle.standard.specs.Output.{line_text, result_with}
 use Rattle.standard_laws.proofs.Passing.{leads-same, leads-end, leads-finish, passes-over}
-use Rattle.standard_laws.proofs.Lines.{passed-output_with}
+use Rattle.standard_laws.proofs.Lines.{passed-output}
 use Rattle.utf8_pieces.proofs.PageLaws.{text_of-nil, text_of-extends, shown-stays}
 use Rattle.write_parser.specs.Writing.{View, first_view, serial_of, Finishes}
 use Rattle.page_runner.specs.declared.page.TheConstants.{PAGE_LIMIT}
@@ -87,7 +87,7 @@ module _ (es : Entities) (read piece text : List ℕ) (d : Driver) (files : Scri
         let there = text_in w suits others fault in
         let from = reading (serial_of d.writer at.lines (text ++ there.0)) in
         let met = part.way.leads (page_at (going_on (read ++ piece) others fault)).ending w (before_page (text_of PAGE_LIMIT ((read ++ piece) ++ others))) from at.lines there.0 suits refl there.1 in
-        let begins = passed-output_with dump (page_at (going_on (read ++ piece) others fault)) w met.0 o met.2 comes in
+        let begins = passed-output dump (page_at (going_on (read ++ piece) others fault)) w met.0 o met.2 comes in
         let lines : flat_map line_text (lines_of met.0) ≡ flat_map line_text at.lines ++ flat_map line_text part.more =
         ap (flat_map line_text) met.1 ∙ flat_map-append line_text at.lines part.more in
         subst (λ l. TookFront t t' l) (sym (begins.1 ∙ ap (λ l. l ++ begins.0) lines))
@@ -133,7 +133,7 @@ pub took_of_lines : (es : Entities) (read : List ℕ) (d : Driver) (t t' : Optio
 took_of_lines es read d t t' at = record {
   front = λ dump w others fault o suits comes.
       let there = stands_in es read d t t' at w suits others fault in
-      let begins = passed-output_with dump (page_at (going_on read others fault)) w (reading (serial_of d.writer at.lines there.0)) o there.1 comes in
+      let begins = passed-output dump (page_at (going_on read others fault)) w (reading (serial_of d.writer at.lines there.0)) o there.1 comes in
       let lines : flat_map line_text (at.lines ++ d.writer.lines) ≡ flat_map line_text at.lines ++ flat_map line_text d.writer.lines = flat_map-append line_text at.lines d.writer.lines in
       subst (λ l. TookFront t t' l) (sym (begins.1 ∙ ap (λ l. l ++ begins.0) lines))
       (front_longer t t' (flat_map line_text at.lines ++ flat_map line_text d.writer.lines) begins.0 (front_longer t t' (flat_map line_text at.lines) (flat_map line_text d.writer.lines) (front_of_all t t' _ at.took)));
