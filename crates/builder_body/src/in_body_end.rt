@@ -2,6 +2,7 @@
 
 ghost use Rattle.std.specs.Prelude.{◌≡◌};
 ghost use Rattle.standard.specs.Rules.{end_row};
+ghost use Rattle.html_types.specs.declared.name.Name.TheVariants.{Known};
 
 use html_types::instruction::Instr::*;
 use html_types::instruction::Test::*;
@@ -10,7 +11,7 @@ use html_types::word::Word::*;
 use html_types::{Group, Instr, Mode, Scope, Word};
 
 pub fn end(word: Word) -> &'static [Instr]
-    ensures { result.now ≡ end_row Mode.InBody (Name.Known word) }
+    ensures { result.now ≡ end_row Mode.InBody (Known word) }
 {
     match word {
         Template => &[Using(Mode::InHead)],

@@ -2,6 +2,7 @@
 
 ghost use Rattle.std.specs.Prelude.{◌≡◌};
 ghost use Rattle.standard.specs.Rules.{start_row};
+ghost use Rattle.html_types.specs.declared.name.Name.TheVariants.{Known};
 
 use html_types::instruction::Instr::*;
 use html_types::instruction::Test::*;
@@ -13,7 +14,7 @@ use html_types::{Group, Instr, Mode, Scope, TokenizerSwitch, Word};
 const CLOSE_P: Instr = Close(Scope::Button, The(P));
 
 pub fn start(word: Word) -> &'static [Instr]
-    ensures { result.now ≡ start_row Mode.InBody (Name.Known word) }
+    ensures { result.now ≡ start_row Mode.InBody (Known word) }
 {
     match word {
         Html => &[Forbid(OnStack(The(Template))), AddToFirst],

@@ -1,6 +1,8 @@
 //! The questions that a row asks.
 
 ghost use Rattle.std.specs.Prelude.{◌≡◌};
+ghost use Rattle.html_types.specs.Names.{name_of};
+ghost use Rattle.standard.specs.Elements.{is_word};
 ghost use Rattle.standard.specs.Instructions.{holds, in_form, is_quirky};
 
 use crate::formatting::is_listed;
@@ -8,14 +10,24 @@ use crate::inputs::is_hidden_input;
 use crate::places::second_is_body;
 use crate::reset::is_table_mode;
 use crate::walks::{is_current, is_in_scope, is_on_stack, is_option_in_optgroup};
-use html_types::{Open, Test, Token, Who, Word};
+use html_types::{Open, Test, Text, Token, Who, Word};
+
+/// Whether the text is the name "html".
+fn is_html(name: &Text) -> bool
+    ensures { result ≡ is_word Word.Html (name_of name.now) }
+{
+    match Word::find(name.as_str()) {
+        Some(word) => word.same(Word::Html),
+        None => false,
+    }
+}
 
 /// Whether a document of the token's doctype is in quirks mode.
 fn is_quirky_doctype(token: &Token) -> bool
     ensures { result ≡ is_quirky token.now }
 {
     match token {
-        Token::Doctype { name, force_quirks } => *force_quirks || !name.is(Word::Html.text()),
+        Token::Doctype { name, force_quirks } => *force_quirks || !is_html(name),
         _ => false,
     }
 }

@@ -24,6 +24,7 @@ pub record IsText (es : Entities) (p : Parser) (x : Piece) (b : Batch) (bs : Lis
   pub parsed : b ≡ text_batch p b.text (parse es p b.text)
   pub used : drop (parse es p b.text).used b.text ≡ []
   pub more : GoesOn b.halt (bs ≡ (answer es (Some b.after) (record x { text = rest })).batches)
+  pub ends : GoesOn b.halt ((answer es (Some p) x).parser ≡ (answer es (Some b.after) (record x { text = rest })).parser)
 
 -- the batch of the page's ending, which is the last
 pub record IsLast (es : Entities) (p : Parser) (x : Piece) (b : Batch) (bs : List Batch) : Type 0 where
@@ -82,6 +83,12 @@ ending-behind es None b bs q = refl
 ending-behind es (Some e) b bs None = refl
 ending-behind es (Some e) b bs (Some p) = refl
 
+parser-behind : (es : Entities) (o : Option Ending) (b : Batch) (bs : List Batch) (q : Option Parser) →
+    (and_ending es o (record { batches = b ∷ bs; parser = q })).parser ≡ (and_ending es o (record { batches = bs; parser = q })).parser
+parser-behind es None b bs q = refl
+parser-behind es (Some e) b bs None = refl
+parser-behind es (Some e) b bs (Some p) = refl
+
 ending-none : (es : Entities) (o : Option Ending) (bs : List Batch) → (and_ending es o (record { batches = bs; parser = None })).batches ≡ bs
 ending-none es None bs = refl
 ending-none es (Some e) bs = refl
@@ -103,35 +110,53 @@ module _ (es : Entities) (p : Parser) (c : ℕ) (cs : List ℕ) (o : Option Endi
   abbrev back : List ℕ
   back = drop r.used (c ∷ cs)
 
-  is-front : (bs : List Batch) → GoesOn (at r.stop) (bs ≡ (answer es (Some r.parser) (record { text = back; ending = o })).batches) →
+  abbrev cut_back : Answered
+  cut_back = cut (length cs) es r.parser back
+
+  abbrev Behind : (Answered → Answered → Type 0) → Type 0
+  Behind Same = Same (answer es (Some p) (record { text = c ∷ cs; ending = o })) (answer es (Some r.parser) (record { text = back; ending = o }))
+
+  abbrev SameEnd : Answered → Answered → Type 0
+  SameEnd a a' = a.parser ≡ a'.parser
+
+  is-front : (bs : List Batch) → GoesOn (at r.stop) (bs ≡ (answer es (Some r.parser) (record { text = back; ending = o })).batches) → GoesOn (at r.stop) (Behind SameEnd) →
       IsText es p (record { text = c ∷ cs; ending = o }) (text_batch p front r) bs
-  is-front bs g = record {
+  is-front bs g k = record {
     rest = back;
     text = sym (take-append-drop r.used (c ∷ cs));
     parsed = ap (text_batch p front) (sym (parse-front es p (c ∷ cs)));
     used = ap (λ (q : Parsed). drop q.used front) (parse-front es p (c ∷ cs)) ∙ all-used r.used (c ∷ cs);
     more = g;
+    ends = k;
   }
 
-  onward : (b : Batch) (bs : List Batch) → b ∷ bs ≡ text_batch p front r ∷ (and_ending es o (cut (length cs) es r.parser back)).batches →
-      IsText es p (record { text = c ∷ cs; ending = o }) b bs
-  unfolding answer
-  onward b bs h =
+  -- with the fuel that the rest needs
+  enough : cut_back ≡ cut (length back) es r.parser back
+  enough =
       let n : length cs ≤ length cs = omega arith in
       let k : length back ≤ length back = omega arith in
-      let behind : bs ≡ (answer es (Some r.parser) (record { text = back; ending = o })).batches =
-      ap rest_of h ∙ ap (λ (a : Answered). (and_ending es o a).batches) (cut-enough (length cs) (length back) es r.parser back (shorter es p c cs (length cs) n) k) in
-      subst (λ (q : Batch). IsText es p (record { text = c ∷ cs; ending = o }) q bs) (sym (ap (first_or b) h)) (is-front bs (goes (at r.stop) _ behind))
+      cut-enough (length cs) (length back) es r.parser back (shorter es p c cs (length cs) n) k
 
-  by-stop : (b : Batch) (bs : List Batch) (why : Stop) → r.stop ≡ why → b ∷ bs ≡ (and_ending es o (and_behind (text_batch p front r) why (cut (length cs) es r.parser back))).batches →
+  onward : (b : Batch) (bs : List Batch) → b ∷ bs ≡ text_batch p front r ∷ (and_ending es o cut_back).batches →
+      (and_ending es o (and_behind (text_batch p front r) r.stop cut_back)).parser ≡ (and_ending es o cut_back).parser → IsText es p (record { text = c ∷ cs; ending = o }) b bs
+  unfolding answer cut
+  onward b bs h e =
+      let behind : bs ≡ (answer es (Some r.parser) (record { text = back; ending = o })).batches = ap rest_of h ∙ ap (λ (a : Answered). (and_ending es o a).batches) enough in
+      let ends : Behind SameEnd = e ∙ ap (λ (a : Answered). (and_ending es o a).parser) enough in
+      subst (λ (q : Batch). IsText es p (record { text = c ∷ cs; ending = o }) q bs) (sym (ap (first_or b) h)) (is-front bs (goes (at r.stop) _ behind) (goes (at r.stop) _ ends))
+
+  by-stop : (b : Batch) (bs : List Batch) (why : Stop) → r.stop ≡ why → b ∷ bs ≡ (and_ending es o (and_behind (text_batch p front r) why cut_back)).batches →
       IsText es p (record { text = c ∷ cs; ending = o }) b bs
-  by-stop b bs stop.InputEnd q h = onward b bs (h ∙ ending-behind es o (text_batch p front r) (cut (length cs) es r.parser back).batches (cut (length cs) es r.parser back).parser)
-  by-stop b bs (stop.Script i) q h = onward b bs (h ∙ ending-behind es o (text_batch p front r) (cut (length cs) es r.parser back).batches (cut (length cs) es r.parser back).parser)
+  by-stop b bs stop.InputEnd q h =
+      onward b bs (h ∙ ending-behind es o (text_batch p front r) cut_back.batches cut_back.parser)
+      (ap (λ s. (and_ending es o (and_behind (text_batch p front r) s cut_back)).parser) q ∙ parser-behind es o (text_batch p front r) cut_back.batches cut_back.parser)
+  by-stop b bs (stop.Script i) q h =
+      onward b bs (h ∙ ending-behind es o (text_batch p front r) cut_back.batches cut_back.parser)
+      (ap (λ s. (and_ending es o (and_behind (text_batch p front r) s cut_back)).parser) q ∙ parser-behind es o (text_batch p front r) cut_back.batches cut_back.parser)
   by-stop b bs stop.Deep q h =
       let alone : b ∷ bs ≡ text_batch p front r ∷ [] = h ∙ ending-none es o (text_batch p front r ∷ []) in
-      let halts : GoesOn (at r.stop) (bs ≡ (answer es (Some r.parser) (record { text = back; ending = o })).batches) =
-      subst (λ (s : Stop). GoesOn (at s) (bs ≡ (answer es (Some r.parser) (record { text = back; ending = o })).batches)) (sym q) tt in
-      subst (λ (x : Batch). IsText es p (record { text = c ∷ cs; ending = o }) x bs) (sym (ap (first_or b) alone)) (is-front bs halts)
+      let halts : (C : Type 0) → GoesOn (at r.stop) C = λ C. subst (λ (s : Stop). GoesOn (at s) C) (sym q) tt in
+      subst (λ (x : Batch). IsText es p (record { text = c ∷ cs; ending = o }) x bs) (sym (ap (first_or b) alone)) (is-front bs (halts _) (halts _))
 
 by-text : (es : Entities) (p : Parser) (t : List ℕ) (o : Option Ending) (b : Batch) (bs : List Batch) → b ∷ bs ≡ (and_ending es o (cut (length t) es p t)).batches →
     IsText es p (record { text = t; ending = o }) b bs ⊎ IsLast es p (record { text = t; ending = o }) b bs
@@ -159,16 +184,21 @@ nothing-of es p (c ∷ cs) e h =
     let r : Parsed = parse es p (c ∷ cs) in
     something-behind es (Some e) (text_batch p (take r.used (c ∷ cs)) r) r.stop (cut (length cs) es r.parser (drop r.used (c ∷ cs))) h
 
--- only a piece without text and ending is
-blank-of : (es : Entities) (p : Parser) (t : List ℕ) (o : Option Ending) → [] ≡ (and_ending es o (cut (length t) es p t)).batches → (t ≡ []) × (o ≡ None)
+-- only a piece without text and ending is, and the parser stays where it is
+pub record IsBlank (p : Parser) (t : List ℕ) (o : Option Ending) (end : Option Parser) : Type 0 where
+  pub text : t ≡ []
+  pub ending : o ≡ None
+  pub stays : end ≡ Some p
+
+blank-of : (es : Entities) (p : Parser) (t : List ℕ) (o : Option Ending) → [] ≡ (and_ending es o (cut (length t) es p t)).batches → IsBlank p t o (and_ending es o (cut (length t) es p t)).parser
 unfolding cut
-blank-of es p [] None h = (refl, refl)
+blank-of es p [] None h = record { text = refl; ending = refl; stays = refl }
 blank-of es p [] (Some e) h = absurd (true≢false (ap is_empty h))
 blank-of es p (c ∷ cs) o h =
     let r : Parsed = parse es p (c ∷ cs) in
     absurd (something-behind es o (text_batch p (take r.used (c ∷ cs)) r) r.stop (cut (length cs) es r.parser (drop r.used (c ∷ cs))) h)
 
-pub answered-by-nothing : (es : Entities) (p : Parser) (x : Piece) → [] ≡ (answer es (Some p) x).batches → (x.text ≡ []) × (x.ending ≡ None)
+pub answered-by-nothing : (es : Entities) (p : Parser) (x : Piece) → [] ≡ (answer es (Some p) x).batches → IsBlank p x.text x.ending (answer es (Some p) x).parser
 unfolding answer
 answered-by-nothing es p x h = blank-of es p x.text x.ending h
 
@@ -181,3 +211,7 @@ ending-answered es p x e q h = nothing-of es p x.text e (subst (λ o. [] ≡ (an
 pub blank-answer : (es : Entities) (p : Parser) → [] ≡ (answer es (Some p) blank).batches
 unfolding answer cut
 blank-answer es p = refl
+
+pub blank-end : (es : Entities) (p : Parser) → (answer es (Some p) blank).parser ≡ Some p
+unfolding answer cut
+blank-end es p = refl

@@ -13,3 +13,10 @@ pub mod Ledger
 pub mod Moving
 pub mod Standing
 pub mod Handing
+pub mod InStep
+pub mod Together
+pub mod Counting
+pub mod Comparing
+pub mod Bounding
+pub mod Replaying
+pub mod Existing

@@ -93,11 +93,11 @@ module _ (e : Ending) (w : World) (m0 : Moment) (v0 : Watch) where
   takes-first d [] q at_free nil h = h
   takes-first d (x ∷ xs) q at_free nil h =
       let p : Piped w.entities e d.own.parser d = subst (λ f. Pipe w.entities e f d) at_free h.pipe in
-      let used : (d.left.text ≡ []) × (d.left.ending ≡ None) = answered-by-nothing w.entities d.own.parser d.left (sym nil ∙ p.hand) in
+      let used = answered-by-nothing w.entities d.own.parser d.left (sym nil ∙ p.hand) in
       let page : page_left d ≡ text_of (x ∷ xs ++ d.to_send) =
-      ap (λ ps. d.left.text ++ text_of (ps ++ d.to_send)) q ∙ ap (λ t. t ++ text_of (x ∷ xs ++ d.to_send)) used.0 in
+      ap (λ ps. d.left.text ++ text_of (ps ++ d.to_send)) q ∙ ap (λ t. t ++ text_of (x ∷ xs ++ d.to_send)) used.text in
       let pieces : EndsWith (x ∷ xs ++ d.to_send) e =
-      subst (λ o. EndsAt o (x ∷ xs ++ d.to_send) e (EndsWith (x ∷ xs ++ d.to_send) e)) used.1 (subst (λ ps. EndsWith (d.left ∷ ps ++ d.to_send) e) q p.pieces) in
+      subst (λ o. EndsAt o (x ∷ xs ++ d.to_send) e (EndsWith (x ∷ xs ++ d.to_send) e)) used.ending (subst (λ ps. EndsWith (d.left ∷ ps ++ d.to_send) e) q p.pieces) in
       let bs : List Batch = (answer w.entities (Some d.own.parser) x).batches in
       let d' : Desk = record d { hand = bs; left = x; asked = xs; taken = suc d.taken } in
       record {

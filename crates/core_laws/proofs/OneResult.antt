@@ -10,6 +10,7 @@ use Rattle.core_rules.specs.declared.event.Event.TheVariants.{Send, Pick, Give, 
 use Rattle.core_rules.specs.declared.verdict.Verdict.TheVariants.{Keep, Rewind}
 use Rattle.core_rules.specs.Settling.{is_settled, Through, here, onward}
 use Rattle.core_rules.specs.Desk.{Phase, free, tagged, waits, done, Desk, decided, Concludes, RunsOn, DoesIn}
+use Rattle.core_laws.specs.CoreLaws.{OneStep}
 use Rattle.core_laws.specs.OneResult.{OneVerdict, SettlesOnce, OneMove}
 
 pub one-verdict : OneVerdict
@@ -65,3 +66,11 @@ one-move ahead w Give d a b p q = absurd p
 one-move ahead w Take d a b p q = p.1 ∙ sym q.1
 one-move ahead w Do d a b p q = does-once w d.phase d a b p.1 q.1
 one-move ahead w (Arrive name) d a b p q = p.1 ∙ sym q.1
+
+pub one-step : OneStep
+one-step x Send c a b p q = p ∙ sym q
+one-step x Pick c a b p q = p ∙ sym q
+one-step x Give c a b p q = p ∙ sym q
+one-step x Take c a b p q = p ∙ sym q
+one-step x Do c a b (d, does, p) (d', does', q) = p ∙ (ap (λ z. record c { desk = z }) (does-once x.world c.desk.phase c.desk d d' does does') ∙ sym q)
+one-step x (Arrive name) c a b p q = p ∙ sym q

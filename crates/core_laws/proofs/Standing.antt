@@ -65,7 +65,7 @@ first-known x page is = record {
 first-page : (x : Setup) → page_left (first_desk (pieces_with x.pieces (Some x.ending))) ≡ joined x.pieces
 first-page x = page-text x.pieces x.ending
 
-first-holds : (x : Setup) → Holding x.ending x.world (reading (first (whole_page x))) (first_watch (whole_page x)) (first_desk (pieces_with x.pieces (Some x.ending)))
+pub first-holds : (x : Setup) → Holding x.ending x.world (reading (first (whole_page x))) (first_watch (whole_page x)) (first_desk (pieces_with x.pieces (Some x.ending)))
 first-holds x = record {
   stood = (
     reading (first (whole_page x)),

@@ -3,3 +3,6 @@ pub mod Rebasing
 pub mod Ways
 pub mod OneResult
 pub mod DeskLaws
+pub mod CoreLaws
+pub mod Bounds
+pub mod Replaying

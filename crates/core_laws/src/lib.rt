@@ -5,6 +5,10 @@ ghost use Rattle.core_laws.specs.Alike.{ScriptsRename, MomentsRename, FetchesRen
 ghost use Rattle.core_laws.specs.Rebasing.{StatesRebase};
 ghost use Rattle.core_laws.specs.Ways.{LeadsSame, LeadsNext, LeadsThen, BatchesGoThrough, GoesOn, ThroughLeads, NoEndingMatters, ParsesItsFront};
 ghost use Rattle.core_laws.specs.DeskLaws.{AlwaysStandsFor, EndsAsSerial, EndStays, LinesBegin, FailuresAreEpochs, MoreMayFollow};
+ghost use Rattle.core_laws.specs.CoreLaws.{CoreIsDesk, NeverStuck, EnabledSteps, OneStep};
+ghost use Rattle.core_laws.specs.CoreLaws as core;
+ghost use Rattle.core_laws.specs.Bounds.{CreditIsKept, BoundedWhereItStands, BoundedByTheParse};
+ghost use Rattle.core_laws.specs.Replaying.{DeskIsCore, JournalsReplay, JournalsAreReached};
 ghost use Rattle.core_laws.specs.OneResult.{OneVerdict, SettlesOnce, OneMove};
 
 /// Scripts run alike where ids are renamed and where more of the page stands behind the input, up to a moment at which all that
@@ -57,4 +61,35 @@ pub fn desk_stands()
     ensures lines { LinesBegin }
     ensures failures { FailuresAreEpochs }
     ensures more { MoreMayFollow }
+{}
+
+/// Both sides, for every list of events that are enabled, in whatever order: the document's side takes the answers that are called for, so
+/// that all of `desk_stands` holds of it; where no event but arrivals is enabled, the parse is over, or awaits a script that hasn't
+/// arrived; and each event that is enabled has one step.
+pub fn every_interleaving()
+    ensures desk { CoreIsDesk }
+    ensures stands_for { core.AlwaysStandsFor }
+    ensures ends { core.EndsAsSerial }
+    ensures stays { core.EndStays }
+    ensures lines { core.LinesBegin }
+    ensures never_stuck { NeverStuck }
+    ensures steps { EnabledSteps }
+    ensures one_step { OneStep }
+{}
+
+/// Never are more than `ahead` requests outstanding. The replies that were dropped number at most `ahead` times the failed scripts, and the
+/// requests sent at most pieces and ending times one more than these: those that failed at the moment for which the document's side
+/// stands, which are as many as epochs are over, and so those that fail in the whole parse.
+pub fn counts_are_bounded()
+    ensures credit { CreditIsKept }
+    ensures so_far { BoundedWhereItStands }
+    ensures in_all { BoundedByTheParse }
+{}
+
+/// The desk to which events lead is that of a core, in which each reply is picked and given just before it is taken; so a journal that
+/// replays on the document's side replays in the core, and its desk is one to which all of `desk_stands` applies.
+pub fn journals_replay()
+    ensures desk { DeskIsCore }
+    ensures journal { JournalsReplay }
+    ensures reached { JournalsAreReached }
 {}

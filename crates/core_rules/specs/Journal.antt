@@ -31,6 +31,13 @@ Replays es ahead j d = (w : World) → w.entities ≡ es → Knows j.fetches w �
 
 -- ---- both sides
 
+-- those of the document's side
+abbrev pub own_events : List Event → List Event
+own_events [] = []
+own_events (Pick ∷ vs) = own_events vs
+own_events (Give ∷ vs) = own_events vs
+own_events (v ∷ vs) = v ∷ own_events vs
+
 -- each reply is picked and given just before it is taken
 abbrev pub with_replies : List Event → List Event
 with_replies [] = []

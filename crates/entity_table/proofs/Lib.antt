@@ -4,3 +4,4 @@ pub mod Longest
 pub mod Narrowing
 pub mod Pushing
 pub mod Examples
+pub mod Semicolons

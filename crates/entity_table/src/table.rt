@@ -1,7 +1,7 @@
 //! The table of all named character references.
 
-ghost use Rattle.std.specs.Prelude.{◌≡◌, Some, None, IfOk, IfErr};
-ghost use Rattle.standard.specs.Entities.{entities_of};
+ghost use Rattle.std.specs.Prelude.{◌≡◌, ℕ, List, [], ◌∷◌, ◌++◌, false, Some, None, IfOk, IfErr};
+ghost use Rattle.standard.specs.Entities.{begins_some, entities_of};
 ghost use Rattle.entity_table.specs.Order.{AreNames};
 ghost use Rattle.entity_table.specs.Parts.{row_names};
 ghost use Rattle.entity_table.specs.View.{rows_in};
@@ -82,6 +82,13 @@ impl Table {
         ensures names { AreNames (row_names result.now) }
     {
         self.rows.as_slice()
+    }
+
+    /// No name goes on behind a `;`.
+    pub fn names_end_at_semicolons(&self)
+        ensures { (text : List ℕ) (c : ℕ) → begins_some (text ++ 59 ∷ c ∷ []) self.now ≡ false }
+    {
+        let _rows = self.rows();
     }
 
     /// Another owner of the same table.

@@ -1,5 +1,5 @@
 -- The paths that an outside in memory has noted.
-use Rattle.std.specs.Prelude.{ℕ, List, map, Option, Some, None, if◌then◌else◌}
+use Rattle.std.specs.Prelude.{map, Some, None, if◌then◌else◌}
 use Rattle.std.specs.String.{string_bytes}
 use Rattle.outside.specs.Outside.{Paths}
 use Rattle.outside.specs.declared.traits.Port.{Port}

@@ -57,6 +57,13 @@ impl MemFiles {
         self.files.add(path, bytes)
     }
 
+    /// How many calls were made at the port.
+    pub fn calls(&self, port: Port) -> u64
+        ensures { number_at self.now port ≡ min (result + 1) (2 ^ 64 - 1) }
+    {
+        self.calls.get(port)
+    }
+
     /// Counts a call at the port, and says whether it is to fail.
     fn fails(&mut self, port: Port) -> bool
         ensures fails { IsTrue result ↔ Contains (failing self.old) (port, number_at self.old port) }

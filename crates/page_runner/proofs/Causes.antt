@@ -2,8 +2,8 @@
 use Rattle.std.proofs.Common.{◌≡◌, ℕ, Bool, List, [], Option, Some, None, refl, subst, inl, inr}
 use Rattle.std.specs.Prelude.{◌⊎◌, true}
 use Rattle.html_types.specs.declared.script.Why.TheVariants as why
-use Rattle.outside.specs.Outside.{Seen}
-use Rattle.outside.specs.declared.traits.Port.TheVariants.{Entities, Page, Script}
+use Rattle.outside.specs.Outside.{Rose, Seen}
+use Rattle.outside.specs.declared.traits.Port.TheVariants.{Entities}
 use Rattle.standard.specs.Entities.{Entities as Table}
 use Rattle.standard.specs.Scripts.{Fetched}
 use Rattle.standard.specs.Scripts as fetched
@@ -12,8 +12,8 @@ use Rattle.page_runner.specs.declared.command.TheConstants.{ENTITIES_LIMIT}
 use Rattle.page_runner.specs.declared.status.Status.{Status}
 use Rattle.page_runner.specs.declared.status.Status.TheVariants as status
 use Rattle.page_runner.specs.Words.{Asked}
-use Rattle.page_runner.specs.Given.{Given, unmet, missing, faulted, got, FaultsRose, MayGive}
-use Rattle.page_runner.specs.Scripts.{MayFetch, AreScriptsOf}
+use Rattle.page_runner.specs.Given.{Given, unmet, missing, faulted, got, MayGive}
+use Rattle.page_runner.specs.Scripts.{MayFetch}
 use Rattle.page_runner.specs.Pages.{world_of}
 use Rattle.page_runner.specs.Answers.{PageMet, MayGivePage, IsParsed, status_with, answer_to_page, answer_over, answer_to, table_of, Gives, RunsTo, Exactly, AbsenceRose, FaultRose}
 use Rattle.page_runner.proofs.PageFaults.{fault_met}
@@ -103,30 +103,34 @@ module _ (asked : Asked) (before after' : Seen) where
 
 -- ---- the clauses
 
-pub absent : (asked : Option Asked) (before after' : Seen) (t t' : Option (List ℕ)) (r : Status) → RunsTo asked before after' t t' r → r ≡ status.Absent → AbsenceRose before after'
-absent None before after' t t' r runs is = let gives = subst (Gives t t' (status.Usage, [])) is runs in absurd (cc gives.0)
-absent (Some asked) before after' t t' r runs is =
-    let gives = subst (Gives t t' (answer_to asked.dump runs.entities runs.page)) is runs.gives in absent_of asked before after' runs.entities runs.page runs.may_entities runs.may_page gives.0
+pub absent : (asked : Option Asked) (before after' : Seen) (k k' : ℕ) (t t' : Option (List ℕ)) (r : Status) → RunsTo asked before after' k k' t t' r → r ≡ status.Absent → AbsenceRose before after'
+absent None before after' k k' t t' r runs is = let gives = subst (Gives (Rose k k') t t' (status.Usage, [])) is runs in absurd (cc gives.0)
+absent (Some asked) before after' k k' t t' r runs is =
+    let gives = subst (Gives (Rose k k') t t' (answer_to asked.dump runs.entities runs.page)) is runs.gives in absent_of asked before after' runs.entities runs.page runs.may_entities runs.may_page gives.0
 
-pub read_fault : (asked : Option Asked) (before after' : Seen) (t t' : Option (List ℕ)) (r : Status) → RunsTo asked before after' t t' r → r ≡ status.ReadFault → FaultRose before after'
-read_fault None before after' t t' r runs is = let gives = subst (Gives t t' (status.Usage, [])) is runs in absurd (cc gives.0)
-read_fault (Some asked) before after' t t' r runs is =
-    let gives = subst (Gives t t' (answer_to asked.dump runs.entities runs.page)) is runs.gives in fault_of asked before after' runs.entities runs.page runs.may_entities runs.may_page runs.parsed gives.0
+pub read_fault : (asked : Option Asked) (before after' : Seen) (k k' : ℕ) (t t' : Option (List ℕ)) (r : Status) → RunsTo asked before after' k k' t t' r → r ≡ status.ReadFault → FaultRose before after'
+read_fault None before after' k k' t t' r runs is = let gives = subst (Gives (Rose k k') t t' (status.Usage, [])) is runs in absurd (cc gives.0)
+read_fault (Some asked) before after' k k' t t' r runs is =
+    let gives = subst (Gives (Rose k k') t t' (answer_to asked.dump runs.entities runs.page)) is runs.gives in fault_of asked before after' runs.entities runs.page runs.may_entities runs.may_page runs.parsed gives.0
 
-in_place : (t t' : Option (List ℕ)) (r : Status) → Gives t t' (status.Usage, []) r → (r ≡ status.Usage) ⊎ (r ≡ status.WriteFault) ⊎ (r ≡ status.NoMemory)
-in_place t t' status.WriteFault gives = inr (inl refl)
-in_place t t' status.NoMemory gives = inr (inr refl)
-in_place t t' status.Done gives = inl gives.0
-in_place t t' status.Usage gives = inl gives.0
-in_place t t' status.Entities gives = inl gives.0
-in_place t t' status.BadUtf8 gives = inl gives.0
-in_place t t' (status.Limit which) gives = inl gives.0
-in_place t t' status.ReadFault gives = inl gives.0
-in_place t t' status.Absent gives = inl gives.0
+pub write_fault : (asked : Option Asked) (before after' : Seen) (k k' : ℕ) (t t' : Option (List ℕ)) (r : Status) → RunsTo asked before after' k k' t t' r → r ≡ status.WriteFault → Rose k k'
+write_fault None before after' k k' t t' r runs is = let gives = subst (Gives (Rose k k') t t' (status.Usage, [])) is runs in gives.0
+write_fault (Some asked) before after' k k' t t' r runs is = let gives = subst (Gives (Rose k k') t t' (answer_to asked.dump runs.entities runs.page)) is runs.gives in gives.0
 
-pub usage : (asked : Option Asked) (before after' : Seen) (t t' : Option (List ℕ)) (r : Status) → RunsTo asked before after' t t' r → Exactly status.Usage r (asked ≡ None)
-usage None before after' t t' r runs = record { nowhere_else = λ _. refl; there = λ _. in_place t t' r runs }
-usage (Some asked) before after' t t' r runs = record {
-  nowhere_else = λ is. let gives = subst (Gives t t' (answer_to asked.dump runs.entities runs.page)) is runs.gives in absurd (never_usage asked.dump runs.entities runs.page gives.0);
+in_place : (rose : Type 0) (t t' : Option (List ℕ)) (r : Status) → Gives rose t t' (status.Usage, []) r → (r ≡ status.Usage) ⊎ (r ≡ status.WriteFault) ⊎ (r ≡ status.NoMemory)
+in_place rose t t' status.WriteFault gives = inr (inl refl)
+in_place rose t t' status.NoMemory gives = inr (inr refl)
+in_place rose t t' status.Done gives = inl gives.0
+in_place rose t t' status.Usage gives = inl gives.0
+in_place rose t t' status.Entities gives = inl gives.0
+in_place rose t t' status.BadUtf8 gives = inl gives.0
+in_place rose t t' (status.Limit which) gives = inl gives.0
+in_place rose t t' status.ReadFault gives = inl gives.0
+in_place rose t t' status.Absent gives = inl gives.0
+
+pub usage : (asked : Option Asked) (before after' : Seen) (k k' : ℕ) (t t' : Option (List ℕ)) (r : Status) → RunsTo asked before after' k k' t t' r → Exactly status.Usage r (asked ≡ None)
+usage None before after' k k' t t' r runs = record { nowhere_else = λ _. refl; there = λ _. in_place (Rose k k') t t' r runs }
+usage (Some asked) before after' k k' t t' r runs = record {
+  nowhere_else = λ is. let gives = subst (Gives (Rose k k') t t' (answer_to asked.dump runs.entities runs.page)) is runs.gives in absurd (never_usage asked.dump runs.entities runs.page gives.0);
   there = λ none. absurd (cc none);
 }

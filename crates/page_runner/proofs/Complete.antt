@@ -17,7 +17,7 @@ use Rattle.page_runner.specs.declared.command.TheConstants.{ENTITIES_LIMIT}
 use Rattle.page_runner.specs.declared.status.Status.{Status}
 use Rattle.page_runner.specs.declared.status.Status.TheVariants as status
 use Rattle.page_runner.specs.Words.{Asked}
-use Rattle.page_runner.specs.Given.{Given, unmet, missing, faulted, got, FaultsRose, AbsencesRose, file_at, MayGive}
+use Rattle.page_runner.specs.Given.{Given, unmet, missing, faulted, got, FaultsRose, NoFault, AbsencesRose, file_at, MayGive}
 use Rattle.page_runner.specs.Taken.{Took}
 use Rattle.page_runner.specs.Scripts.{path_of, IsAbsent, MayFetch, AreScriptsOf, fetched_of, world_in}
 use Rattle.page_runner.specs.Pages.{page_at, world_of, ComesTo}
@@ -26,20 +26,20 @@ use Rattle.page_runner.specs.Answers.{IsPageOf, PageMet, MayGivePage, IsParsed, 
 abbrev Only : Option (List ℕ) → Option (List ℕ) → Answer → Status → Type 0
 Only t t' answer r = (r ≡ status.NoMemory) ⊎ ((r ≡ answer.0) × Took t t' answer.1)
 
-gives_only : (t t' : Option (List ℕ)) (answer : Answer) (r : Status) → Gives t t' answer r → (r ≡ status.WriteFault → ⊥) → Only t t' answer r
-gives_only t t' answer status.WriteFault gives unless = absurd (unless refl)
-gives_only t t' answer status.NoMemory gives unless = inl refl
-gives_only t t' answer status.Done gives unless = inr gives
-gives_only t t' answer status.Usage gives unless = inr gives
-gives_only t t' answer status.Entities gives unless = inr gives
-gives_only t t' answer status.BadUtf8 gives unless = inr gives
-gives_only t t' answer (status.Limit which) gives unless = inr gives
-gives_only t t' answer status.ReadFault gives unless = inr gives
-gives_only t t' answer status.Absent gives unless = inr gives
+gives_only : (rose : Type 0) (t t' : Option (List ℕ)) (answer : Answer) (r : Status) → Gives rose t t' answer r → ¬ rose → Only t t' answer r
+gives_only rose t t' answer status.WriteFault gives unless = absurd (unless gives.0)
+gives_only rose t t' answer status.NoMemory gives unless = inl refl
+gives_only rose t t' answer status.Done gives unless = inr gives
+gives_only rose t t' answer status.Usage gives unless = inr gives
+gives_only rose t t' answer status.Entities gives unless = inr gives
+gives_only rose t t' answer status.BadUtf8 gives unless = inr gives
+gives_only rose t t' answer (status.Limit which) gives unless = inr gives
+gives_only rose t t' answer status.ReadFault gives unless = inr gives
+gives_only rose t t' answer status.Absent gives unless = inr gives
 
 -- nothing but want of memory
-memory_only : {P : Type 0} (t t' : Option (List ℕ)) (r : Status) → Gives t t' (status.NoMemory, []) r → (r ≡ status.WriteFault → ⊥) → (r ≡ status.NoMemory) ⊎ P
-memory_only t t' r gives unless = elim (gives_only t t' (status.NoMemory, []) r gives unless) [ inl is ↦ inl is | inr both ↦ inl both.0 ]
+memory_only : {P : Type 0} (rose : Type 0) (t t' : Option (List ℕ)) (r : Status) → Gives rose t t' (status.NoMemory, []) r → ¬ rose → (r ≡ status.NoMemory) ⊎ P
+memory_only rose t t' r gives unless = elim (gives_only rose t t' (status.NoMemory, []) r gives unless) [ inl is ↦ inl is | inr both ↦ inl both.0 ]
 
 all_taken : (limit : ℕ) (bytes : List ℕ) → nat_le (length bytes) limit ≡ true → take (limit + 1) bytes ≡ bytes
 all_taken limit bytes fits = let small = leb-true (length bytes) limit fits in take_all (limit + 1) bytes (omega arith)
@@ -83,15 +83,15 @@ scripts_told dir before after map scripts told none are = fun_ext (λ name. fetc
 abbrev Finishes : Bool → Option (List ℕ) → Option (List ℕ) → Status → Outcome → Type 0
 Finishes dump t t' r o = (r ≡ status.NoMemory) ⊎ ((r ≡ status.Done) × Took t t' (output_with dump o))
 
-module _ (asked : Asked) (before after : Seen) (map : Files) (told : before.files ≡ Some map) (t t' : Option (List ℕ)) (r : Status) (unless : r ≡ status.WriteFault → ⊥)
+module _ (asked : Asked) (before after : Seen) (map : Files) (told : before.files ≡ Some map) (rose : Type 0) (t t' : Option (List ℕ)) (r : Status) (unless : ¬ rose)
     (none : ¬ (FaultsRose Entities before after)) (none' : ¬ (FaultsRose Page before after)) (none'' : ¬ (FaultsRose Script before after))
     (es : Table) (page : List ℕ) (there : map asked.page ≡ Some page) (o : Outcome) (comes : ComesTo (world_in es map asked.dir) (record { bytes = page; fault = false }) o) (done : o.result ≡ finished) where
   file_told : (path : List ℕ) → file_at before path ≡ Some (map path)
   file_told path = ap (option_map (λ m. m path)) told
 
-  read_page : (bytes : List ℕ) (fault : Bool) (scripts : List ℕ → Fetched) (end : Outcome) → IsPageOf (file_at before asked.page) (after.left Page) (FaultsRose Page before after) (record { bytes = bytes; fault = fault })
+  read_page : (bytes : List ℕ) (fault : Bool) (scripts : List ℕ → Fetched) (end : Outcome) → IsPageOf (file_at before asked.page) (after.left Page) (FaultsRose Page before after) (NoFault Page before after) (record { bytes = bytes; fault = fault })
       → AreScriptsOf asked.dir before after scripts → ComesTo (world_of es scripts) (record { bytes = bytes; fault = fault }) end
-      → Gives t t' (status_with end.result, output_with asked.dump end) r → Finishes asked.dump t t' r o
+      → Gives rose t t' (status_with end.result, output_with asked.dump end) r → Finishes asked.dump t t' r o
   read_page bytes true scripts end may are parsed gives = absurd (none' (may.cause refl))
   read_page bytes false scripts end may are parsed gives =
       let same : Some page ≡ Some bytes = some_at (file_at before asked.page) (λ f. f ≡ Some bytes) (Some page) (file_told asked.page ∙ ap Some there) (may.whole refl) in
@@ -99,11 +99,11 @@ module _ (asked : Asked) (before after : Seen) (map : Files) (told : before.file
       let here = subst (λ b. ComesTo (world_of es scripts) (record { bytes = b; fault = false }) end) is parsed in
       let here' = subst (λ f. ComesTo (world_of es f) (record { bytes = page; fault = false }) end) (scripts_told asked.dir before after map scripts told none'' are) here in
       let one : end ≡ o = one_outcome (page_at (record { bytes = page; fault = false })) (world_in es map asked.dir) end o here' comes in
-      let there' = subst (λ e. Gives t t' (status_with e.result, output_with asked.dump e) r) one gives in
-      gives_only t t' (status.Done, output_with asked.dump o) r (subst (λ k. Gives t t' (status_with k, output_with asked.dump o) r) done there') unless
+      let there' = subst (λ e. Gives rose t t' (status_with e.result, output_with asked.dump e) r) one gives in
+      gives_only rose t t' (status.Done, output_with asked.dump o) r (subst (λ k. Gives rose t t' (status_with k, output_with asked.dump o) r) done there') unless
 
-  met_page : (given : Given PageMet) → MayGivePage asked.page asked.dir before after given → IsParsed es given → Gives t t' (answer_to_page asked.dump given) r → Finishes asked.dump t t' r o
-  met_page unmet may parsed gives = memory_only t t' r gives unless
+  met_page : (given : Given PageMet) → MayGivePage asked.page asked.dir before after given → IsParsed es given → Gives rose t t' (answer_to_page asked.dump given) r → Finishes asked.dump t t' r o
+  met_page unmet may parsed gives = memory_only rose t t' r gives unless
   met_page missing may parsed gives = absurd (cc (some_at (file_at before asked.page) (λ f. f ≡ None) (Some page) (file_told asked.page ∙ ap Some there) may.1))
   met_page faulted may parsed gives = absurd (none' may.0)
   met_page (got p) may parsed gives = read_page p.read.bytes p.read.fault p.scripts p.outcome may.read may.scripts parsed gives
@@ -111,20 +111,19 @@ module _ (asked : Asked) (before after : Seen) (map : Files) (told : before.file
   met_entities : (entities : List ℕ) (given : Given (List ℕ)) (given' : Given PageMet) → map asked.entities ≡ Some entities → table_of entities ≡ Some es
       → MayGive ENTITIES_LIMIT Entities asked.entities before after given → MayGivePage asked.page asked.dir before after given'
       → ((bytes : List ℕ) (es : Table) → given ≡ got bytes → table_of bytes ≡ Some es → IsParsed es given')
-      → Gives t t' (answer_to asked.dump given given') r → Finishes asked.dump t t' r o
-  met_entities entities unmet given' at table may may' parsed gives = memory_only t t' r gives unless
+      → Gives rose t t' (answer_to asked.dump given given') r → Finishes asked.dump t t' r o
+  met_entities entities unmet given' at table may may' parsed gives = memory_only rose t t' r gives unless
   met_entities entities missing given' at table may may' parsed gives = absurd (cc (some_at (file_at before asked.entities) (λ f. f ≡ None) (Some entities) (file_told asked.entities ∙ ap Some at) may.1))
   met_entities entities faulted given' at table may may' parsed gives = absurd (none may)
   met_entities entities (got bytes) given' at table may may' parsed gives =
-      let read = some_at (file_at before asked.entities) (λ f. IsSomeAnd f (λ whole. bytes ≡ take (ENTITIES_LIMIT + 1) whole)) (Some entities) (file_told asked.entities ∙ ap Some at) may in
+      let read = some_at (file_at before asked.entities) (λ f. IsSomeAnd f (λ whole. bytes ≡ take (ENTITIES_LIMIT + 1) whole)) (Some entities) (file_told asked.entities ∙ ap Some at) may.0 in
       let all : bytes ≡ entities = read ∙ all_taken ENTITIES_LIMIT entities (table_fits entities es table) in
       let here : table_of bytes ≡ Some es = ap table_of all ∙ table in
-      met_page given' may' (parsed bytes es refl here) (subst (λ k. Gives t t' (answer_over asked.dump k given') r) here gives)
+      met_page given' may' (parsed bytes es refl here) (subst (λ k. Gives rose t t' (answer_over asked.dump k given') r) here gives)
 
 -- the whole
-pub completes : (asked : Option Asked) (before after : Seen) (sink sink' : ℕ) (t t' : Option (List ℕ)) (r : Status) → RunsTo asked before after t t' r → (r ≡ status.WriteFault → Rose sink sink')
-    → CompletesRun asked before after sink sink' t t' r
-completes None before after sink sink' t t' r runs cause = tt
-completes (Some asked) before after sink sink' t t' r runs cause = if_some before.files _ (λ map told entities page es o there table there' comes done none.
-    met_entities asked before after map told t t' r (λ e. none.at_sink (cause e)) none.entities none.page none.script es page there' o comes done
+pub completes : (asked : Option Asked) (before after : Seen) (sink sink' : ℕ) (t t' : Option (List ℕ)) (r : Status) → RunsTo asked before after sink sink' t t' r → CompletesRun asked before after sink sink' t t' r
+completes None before after sink sink' t t' r runs = tt
+completes (Some asked) before after sink sink' t t' r runs = if_some before.files _ (λ map told entities page es o there table there' comes done none.
+    met_entities asked before after map told (Rose sink sink') t t' r none.at_sink none.entities none.page none.script es page there' o comes done
     entities runs.entities runs.page there table runs.may_entities runs.may_page runs.parsed runs.gives)

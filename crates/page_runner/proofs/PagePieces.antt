@@ -1,7 +1,8 @@
 -- What comes of a piece of a page.
-use Rattle.std.proofs.Common.{◌≡◌, ℕ, List, ◌++◌, Option, Some, None, refl, sym, ap, ◌∙◌, subst}
+use Rattle.std.proofs.Common.{◌≡◌, ℕ, Bool, List, ◌++◌, Option, Some, None, refl, sym, ap, ◌∙◌, subst, inl, inr}
 use Rattle.html_types.specs.declared.script.Ending.{Ending}
 use Rattle.html_types.specs.declared.script.Why.{Why}
+use Rattle.html_types.specs.declared.script.Why.TheVariants as why
 use Rattle.outside.specs.Outside.{Seen}
 use Rattle.standard.specs.Entities.{Entities}
 use Rattle.standard.specs.Page.{text_of, shown}
@@ -14,17 +15,22 @@ use Rattle.page_runner.specs.declared.outcome.Outcome.{Outcome as Told}
 use Rattle.page_runner.specs.declared.outcome.Outcome.TheVariants as told
 use Rattle.page_runner.specs.declared.scripts.ScriptFiles.{ScriptFiles}
 use Rattle.page_runner.specs.Scripts.{Fetches}
-use Rattle.page_runner.specs.Moments.{Takes, TakesFront}
-use Rattle.page_runner.specs.Pages.{StandsAt, TookOf, EndsAs, TakesPiece, TakesPieceInPart}
+use Rattle.page_runner.specs.Moments.{StopsAtFault, Takes, TakesFront}
+use Rattle.page_runner.specs.Pages.{StandsAt, TookOf, EndsAs, PieceMeetsFaults, TakesPiece, TakesPieceInPart}
 use Rattle.page_runner.proofs.WayLemmas.{Agrees, suits-before}
 use Rattle.page_runner.proofs.PageLemmas.{stands_on, past_stop, past_ending, took_of_part, took_of_lines, took_of_less}
+
+-- it stopped at a fault, or none came
+pub piece_meets : (reason : Why) (before after : Seen) → StopsAtFault (went.Refused reason) before after → PieceMeetsFaults (Some (told.Refused reason)) before after
+piece_meets reason before after (inl none) = inl none
+piece_meets reason before after (inr is) = let same : reason ≡ why.Fault = cc in inr (ap (λ r. Some (told.Refused r)) same)
 
 -- no text of it was parsed
 pub piece_unread : (es : Entities) (u : Decoder) (d : Driver) (piece : List ℕ) (now : Option (List ℕ)) → TakesPieceInPart es d.scripts u d piece now now
 piece_unread es u d piece now = record { front = λ read t has at. took_of_less es d.scripts read piece t now (took_of_lines es read d t now at) }
 
 -- Its text, as it was parsed, is that which the decoder gave.
-module _ (es : Entities) (u u' : Decoder) (d d' : Driver) (before after : Seen) (fetches : Fetches before after d.scripts d'.scripts) (piece text fed : List ℕ) (now t' : Option (List ℕ)) (same : text ≡ fed)
+module _ (es : Entities) (u u' : Decoder) (d d' : Driver) (before after : Seen) {done : Bool} (fetches : Fetches done before after d.scripts d'.scripts) (piece text fed : List ℕ) (now t' : Option (List ℕ)) (same : text ≡ fed)
     (gives : (limit : ℕ) (read : List ℕ) → HasRead limit u read → text_of limit (read ++ piece) ≡ text_of limit read ++ fed) where
   text_is : (read : List ℕ) → HasRead PAGE_LIMIT u read → text_of PAGE_LIMIT (read ++ piece) ≡ text_of PAGE_LIMIT read ++ text
   text_is read has = gives PAGE_LIMIT read has ∙ ap (λ t. text_of PAGE_LIMIT read ++ t) (sym same)

@@ -1,6 +1,9 @@
 -- What a sink took, and what was read at a port, piece by piece.
 use Rattle.std.proofs.Common.{◌≡◌, ℕ, List, [], ◌++◌, Option, Some, None, IfSome, refl, sym, ap, subst, ◌∙◌, append_assoc, append-nil}
 use Rattle.std.specs.Prelude.{true, false}
+use Rattle.outside.specs.Outside.{Seen}
+use Rattle.outside.specs.declared.traits.Port.TheVariants as port
+use Rattle.page_runner.specs.Given.{FaultsRose, NoFault}
 use Rattle.page_runner.specs.Taken.{Took, TookFront}
 use Rattle.page_runner.specs.Pages.{AreTaken, IsReadFrom}
 
@@ -58,12 +61,12 @@ all_bytes None left read taken = ([], tt)
 all_bytes (Some all) left read taken = (taken.so_far.0, taken.so_far.1)
 
 -- the whole page
-pub read_whole : (whole left : Option (List ℕ)) (rose : Type 0) (bytes : List ℕ) → IfSome whole (λ all. all ≡ bytes) → IsReadFrom whole left rose (record { bytes = bytes; fault = false })
-read_whole whole left rose bytes all = record { all = λ _. all; cut = λ e. absurd (cc e); cause = λ e. absurd (cc e) }
+pub read_whole : (before after : Seen) (bytes : List ℕ) → IfSome (before.left port.Page) (λ all. all ≡ bytes) → NoFault port.Page before after → IsReadFrom before after (record { bytes = bytes; fault = false })
+read_whole before after bytes all none = record { all = λ _. all; no_fault = λ _. none; cut = λ e. absurd (cc e); cause = λ e. absurd (cc e) }
 
 -- the page up to a fault
-pub read_to_fault : (whole left : Option (List ℕ)) (rose : Type 0) (bytes : List ℕ) → AreTaken whole left bytes → rose → IsReadFrom whole left rose (record { bytes = bytes; fault = true })
-read_to_fault whole left rose bytes taken cause = record { all = λ e. absurd (cc e); cut = λ _. taken; cause = λ _. cause }
+pub read_to_fault : (before after : Seen) (bytes : List ℕ) → AreTaken (before.left port.Page) (after.left port.Page) bytes → FaultsRose port.Page before after → IsReadFrom before after (record { bytes = bytes; fault = true })
+read_to_fault before after bytes taken cause = record { all = λ e. absurd (cc e); no_fault = λ e. absurd (cc e); cut = λ _. taken; cause = λ _. cause }
 
 -- the page's end was read
 pub all_read : (whole left : Option (List ℕ)) (read : List ℕ) → AreTaken whole left read → IfSome left (λ rest. rest ≡ []) → IfSome whole (λ bytes. bytes ≡ read)

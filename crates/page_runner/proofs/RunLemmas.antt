@@ -1,22 +1,23 @@
 -- From the parts of a run to its answer.
-use Rattle.std.proofs.Common.{◌≡◌, ℕ, ◌<◌, ◌≤◌, ◌+◌, List, [], ◌++◌, Bool, true, Option, Some, None, IfSome, flat_map, refl, sym, ap, subst, ◌∙◌, inl, inr, arith, length}
+use Rattle.std.proofs.Common.{◌≡◌, ℕ, ◌≤◌, ◌+◌, List, [], ◌∷◌, ◌++◌, Bool, true, false, Option, Some, None, IfSome, flat_map, refl, sym, ap, subst, ◌∙◌, inl, inr, arith}
 use Rattle.std.specs.Prelude.{◌⊎◌, IsSome, IsSomeAnd, IsTrue}
-use Rattle.std.specs.Bool.{OnTrue}
+use Rattle.std.specs.Bool.{OnTrue, OnFalse}
 use Rattle.std.specs.Option.{option_map}
-use Rattle.std.proofs.lemmas.Bool.{lt-leb}
 use Rattle.html_types.specs.declared.script.Why.TheVariants as why
-use Rattle.outside.specs.Outside.{Files, Seen, KeepsOthers}
+use Rattle.outside.specs.Outside.{Rose, Files, Begun, Seen, KeepsOthers}
 use Rattle.outside.specs.declared.traits.Port.{Port}
 use Rattle.outside.specs.declared.traits.Port.TheVariants.{Entities, Page, Script}
 use Rattle.standard.specs.Act.{Doc}
 use Rattle.standard.specs.Entities.{Entities as Table}
 use Rattle.standard.specs.Scripts.{Fetched, is_lawful}
 use Rattle.standard.specs.Scripts as fetched
-use Rattle.standard.specs.Serial.{World, Result, finished, refused}
+use Rattle.standard.specs.Serial.{World}
 use Rattle.standard.specs.Output.{line_text, result_with, output_with}
 use Rattle.standard_laws.proofs.Total.{has_outcome}
 use Rattle.write_parser.specs.Writing.{View}
 use Rattle.page_runner.specs.declared.command.TheConstants.{ENTITIES_LIMIT}
+use Rattle.page_runner.specs.declared.command.Unread.{Unread}
+use Rattle.page_runner.specs.declared.command.Unread.TheVariants as unread
 use Rattle.page_runner.specs.declared.page.TheConstants.{PAGE_LIMIT}
 use Rattle.page_runner.specs.declared.scripts.TheConstants.{SCRIPT_LIMIT}
 use Rattle.page_runner.specs.declared.outcome.Outcome.{Outcome as Told}
@@ -25,15 +26,16 @@ use Rattle.page_runner.specs.declared.page.Failure.{Failure}
 use Rattle.page_runner.specs.declared.page.Failure.TheVariants as failures
 use Rattle.page_runner.specs.declared.status.Status.{Status}
 use Rattle.page_runner.specs.declared.status.Status.TheVariants as status
-use Rattle.page_runner.specs.declared.fetch.Fetch.{Fetch}
 use Rattle.page_runner.specs.Words.{Asked}
-use Rattle.page_runner.specs.Given.{Given, unmet, missing, faulted, got, given_of, FaultsRose, AbsencesRose, file_at, MayGive, AreRead, ReadTo, untouched, unbegun, begun, KeepsEntities}
+use Rattle.page_runner.specs.Given.{Given, unmet, missing, faulted, got, FaultsRose, NoFault, AbsencesRose, file_at, MayGive, AreRead, ReadTo, untouched, unbegun, begun, KeepsEntities}
 use Rattle.page_runner.specs.Taken.{Took, TookFront}
-use Rattle.page_runner.specs.Scripts.{path_of, IsAbsent, MayFetch, AreScriptsOf, ReadScriptsTo, none_begun, last}
+use Rattle.page_runner.specs.Scripts.{path_of, IsAbsent, MayFetch, ReadScriptsTo, NamesOnce, none_begun, last}
 use Rattle.page_runner.specs.Shown.{result_of, status_of}
-use Rattle.page_runner.specs.Pages.{PageRead, page_at, world_of, AreTaken, ReadsOn, IsReadFrom, Ended, EndsWithScripts, FrontWithScripts}
-use Rattle.page_runner.specs.Answers.{IsPageOf, PageMet, MayGivePage, IsParsed, Answer, status_with, answer_to_page, answer_over, answer_to, table_of, status_for, Gives, IsBegun, PageAnswers, Answers, RunsTo, StopsAtEach, StopsAtLimits, is_finished}
-use Rattle.page_runner.proofs.KeepsLemmas.{rose-on, rose-stays}
+use Rattle.page_runner.specs.Pages.{PageRead, page_at, world_of, AreTaken, ReadsOn, IsReadFrom, MeetsFaults, Ended, EndsWithScripts, FrontWithScripts}
+use Rattle.page_runner.specs.Answers.{IsPageOf, PageMet, MayGivePage, FaultsMet, IsParsed, Answer, status_with, answer_to_page, answer_over, answer_to, table_of, status_for, Gives, is_answered, IsBegun, PageAnswers, ReadsPage, ReadsTable, ReadsNone, answer_without, Answers, RunsTo, StopsAtEach, StopsAtLimits, BeginsEach, BeginsOnce, is_finished}
+use Rattle.outside.proofs.KeepsLemmas.{keeps-same}
+use Rattle.page_runner.proofs.KeepsLemmas.{begun_none, begun_then, begun_stays, begun_since, begun_is, rose-on, rose-stays, entities-same, entities-then, entities-others}
+use Rattle.page_runner.proofs.MeetLemmas.{names_none}
 use Rattle.page_runner.proofs.PageTakenLemmas.{took_nothing, front_nothing, took_then, front_then}
 
 -- ---- a status and what was written
@@ -47,48 +49,55 @@ status_is (told.Refused why.Writes) = refl
 status_is (told.Refused why.Page) = refl
 status_is (told.Refused why.Fault) = refl
 
-gives_status : (r : Result) (t t' : Option (List ℕ)) (text : List ℕ) → Took t t' text → Gives t t' (status_with r, text) (status_with r)
-gives_status finished t t' text took = (refl, took)
-gives_status (refused why.BadUtf8) t t' text took = (refl, took)
-gives_status (refused why.Depth) t t' text took = (refl, took)
-gives_status (refused why.Writes) t t' text took = (refl, took)
-gives_status (refused why.Page) t t' text took = (refl, took)
-gives_status (refused why.Fault) t t' text took = (refl, took)
+pub gives_all : (o : Told) (rose : Type 0) (t t' : Option (List ℕ)) (text : List ℕ) → Took t t' text → Gives rose t t' (status_of o, text) (status_of o)
+gives_all told.Finished rose t t' text took = (refl, took)
+gives_all (told.Refused why.BadUtf8) rose t t' text took = (refl, took)
+gives_all (told.Refused why.Depth) rose t t' text took = (refl, took)
+gives_all (told.Refused why.Writes) rose t t' text took = (refl, took)
+gives_all (told.Refused why.Page) rose t t' text took = (refl, took)
+gives_all (told.Refused why.Fault) rose t t' text took = (refl, took)
 
-gives_failure : (f : Failure) (t t' : Option (List ℕ)) (answer : Answer) → TookFront t t' answer.1 → Gives t t' answer (status_for f)
-gives_failure failures.Memory t t' answer front = front
-gives_failure failures.Write t t' answer front = front
+pub gives_failure : (f : Failure) (rose : Type 0) (t t' : Option (List ℕ)) (answer : Answer) → (f ≡ failures.Write → rose) → TookFront t t' answer.1 → Gives rose t t' answer (status_for f)
+gives_failure failures.Memory rose t t' answer cause front = front
+gives_failure failures.Write rose t t' answer cause front = (cause refl, front)
 
-pub gives_fault : (r : Status) (t t' : Option (List ℕ)) → (r ≡ status.ReadFault) ⊎ (r ≡ status.WriteFault) → t' ≡ t → Gives t t' (status.ReadFault, []) r
-gives_fault r t t' (inl is) same = rw (is, same) (refl, took_nothing t)
-gives_fault r t t' (inr is) same = rw (is, same) (front_nothing t [])
+pub gives_read_fault : (rose : Type 0) (t t' : Option (List ℕ)) → t' ≡ t → Gives rose t t' (status.ReadFault, []) status.ReadFault
+gives_read_fault rose t t' same = (refl, subst (λ k. Took t k []) (sym same) (took_nothing t))
 
-pub write_failure : (f : Failure) → status_for f ≡ status.WriteFault → f ≡ failures.Write
-write_failure failures.Memory e = absurd (cc e)
-write_failure failures.Write e = refl
+pub gives_write_fault : (rose : Type 0) (t t' : Option (List ℕ)) (answer : Answer) → rose → t' ≡ t → Gives rose t t' answer status.WriteFault
+gives_write_fault rose t t' answer cause same = (cause, subst (λ k. TookFront t k answer.1) (sym same) (front_nothing t answer.1))
+
+-- behind a text that was written
+gives_behind : (rose rose' : Type 0) (t now t' : Option (List ℕ)) (first : Status) (a b : List ℕ) (r : Status) → (rose → rose') → Took t now a → Gives rose now t' (first, b) r → Gives rose' t t' (first, a ++ b) r
+gives_behind rose rose' t now t' first a b status.WriteFault on took gives = (on gives.0, front_then t now t' a b took gives.1)
+gives_behind rose rose' t now t' first a b status.NoMemory on took gives = front_then t now t' a b took gives
+gives_behind rose rose' t now t' first a b status.Done on took gives = (gives.0, took_then t now t' a b took gives.1)
+gives_behind rose rose' t now t' first a b status.Usage on took gives = (gives.0, took_then t now t' a b took gives.1)
+gives_behind rose rose' t now t' first a b status.Entities on took gives = (gives.0, took_then t now t' a b took gives.1)
+gives_behind rose rose' t now t' first a b status.BadUtf8 on took gives = (gives.0, took_then t now t' a b took gives.1)
+gives_behind rose rose' t now t' first a b (status.Limit which) on took gives = (gives.0, took_then t now t' a b took gives.1)
+gives_behind rose rose' t now t' first a b status.ReadFault on took gives = (gives.0, took_then t now t' a b took gives.1)
+gives_behind rose rose' t now t' first a b status.Absent on took gives = (gives.0, took_then t now t' a b took gives.1)
+
+pub failure_unanswered : (f : Failure) → IsTrue (is_answered (status_for f)) → ⊥
+failure_unanswered failures.Memory e = cc
+failure_unanswered failures.Write e = cc
 
 pub failure_unfinished : (f : Failure) → IsTrue (is_finished (status_for f)) → ⊥
 failure_unfinished failures.Memory e = cc
 failure_unfinished failures.Write e = cc
 
-pub no_write_fault : (o : Told) → status_of o ≡ status.WriteFault → ⊥
-no_write_fault told.Finished e = cc
-no_write_fault (told.Refused why.BadUtf8) e = cc
-no_write_fault (told.Refused why.Depth) e = cc
-no_write_fault (told.Refused why.Writes) e = cc
-no_write_fault (told.Refused why.Page) e = cc
-no_write_fault (told.Refused why.Fault) e = cc
-
 -- ---- the page
 
 -- the page that a begun port gives is the file's
-page_of : (files : Option Files) (path : List ℕ) (whole left : Option (List ℕ)) (rose rose' : Type 0) (page : PageRead) → IfSome files (λ map. IsSome (map path) × (whole ≡ map path))
-    → IsReadFrom whole left rose page → (rose → rose') → IsPageOf (option_map (λ map. map path) files) left rose' page
-page_of None path whole left rose rose' page found from cause = record { whole = λ _. tt; cut = λ _. tt; cause = λ e. cause (from.cause e) }
-page_of (Some map) path whole left rose rose' page found from cause = record {
-  whole = λ e. all_of (map path) whole page found.0 found.1 (from.all e);
-  cut = λ e. cut_of (map path) whole left page found.0 found.1 (from.cut e);
-  cause = λ e. cause (from.cause e);
+page_of : (files : Option Files) (path : List ℕ) (before after : Seen) (page : PageRead) → IfSome files (λ map. IsSome (map path) × (before.left Page ≡ map path))
+    → IsReadFrom before after page → IsPageOf (option_map (λ map. map path) files) (after.left Page) (FaultsRose Page before after) (NoFault Page before after) page
+page_of None path before after page found from = record { whole = λ _. tt; no_fault = from.no_fault; cut = λ _. tt; cause = from.cause }
+page_of (Some map) path before after page found from = record {
+  whole = λ e. all_of (map path) (before.left Page) page found.0 found.1 (from.all e);
+  no_fault = from.no_fault;
+  cut = λ e. cut_of (map path) (before.left Page) (after.left Page) page found.0 found.1 (from.cut e);
+  cause = from.cause;
 }
   where
     all_of : (file whole : Option (List ℕ)) (page : PageRead) → IsSome file → whole ≡ file → IfSome whole (λ bytes. bytes ≡ page.bytes) → file ≡ Some page.bytes
@@ -120,57 +129,53 @@ unfolding output_with
 ended_text w page v t t' o end dump = ap (λ l. flat_map line_text end.outcome.last.side.lines ++ l) (end.text dump)
 
 module _ (es : Table) (dump : Bool) (path dir : List ℕ) (dir' : List ℕ) (is_dir : dir' ≡ dir) (before after : Seen) (found : IsBegun path before) where
-  may_page : (page : PageRead) → IsReadFrom (before.left Page) (after.left Page) (FaultsRose Page before after) page → IsPageOf (file_at before path) (after.left Page) (FaultsRose Page before after) page
-  may_page page from = page_of before.files path (before.left Page) (after.left Page) (FaultsRose Page before after) (FaultsRose Page before after) page found from (λ r. r)
+  may_page : (page : PageRead) → IsReadFrom before after page → IsPageOf (file_at before path) (after.left Page) (FaultsRose Page before after) (NoFault Page before after) page
+  may_page page from = page_of before.files path before after page found from
 
   -- the parse gave up
-  pub page_gave_up : (t t' : Option (List ℕ)) (f : Failure) → FrontWithScripts es dir' before after t t' → PageAnswers es dump path dir before after t t' (status_for f)
-  page_gave_up t t' f front =
+  pub page_gave_up : (k k' : ℕ) (t t' : Option (List ℕ)) (f : Failure) → (f ≡ failures.Write → Rose k k') → FrontWithScripts es dir' before after t t' → PageAnswers es dump path dir before after k k' t t' (status_for f)
+  page_gave_up k k' t t' f cause front =
       let part = subst (λ d. FrontWithScripts es d before after t t') is_dir front in
       let end = has_outcome (page_at part.page) (world_of es part.scripts) in
       let met : PageMet = record { read = part.page; scripts = part.scripts; outcome = end.0 } in
       record {
         page = got met;
         may = record { read = may_page part.page part.read_from; scripts = part.are_scripts };
+        faults = λ e. absurd (failure_unanswered f e);
         parsed = end.1;
-        gives = gives_failure f t t' (answer_to_page dump (got met)) (part.front dump end.0 end.1);
+        gives = gives_failure f (Rose k k') t t' (answer_to_page dump (got met)) cause (part.front dump end.0 end.1);
       }
 
-  -- the end wasn't written
-  pub end_gave_up : (t now' t' : Option (List ℕ)) (v : View) (doc : Doc) (o : Told) (f : Failure) → EndsWithScripts es dir' before after v t now' o → doc ≡ v.doc
-      → TookFront now' t' (result_with dump (result_of o) doc.tree) → PageAnswers es dump path dir before after t t' (status_for f)
-  end_gave_up t now' t' v doc o f ends' same front' =
+  -- the parse ended, and what comes of it was written, or a front of it
+  pub page_ended : (k now_k k' : ℕ) (t now' t' : Option (List ℕ)) (v : View) (doc : Doc) (o : Told) (r : Status) → k ≤ now_k → EndsWithScripts es dir' before after v t now' o → doc ≡ v.doc
+      → Gives (Rose now_k k') now' t' (status_of o, result_with dump (result_of o) doc.tree) r → PageAnswers es dump path dir before after k k' t t' r
+  page_ended k now_k k' t now' t' v doc o r later ends' same gives' =
       let ends = subst (λ d. EndsWithScripts es d before after v t now' o) is_dir ends' in
-      let front = subst (λ d. TookFront now' t' (result_with dump (result_of o) d.tree)) same front' in
+      let gives = subst (λ d. Gives (Rose now_k k') now' t' (status_of o, result_with dump (result_of o) d.tree) r) same gives' in
       let end = ends.ended in
-      let met : PageMet = record { read = ends.page; scripts = ends.scripts; outcome = end.outcome } in
-      record {
-        page = got met;
-        may = record { read = may_page ends.page ends.read_from; scripts = ends.are_scripts };
-        parsed = end.comes;
-        gives = gives_failure f t t' (answer_to_page dump (got met))
-            (subst (λ l. TookFront t t' l) (sym (ended_text (world_of es ends.scripts) ends.page v t now' o end dump))
-            (front_then t now' t' _ _ end.took front));
-      }
-
-  -- all was written
-  pub page_ended : (t now' t' : Option (List ℕ)) (v : View) (doc : Doc) (o : Told) → EndsWithScripts es dir' before after v t now' o → doc ≡ v.doc
-      → Took now' t' (result_with dump (result_of o) doc.tree) → PageAnswers es dump path dir before after t t' (status_of o)
-  page_ended t now' t' v doc o ends' same took' =
-      let ends = subst (λ d. EndsWithScripts es d before after v t now' o) is_dir ends' in
-      let took = subst (λ d. Took now' t' (result_with dump (result_of o) d.tree)) same took' in
-      let end = ends.ended in
+      let all = gives_behind (Rose now_k k') (Rose k k') t now' t' (status_of o) _ _ r (λ rose. rose-on k now_k k' later rose) end.took gives in
       record {
         page = got (record { read = ends.page; scripts = ends.scripts; outcome = end.outcome });
         may = record { read = may_page ends.page ends.read_from; scripts = ends.are_scripts };
+        faults = λ _. subst (λ result. MeetsFaults ends.page result before after) (sym end.result) ends.faults;
         parsed = end.comes;
-        gives = subst (λ s. Gives t t' (status_with end.outcome.result, output_with dump end.outcome) s) (ap status_with end.result ∙ sym (status_is o))
-            (gives_status end.outcome.result t t' (output_with dump end.outcome)
-            (subst (λ l. Took t t' l) (sym (ended_text (world_of es ends.scripts) ends.page v t now' o end dump)) (took_then t now' t' _ _ end.took took)));
+        gives = subst (λ s. Gives (Rose k k') t t' (s, output_with dump end.outcome) r) (status_is o ∙ ap status_with (sym end.result))
+            (subst (λ l. Gives (Rose k k') t t' (status_of o, l) r) (sym (ended_text (world_of es ends.scripts) ends.page v t now' o end dump)) all);
       }
 
-  pub page_read_to : ReadsOn (PAGE_LIMIT + 1) (before.left Page) (after.left Page) → ReadTo PAGE_LIMIT Page path before after
+  page_read_to : ReadsOn (PAGE_LIMIT + 1) (before.left Page) (after.left Page) → ReadTo PAGE_LIMIT Page path before after
   page_read_to reads = begun reads.read (read_of before.files path (before.left Page) (after.left Page) reads.read found reads.taken) reads.at_most
+
+  -- what it read
+  pub page_reads : (begun_same : after.begun Page ≡ before.begun Page) → KeepsEntities before after → ReadsOn (PAGE_LIMIT + 1) (before.left Page) (after.left Page) → ReadScriptsTo SCRIPT_LIMIT dir' before after
+      → NamesOnce dir' (before.begun Script) (after.begun Script) → ReadsPage path dir [] before after
+  page_reads same keeps reads scripts names = record {
+    others = keeps;
+    page = page_read_to reads;
+    scripts = subst (λ d. ReadScriptsTo SCRIPT_LIMIT d before after) is_dir scripts;
+    begun = begun_none _ _ same;
+    names = subst (λ d. NamesOnce d (before.begun Script) (after.begun Script)) is_dir names;
+  }
 
 -- ---- the run
 
@@ -190,62 +195,113 @@ fetch_since port dir before now after name fetched.missing keeps may =
 fetch_since port dir before now after name fetched.faulted keeps may = rose-on _ _ _ (keeps.faults Script) may
 
 -- and the page may be given all the same
-pub may_since : (port : Port) (path dir : List ℕ) (before now after : Seen) (page : Given PageMet) → KeepsOthers port before now → MayGivePage path dir now after page → MayGivePage path dir before after page
-may_since port path dir before now after unmet keeps may = tt
-may_since port path dir before now after missing keeps may =
-    (rose-on _ _ _ (keeps.absences Page) may.0, subst (λ file. IfSome file (λ f. f ≡ None)) (file_since path before now keeps.files) may.1)
-may_since port path dir before now after faulted keeps may = (rose-on _ _ _ (keeps.faults Page) may.0, may.1)
-may_since port path dir before now after (got page) keeps may = record {
+pub may_since : (port : Port) (path dir : List ℕ) (before now after : Seen) (page : Given PageMet) → KeepsOthers port before now → NoFault Page before now → MayGivePage path dir now after page → MayGivePage path dir before after page
+may_since port path dir before now after unmet keeps quiet may = tt
+may_since port path dir before now after missing keeps quiet may =
+    (rose-on _ _ _ (keeps.absences Page) may.0, subst (λ file. IfSome file (λ f. f ≡ None)) (file_since path before now keeps.files) may.1, may.2 ∙ quiet)
+may_since port path dir before now after faulted keeps quiet may = (rose-on _ _ _ (keeps.faults Page) may.0, may.1)
+may_since port path dir before now after (got page) keeps quiet may = record {
   read = record {
     whole = λ e. subst (λ file. IfSome file (λ f. f ≡ Some page.read.bytes)) (file_since path before now keeps.files) (may.read.whole e);
+    no_fault = λ e. may.read.no_fault e ∙ quiet;
     cut = λ e. subst (λ file. IfSome file (λ f. (rest : List ℕ) × (f ≡ Some (page.read.bytes ++ rest)) × (after.left Page ≡ Some rest))) (file_since path before now keeps.files) (may.read.cut e);
     cause = λ e. rose-on _ _ _ (keeps.faults Page) (may.read.cause e);
   };
   scripts = record { each = λ name. fetch_since port dir before now after name (page.scripts name) keeps (may.scripts.each name) };
 }
 
+faults_since : (before now after : Seen) (page : Given PageMet) → NoFault Script before now → FaultsMet page now after → FaultsMet page before after
+faults_since before now after unmet quiet met = met ∙ quiet
+faults_since before now after missing quiet met = met ∙ quiet
+faults_since before now after faulted quiet met = met ∙ quiet
+faults_since before now after (got page) quiet (inl none) = inl (none ∙ quiet)
+faults_since before now after (got page) quiet (inr is) = inr is
+
 -- the page was begun before
-pub page_since : (port : Port) (es : Table) (dump : Bool) (path dir : List ℕ) (before now after : Seen) (t t' : Option (List ℕ)) (result : Status) → KeepsOthers port before now
-    → PageAnswers es dump path dir now after t t' result → PageAnswers es dump path dir before after t t' result
-page_since port es dump path dir before now after t t' result keeps answers = record {
+pub page_since : (es : Table) (dump : Bool) (path dir : List ℕ) (before now after : Seen) (k k' : ℕ) (t t' : Option (List ℕ)) (result : Status) → KeepsOthers Page before now → NoFault Page before now
+    → PageAnswers es dump path dir now after k k' t t' result → PageAnswers es dump path dir before after k k' t t' result
+page_since es dump path dir before now after k k' t t' result keeps quiet answers = record {
   page = answers.page;
-  may = may_since port path dir before now after answers.page keeps answers.may;
+  may = may_since Page path dir before now after answers.page keeps quiet answers.may;
+  faults = λ e. faults_since before now after answers.page (keeps.other_faults Script (λ e. cc e)) (answers.faults e);
   parsed = answers.parsed;
   gives = answers.gives;
 }
 
-pub answers_on : (asked : Asked) (before now after : Seen) (t t' : Option (List ℕ)) (result : Status) (bytes : List ℕ) (es : Table) → MayGive ENTITIES_LIMIT Entities asked.entities before now (got bytes) → KeepsOthers Entities before now
-    → table_of bytes ≡ Some es → PageAnswers es asked.dump asked.page asked.dir now after t t' result → KeepsEntities now after → Answers asked before after t t' result
-answers_on asked before now after t t' result bytes es may keeps table answers keeps' = record {
-  entities = got bytes;
+-- it could not be begun
+module _ (es : Table) (dump : Bool) (path dir : List ℕ) (before after : Seen) (keeps : KeepsOthers Page before after) (k k' : ℕ) (t t' : Option (List ℕ)) where
+  pub page_faulted : (r : Status) → FaultsRose Page before after → IfSome (after.left Page) (λ rest. rest ≡ []) → Gives (Rose k k') t t' (status.ReadFault, []) r → PageAnswers es dump path dir before after k k' t t' r
+  page_faulted r rose none gives = record { page = faulted; may = (rose, none); faults = λ _. keeps.other_faults Script (λ e. cc e); parsed = tt; gives = gives }
+
+  pub page_absent : (b : Bool) (path' : List ℕ) → b ≡ false → path' ≡ path → OnFalse b (Rose (before.absences Page) (after.absences Page)) → OnFalse b (IfSome before.files (λ map. map path' ≡ None)) → NoFault Page before after → t' ≡ t
+      → PageAnswers es dump path dir before after k k' t t' status.Absent
+  page_absent b path' is same rose none quiet stays = record {
+    page = missing;
+    may = (on_false b is rose, none_at before.files (subst (λ p. IfSome before.files (λ map. map p ≡ None)) same (on_false b is none)), quiet);
+    faults = λ _. keeps.other_faults Script (λ e. cc e);
+    parsed = tt;
+    gives = (refl, subst (λ k. Took t k []) (sym stays) (took_nothing t));
+  }
+    where
+      on_false : (b : Bool) {P : Type 0} → b ≡ false → OnFalse b P → P
+      on_false true is h = absurd (cc is)
+      on_false false is h = h
+
+      none_at : (files : Option Files) → IfSome files (λ map. map path ≡ None) → IfSome (option_map (λ map. map path) files) (λ file. file ≡ None)
+      none_at None none = tt
+      none_at (Some map) none = none
+
+  pub page_unbegun : (path' : List ℕ) → path' ≡ path → IfSome (after.left Page) (λ rest. rest ≡ []) → AbsencesRose Page before after ⊎ FaultsRose Page before after → Begun (before.begun Page) (after.begun Page) (path' ∷ [])
+      → ReadsPage path dir (path ∷ []) before after
+  page_unbegun path' same none cause paths = record {
+    others = entities-others Page before after (λ e. cc e) keeps;
+    page = unbegun none cause;
+    scripts = none_begun (keeps.left Script (λ e. cc e));
+    begun = begun_is _ _ path' path same paths;
+    names = names_none dir _ _ (keeps.begun Script (λ e. cc e));
+  }
+
+pub answers_on : (asked : Asked) (before now after : Seen) (k k' : ℕ) (t t' : Option (List ℕ)) (result : Status) (es : Table) → ReadsTable asked.entities before now es → KeepsOthers Entities before now
+    → PageAnswers es asked.dump asked.page asked.dir now after k k' t t' result → KeepsEntities now after → Answers asked before after k k' t t' result
+answers_on asked before now after k k' t t' result es reads keeps answers keeps' = record {
+  entities = got reads.bytes;
   page = answers.page;
-  may_entities = may;
-  may_page = may_since Entities asked.page asked.dir before now after answers.page keeps answers.may;
+  may_entities = (reads.given.0, keeps'.no_fault ∙ reads.given.1);
+  may_page = may_since Entities asked.page asked.dir before now after answers.page keeps (keeps.other_faults Page (λ e. cc e)) answers.may;
+  faults = λ e. faults_since before now after answers.page (keeps.other_faults Script (λ e. cc e)) (answers.faults e);
   parsed = λ bytes' es' same table'.
-      let is : bytes ≡ bytes' = cc in
-      let one : Some es ≡ Some es' = sym table ∙ ap table_of is ∙ table' in
+      let is : reads.bytes ≡ bytes' = cc in
+      let one : Some es ≡ Some es' = sym reads.lists ∙ ap table_of is ∙ table' in
       let are : es ≡ es' = cc in
       subst (λ e. IsParsed e answers.page) are answers.parsed;
-  gives = subst (λ table. Gives t t' (answer_over asked.dump table answers.page) result) (sym table) answers.gives;
+  gives = subst (λ table. Gives (Rose k k') t t' (answer_over asked.dump table answers.page) result) (sym reads.lists) answers.gives;
 }
 
--- refused by the entities file, or by what came of it
-pub answers_early : (asked : Asked) (before after : Seen) (t t' : Option (List ℕ)) (result : Status) (given : Given (List ℕ)) → MayGive ENTITIES_LIMIT Entities asked.entities before after given
-    → Gives t t' (answer_to asked.dump given unmet) result → Answers asked before after t t' result
-answers_early asked before after t t' result given may gives = record {
-  entities = given;
-  page = unmet;
-  may_entities = may;
-  may_page = tt;
-  parsed = λ bytes es same table. tt;
-  gives = gives;
-}
+-- there is no table
+module _ (asked : Asked) (before after : Seen) (keeps : KeepsOthers Entities before after) (k k' : ℕ) (t t' : Option (List ℕ)) (r : Status) where
+  answers_early : (given : Given (List ℕ)) → MayGive ENTITIES_LIMIT Entities asked.entities before after given → Gives (Rose k k') t t' (answer_to asked.dump given unmet) r → Answers asked before after k k' t t' r
+  answers_early given may gives = record {
+    entities = given;
+    page = unmet;
+    may_entities = may;
+    may_page = tt;
+    faults = λ _. keeps.other_faults Script (λ e. cc e);
+    parsed = λ bytes es same table. tt;
+    gives = gives;
+  }
 
--- the file isn't a table
-pub answers_no_table : (asked : Asked) (before after : Seen) (t : Option (List ℕ)) (bytes : List ℕ) → MayGive ENTITIES_LIMIT Entities asked.entities before after (got bytes) → table_of bytes ≡ None
-    → Answers asked before after t t status.Entities
-answers_no_table asked before after t bytes may none =
-    answers_early asked before after t t status.Entities (got bytes) may (subst (λ table. Gives t t (answer_over asked.dump table unmet) status.Entities) (sym none) (refl, took_nothing t))
+  pub answers_without : (u : Unread) → ReadsNone asked.entities before after u → Gives (Rose k k') t t' (answer_without u) r → Answers asked before after k k' t t' r
+  answers_without unread.NoMemory none gives = answers_early unmet tt gives
+  answers_without unread.Missing none gives = answers_early missing none gives
+  answers_without unread.Faulted none gives = answers_early faulted none gives
+  answers_without unread.NotTable none gives =
+      answers_early (got none.0) none.1 (subst (λ table. Gives (Rose k k') t t' (answer_over asked.dump table unmet) r) (sym none.2) gives)
+
+pub none_is : (path path' : List ℕ) (before after : Seen) (u : Unread) → path ≡ path' → ReadsNone path before after u → ReadsNone path' before after u
+none_is path path' before after u same none = subst (λ p. ReadsNone p before after u) same none
+
+pub table_is : (path path' : List ℕ) (before after : Seen) (es : Table) → path ≡ path' → ReadsTable path before after es → ReadsTable path' before after es
+table_is path path' before after es same reads = subst (λ p. ReadsTable p before after es) same reads
 
 -- how far the entities were read, where the page is read behind them
 pub read_still : (limit : ℕ) (path : List ℕ) (before now after : Seen) → ReadTo limit Entities path before now → KeepsEntities now after → ReadTo limit Entities path before after
@@ -305,28 +361,66 @@ stops_early asked before after reads keeps = record {
 }
 
 -- the page and its scripts were read behind them
-pub stops_on : (asked : Asked) (before now after : Seen) → ReadTo ENTITIES_LIMIT Entities asked.entities before now → KeepsOthers Entities before now → KeepsEntities now after
-    → ReadTo PAGE_LIMIT Page asked.page now after → ReadScriptsTo SCRIPT_LIMIT asked.dir now after → StopsAtEach asked before after
-stops_on asked before now after reads keeps keeps' page scripts = record {
-  entities = read_still ENTITIES_LIMIT asked.entities before now after reads keeps';
-  page = page_since_entities asked.page before now after keeps page;
-  scripts = scripts_since_entities asked.dir before now after keeps scripts;
+pub stops_on : (asked : Asked) (paths : List (List ℕ)) (before now after : Seen) → ReadTo ENTITIES_LIMIT Entities asked.entities before now → KeepsOthers Entities before now → ReadsPage asked.page asked.dir paths now after
+    → StopsAtEach asked before after
+stops_on asked paths before now after reads keeps page = record {
+  entities = read_still ENTITIES_LIMIT asked.entities before now after reads page.others;
+  page = page_since_entities asked.page before now after keeps page.page;
+  scripts = scripts_since_entities asked.dir before now after keeps page.scripts;
 }
+
+-- what was begun at the ports
+pub begins_early : (asked : Asked) (path : List ℕ) (before after : Seen) → path ≡ asked.entities → Begun (before.begun Entities) (after.begun Entities) (path ∷ []) → KeepsOthers Entities before after → BeginsEach asked before after
+begins_early asked path before after same paths keeps = record {
+  entities = inr (begun_is _ _ path asked.entities same paths);
+  page = inl (begun_none _ _ (keeps.begun Page (λ e. cc e)));
+  scripts = names_none asked.dir _ _ (keeps.begun Script (λ e. cc e));
+}
+
+pub begins_on : (asked : Asked) (path : List ℕ) (before now after : Seen) → path ≡ asked.entities → Begun (before.begun Entities) (now.begun Entities) (path ∷ []) → KeepsOthers Entities before now
+    → ReadsPage asked.page asked.dir (asked.page ∷ []) now after → BeginsEach asked before after
+begins_on asked path before now after same paths keeps page = record {
+  entities = inr (begun_stays _ _ _ _ (begun_is _ _ path asked.entities same paths) page.others.begun);
+  page = inr (begun_since _ _ _ _ (keeps.begun Page (λ e. cc e)) page.begun);
+  scripts = subst (λ b. NamesOnce asked.dir b (after.begun Script)) (keeps.begun Script (λ e. cc e)) page.names;
+}
+
+-- the page was begun, and read
+pub reads_since : (path dir path' : List ℕ) (before now after : Seen) → path' ≡ path → KeepsOthers Page before now → Begun (before.begun Page) (now.begun Page) (path' ∷ []) → IsBegun path now → ReadsPage path dir [] now after
+    → ReadsPage path dir (path ∷ []) before after
+reads_since path dir path' before now after same keeps paths found reads = record {
+  others = entities-then before now after (entities-others Page before now (λ e. cc e) keeps) reads.others;
+  page = begun_page_read path before now after keeps found reads.page;
+  scripts = scripts_since_page dir before now after keeps reads.scripts;
+  begun = begun_then _ _ _ (path ∷ []) [] (begun_is _ _ path' path same paths) reads.begun;
+  names = subst (λ b. NamesOnce dir b (after.begun Script)) (keeps.begun Script (λ e. cc e)) reads.names;
+}
+
+-- nothing was read
+pub reads_nothing : (path dir : List ℕ) (before : Seen) → ReadsPage path dir [] before before
+reads_nothing path dir before = record { others = entities-same before; page = untouched refl; scripts = none_begun refl; begun = begun_none _ _ refl; names = names_none dir _ _ refl }
+
+pub page_no_memory : (es : Table) (dump : Bool) (path dir : List ℕ) (before : Seen) (k : ℕ) (t : Option (List ℕ)) → PageAnswers es dump path dir before before k k t t status.NoMemory
+page_no_memory es dump path dir before k t = record { page = unmet; may = tt; faults = λ _. refl; parsed = tt; gives = front_nothing t [] }
 
 -- ---- the words
 
-pub runs_usage : (asked : Option Asked) (before : Seen) (t : Option (List ℕ)) → asked ≡ None → RunsTo asked before before t t status.Usage
-runs_usage asked before t none = subst (λ a. RunsTo a before before t t status.Usage) (sym none) (refl, took_nothing t)
+pub runs_usage : (asked : Option Asked) (before : Seen) (k : ℕ) (t : Option (List ℕ)) → asked ≡ None → RunsTo asked before before k k t t status.Usage
+runs_usage asked before k t none = subst (λ a. RunsTo a before before k k t t status.Usage) (sym none) (refl, took_nothing t)
 
-pub runs_no_memory : (asked : Option Asked) (before : Seen) (t : Option (List ℕ)) → RunsTo asked before before t t status.NoMemory
-runs_no_memory None before t = front_nothing t []
-runs_no_memory (Some asked) before t = answers_early asked before before t t status.NoMemory unmet tt (front_nothing t [])
+pub runs_no_memory : (asked : Option Asked) (before : Seen) (k : ℕ) (t : Option (List ℕ)) → RunsTo asked before before k k t t status.NoMemory
+runs_no_memory None before k t = front_nothing t []
+runs_no_memory (Some asked) before k t = answers_without asked before before (keeps-same Entities before) k k t t status.NoMemory unread.NoMemory tt (front_nothing t [])
 
-pub runs_asked : (asked : Option Asked) (a : Asked) (before after : Seen) (t t' : Option (List ℕ)) (result : Status) → Some a ≡ asked → Answers a before after t t' result → RunsTo asked before after t t' result
-runs_asked asked a before after t t' result is answers = subst (λ o. RunsTo o before after t t' result) is answers
+pub runs_asked : (asked : Option Asked) (a : Asked) (before after : Seen) (k k' : ℕ) (t t' : Option (List ℕ)) (result : Status) → Some a ≡ asked → Answers a before after k k' t t' result → RunsTo asked before after k k' t t' result
+runs_asked asked a before after k k' t t' result is answers = subst (λ o. RunsTo o before after k k' t t' result) is answers
 
-pub scripts_of : (dir' dir : List ℕ) (before after : Seen) → dir' ≡ dir → ReadScriptsTo SCRIPT_LIMIT dir' before after → ReadScriptsTo SCRIPT_LIMIT dir before after
-scripts_of dir' dir before after same reads = subst (λ d. ReadScriptsTo SCRIPT_LIMIT d before after) same reads
+pub begins_nothing : (asked : Option Asked) (before : Seen) → BeginsOnce asked before before
+begins_nothing None before = refl
+begins_nothing (Some asked) before = record { entities = inl (begun_none _ _ refl); page = inl (begun_none _ _ refl); scripts = names_none asked.dir _ _ refl }
+
+pub begins_asked : (asked : Option Asked) (a : Asked) (before after : Seen) → Some a ≡ asked → BeginsOnce (Some a) before after → BeginsOnce asked before after
+begins_asked asked a before after is begins = subst (λ o. BeginsOnce o before after) is begins
 
 pub stops_at_once : (asked : Option Asked) (before : Seen) → StopsAtLimits asked before before
 stops_at_once None before = refl
@@ -343,11 +437,6 @@ found_there b before now path path' is same found keeps =
     let there = subst (λ b. OnTrue b (IfSome before.files (λ map. IsSome (map path) × (now.left Page ≡ map path)))) is found in
     subst (λ files. IfSome files (λ map. IsSome (map path') × (now.left Page ≡ map path'))) (sym keeps.files)
     (subst (λ p. IfSome before.files (λ map. IsSome (map p) × (now.left Page ≡ map p))) same there)
-
-pub given_is : (limit : ℕ) (port : Port) (path path' : List ℕ) (before after : Seen) (fetch fetch' : Fetch) → path ≡ path' → fetch ≡ fetch' → MayGive limit port path before after (given_of fetch)
-    → MayGive limit port path' before after (given_of fetch')
-given_is limit port path path' before after fetch fetch' same is may =
-    subst (λ p. MayGive limit port p before after (given_of fetch')) same (subst (λ f. MayGive limit port path before after (given_of f)) is may)
 
 pub read_to_is : (limit : ℕ) (port : Port) (path path' : List ℕ) (before after : Seen) → path ≡ path' → ReadTo limit port path before after → ReadTo limit port path' before after
 read_to_is limit port path path' before after same reads = subst (λ p. ReadTo limit port p before after) same reads

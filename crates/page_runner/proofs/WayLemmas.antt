@@ -1,6 +1,6 @@
 -- Ways from one moment of the serial parse to another, what the sink took on them, and the ways that the driver's calls go.
-use Rattle.std.proofs.Common.{String, Global, ◌≡◌, ℕ, Bool, true, false, List, [], ◌∷◌, ◌++◌, drop, ◌<◌, ◌+◌, length, take, get_or, drop-cons, add-one, take-append-drop, flat_map, Option, Some, None, Ok, Err, OnErr, refl, sym, ap, ◌∙◌, subst, append_assoc, append-nil}
-use Rattle.std.specs.Prelude.{Result}
+use Rattle.std.proofs.Common.{String, Global, ◌≡◌, ℕ, Bool, true, false, List, [], ◌∷◌, ◌++◌, drop, ◌<◌, ◌+◌, length, take, get_or, drop-cons, add-one, take-append-drop, flat_map, Option, Some, None, Ok, Err, OnErr, refl, sym, ap, ◌∙◌, subst, inl, inr, append_assoc, append-nil}
+use Rattle.std.specs.Prelude.{Result, ◌⊎◌}
 use Rattle.std.proofs.lemmas.Grind.{flat_map-append}
 use Rattle.std.specs.Str.{chars}
 use Rattle.std.specs.String.{string_bytes}
@@ -10,10 +10,10 @@ use Rattle.html_types.specs.declared.script.Why.{Why}
 use Rattle.html_types.specs.declared.script.Why.TheVariants as why
 use Rattle.html_types.specs.declared.script.Line.{Line}
 use Rattle.html_types.specs.declared.script.Line.TheVariants as line
-use Rattle.html_types.specs.declared.script.Statement.{Statement}
 use Rattle.html_types.specs.declared.instruction.Stop.{Stop}
 use Rattle.html_types.specs.declared.instruction.Stop.TheVariants as stop
 use Rattle.outside.specs.Outside.{Seen}
+use Rattle.outside.specs.declared.traits.Port.TheVariants as port
 use Rattle.standard.specs.Entities.{Entities}
 use Rattle.standard.specs.Act.{Doc}
 use Rattle.standard.specs.Parser.{Parser}
@@ -25,9 +25,7 @@ use Rattle.standard.specs.Output.{line_text}
 use Rattle.standard_laws.proofs.Passing.{leads-batch, parse-left}
 use Rattle.standard_laws.proofs.Scripts.{awaits-missing, awaits-fault, awaits-got, awaits-refuses}
 use Rattle.parse_machine.specs.declared.machine.Ran.{Ran}
-use Rattle.write_parser.specs.declared.left.Left.{Left}
-use Rattle.write_parser.specs.declared.left.Left.TheVariants as left
-use Rattle.write_parser.specs.Writing.{View, serial_of, moment_by, moment_of, StandsBy, Stands, IsOver, AtTag, LeadsTo, Parses, IsRefusal, ComesBy, Comes, Runs, HasRun, HasMissed, LeftIs}
+use Rattle.write_parser.specs.Writing.{View, serial_of, moment_by, moment_of, StandsBy, Stands, AtTag, LeadsTo, Parses, ComesBy, Runs, HasRun, HasMissed}
 use Rattle.page_runner.specs.declared.driver.Went.{Went}
 use Rattle.page_runner.specs.declared.driver.Went.TheVariants.{On, Refused}
 use Rattle.page_runner.specs.declared.scripts.Script.{Script}
@@ -35,7 +33,8 @@ use Rattle.page_runner.specs.declared.scripts.Script.TheVariants.{Text, Missing,
 use Rattle.page_runner.specs.declared.scripts.ScriptFiles.{ScriptFiles}
 use Rattle.page_runner.specs.Taken.{Took, TookFront}
 use Rattle.page_runner.specs.Scripts.{met_of, StandsFor, Suits, Fetches}
-use Rattle.page_runner.specs.Moments.{IsReady, IsLeft, AtText, IsRefused, AtStop, Arrives, Resumes, HasLines, Way, Reaches, ReachesInPart, Takes}
+use Rattle.page_runner.specs.Given.{NoFault}
+use Rattle.page_runner.specs.Moments.{StopsAtFault, IsReady, AtText, IsRefused, AtStop, Arrives, Resumes, HasLines, Way, Reaches, ReachesInPart}
 use Rattle.page_runner.proofs.PageTakenLemmas.{took_nothing, front_nothing, took_then, front_then, front_longer}
 
 -- what a failed call owes
@@ -47,10 +46,35 @@ pub err_weaker : {T E : Type 0} (r : Result T E) (p q : Type 0) → (p → q) �
 err_weaker (Ok x) p q h part = tt
 err_weaker (Err e) p q h part = h part
 
+-- ---- faults
+
+pub on_unfailed : (went : Went) (before after : Seen) → went ≡ On → StopsAtFault went before after → NoFault port.Script before after
+on_unfailed went before after is (inl none) = none
+on_unfailed went before after is (inr stops) = absurd (cc (sym is ∙ stops))
+
+pub then_unfailed : (went : Went) (before now after : Seen) → NoFault port.Script before now → StopsAtFault went now after → StopsAtFault went before after
+then_unfailed went before now after first (inl none) = inl (none ∙ first)
+then_unfailed went before now after first (inr stops) = inr stops
+
+-- what fetching a script says of its failing
+abbrev pub FetchUnfailed : ScriptFiles → List ℕ → Seen → Seen → Type 0
+FetchUnfailed files name before after = NoFault port.Script before after ⊎ ((is_lawful name ≡ true) × (met_of files name ≡ Some Faulted))
+
+pub unfailed_none : (files : ScriptFiles) (name : List ℕ) (before after : Seen) → (is_lawful name ≡ true → met_of files name ≡ None) → FetchUnfailed files name before after → StopsAtFault On before after
+unfailed_none files name before after none (inl quiet) = inl quiet
+unfailed_none files name before after none (inr met) = absurd (cc (sym (none met.0) ∙ met.1))
+
+pub unfailed_met : (files : ScriptFiles) (name : List ℕ) (before after : Seen) (script : Script) → met_of files name ≡ Some script → (script ≡ Faulted → ⊥) → FetchUnfailed files name before after → StopsAtFault On before after
+unfailed_met files name before after script met other (inl quiet) = inl quiet
+unfailed_met files name before after script met other (inr is) = absurd (other (cc (sym met ∙ is.1)))
+
+pub unfailed_faulted : (before after : Seen) → StopsAtFault (Refused why.Fault) before after
+unfailed_faulted before after = inr refl
+
 -- ---- worlds
 
 -- what suits all that was met suits what was met before
-pub suits-before : (es : Entities) (before after : Seen) (old new : ScriptFiles) (w : World) → Fetches before after old new → Suits es new w → Suits es old w
+pub suits-before : {done : Bool} (es : Entities) (before after : Seen) (old new : ScriptFiles) (w : World) → Fetches done before after old new → Suits es new w → Suits es old w
 suits-before es before after old new w fetches suits = record {
   entities = suits.entities;
   knows = record { each = λ name script is. suits.knows.each name script (fetches.kept name script is) };

@@ -1,5 +1,5 @@
 -- Scripts that are fetched while a page is read, and a world that has them all.
-use Rattle.std.proofs.Common.{◌≡◌, ℕ, List, [], Option, Some, None, IfSome, refl, sym, ◌∙◌, subst, inl, inr}
+use Rattle.std.proofs.Common.{◌≡◌, ℕ, Bool, true, List, [], Option, Some, None, IfSome, refl, sym, ◌∙◌, subst, inl, inr}
 use Rattle.std.specs.Prelude.{◌⊎◌}
 use Rattle.std.specs.String.{string_bytes}
 use Rattle.outside.specs.Outside.{Seen, KeepsOthers}
@@ -21,19 +21,19 @@ module _ (before now after : Seen) (keeps : KeepsEntities before now) (read : Ke
   pub keeps_read : KeepsEntities before after
   keeps_read = entities-then before now after keeps (entities-others port.Page now after (λ e. cc e) read)
 
-  pub fetches_read_on : (old mid new : ScriptFiles) → Fetches before now old mid → new ≡ mid → Fetches before after old new
-  fetches_read_on old mid new fetches same =
-      subst (λ s. Fetches before after old s) (sym same)
-      (fetches-then before now after (later-entities before now keeps) (later-others port.Page now after read) old mid mid fetches (fetches-past port.Page now after mid (λ e. cc e) read))
+  pub fetches_read_on : (done : Bool) (old mid new : ScriptFiles) → Fetches true before now old mid → new ≡ mid → Fetches done before after old new
+  fetches_read_on done old mid new fetches same =
+      subst (λ s. Fetches done before after old s) (sym same)
+      (fetches-then before now after (later-entities before now keeps) (later-others port.Page now after read) true done old mid mid refl fetches (fetches-past done port.Page now after mid (λ e. cc e) read))
 
   -- And behind the piece.
   module _ (behind : Seen) (piece : KeepsOthers port.Script after behind) where
     pub keeps_piece : KeepsEntities before behind
     keeps_piece = entities-then before after behind keeps_read (entities-others port.Script after behind (λ e. cc e) piece)
 
-    pub fetches_piece : (old mid new : ScriptFiles) → Fetches before now old mid → Fetches after behind mid new → Fetches before behind old new
-    fetches_piece old mid new fetches more =
-        fetches-then before after behind (later-entities before after keeps_read) (later-others port.Script after behind piece) old mid new (fetches_read_on old mid mid fetches refl) more
+    pub fetches_piece : (done : Bool) (old mid new : ScriptFiles) → Fetches true before now old mid → Fetches done after behind mid new → Fetches done before behind old new
+    fetches_piece done old mid new fetches more =
+        fetches-then before after behind (later-entities before after keeps_read) (later-others port.Script after behind piece) true done old mid new refl (fetches_read_on true old mid mid fetches refl) more
 
 -- ---- a world with all that was met
 
@@ -69,7 +69,7 @@ pub record HasWorld (es : Entities) (dir : List ℕ) (before after : Seen) (file
   pub are_scripts : AreScriptsOf dir before after scripts
   pub suits : Suits es files (world_of es scripts)
 
-pub has_world : (es : Entities) (before after : Seen) (old new : ScriptFiles) → ((name : List ℕ) → met_of old name ≡ None) → Fetches before after old new → HasWorld es (string_bytes old.dir) before after new
+pub has_world : {done : Bool} (es : Entities) (before after : Seen) (old new : ScriptFiles) → ((name : List ℕ) → met_of old name ≡ None) → Fetches done before after old new → HasWorld es (string_bytes old.dir) before after new
 has_world es before after old new none fetches = record {
   scripts = λ name. (at name).given;
   are_scripts = record { each = λ name. (at name).may };

@@ -1,13 +1,15 @@
 -- What a run answers: its status and the bytes that the sink took, as a function of what it met outside.
-use Rattle.std.specs.Prelude.{◌≡◌, ◌⊎◌, ℕ, Bool, true, false, List, [], ◌++◌, length, nat_le, if◌then◌else◌, Option, Some, None, IfSome, IsSome}
+use Rattle.std.specs.Prelude.{◌≡◌, ◌⊎◌, ℕ, Bool, true, false, List, [], ◌++◌, length, nat_le, if◌then◌else◌, Option, Some, None, IfSome, IsSome, IsTrue}
 use Rattle.html_types.specs.declared.script.Why.TheVariants as why
-use Rattle.outside.specs.Outside.{Rose, Seen}
+use Rattle.outside.specs.Outside.{Rose, Begun, Seen}
 use Rattle.outside.specs.declared.traits.Port.TheVariants.{Entities, Page, Script}
 use Rattle.standard.specs.Entities.{Entities as Table, entities_of}
 use Rattle.standard.specs.Scripts.{Fetched}
 use Rattle.standard.specs.Serial.{Result, finished, refused, Outcome}
 use Rattle.standard.specs.Output.{output_with}
 use Rattle.page_runner.specs.declared.command.TheConstants.{ENTITIES_LIMIT}
+use Rattle.page_runner.specs.declared.command.Unread.{Unread}
+use Rattle.page_runner.specs.declared.command.Unread.TheVariants as unread
 use Rattle.page_runner.specs.declared.page.TheConstants.{PAGE_LIMIT}
 use Rattle.page_runner.specs.declared.page.Failure.{Failure}
 use Rattle.page_runner.specs.declared.page.Failure.TheVariants as failures
@@ -16,16 +18,17 @@ use Rattle.page_runner.specs.declared.status.Limit.TheVariants as limits
 use Rattle.page_runner.specs.declared.status.Status.{Status}
 use Rattle.page_runner.specs.declared.status.Status.TheVariants as status
 use Rattle.page_runner.specs.Words.{Asked}
-use Rattle.page_runner.specs.Given.{Given, unmet, missing, faulted, got, FaultsRose, AbsencesRose, file_at, MayGive, ReadTo}
+use Rattle.page_runner.specs.Given.{Given, unmet, missing, faulted, got, FaultsRose, NoFault, AbsencesRose, file_at, MayGive, ReadTo, BegunOnce, KeepsEntities}
 use Rattle.page_runner.specs.Taken.{Took, TookFront}
-use Rattle.page_runner.specs.Scripts.{AreScriptsOf, ReadScriptsTo, world_in}
-use Rattle.page_runner.specs.Pages.{PageRead, world_of, ComesTo}
+use Rattle.page_runner.specs.Scripts.{AreScriptsOf, ReadScriptsTo, NamesOnce, world_in}
+use Rattle.page_runner.specs.Pages.{PageRead, MeetsFaults, world_of, ComesTo}
 
 -- ---- what the outside may give of the page
 
--- The page is the file, or where a read failed the file without what the port has left.
-pub record IsPageOf (file : Option (Option (List ℕ))) (left : Option (List ℕ)) (rose : Type 0) (page : PageRead) : Type 0 where
+-- The page is the file, where no call failed, or where a read did the file without what the port has left.
+pub record IsPageOf (file : Option (Option (List ℕ))) (left : Option (List ℕ)) (rose none_failed : Type 0) (page : PageRead) : Type 0 where
   pub whole : page.fault ≡ false → IfSome file (λ f. f ≡ Some page.bytes)
+  pub no_fault : page.fault ≡ false → none_failed
   pub cut : page.fault ≡ true → IfSome file (λ f. (rest : List ℕ) × (f ≡ Some (page.bytes ++ rest)) × (left ≡ Some rest))
   pub cause : page.fault ≡ true → rose
 
@@ -37,15 +40,20 @@ pub record PageMet : Type 0 where
 
 -- the page is the file's, and the scripts are the folder's
 pub record MayMeetPage (path dir : List ℕ) (before after : Seen) (page : PageMet) : Type 0 where
-  pub read : IsPageOf (file_at before path) (after.left Page) (FaultsRose Page before after) page.read
+  pub read : IsPageOf (file_at before path) (after.left Page) (FaultsRose Page before after) (NoFault Page before after) page.read
   pub scripts : AreScriptsOf dir before after page.scripts
 
 -- Where the page can't be begun the port has nothing left.
 abbrev pub MayGivePage : List ℕ → List ℕ → Seen → Seen → Given PageMet → Type 0
 MayGivePage path dir before after unmet = Unit {0}
-MayGivePage path dir before after missing = AbsencesRose Page before after × IfSome (file_at before path) (λ file. file ≡ None)
+MayGivePage path dir before after missing = AbsencesRose Page before after × IfSome (file_at before path) (λ file. file ≡ None) × NoFault Page before after
 MayGivePage path dir before after faulted = FaultsRose Page before after × IfSome (after.left Page) (λ rest. rest ≡ [])
 MayGivePage path dir before after (got page) = MayMeetPage path dir before after page
+
+-- A fetch of a script failed only where the serial parse stops at it.
+abbrev pub FaultsMet : Given PageMet → Seen → Seen → Type 0
+FaultsMet (got page) before after = MeetsFaults page.read page.outcome.result before after
+FaultsMet other before after = NoFault Script before after
 
 -- the outcome is that of the serial parse
 abbrev pub IsParsed : Table → Given PageMet → Type 0
@@ -91,11 +99,18 @@ abbrev pub status_for : Failure → Status
 status_for failures.Memory = status.NoMemory
 status_for failures.Write = status.WriteFault
 
--- The status is the answer's and its text was written. In its place WriteFault and NoMemory may come, with a front of the text.
-abbrev pub Gives : Option (List ℕ) → Option (List ℕ) → Answer → Status → Type 0
-Gives before after answer status.WriteFault = TookFront before after answer.1
-Gives before after answer status.NoMemory = TookFront before after answer.1
-Gives before after answer given = (given ≡ answer.0) × Took before after answer.1
+-- The status is the answer's and its text was written. In its place WriteFault may come, where a call of the sink failed, and
+-- NoMemory, with a front of the text.
+abbrev pub Gives : Type 0 → Option (List ℕ) → Option (List ℕ) → Answer → Status → Type 0
+Gives sink_failed before after answer status.WriteFault = sink_failed × TookFront before after answer.1
+Gives sink_failed before after answer status.NoMemory = TookFront before after answer.1
+Gives sink_failed before after answer given = (given ≡ answer.0) × Took before after answer.1
+
+-- the statuses that don't come in the answer's place
+abbrev pub is_answered : Status → Bool
+is_answered status.WriteFault = false
+is_answered status.NoMemory = false
+is_answered _ = true
 
 -- ---- a run
 
@@ -104,26 +119,55 @@ abbrev pub IsBegun : List ℕ → Seen → Type 0
 IsBegun path now = IfSome now.files (λ map. IsSome (map path) × (now.left Page ≡ map path))
 
 -- from where the page is begun
-pub record PageAnswers (es : Table) (dump : Bool) (path dir : List ℕ) (before after : Seen) (taken taken' : Option (List ℕ)) (result : Status) : Type 0 where
+pub record PageAnswers (es : Table) (dump : Bool) (path dir : List ℕ) (before after : Seen) (sink sink' : ℕ) (taken taken' : Option (List ℕ)) (result : Status) : Type 0 where
   pub page : Given PageMet
   pub may : MayGivePage path dir before after page
+  pub faults : IsTrue (is_answered result) → FaultsMet page before after
   pub parsed : IsParsed es page
-  pub gives : Gives taken taken' (answer_to_page dump page) result
+  pub gives : Gives (Rose sink sink') taken taken' (answer_to_page dump page) result
+
+-- What a call does outside that reads a page and its scripts: these were begun at the page's port.
+pub record ReadsPage (path dir : List ℕ) (paths : List (List ℕ)) (before after : Seen) : Type 0 where
+  pub others : KeepsEntities before after
+  pub page : ReadTo PAGE_LIMIT Page path before after
+  pub scripts : ReadScriptsTo SCRIPT_LIMIT dir before after
+  pub begun : Begun (before.begun Page) (after.begun Page) paths
+  pub names : NamesOnce dir (before.begun Script) (after.begun Script)
+
+-- The entities file was read, and lists this table.
+pub record ReadsTable (path : List ℕ) (before after : Seen) (table : Table) : Type 0 where
+  pub bytes : List ℕ
+  pub given : MayGive ENTITIES_LIMIT Entities path before after (got bytes)
+  pub lists : table_of bytes ≡ Some table
+
+-- why there is no table
+abbrev pub ReadsNone : List ℕ → Seen → Seen → Unread → Type 0
+ReadsNone path before after unread.NoMemory = Unit {0}
+ReadsNone path before after unread.Missing = MayGive ENTITIES_LIMIT Entities path before after missing
+ReadsNone path before after unread.Faulted = MayGive ENTITIES_LIMIT Entities path before after faulted
+ReadsNone path before after unread.NotTable = (bytes : List ℕ) × MayGive ENTITIES_LIMIT Entities path before after (got bytes) × (table_of bytes ≡ None)
+
+abbrev pub answer_without : Unread → Answer
+answer_without unread.NoMemory = (status.NoMemory, [])
+answer_without unread.Missing = (status.Absent, [])
+answer_without unread.Faulted = (status.ReadFault, [])
+answer_without unread.NotTable = (status.Entities, [])
 
 -- What was met at the ports, each with its cause, and the answer to it. The entities come first, and what stands behind
 -- that one which refuses counts for nothing.
-pub record Answers (asked : Asked) (before after : Seen) (taken taken' : Option (List ℕ)) (result : Status) : Type 0 where
+pub record Answers (asked : Asked) (before after : Seen) (sink sink' : ℕ) (taken taken' : Option (List ℕ)) (result : Status) : Type 0 where
   pub entities : Given (List ℕ)
   pub page : Given PageMet
   pub may_entities : MayGive ENTITIES_LIMIT Entities asked.entities before after entities
   pub may_page : MayGivePage asked.page asked.dir before after page
+  pub faults : IsTrue (is_answered result) → FaultsMet page before after
   pub parsed : (bytes : List ℕ) (es : Table) → entities ≡ got bytes → table_of bytes ≡ Some es → IsParsed es page
-  pub gives : Gives taken taken' (answer_to asked.dump entities page) result
+  pub gives : Gives (Rose sink sink') taken taken' (answer_to asked.dump entities page) result
 
 -- The words come before all.
-abbrev pub RunsTo : Option Asked → Seen → Seen → Option (List ℕ) → Option (List ℕ) → Status → Type 0
-RunsTo None before after taken taken' result = Gives taken taken' (status.Usage, []) result
-RunsTo (Some asked) before after taken taken' result = Answers asked before after taken taken' result
+abbrev pub RunsTo : Option Asked → Seen → Seen → ℕ → ℕ → Option (List ℕ) → Option (List ℕ) → Status → Type 0
+RunsTo None before after sink sink' taken taken' result = Gives (Rose sink sink') taken taken' (status.Usage, []) result
+RunsTo (Some asked) before after sink sink' taken taken' result = Answers asked before after sink sink' taken taken' result
 
 -- the statuses before which the sink is finished
 abbrev pub is_finished : Status → Bool
@@ -142,6 +186,16 @@ pub record StopsAtEach (asked : Asked) (before after : Seen) : Type 0 where
 abbrev pub StopsAtLimits : Option Asked → Seen → Seen → Type 0
 StopsAtLimits None before after = after.left ≡ before.left
 StopsAtLimits (Some asked) before after = StopsAtEach asked before after
+
+-- The entities and the page are begun once at most, so is each script, by a lawful name, and nothing else ever is.
+pub record BeginsEach (asked : Asked) (before after : Seen) : Type 0 where
+  pub entities : BegunOnce asked.entities (before.begun Entities) (after.begun Entities)
+  pub page : BegunOnce asked.page (before.begun Page) (after.begun Page)
+  pub scripts : NamesOnce asked.dir (before.begun Script) (after.begun Script)
+
+abbrev pub BeginsOnce : Option Asked → Seen → Seen → Type 0
+BeginsOnce None before after = after.begun ≡ before.begun
+BeginsOnce (Some asked) before after = BeginsEach asked before after
 
 -- ---- what follows of it
 

@@ -1,7 +1,7 @@
 -- What the outside gave of a file.
-use Rattle.std.specs.Prelude.{◌≡◌, ◌+◌, ◌≤◌, ◌⊎◌, ℕ, List, [], ◌++◌, length, take, Option, Some, None, IfSome, IsSomeAnd}
+use Rattle.std.specs.Prelude.{◌≡◌, ◌+◌, ◌≤◌, ◌⊎◌, ℕ, List, [], ◌∷◌, ◌++◌, length, take, Option, Some, None, IfSome, IsSomeAnd}
 use Rattle.std.specs.Option.{option_map}
-use Rattle.outside.specs.Outside.{Rose, NeverFall, Seen}
+use Rattle.outside.specs.Outside.{Rose, NeverFall, Paths, Begun, Seen}
 use Rattle.outside.specs.declared.traits.Port.{Port}
 use Rattle.outside.specs.declared.traits.Port.TheVariants.{Entities}
 use Rattle.page_runner.specs.declared.fetch.Fetch.{Fetch}
@@ -22,6 +22,10 @@ given_of (fetches.Got bytes) = got bytes.items
 abbrev pub FaultsRose : Port → Seen → Seen → Type 0
 FaultsRose port before after = Rose (before.faults port) (after.faults port)
 
+-- Every call at the port succeeded: its count of faults stands where it stood.
+abbrev pub NoFault : Port → Seen → Seen → Type 0
+NoFault port before after = after.faults port ≡ before.faults port
+
 abbrev pub AbsencesRose : Port → Seen → Seen → Type 0
 AbsencesRose port before after = Rose (before.absences port) (after.absences port)
 
@@ -29,12 +33,12 @@ AbsencesRose port before after = Rose (before.absences port) (after.absences por
 abbrev pub file_at : Seen → List ℕ → Option (Option (List ℕ))
 file_at before path = option_map (λ map. map path) before.files
 
--- Of a file one byte past the limit is read at most.
+-- Of a file one byte past the limit is read at most. Its bytes, and that there is none, are known only where every call succeeded.
 abbrev pub MayGive : ℕ → Port → List ℕ → Seen → Seen → Given (List ℕ) → Type 0
 MayGive limit port path before after unmet = Unit {0}
-MayGive limit port path before after missing = AbsencesRose port before after × IfSome (file_at before path) (λ file. file ≡ None)
+MayGive limit port path before after missing = AbsencesRose port before after × IfSome (file_at before path) (λ file. file ≡ None) × NoFault port before after
 MayGive limit port path before after faulted = FaultsRose port before after
-MayGive limit port path before after (got bytes) = IfSome (file_at before path) (λ file. IsSomeAnd file (λ whole. bytes ≡ take (limit + 1) whole))
+MayGive limit port path before after (got bytes) = IfSome (file_at before path) (λ file. IsSomeAnd file (λ whole. bytes ≡ take (limit + 1) whole)) × NoFault port before after
 
 -- Where the file is told, these bytes were read of it, and the port has left the rest.
 pub record AreRead (file : Option (Option (List ℕ))) (left : Option (List ℕ)) (read : List ℕ) : Type 0 where
@@ -47,9 +51,15 @@ pub data ReadTo (limit : ℕ) (port : Port) (path : List ℕ) (before after : Se
   unbegun : IfSome (after.left port) (λ rest. rest ≡ []) → AbsencesRose port before after ⊎ FaultsRose port before after → ReadTo limit port path before after
   begun : (read : List ℕ) → AreRead (file_at before path) (after.left port) read → length read ≤ limit + 1 → ReadTo limit port path before after
 
--- What reading a page and its scripts leaves alone: the files, what the port of the entities has left, and that no count falls.
+-- A port's file was begun once at most.
+abbrev pub BegunOnce : List ℕ → Paths → Paths → Type 0
+BegunOnce path before after = Begun before after [] ⊎ Begun before after (path ∷ [])
+
+-- What reading a page and its scripts leaves alone: the files, the port of the entities, and that no count falls.
 pub record KeepsEntities (before after : Seen) : Type 0 where
   pub files : after.files ≡ before.files
   pub left : after.left Entities ≡ before.left Entities
+  pub begun : after.begun Entities ≡ before.begun Entities
+  pub no_fault : NoFault Entities before after
   pub faults : NeverFall before.faults after.faults
   pub absences : NeverFall before.absences after.absences

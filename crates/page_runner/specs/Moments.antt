@@ -1,6 +1,5 @@
 -- The driver against the serial parse: from which moments its parts lead to which, and what the sink took on the way.
-use Rattle.std.specs.Prelude.{◌≡◌, ℕ, List, [], ◌++◌, flat_map, Option, Some, None}
-use Rattle.std.specs.Str.{chars}
+use Rattle.std.specs.Prelude.{◌≡◌, ◌⊎◌, ℕ, List, [], ◌++◌, flat_map, Option, Some, None}
 use Rattle.html_types.specs.declared.script.Ending.{Ending}
 use Rattle.html_types.specs.declared.script.Why.{Why}
 use Rattle.html_types.specs.declared.script.Why.TheVariants as why
@@ -17,6 +16,9 @@ use Rattle.write_parser.specs.Writing.{View, serial_of, Stands, AtTag, why_of}
 use Rattle.page_runner.specs.declared.driver.Went.{Went}
 use Rattle.page_runner.specs.declared.driver.Went.TheVariants.{On, Refused}
 use Rattle.page_runner.specs.declared.scripts.ScriptFiles.{ScriptFiles}
+use Rattle.outside.specs.Outside.{Seen}
+use Rattle.outside.specs.declared.traits.Port.TheVariants as port
+use Rattle.page_runner.specs.Given.{NoFault}
 use Rattle.page_runner.specs.Taken.{Took, TookFront}
 use Rattle.page_runner.specs.Scripts.{Suits}
 
@@ -61,6 +63,10 @@ Arrives v (Refused reason) before page m = IsRefused reason before m
 abbrev pub Resumes : View → Went → List Line → List ℕ → Moment → Type 0
 Resumes v On before page m = Stands v before page m
 Resumes v (Refused reason) before page m = IsRefused reason (before ++ v.lines) m
+
+-- No fetch of a script failed, or the parse is refused for the fault.
+abbrev pub StopsAtFault : Went → Seen → Seen → Type 0
+StopsAtFault went before after = NoFault port.Script before after ⊎ (went ≡ Refused why.Fault)
 
 -- any with just these lines
 abbrev pub HasLines : List Line → List ℕ → Moment → Type 0

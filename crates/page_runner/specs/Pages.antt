@@ -1,23 +1,25 @@
 -- A page as it is read, and what its parse comes to.
-use Rattle.std.specs.Prelude.{◌≡◌, ◌≤◌, ℕ, Bool, true, false, List, [], ◌++◌, length, flat_map, Option, Some, None, IfSome}
+use Rattle.std.specs.Prelude.{◌≡◌, ◌≤◌, ◌⊎◌, ℕ, Bool, true, false, List, [], ◌++◌, length, flat_map, Option, Some, None, IfSome}
 use Rattle.html_types.specs.declared.script.Ending.{Ending}
 use Rattle.html_types.specs.declared.script.Line.{Line}
 use Rattle.html_types.specs.declared.script.Ending.TheVariants as ending
+use Rattle.html_types.specs.declared.script.Why.TheVariants as why
 use Rattle.outside.specs.Outside.{Seen}
 use Rattle.outside.specs.declared.traits.Port.TheVariants as port
 use Rattle.standard.specs.Entities.{Entities}
 use Rattle.standard.specs.Page.{Page, page_of, text_of, ending_of, shown}
 use Rattle.standard.specs.Scripts.{Fetched}
-use Rattle.standard.specs.Serial.{World, Outcome, first, IsSerial, Moment, reading, over, Leads}
+use Rattle.standard.specs.Serial.{World, Outcome, Result, refused, first, IsSerial, Moment, reading, over, Leads}
 use Rattle.standard.specs.Output.{line_text, result_with, output_with}
 use Rattle.utf8_pieces.specs.declared.decoder.Decoder.{Decoder}
 use Rattle.utf8_pieces.specs.Decoder.{HasRead}
 use Rattle.write_parser.specs.Writing.{View, serial_of}
 use Rattle.page_runner.specs.declared.page.TheConstants.{PAGE_LIMIT}
 use Rattle.page_runner.specs.declared.outcome.Outcome.{Outcome as Told}
+use Rattle.page_runner.specs.declared.outcome.Outcome.TheVariants.{Refused}
 use Rattle.page_runner.specs.declared.driver.Driver.{Driver}
 use Rattle.page_runner.specs.declared.scripts.ScriptFiles.{ScriptFiles}
-use Rattle.page_runner.specs.Given.{FaultsRose}
+use Rattle.page_runner.specs.Given.{FaultsRose, NoFault}
 use Rattle.page_runner.specs.Taken.{Took, TookFront}
 use Rattle.page_runner.specs.Scripts.{AreScriptsOf, Suits}
 use Rattle.page_runner.specs.Shown.{result_of}
@@ -50,11 +52,22 @@ pub record ReadsOn (most : ℕ) (whole left : Option (List ℕ)) : Type 0 where
   pub taken : AreTaken whole left read
   pub at_most : length read ≤ most
 
--- The page is all that the port had, or where a read failed what it gave.
-pub record IsReadFrom (whole left : Option (List ℕ)) (rose : Type 0) (page : PageRead) : Type 0 where
-  pub all : page.fault ≡ false → IfSome whole (λ bytes. bytes ≡ page.bytes)
-  pub cut : page.fault ≡ true → AreTaken whole left page.bytes
-  pub cause : page.fault ≡ true → rose
+-- The page is all that the port of the page had, where no read of it failed, or where one did what it gave.
+pub record IsReadFrom (before after : Seen) (page : PageRead) : Type 0 where
+  pub all : page.fault ≡ false → IfSome (before.left port.Page) (λ bytes. bytes ≡ page.bytes)
+  pub no_fault : page.fault ≡ false → NoFault port.Page before after
+  pub cut : page.fault ≡ true → AreTaken (before.left port.Page) (after.left port.Page) page.bytes
+  pub cause : page.fault ≡ true → FaultsRose port.Page before after
+
+-- No fetch of a script failed, or no read of the page did and the parse is refused for the fault: so at an awaited script.
+abbrev pub MeetsFaults : PageRead → Result → Seen → Seen → Type 0
+MeetsFaults page result before after = NoFault port.Script before after ⊎ ((page.fault ≡ false) × (result ≡ refused why.Fault))
+
+-- What was read at the ports before now, since before: nothing was begun at the page's, and no call failed.
+pub record ReadWell (before now : Seen) : Type 0 where
+  pub begun : now.begun port.Page ≡ before.begun port.Page
+  pub page : NoFault port.Page before now
+  pub script : NoFault port.Script before now
 
 -- ---- what a parse comes to
 
@@ -66,16 +79,17 @@ pub record Ended (w : World) (page : PageRead) (v : View) (taken taken' : Option
   pub text : (dump : Bool) → result_with dump outcome.result outcome.last.side.doc.tree ≡ result_with dump (result_of told) v.doc.tree
   pub took : Took taken taken' (flat_map line_text outcome.last.side.lines)
 
--- So ended the page that was read at the port, whatever the scripts are that weren't fetched.
-pub record ParsesPage (es : Entities) (whole left : Option (List ℕ)) (rose : Type 0) (d : Driver) (taken taken' : Option (List ℕ)) (told : Told) : Type 0 where
+-- So ended the page that was read at its port, whatever the scripts are that weren't fetched.
+pub record ParsesPage (es : Entities) (before after : Seen) (d : Driver) (taken taken' : Option (List ℕ)) (told : Told) : Type 0 where
   pub page : PageRead
-  pub read_from : IsReadFrom whole left rose page
+  pub read_from : IsReadFrom before after page
+  pub faults : MeetsFaults page (result_of told) before after
   pub ended : (w : World) → Suits es d.scripts w → Ended w page d.writer taken taken' told
 
--- The sink took a front of what is written of the page that was read at the port, with the dump of the tree and with its text.
-pub record ParsesFront (es : Entities) (files : ScriptFiles) (whole left : Option (List ℕ)) (rose : Type 0) (taken taken' : Option (List ℕ)) : Type 0 where
+-- The sink took a front of what is written of the page that was read at its port, with the dump of the tree and with its text.
+pub record ParsesFront (es : Entities) (files : ScriptFiles) (before after : Seen) (taken taken' : Option (List ℕ)) : Type 0 where
   pub page : PageRead
-  pub read_from : IsReadFrom whole left rose page
+  pub read_from : IsReadFrom before after page
   pub front : (dump : Bool) (w : World) (o : Outcome) → Suits es files w → ComesTo w page o → TookFront taken taken' (output_with dump o)
 
 -- So ended the page that was read at its port, with the scripts of the folder.
@@ -83,7 +97,8 @@ pub record EndsWithScripts (es : Entities) (dir : List ℕ) (before after : Seen
   pub scripts : List ℕ → Fetched
   pub are_scripts : AreScriptsOf dir before after scripts
   pub page : PageRead
-  pub read_from : IsReadFrom (before.left port.Page) (after.left port.Page) (FaultsRose port.Page before after) page
+  pub read_from : IsReadFrom before after page
+  pub faults : MeetsFaults page (result_of told) before after
   pub ended : Ended (world_of es scripts) page v taken taken' told
 
 -- The sink took a front of what is written of it.
@@ -91,7 +106,7 @@ pub record FrontWithScripts (es : Entities) (dir : List ℕ) (before after : See
   pub scripts : List ℕ → Fetched
   pub are_scripts : AreScriptsOf dir before after scripts
   pub page : PageRead
-  pub read_from : IsReadFrom (before.left port.Page) (after.left port.Page) (FaultsRose port.Page before after) page
+  pub read_from : IsReadFrom before after page
   pub front : (dump : Bool) (o : Outcome) → ComesTo (world_of es scripts) page o → TookFront taken taken' (output_with dump o)
 
 -- ---- where a parse stands
@@ -115,12 +130,13 @@ pub record TookOf (es : Entities) (files : ScriptFiles) (read : List ℕ) (taken
   pub front : (dump : Bool) (w : World) (more : List ℕ) (fault : Bool) (o : Outcome) → Suits es files w → ComesTo w (record { bytes = read ++ more; fault = fault }) o → TookFront taken taken' (output_with dump o)
 
 -- Behind these bytes the page ends so: by a fault, or since the port has no more.
-pub record ClosesAt (left left' : Option (List ℕ)) (rose : Type 0) (read : List ℕ) (e : Ending) : Type 0 where
+pub record ClosesAt (now after : Seen) (read : List ℕ) (e : Ending) : Type 0 where
   pub fault : Bool
   pub ending : e ≡ ending_of PAGE_LIMIT read fault
-  pub nothing : AreTaken left left' []
-  pub end : fault ≡ false → IfSome left (λ rest. rest ≡ [])
-  pub cause : fault ≡ true → rose
+  pub nothing : AreTaken (now.left port.Page) (after.left port.Page) []
+  pub end : fault ≡ false → IfSome (now.left port.Page) (λ rest. rest ≡ [])
+  pub no_fault : fault ≡ false → NoFault port.Page now after
+  pub cause : fault ≡ true → FaultsRose port.Page now after
 
 -- At the end of the input the page's ending is applied, and the parse comes to this.
 pub record EndsAs (es : Entities) (old new : View) (e : Ending) (told : Told) : Type 0 where
@@ -136,6 +152,10 @@ Comes es u read d taken taken' (Some told) = IsPast es read d taken taken' told
 -- A piece was parsed, wherever the parse stood.
 pub record TakesPiece (es : Entities) (u u' : Decoder) (old new : Driver) (piece : List ℕ) (now taken' : Option (List ℕ)) (told : Option Told) : Type 0 where
   pub comes : (read : List ℕ) (taken : Option (List ℕ)) → HasRead PAGE_LIMIT u read → StandsAt es read old taken now → Comes es u' (read ++ piece) new taken taken' told
+
+-- No fetch of a script failed in the piece, or the parse is over and refused for the fault.
+abbrev pub PieceMeetsFaults : Option Told → Seen → Seen → Type 0
+PieceMeetsFaults told before after = NoFault port.Script before after ⊎ (told ≡ Some (Refused why.Fault))
 
 -- Memory ran out or the sink failed, wherever the parse stood.
 pub record TakesPieceInPart (es : Entities) (files : ScriptFiles) (u : Decoder) (old : Driver) (piece : List ℕ) (now taken' : Option (List ℕ)) : Type 0 where

@@ -1,9 +1,10 @@
 -- The files of external scripts, as a run meets them.
-use Rattle.std.specs.Prelude.{◌≡◌, ◌⊎◌, ℕ, Bool, true, List, ◌∷◌, ◌++◌, Option, Some, None, IfSome}
+use Rattle.std.specs.Prelude.{◌≡◌, ◌≢◌, ◌⊎◌, ℕ, Bool, true, List, [], ◌∷◌, ◌++◌, map, Option, Some, None, IfSome, IsSome}
+use Rattle.std.specs.List.{AllByRecursion}
 use Rattle.std.specs.Str.{chars}
 use Rattle.std.specs.String.{string_bytes}
 use Rattle.std.specs.BTreeMap.{get_by_text}
-use Rattle.outside.specs.Outside.{Files, Seen}
+use Rattle.outside.specs.Outside.{Files, Paths, Begun, Seen}
 use Rattle.outside.specs.declared.traits.Port.TheVariants.{Script as script_port}
 use Rattle.standard.specs.Entities.{Entities}
 use Rattle.standard.specs.Scripts.{Fetched, got, missing, faulted, is_lawful, file_statements}
@@ -43,6 +44,18 @@ pub record AreScriptsOf (dir : List ℕ) (before after : Seen) (scripts : List �
 pub data ReadScriptsTo (limit : ℕ) (dir : List ℕ) (before after : Seen) : Type 0 where
   none_begun : after.left script_port ≡ before.left script_port → ReadScriptsTo limit dir before after
   last : (name : List ℕ) → is_lawful name ≡ true → ReadTo limit script_port (path_of dir name) before after → ReadScriptsTo limit dir before after
+
+-- none of the names is one of those behind it
+abbrev pub AreDistinct : List (List ℕ) → Type 0
+AreDistinct [] = Unit {0}
+AreDistinct (name ∷ names) = AllByRecursion (λ other. other ≢ name) names × AreDistinct names
+
+-- The scripts of these names were begun, each once and each name lawful, and nothing else was.
+pub record NamesOnce (dir : List ℕ) (before after : Paths) : Type 0 where
+  pub names : List (List ℕ)
+  pub begun : Begun before after (map (path_of dir) names)
+  pub lawful : AllByRecursion (λ name. is_lawful name ≡ true) names
+  pub once : AreDistinct names
 
 -- ---- the folder where no read fails
 
@@ -87,10 +100,17 @@ pub record Suits (es : Entities) (files : ScriptFiles) (w : World) : Type 0 wher
 abbrev pub MayMeet : List ℕ → Seen → Seen → List ℕ → Script → Type 0
 MayMeet dir before after name script = (f : Fetched) × MayFetch dir before after name f × StandsFor script f
 
--- Scripts were fetched: more names are met, and what was met stays.
-pub record Fetches (before after : Seen) (old new : ScriptFiles) : Type 0 where
+-- No script was begun whose name was met before, and where the fetching is done, all that were begun are met.
+pub record BeginsNew (done : Bool) (dir : List ℕ) (before after : Paths) (old new : ScriptFiles) : Type 0 where
+  pub which : NamesOnce dir before after
+  pub fresh : AllByRecursion (λ name. met_of old name ≡ None) which.names
+  pub met : done ≡ true → AllByRecursion (λ name. IsSome (met_of new name)) which.names
+
+-- Scripts were fetched: more names are met, and what was met stays. It is done, or memory ran out.
+pub record Fetches (done : Bool) (before after : Seen) (old new : ScriptFiles) : Type 0 where
   pub dir : new.dir ≡ old.dir
   pub kept : (name : List ℕ) (script : Script) → met_of old name ≡ Some script → met_of new name ≡ Some script
   pub fresh : (name : List ℕ) (script : Script) → met_of new name ≡ Some script
       → (met_of old name ≡ Some script) ⊎ MayMeet (string_bytes old.dir) before after name script
   pub no_further : ReadScriptsTo SCRIPT_LIMIT (string_bytes old.dir) before after
+  pub begins : BeginsNew done (string_bytes old.dir) (before.begun script_port) (after.begun script_port) old new

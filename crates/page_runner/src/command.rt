@@ -1,22 +1,21 @@
 // A run, from the words to the status.
-ghost use Rattle.std.specs.Prelude.{◌≡◌, ◌≤◌, ◌<◌, ◌⊎◌, [], map, Some, None, Ok, Err, IfOk, OnOk, OnErr, IsErrOf, IsTrue};
+ghost use Rattle.std.specs.Prelude.{◌≡◌, ◌≤◌, ◌<◌, [], ◌∷◌, map, Some, None, Err, IfOk, IfErr, OnOk, OnErr, IsErrOf, IsTrue};
 ghost use Rattle.std.specs.String.{string_bytes};
 ghost use Rattle.standard.specs.Output.{result_with};
-ghost use Rattle.outside.specs.Outside.{Rose, seen};
+ghost use Rattle.outside.specs.Outside.{Rose, Begun, KeepsOthers};
 ghost use Rattle.page_runner.specs.Words.{asked, shown};
-ghost use Rattle.page_runner.specs.Given.{ReadTo, KeepsEntities};
+ghost use Rattle.page_runner.specs.Given.{ReadTo};
 ghost use Rattle.write_parser.specs.Writing.{first_view};
-ghost use Rattle.page_runner.specs.Scripts.{met_of, ReadScriptsTo};
+ghost use Rattle.page_runner.specs.Scripts.{met_of};
 ghost use Rattle.page_runner.specs.Taken.{Took, TookFront};
-ghost use Rattle.page_runner.specs.Shown.{result_of};
-ghost use Rattle.page_runner.specs.Answers.{status_for, table_of, is_finished, IsBegun, PageAnswers, Answers, RunsTo, StopsAtLimits, CompletesRun, Exactly, AbsenceRose, FaultRose};
+ghost use Rattle.page_runner.specs.Shown.{result_of, status_of};
+ghost use Rattle.page_runner.specs.Answers.{status_for, table_of, is_finished, Gives, IsBegun, PageAnswers, ReadsPage, ReadsTable, ReadsNone, answer_without, Answers, RunsTo, StopsAtLimits, BeginsOnce, CompletesRun, Exactly, AbsenceRose, FaultRose};
 
 use crate::driver::Driver;
 use crate::fetch::{Fetch, read_whole};
 use crate::outcome::{Outcome, status_at};
 use crate::output::show_outcome;
-use crate::page::{Failure, PAGE_LIMIT, parse_page};
-use crate::scripts::SCRIPT_LIMIT;
+use crate::page::{Failure, parse_page};
 use crate::status::Status;
 use crate::words::{PageWords, Refused, read_words};
 use crate::write::write_all;
@@ -31,6 +30,18 @@ use std::thread::Threads;
 /// The most bytes of the entities file.
 pub const ENTITIES_LIMIT: usize = 4_194_304;
 
+/// Why there is no table of the entities.
+#[derive(Clone, Copy)]
+pub(crate) enum Unread {
+    NoMemory,
+    /// There is no such file.
+    Missing,
+    /// Beginning or reading it failed.
+    Faulted,
+    /// The file is too long, or lists none.
+    NotTable,
+}
+
 fn status_for(failure: Failure) -> Status
     ensures { result ≡ status_for failure }
 {
@@ -41,7 +52,7 @@ fn status_for(failure: Failure) -> Status
 }
 
 // Writes what came of the page, and finishes the sink.
-fn end_page<K: Sink>(
+fn write_end<K: Sink>(
     alloc: Global,
     out: &mut K,
     doc: &Doc,
@@ -52,7 +63,6 @@ fn end_page<K: Sink>(
     ensures err { OnErr result (TookFront (K.taken out.old) (K.taken out.new) (result_with dump (result_of outcome) doc.now.tree)) }
     ensures clean { OnOk result (IsTrue (K.clean out.new)) }
     ensures write { IsErrOf result Failure.Write → Rose (K.faults out.old) (K.faults out.new) }
-    ensures faults { K.faults out.old ≤ K.faults out.new }
 {
     let line = show_outcome(alloc, doc, outcome, dump)?;
     write_all(out, line.as_bytes())?;
@@ -60,17 +70,39 @@ fn end_page<K: Sink>(
     Ok(())
 }
 
+// The same, and the status of the run.
+fn end_page<K: Sink>(alloc: Global, out: &mut K, doc: &Doc, outcome: Outcome, dump: bool) -> Status
+    ensures gives { Gives (Rose (K.faults out.old) (K.faults out.new)) (K.taken out.old) (K.taken out.new)
+        (status_of outcome, result_with dump (result_of outcome) doc.now.tree) result }
+    ensures clean { IsTrue (is_finished result) → IsTrue (K.clean out.new) }
+{
+    match write_end(alloc, out, doc, outcome, dump) {
+        Err(failure) => status_for(failure),
+        Ok(()) => status_at(outcome),
+    }
+}
+
 // A fault before the page was begun. The sink is finished then too.
 fn end_at_fault<K: Sink>(out: &mut K) -> Status
-    ensures status { (result ≡ Status.ReadFault) ⊎ (result ≡ Status.WriteFault) }
-    ensures taken { K.taken out.new ≡ K.taken out.old }
-    ensures clean { result ≡ Status.ReadFault → IsTrue (K.clean out.new) }
-    ensures write_fault { result ≡ Status.WriteFault → Rose (K.faults out.old) (K.faults out.new) }
-    ensures faults { K.faults out.old ≤ K.faults out.new }
+    ensures gives { Gives (Rose (K.faults out.old) (K.faults out.new)) (K.taken out.old) (K.taken out.new) (Status.ReadFault, []) result }
+    ensures clean { IsTrue (is_finished result) → IsTrue (K.clean out.new) }
 {
     match out.finish() {
         Ok(()) => Status::ReadFault,
         Err(Failed) => Status::WriteFault,
+    }
+}
+
+// There is no table, so the page isn't begun.
+fn end_without<K: Sink>(out: &mut K, unread: Unread) -> Status
+    ensures gives { Gives (Rose (K.faults out.old) (K.faults out.new)) (K.taken out.old) (K.taken out.new) (answer_without unread) result }
+    ensures clean { IsTrue (is_finished result) → IsTrue (K.clean out.new) }
+{
+    match unread {
+        Unread::NoMemory => Status::NoMemory,
+        Unread::Missing => Status::Absent,
+        Unread::Faulted => end_at_fault(out),
+        Unread::NotTable => Status::Entities,
     }
 }
 
@@ -86,26 +118,16 @@ fn run_begun<F: Outside, K: Sink>(
     requires first { driver.old.writer ≡ first_view 0 }
     requires dir { string_bytes driver.old.scripts.dir ≡ string_bytes words.now.dir }
     requires none { (name : _) → met_of driver.old.scripts name ≡ None }
-    requires begun { IsBegun (string_bytes words.now.page) (seen F.files F.left F.faults F.absences files.old) }
+    requires begun { IsBegun (string_bytes words.now.page) (F.seen files.old) }
     requires piece { 0 < words.now.piece }
     ensures answer { PageAnswers table.now words.now.dump (string_bytes words.now.page) (string_bytes words.now.dir)
-        (seen F.files F.left F.faults F.absences files.old) (seen F.files F.left F.faults F.absences files.new)
-        (K.taken out.old) (K.taken out.new) result }
-    ensures no_further { ReadTo PAGE_LIMIT Port.Page (string_bytes words.now.page)
-        (seen F.files F.left F.faults F.absences files.old) (seen F.files F.left F.faults F.absences files.new) }
-    ensures scripts_no_further { ReadScriptsTo SCRIPT_LIMIT (string_bytes words.now.dir)
-        (seen F.files F.left F.faults F.absences files.old) (seen F.files F.left F.faults F.absences files.new) }
-    ensures others { KeepsEntities (seen F.files F.left F.faults F.absences files.old) (seen F.files F.left F.faults F.absences files.new) }
-    ensures write_fault { result ≡ Status.WriteFault → Rose (K.faults out.old) (K.faults out.new) }
+        (F.seen files.old) (F.seen files.new) (K.faults out.old) (K.faults out.new) (K.taken out.old) (K.taken out.new) result }
+    ensures reads { ReadsPage (string_bytes words.now.page) (string_bytes words.now.dir) [] (F.seen files.old) (F.seen files.new) }
     ensures clean { IsTrue (is_finished result) → IsTrue (K.clean out.new) }
 {
-    let outcome = match parse_page(alloc, table, files, out, driver, words.piece) {
-        Err(failure) => return status_for(failure),
-        Ok(outcome) => outcome,
-    };
-    match end_page(alloc, out, driver.doc(), outcome, words.dump) {
+    match parse_page(alloc, table, files, out, driver, words.piece) {
         Err(failure) => status_for(failure),
-        Ok(()) => status_at(outcome),
+        Ok(outcome) => end_page(alloc, out, driver.doc(), outcome, words.dump),
     }
 }
 
@@ -117,17 +139,11 @@ fn run_in_folder<F: Outside, K: Sink>(
     out: &mut K,
     words: &PageWords,
 ) -> Status
-    requires begun { IsBegun (string_bytes words.now.page) (seen F.files F.left F.faults F.absences files.old) }
+    requires begun { IsBegun (string_bytes words.now.page) (F.seen files.old) }
     requires piece { 0 < words.now.piece }
     ensures answer { PageAnswers table.now words.now.dump (string_bytes words.now.page) (string_bytes words.now.dir)
-        (seen F.files F.left F.faults F.absences files.old) (seen F.files F.left F.faults F.absences files.new)
-        (K.taken out.old) (K.taken out.new) result }
-    ensures no_further { ReadTo PAGE_LIMIT Port.Page (string_bytes words.now.page)
-        (seen F.files F.left F.faults F.absences files.old) (seen F.files F.left F.faults F.absences files.new) }
-    ensures scripts_no_further { ReadScriptsTo SCRIPT_LIMIT (string_bytes words.now.dir)
-        (seen F.files F.left F.faults F.absences files.old) (seen F.files F.left F.faults F.absences files.new) }
-    ensures others { KeepsEntities (seen F.files F.left F.faults F.absences files.old) (seen F.files F.left F.faults F.absences files.new) }
-    ensures write_fault { result ≡ Status.WriteFault → Rose (K.faults out.old) (K.faults out.new) }
+        (F.seen files.old) (F.seen files.new) (K.faults out.old) (K.faults out.new) (K.taken out.old) (K.taken out.new) result }
+    ensures reads { ReadsPage (string_bytes words.now.page) (string_bytes words.now.dir) [] (F.seen files.old) (F.seen files.new) }
     ensures clean { IsTrue (is_finished result) → IsTrue (K.clean out.new) }
 {
     let mut driver = match Driver::new(alloc, words.dir.as_str()) {
@@ -149,14 +165,8 @@ fn run_page<F: Outside, K: Sink>(
 ) -> Status
     requires { 0 < words.now.piece }
     ensures answer { PageAnswers table.now words.now.dump (string_bytes words.now.page) (string_bytes words.now.dir)
-        (seen F.files F.left F.faults F.absences files.old) (seen F.files F.left F.faults F.absences files.new)
-        (K.taken out.old) (K.taken out.new) result }
-    ensures no_further { ReadTo PAGE_LIMIT Port.Page (string_bytes words.now.page)
-        (seen F.files F.left F.faults F.absences files.old) (seen F.files F.left F.faults F.absences files.new) }
-    ensures scripts_no_further { ReadScriptsTo SCRIPT_LIMIT (string_bytes words.now.dir)
-        (seen F.files F.left F.faults F.absences files.old) (seen F.files F.left F.faults F.absences files.new) }
-    ensures others { KeepsEntities (seen F.files F.left F.faults F.absences files.old) (seen F.files F.left F.faults F.absences files.new) }
-    ensures write_fault { result ≡ Status.WriteFault → Rose (K.faults out.old) (K.faults out.new) }
+        (F.seen files.old) (F.seen files.new) (K.faults out.old) (K.faults out.new) (K.taken out.old) (K.taken out.new) result }
+    ensures reads { ReadsPage (string_bytes words.now.page) (string_bytes words.now.dir) (string_bytes words.now.page ∷ []) (F.seen files.old) (F.seen files.new) }
     ensures clean { IsTrue (is_finished result) → IsTrue (K.clean out.new) }
 {
     match files.begin(Port::Page, words.page.as_str()) {
@@ -177,6 +187,27 @@ fn table_of(alloc: Global, bytes: &[u8]) -> Result<Table, TableFault>
     Table::read(alloc, bytes)
 }
 
+// Reads the entities.
+fn read_entities<F: Outside>(alloc: Global, files: &mut F, path: &str) -> Result<Table, Unread>
+    ensures table { IfOk result (λ table. ReadsTable path.now (F.seen files.old) (F.seen files.new) table) }
+    ensures none { IfErr result (λ unread. ReadsNone path.now (F.seen files.old) (F.seen files.new) unread) }
+    ensures no_further { ReadTo ENTITIES_LIMIT Port.Entities path.now (F.seen files.old) (F.seen files.new) }
+    ensures begun { Begun ((F.seen files.old).begun Port.Entities) ((F.seen files.new).begun Port.Entities) (path.now ∷ []) }
+    ensures others { KeepsOthers Port.Entities (F.seen files.old) (F.seen files.new) }
+{
+    let bytes = match read_whole(alloc, files, Port::Entities, path, ENTITIES_LIMIT) {
+        Err(NoMemory) => return Err(Unread::NoMemory),
+        Ok(Fetch::Missing) => return Err(Unread::Missing),
+        Ok(Fetch::Faulted) => return Err(Unread::Faulted),
+        Ok(Fetch::Got(bytes)) => bytes,
+    };
+    match table_of(alloc, &bytes) {
+        Err(TableFault::NotTable) => Err(Unread::NotTable),
+        Err(TableFault::NoMemory) => Err(Unread::NoMemory),
+        Ok(table) => Ok(table),
+    }
+}
+
 // Reads the entities, and runs the page over them.
 fn run_files<F: Outside, K: Sink>(
     alloc: Global,
@@ -185,24 +216,14 @@ fn run_files<F: Outside, K: Sink>(
     words: &PageWords,
 ) -> Status
     requires { 0 < words.now.piece }
-    ensures answer { Answers (shown words.now)
-        (seen F.files F.left F.faults F.absences files.old) (seen F.files F.left F.faults F.absences files.new)
-        (K.taken out.old) (K.taken out.new) result }
-    ensures no_further { StopsAtLimits (Some (shown words.now))
-        (seen F.files F.left F.faults F.absences files.old) (seen F.files F.left F.faults F.absences files.new) }
-    ensures write_fault { result ≡ Status.WriteFault → Rose (K.faults out.old) (K.faults out.new) }
+    ensures answer { Answers (shown words.now) (F.seen files.old) (F.seen files.new)
+        (K.faults out.old) (K.faults out.new) (K.taken out.old) (K.taken out.new) result }
+    ensures no_further { StopsAtLimits (Some (shown words.now)) (F.seen files.old) (F.seen files.new) }
+    ensures begins { BeginsOnce (Some (shown words.now)) (F.seen files.old) (F.seen files.new) }
     ensures clean { IsTrue (is_finished result) → IsTrue (K.clean out.new) }
 {
-    let entities = words.entities.as_str();
-    let bytes = match read_whole(alloc, files, Port::Entities, entities, ENTITIES_LIMIT) {
-        Err(NoMemory) => return Status::NoMemory,
-        Ok(Fetch::Missing) => return Status::Absent,
-        Ok(Fetch::Faulted) => return end_at_fault(out),
-        Ok(Fetch::Got(bytes)) => bytes,
-    };
-    match table_of(alloc, &bytes) {
-        Err(TableFault::NotTable) => Status::Entities,
-        Err(TableFault::NoMemory) => Status::NoMemory,
+    match read_entities(alloc, files, words.entities.as_str()) {
+        Err(unread) => end_without(out, unread),
         Ok(table) => run_page(alloc, &table, files, out, words),
     }
 }
@@ -214,12 +235,10 @@ fn run_words<F: Outside, K: Sink>(
     files: &mut F,
     out: &mut K,
 ) -> Status
-    ensures answer { RunsTo (asked (map string_bytes words.now))
-        (seen F.files F.left F.faults F.absences files.old) (seen F.files F.left F.faults F.absences files.new)
-        (K.taken out.old) (K.taken out.new) result }
-    ensures no_further { StopsAtLimits (asked (map string_bytes words.now))
-        (seen F.files F.left F.faults F.absences files.old) (seen F.files F.left F.faults F.absences files.new) }
-    ensures write_fault { result ≡ Status.WriteFault → Rose (K.faults out.old) (K.faults out.new) }
+    ensures answer { RunsTo (asked (map string_bytes words.now)) (F.seen files.old) (F.seen files.new)
+        (K.faults out.old) (K.faults out.new) (K.taken out.old) (K.taken out.new) result }
+    ensures no_further { StopsAtLimits (asked (map string_bytes words.now)) (F.seen files.old) (F.seen files.new) }
+    ensures begins { BeginsOnce (asked (map string_bytes words.now)) (F.seen files.old) (F.seen files.new) }
     ensures clean { IsTrue (is_finished result) → IsTrue (K.clean out.new) }
 {
     match read_words(alloc, words) {
@@ -245,24 +264,22 @@ pub fn run<
     _gate: &Arc<G, Global>,
 ) -> Status
     // The status and the bytes that the sink took are the answer to what the run met, and the text is that of the serial parse.
-    ensures answer { RunsTo (asked (map string_bytes words.now))
-        (seen F.files F.left F.faults F.absences files.old) (seen F.files F.left F.faults F.absences files.new)
-        (K.taken out.old) (K.taken out.new) result }
+    ensures answer { RunsTo (asked (map string_bytes words.now)) (F.seen files.old) (F.seen files.new)
+        (K.faults out.old) (K.faults out.new) (K.taken out.old) (K.taken out.new) result }
     ensures clean { IsTrue (is_finished result) → IsTrue (K.clean out.new) }
-    ensures no_further { StopsAtLimits (asked (map string_bytes words.now))
-        (seen F.files F.left F.faults F.absences files.old) (seen F.files F.left F.faults F.absences files.new) }
+    ensures no_further { StopsAtLimits (asked (map string_bytes words.now)) (F.seen files.old) (F.seen files.new) }
+
+    // Where the outside tells what was begun: entities, page and each script once at most, and nothing else ever.
+    ensures begins { BeginsOnce (asked (map string_bytes words.now)) (F.seen files.old) (F.seen files.new) }
 
     // Where nothing stands in its way, all is written, or memory runs out.
-    ensures complete { CompletesRun (asked (map string_bytes words.now))
-        (seen F.files F.left F.faults F.absences files.old) (seen F.files F.left F.faults F.absences files.new)
+    ensures complete { CompletesRun (asked (map string_bytes words.now)) (F.seen files.old) (F.seen files.new)
         (K.faults out.old) (K.faults out.new) (K.taken out.old) (K.taken out.new) result }
 
     // What follows for single statuses.
     ensures usage { Exactly Status.Usage result (asked (map string_bytes words.now) ≡ None) }
-    ensures absent { result ≡ Status.Absent → AbsenceRose
-        (seen F.files F.left F.faults F.absences files.old) (seen F.files F.left F.faults F.absences files.new) }
-    ensures read_fault { result ≡ Status.ReadFault → FaultRose
-        (seen F.files F.left F.faults F.absences files.old) (seen F.files F.left F.faults F.absences files.new) }
+    ensures absent { result ≡ Status.Absent → AbsenceRose (F.seen files.old) (F.seen files.new) }
+    ensures read_fault { result ≡ Status.ReadFault → FaultRose (F.seen files.old) (F.seen files.new) }
     ensures write_fault { result ≡ Status.WriteFault → Rose (K.faults out.old) (K.faults out.new) }
 {
     run_words(alloc, words, files, out)

@@ -1,15 +1,15 @@
 // The parse of a page in one thread: its text, the scripts between its characters, and the files of those.
-ghost use Rattle.std.specs.Prelude.{◌≡◌, ◌<◌, ◌≤◌, [], None, Some, IfOk, OnOk, OnErr, IsErrOf, IsTrue, flat_map};
+ghost use Rattle.std.specs.Prelude.{◌≡◌, ◌<◌, ◌≤◌, [], None, Some, is_ok, IfOk, OnOk, OnErr, IsErrOf, IsTrue, flat_map};
 ghost use Rattle.std.specs.Str.{chars};
 ghost use Rattle.std.specs.String.{string_bytes};
 ghost use Rattle.standard.specs.Act.{is_bound};
 ghost use Rattle.rule_laws.specs.Naming.{IsStopBound};
 ghost use Rattle.standard.specs.Output.{line_text};
-ghost use Rattle.outside.specs.Outside.{Rose, seen, KeepsOthers};
+ghost use Rattle.outside.specs.Outside.{Rose, KeepsOthers};
 ghost use Rattle.write_parser.specs.Writing.{first_view, Stands, AtTag, Finishes, why_of, left_to_do};
 ghost use Rattle.page_runner.specs.Taken.{Took, TookFront};
 ghost use Rattle.page_runner.specs.Scripts.{met_of, Fetches};
-ghost use Rattle.page_runner.specs.Moments.{IsReady, IsLeft, AtStop, Arrives, Resumes, Way, Reaches, ReachesInPart, Takes, TakesFront};
+ghost use Rattle.page_runner.specs.Moments.{StopsAtFault, IsReady, IsLeft, AtStop, Arrives, Resumes, Way, Reaches, ReachesInPart, Takes, TakesFront};
 
 use crate::output::write_lines;
 use crate::page::Failure;
@@ -116,8 +116,9 @@ impl Driver {
         requires halted { self.old.writer.halted ≡ None }
         ensures resumes { IfOk result (λ went. Way table.now self.new.scripts (Stands self.old.writer) (Resumes self.new.writer went) []) }
         ensures less { IfOk result (λ went. went ≡ Went.On → left_to_do self.new.writer < left_to_do self.old.writer) }
-        ensures fetches { Fetches (seen F.files F.left F.faults F.absences files.old) (seen F.files F.left F.faults F.absences files.new) self.old.scripts self.new.scripts }
-        ensures others { KeepsOthers Port.Script (seen F.files F.left F.faults F.absences files.old) (seen F.files F.left F.faults F.absences files.new) }
+        ensures unfailed { IfOk result (λ went. StopsAtFault went (F.seen files.old) (F.seen files.new)) }
+        ensures fetches { Fetches (is_ok result) (F.seen files.old) (F.seen files.new) self.old.scripts self.new.scripts }
+        ensures others { KeepsOthers Port.Script (F.seen files.old) (F.seen files.new) }
     {
         self.scripts.fetch(alloc, files, name)?;
         match self.scripts.find(name) {
@@ -153,8 +154,9 @@ impl Driver {
         ensures part { OnErr result (ReachesInPart table.now self.new.scripts (Stands self.old.writer) (K.taken out.old) (K.taken out.new)) }
         ensures lines { OnOk result (self.new.writer.lines ≡ []) }
         ensures less { IfOk result (λ went. went ≡ Went.On → left_to_do self.new.writer < left_to_do self.old.writer) }
-        ensures fetches { Fetches (seen F.files F.left F.faults F.absences files.old) (seen F.files F.left F.faults F.absences files.new) self.old.scripts self.new.scripts }
-        ensures others { KeepsOthers Port.Script (seen F.files F.left F.faults F.absences files.old) (seen F.files F.left F.faults F.absences files.new) }
+        ensures unfailed { IfOk result (λ went. StopsAtFault went (F.seen files.old) (F.seen files.new)) }
+        ensures fetches { Fetches (is_ok result) (F.seen files.old) (F.seen files.new) self.old.scripts self.new.scripts }
+        ensures others { KeepsOthers Port.Script (F.seen files.old) (F.seen files.new) }
         ensures write { IsErrOf result Failure.Write → Rose (K.faults out.old) (K.faults out.new) }
         ensures faults { K.faults out.old ≤ K.faults out.new }
     {
@@ -174,8 +176,9 @@ impl Driver {
         ensures ready { IfOk result (λ went. went ≡ Went.On → IsReady self.new.writer) }
         ensures reaches { IfOk result (λ went. Reaches table.now self.new.scripts (Stands self.old.writer) (Arrives self.new.writer went) (K.taken out.old) (K.taken out.new)) }
         ensures part { OnErr result (ReachesInPart table.now self.new.scripts (Stands self.old.writer) (K.taken out.old) (K.taken out.new)) }
-        ensures fetches { Fetches (seen F.files F.left F.faults F.absences files.old) (seen F.files F.left F.faults F.absences files.new) self.old.scripts self.new.scripts }
-        ensures others { KeepsOthers Port.Script (seen F.files F.left F.faults F.absences files.old) (seen F.files F.left F.faults F.absences files.new) }
+        ensures unfailed { IfOk result (λ went. StopsAtFault went (F.seen files.old) (F.seen files.new)) }
+        ensures fetches { Fetches (is_ok result) (F.seen files.old) (F.seen files.new) self.old.scripts self.new.scripts }
+        ensures others { KeepsOthers Port.Script (F.seen files.old) (F.seen files.new) }
         ensures write { IsErrOf result Failure.Write → Rose (K.faults out.old) (K.faults out.new) }
         ensures faults { K.faults out.old ≤ K.faults out.new }
     {
@@ -207,8 +210,9 @@ impl Driver {
         ensures ready { IfOk result (λ went. went ≡ Went.On → IsReady self.new.writer) }
         ensures reaches { IfOk result (λ went. Reaches table.now self.new.scripts (AtTag id self.old.writer) (Arrives self.new.writer went) (K.taken out.old) (K.taken out.new)) }
         ensures part { OnErr result (ReachesInPart table.now self.new.scripts (AtTag id self.old.writer) (K.taken out.old) (K.taken out.new)) }
-        ensures fetches { Fetches (seen F.files F.left F.faults F.absences files.old) (seen F.files F.left F.faults F.absences files.new) self.old.scripts self.new.scripts }
-        ensures others { KeepsOthers Port.Script (seen F.files F.left F.faults F.absences files.old) (seen F.files F.left F.faults F.absences files.new) }
+        ensures unfailed { IfOk result (λ went. StopsAtFault went (F.seen files.old) (F.seen files.new)) }
+        ensures fetches { Fetches (is_ok result) (F.seen files.old) (F.seen files.new) self.old.scripts self.new.scripts }
+        ensures others { KeepsOthers Port.Script (F.seen files.old) (F.seen files.new) }
         ensures write { IsErrOf result Failure.Write → Rose (K.faults out.old) (K.faults out.new) }
         ensures faults { K.faults out.old ≤ K.faults out.new }
     {
@@ -231,8 +235,9 @@ impl Driver {
         ensures ready { IfOk result (λ went. went ≡ Went.On → IsReady self.new.writer) }
         ensures reaches { IfOk result (λ went. Reaches table.now self.new.scripts (AtStop self.old.writer stop) (Arrives self.new.writer went) (K.taken out.old) (K.taken out.new)) }
         ensures part { OnErr result (ReachesInPart table.now self.new.scripts (AtStop self.old.writer stop) (K.taken out.old) (K.taken out.new)) }
-        ensures fetches { Fetches (seen F.files F.left F.faults F.absences files.old) (seen F.files F.left F.faults F.absences files.new) self.old.scripts self.new.scripts }
-        ensures others { KeepsOthers Port.Script (seen F.files F.left F.faults F.absences files.old) (seen F.files F.left F.faults F.absences files.new) }
+        ensures unfailed { IfOk result (λ went. StopsAtFault went (F.seen files.old) (F.seen files.new)) }
+        ensures fetches { Fetches (is_ok result) (F.seen files.old) (F.seen files.new) self.old.scripts self.new.scripts }
+        ensures others { KeepsOthers Port.Script (F.seen files.old) (F.seen files.new) }
         ensures write { IsErrOf result Failure.Write → Rose (K.faults out.old) (K.faults out.new) }
         ensures faults { K.faults out.old ≤ K.faults out.new }
     {
@@ -257,8 +262,9 @@ impl Driver {
         // The serial parse goes over the text, or is over in it, and the sink took the lines of its scripts.
         ensures takes { IfOk result (λ went. Takes table.now self.new.scripts self.old.writer self.new.writer (chars text.now) (K.taken out.old) (K.taken out.new) went) }
         ensures front { OnErr result (TakesFront table.now self.new.scripts self.old.writer (chars text.now) (K.taken out.old) (K.taken out.new)) }
-        ensures fetches { Fetches (seen F.files F.left F.faults F.absences files.old) (seen F.files F.left F.faults F.absences files.new) self.old.scripts self.new.scripts }
-        ensures others { KeepsOthers Port.Script (seen F.files F.left F.faults F.absences files.old) (seen F.files F.left F.faults F.absences files.new) }
+        ensures unfailed { IfOk result (λ went. StopsAtFault went (F.seen files.old) (F.seen files.new)) }
+        ensures fetches { Fetches (is_ok result) (F.seen files.old) (F.seen files.new) self.old.scripts self.new.scripts }
+        ensures others { KeepsOthers Port.Script (F.seen files.old) (F.seen files.new) }
         ensures write { IsErrOf result Failure.Write → Rose (K.faults out.old) (K.faults out.new) }
         ensures faults { K.faults out.old ≤ K.faults out.new }
     {

@@ -1,6 +1,6 @@
 // A whole file, up to a limit.
-ghost use Rattle.std.specs.Prelude.{◌≡◌, ◌<◌, ◌^◌, IfOk};
-ghost use Rattle.outside.specs.Outside.{OthersStay, NeverFall, seen, KeepsOthers};
+ghost use Rattle.std.specs.Prelude.{◌≡◌, ◌<◌, ◌^◌, [], ◌∷◌, IfOk};
+ghost use Rattle.outside.specs.Outside.{OthersStay, NeverFall, Begun, KeepsOthers};
 ghost use Rattle.page_runner.specs.Given.{MayGive, given_of, ReadTo};
 
 use html_types::NoMemory;
@@ -28,11 +28,10 @@ pub fn read_whole<F: Outside>(
     limit: usize,
 ) -> Result<Fetch, NoMemory>
     requires { limit < 2 ^ 32 }
-    ensures given { IfOk result (λ fetch. MayGive limit port path.now
-        (seen F.files F.left F.faults F.absences files.old) (seen F.files F.left F.faults F.absences files.new) (given_of fetch)) }
-    ensures no_further { ReadTo limit port path.now
-        (seen F.files F.left F.faults F.absences files.old) (seen F.files F.left F.faults F.absences files.new) }
-    ensures others { KeepsOthers port (seen F.files F.left F.faults F.absences files.old) (seen F.files F.left F.faults F.absences files.new) }
+    ensures given { IfOk result (λ fetch. MayGive limit port path.now (F.seen files.old) (F.seen files.new) (given_of fetch)) }
+    ensures begun { Begun ((F.seen files.old).begun port) ((F.seen files.new).begun port) (path.now ∷ []) }
+    ensures no_further { ReadTo limit port path.now (F.seen files.old) (F.seen files.new) }
+    ensures others { KeepsOthers port (F.seen files.old) (F.seen files.new) }
 {
     match files.begin(port, path) {
         Err(Failed) => return Ok(Fetch::Faulted),

@@ -1,14 +1,14 @@
 // The page is parsed piece by piece, and its lines are written as they come.
-ghost use Rattle.std.specs.Prelude.{◌≡◌, ◌<◌, ◌≤◌, ◌+◌, ℕ, List, [], length, take, IfOk, IfErr, OnErr, IsErrOf, IsNone};
+ghost use Rattle.std.specs.Prelude.{◌≡◌, ◌<◌, ◌≤◌, ◌+◌, ℕ, List, [], length, take, is_ok, IfOk, IfErr, OnOk, OnErr, IsErrOf, IsNone};
 ghost use Rattle.std.specs.String.{string_bytes};
-ghost use Rattle.outside.specs.Outside.{Rose, seen, KeepsOthers};
+ghost use Rattle.outside.specs.Outside.{Rose, KeepsOthers};
 ghost use Rattle.page_runner.specs.declared.page.Failure.TheVariants as failures;
 ghost use Rattle.write_parser.specs.Writing.{first_view};
-ghost use Rattle.page_runner.specs.Given.{KeepsEntities};
-ghost use Rattle.page_runner.specs.Scripts.{met_of, Fetches, ReadScriptsTo};
+ghost use Rattle.page_runner.specs.Given.{KeepsEntities, NoFault};
+ghost use Rattle.page_runner.specs.Scripts.{met_of, Fetches, NamesOnce, ReadScriptsTo};
 ghost use Rattle.page_runner.specs.Moments.{IsReady};
 ghost use Rattle.utf8_pieces.specs.Decoder.{HasRead};
-ghost use Rattle.page_runner.specs.Pages.{AreTaken, ReadsOn, ClosesAt, EndsAs, TakesPiece, TakesPieceInPart, ParsesPage, ParsesFront, EndsWithScripts, FrontWithScripts};
+ghost use Rattle.page_runner.specs.Pages.{AreTaken, ReadsOn, ClosesAt, EndsAs, TakesPiece, TakesPieceInPart, PieceMeetsFaults, ParsesPage, ParsesFront, EndsWithScripts, FrontWithScripts};
 
 use crate::driver::{Driver, Went};
 use crate::outcome::{Outcome, outcome_at};
@@ -77,10 +77,12 @@ fn read_piece<F: Outside>(
     room: &mut [u8],
 ) -> Result<usize, Ending>
     ensures count { IfOk result (λ n. (0 < n) × (n ≤ length room.old)) }
-    ensures taken { IfOk result (λ n. AreTaken (F.left files.old Port.Page) (F.left files.new Port.Page) (take n room.new)) }
+    ensures taken { IfOk result (λ n. AreTaken ((F.seen files.old).left Port.Page) ((F.seen files.new).left Port.Page) (take n room.new)) }
     ensures ending { IfErr result (λ ending. 0 < length room.old → (read : List ℕ) → HasRead PAGE_LIMIT decoder.now read
-        → ClosesAt (F.left files.old Port.Page) (F.left files.new Port.Page) (Rose (F.faults files.old Port.Page) (F.faults files.new Port.Page)) read ending) }
-    ensures others { KeepsOthers Port.Page (seen F.files F.left F.faults F.absences files.old) (seen F.files F.left F.faults F.absences files.new) }
+        → ClosesAt (F.seen files.old) (F.seen files.new) read ending) }
+    ensures no_fault { OnOk result (NoFault Port.Page (F.seen files.old) (F.seen files.new)) }
+    ensures begun { (F.seen files.new).begun ≡ (F.seen files.old).begun }
+    ensures others { KeepsOthers Port.Page (F.seen files.old) (F.seen files.new) }
 {
     match files.read(Port::Page, room) {
         Err(Failed) => Err(decoder.close(true)),
@@ -102,9 +104,10 @@ fn take_piece<F: Outside, K: Sink>(
     requires { IsReady driver.old.writer }
     ensures ready { IfOk result (λ o. IsNone o → IsReady driver.new.writer) }
     ensures ok { IfOk result (λ o. TakesPiece table.now decoder.old decoder.new driver.old driver.new piece.now (K.taken out.old) (K.taken out.new) o) }
+    ensures unfailed { IfOk result (λ o. PieceMeetsFaults o (F.seen files.old) (F.seen files.new)) }
     ensures err { OnErr result (TakesPieceInPart table.now driver.new.scripts decoder.old driver.old piece.now (K.taken out.old) (K.taken out.new)) }
-    ensures fetches { Fetches (seen F.files F.left F.faults F.absences files.old) (seen F.files F.left F.faults F.absences files.new) driver.old.scripts driver.new.scripts }
-    ensures others { KeepsOthers Port.Script (seen F.files F.left F.faults F.absences files.old) (seen F.files F.left F.faults F.absences files.new) }
+    ensures fetches { Fetches (is_ok result) (F.seen files.old) (F.seen files.new) driver.old.scripts driver.new.scripts }
+    ensures others { KeepsOthers Port.Script (F.seen files.old) (F.seen files.new) }
     ensures write { IsErrOf result Failure.Write → Rose (K.faults out.old) (K.faults out.new) }
     ensures faults { K.faults out.old ≤ K.faults out.new }
 {
@@ -132,13 +135,12 @@ fn parse_reads<F: Outside, K: Sink>(
 ) -> Result<Outcome, Failure>
     requires first { driver.old.writer ≡ first_view 0 }
     requires room { 0 < length room.old }
-    ensures ok { IfOk result (λ outcome. ParsesPage table.now (F.left files.old Port.Page) (F.left files.new Port.Page)
-        (Rose (F.faults files.old Port.Page) (F.faults files.new Port.Page)) driver.new (K.taken out.old) (K.taken out.new) outcome) }
-    ensures err { OnErr result (ParsesFront table.now driver.new.scripts (F.left files.old Port.Page) (F.left files.new Port.Page)
-        (Rose (F.faults files.old Port.Page) (F.faults files.new Port.Page)) (K.taken out.old) (K.taken out.new)) }
-    ensures fetches { Fetches (seen F.files F.left F.faults F.absences files.old) (seen F.files F.left F.faults F.absences files.new) driver.old.scripts driver.new.scripts }
-    ensures others { KeepsEntities (seen F.files F.left F.faults F.absences files.old) (seen F.files F.left F.faults F.absences files.new) }
-    ensures no_further { ReadsOn (PAGE_LIMIT + 1) (F.left files.old Port.Page) (F.left files.new Port.Page) }
+    ensures ok { IfOk result (λ outcome. ParsesPage table.now (F.seen files.old) (F.seen files.new) driver.new (K.taken out.old) (K.taken out.new) outcome) }
+    ensures err { OnErr result (ParsesFront table.now driver.new.scripts (F.seen files.old) (F.seen files.new) (K.taken out.old) (K.taken out.new)) }
+    ensures fetches { Fetches (is_ok result) (F.seen files.old) (F.seen files.new) driver.old.scripts driver.new.scripts }
+    ensures others { KeepsEntities (F.seen files.old) (F.seen files.new) }
+    ensures no_further { ReadsOn (PAGE_LIMIT + 1) ((F.seen files.old).left Port.Page) ((F.seen files.new).left Port.Page) }
+    ensures begun { (F.seen files.new).begun Port.Page ≡ (F.seen files.old).begun Port.Page }
     ensures write { IsErrOf result Failure.Write → Rose (K.faults out.old) (K.faults out.new) }
     ensures faults { K.faults out.old ≤ K.faults out.new }
 {
@@ -183,16 +185,15 @@ pub(crate) fn parse_page<F: Outside, K: Sink>(
     requires first { driver.old.writer ≡ first_view 0 }
     requires none { (name : _) → met_of driver.old.scripts name ≡ None }
     requires piece { 0 < piece }
-    ensures ok { IfOk result (λ outcome. EndsWithScripts table.now (string_bytes driver.old.scripts.dir)
-        (seen F.files F.left F.faults F.absences files.old) (seen F.files F.left F.faults F.absences files.new)
+    ensures ok { IfOk result (λ outcome. EndsWithScripts table.now (string_bytes driver.old.scripts.dir) (F.seen files.old) (F.seen files.new)
         driver.new.writer (K.taken out.old) (K.taken out.new) outcome) }
-    ensures err { OnErr result (FrontWithScripts table.now (string_bytes driver.old.scripts.dir)
-        (seen F.files F.left F.faults F.absences files.old) (seen F.files F.left F.faults F.absences files.new)
+    ensures err { OnErr result (FrontWithScripts table.now (string_bytes driver.old.scripts.dir) (F.seen files.old) (F.seen files.new)
         (K.taken out.old) (K.taken out.new)) }
-    ensures others { KeepsEntities (seen F.files F.left F.faults F.absences files.old) (seen F.files F.left F.faults F.absences files.new) }
-    ensures no_further { ReadsOn (PAGE_LIMIT + 1) (F.left files.old Port.Page) (F.left files.new Port.Page) }
-    ensures scripts_no_further { ReadScriptsTo SCRIPT_LIMIT (string_bytes driver.old.scripts.dir)
-        (seen F.files F.left F.faults F.absences files.old) (seen F.files F.left F.faults F.absences files.new) }
+    ensures others { KeepsEntities (F.seen files.old) (F.seen files.new) }
+    ensures no_further { ReadsOn (PAGE_LIMIT + 1) ((F.seen files.old).left Port.Page) ((F.seen files.new).left Port.Page) }
+    ensures begun { (F.seen files.new).begun Port.Page ≡ (F.seen files.old).begun Port.Page }
+    ensures scripts_no_further { ReadScriptsTo SCRIPT_LIMIT (string_bytes driver.old.scripts.dir) (F.seen files.old) (F.seen files.new) }
+    ensures names { NamesOnce (string_bytes driver.old.scripts.dir) ((F.seen files.old).begun Port.Script) ((F.seen files.new).begun Port.Script) }
     ensures write { IsErrOf result Failure.Write → Rose (K.faults out.old) (K.faults out.new) }
     ensures faults { K.faults out.old ≤ K.faults out.new }
 {

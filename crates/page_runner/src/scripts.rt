@@ -1,12 +1,13 @@
 // The files of external scripts.
-ghost use Rattle.std.specs.Prelude.{◌≡◌, [], None, true, IfOk, IfSome, IfNone, OnOk, IsSome};
+ghost use Rattle.std.specs.Prelude.{◌≡◌, ◌⊎◌, [], None, Some, true, is_ok, IfOk, IfSome, IfNone, OnOk, IsSome};
 ghost use Rattle.std.specs.List.{list_all};
 ghost use Rattle.std.specs.Str.{chars};
 ghost use Rattle.std.specs.String.{string_bytes};
-ghost use Rattle.outside.specs.Outside.{seen, KeepsOthers};
+ghost use Rattle.outside.specs.Outside.{KeepsOthers};
 ghost use Rattle.standard.specs.Scripts.{is_lawful, is_name_character, file_statements};
 ghost use Rattle.standard.specs.Page.{without_mark};
 ghost use Rattle.standard.specs.Statements.{statements};
+ghost use Rattle.page_runner.specs.Given.{NoFault};
 ghost use Rattle.page_runner.specs.Scripts.{met_of, IsScriptOf, Fetches};
 
 use crate::fetch::{Fetch, read_whole};
@@ -120,8 +121,10 @@ impl ScriptFiles {
         name: &str,
     ) -> Result<(), NoMemory>
         ensures met { OnOk result (is_lawful (chars name.now) ≡ true → IsSome (met_of self.new (chars name.now))) }
-        ensures fetches { Fetches (seen F.files F.left F.faults F.absences files.old) (seen F.files F.left F.faults F.absences files.new) self.old self.new }
-        ensures others { KeepsOthers Port.Script (seen F.files F.left F.faults F.absences files.old) (seen F.files F.left F.faults F.absences files.new) }
+        ensures unfailed { OnOk result (NoFault Port.Script (F.seen files.old) (F.seen files.new)
+            ⊎ ((is_lawful (chars name.now) ≡ true) × (met_of self.new (chars name.now) ≡ Some Script.Faulted))) }
+        ensures fetches { Fetches (is_ok result) (F.seen files.old) (F.seen files.new) self.old self.new }
+        ensures others { KeepsOthers Port.Script (F.seen files.old) (F.seen files.new) }
     {
         if !is_lawful(name) || self.met.contains_key(name) {
             return Ok(());

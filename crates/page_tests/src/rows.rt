@@ -77,7 +77,28 @@ fn words(alloc: Global, piece: &str, dump: bool) -> Result<Vec<String>, NoMemory
     Ok(words)
 }
 
-// What a run answers, and what its sink took.
+// What a run answers, what its sink took, and the files, which tell how many calls were made.
+#[derive(Drop)]
+struct Ran {
+    status: Status,
+    files: MemFiles,
+    sink: MemSink,
+}
+
+impl Ran {
+    // Whether the run answers and writes what is wanted.
+    fn is_as_wanted(&self, row: &Row) -> bool {
+        self.status == row.status && self.sink.bytes() == row.text.as_bytes()
+    }
+
+    // Whether the run is a read fault that wrote a front of the text.
+    fn is_read_fault(&self, row: &Row) -> bool {
+        let text = row.text.as_bytes();
+        let taken = self.sink.bytes();
+        self.status == Status::ReadFault && taken.len() < text.len() && text.starts_with(taken)
+    }
+}
+
 fn outcome<R: Threads + Wait + Copy + Send + Sync + 'static>(
     rt: &R,
     alloc: Global,
@@ -85,13 +106,17 @@ fn outcome<R: Threads + Wait + Copy + Send + Sync + 'static>(
     fail: &[(Port, u64)],
     piece: &str,
     size: usize,
-) -> Result<(Status, MemSink), NoMemory> {
+) -> Result<Ran, NoMemory> {
     let words = words(alloc, piece, row.dump)?;
     let mut files = files(alloc, row, fail)?;
     let mut sink = MemSink::new(alloc, size)?;
     let gate = Arc::new(alloc, OpenGate)?;
     let status = run(rt, alloc, &words, &mut files, &mut sink, &gate);
-    Ok((status, sink))
+    Ok(Ran {
+        status,
+        files,
+        sink,
+    })
 }
 
 /// Whether the run answers and writes what is wanted, with reads of so many bytes.
@@ -101,8 +126,8 @@ pub fn gives<R: Threads + Wait + Copy + Send + Sync + 'static>(
     row: &Row,
     piece: &str,
 ) -> Result<bool, NoMemory> {
-    let (status, sink) = outcome(rt, alloc, row, row.fail, piece, row.sink)?;
-    Ok(status == row.status && sink.bytes() == row.text.as_bytes())
+    let ran = outcome(rt, alloc, row, row.fail, piece, row.sink)?;
+    Ok(ran.is_as_wanted(row))
 }
 
 /// Whether the run answers and writes what is wanted, with reads of 1, of 7 and of 4,096 bytes.
@@ -127,20 +152,17 @@ pub fn gives_at_every_size<R: Threads + Wait + Copy + Send + Sync + 'static>(
 ) -> Result<bool, NoMemory> {
     let text = row.text.as_bytes();
     for size in 0..text.len() {
-        let (status, sink) = outcome(rt, alloc, row, row.fail, row.piece, size)?;
-        if status != Status::WriteFault || sink.bytes() != &text[..size] {
+        let ran = outcome(rt, alloc, row, row.fail, row.piece, size)?;
+        if ran.status != Status::WriteFault || ran.sink.bytes() != &text[..size] {
             return Ok(false);
         }
     }
-    let (status, sink) = outcome(rt, alloc, row, row.fail, row.piece, text.len())?;
-    Ok(status == row.status && sink.bytes() == text)
+    let ran = outcome(rt, alloc, row, row.fail, row.piece, text.len())?;
+    Ok(ran.is_as_wanted(row))
 }
 
-// More calls than a row has at one port.
-const MANY_CALLS: u64 = 1000;
-
-// Whether the run is a read fault that wrote a front of the text where the first call at the port fails, where the second does, and
-// so on, up to the number of a call that isn't made: there the run answers and writes what is wanted.
+// Whether the run is a read fault that wrote a front of the text, whichever call at the port fails of those that are made where
+// none does. There is one at least.
 fn gives_at_faults_of<R: Threads + Wait + Copy + Send + Sync + 'static>(
     rt: &R,
     alloc: Global,
@@ -148,17 +170,15 @@ fn gives_at_faults_of<R: Threads + Wait + Copy + Send + Sync + 'static>(
     port: Port,
     piece: &str,
 ) -> Result<bool, NoMemory> {
-    let text = row.text.as_bytes();
-    for call in 1..MANY_CALLS {
-        let (status, sink) = outcome(rt, alloc, row, &[(port, call)], piece, row.sink)?;
-        if status != Status::ReadFault {
-            return Ok(1 < call && status == row.status && sink.bytes() == text);
-        }
-        if text.len() <= sink.bytes().len() || !text.starts_with(sink.bytes()) {
+    let whole = outcome(rt, alloc, row, &[], piece, row.sink)?;
+    let calls = whole.files.calls(port);
+    for before in 0..calls {
+        let ran = outcome(rt, alloc, row, &[(port, before + 1)], piece, row.sink)?;
+        if !ran.is_read_fault(row) {
             return Ok(false);
         }
     }
-    Ok(false)
+    Ok(0 < calls && whole.is_as_wanted(row))
 }
 
 /// Whether the run is a read fault that wrote a front of the text, whichever call at whichever port fails. Each port has one at least.

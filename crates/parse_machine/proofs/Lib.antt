@@ -4,3 +4,4 @@ pub mod Characters
 pub mod Marks
 pub mod Runs
 pub mod Tags
+pub mod References

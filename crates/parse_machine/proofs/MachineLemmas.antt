@@ -37,7 +37,7 @@ use Rattle.parse_machine.specs.declared.machine.Ended.TheVariants as ended
 
 -- ---- tokens
 
-after_ops-after : (p q : List Op) (k : Took) → after_ops p (after_ops q k) ≡ after_ops (p ++ q) k
+pub after_ops-after : (p q : List Op) (k : Took) → after_ops p (after_ops q k) ≡ after_ops (p ++ q) k
 after_ops-after p q (took ops m s) = ap (λ o. took o m s) (sym (append_assoc p q ops))
 
 -- a token that was processed, and those behind it

@@ -20,7 +20,7 @@ use Rattle.tokenizer_laws.proofs.FeedLemmas.{feed-append, onward-one}
 use Rattle.standard_laws.proofs.Parse.{parse-append}
 use Rattle.tokenizer.specs.Whole.{has_cr, piece, MakesAlone}
 use Rattle.parse_machine.specs.Machine.{stops}
-use Rattle.parse_machine.specs.Runs.{ReadsTags, Takes}
+use Rattle.parse_machine.specs.Runs.{IsSomeText, ReadsTags, Takes}
 use Rattle.parse_machine.specs.declared.machine.Ran.{Ran}
 use Rattle.parse_machine.proofs.MachineLemmas.{IsOver, one-character, over-more, not_stopped, none-waited, taken-read}
 
@@ -42,7 +42,7 @@ or-second : (a b : Bool) → (a || b) ≡ false → b ≡ false
 or-second false b e = e
 or-second true b e = cc
 
-none_before : (k : Took) → after_ops [] k ≡ k
+pub none_before : (k : Took) → after_ops [] k ≡ k
 none_before (took ops p s) = refl
 
 -- a character other than a CR, which leads to a state and makes tokens
@@ -60,7 +60,7 @@ silent_taken es s b c no_cr silent =
     ∙ taken es s b c [] (read es s c) (took [] (parser (read es s c).state false b) stop.InputEnd) no_cr refl
     (ap (λ (ts : List Token). after_ops [] (build (read es s c).state false ts b)) silent)
 
-silent_parsed : (es : Entities) (s : TokState) (b : Open) (cs : List ℕ) → has_cr cs ≡ false → (feed es s cs).tokens ≡ []
+pub silent_parsed : (es : Entities) (s : TokState) (b : Open) (cs : List ℕ) → has_cr cs ≡ false → (feed es s cs).tokens ≡ []
     → parse es (parser s false b) cs ≡ record { ops = []; parser = parser (feed es s cs).state false b; used = length cs; stop = stop.InputEnd }
 unfolding parse feed
 silent_parsed es s b [] no_cr silent = refl
@@ -109,22 +109,26 @@ over-tag es b cs t o o' p' at alone no_cr built =
     (over-silent es data_state b o front (cr-front front last split) (alone.silent es))
     (taken es mid b last o (record { tokens = t ∷ []; state = data_state }) (took o' p' at) (cr-last front last split) reached built))
 
-piece-front : (text : List ℕ) (from end : ℕ) → IsUtf8 text → IsCharBoundary text from → from ≤ end → chars (take end text) ≡ chars (take from text) ++ piece text from end
+pub piece-front : (text : List ℕ) (from end : ℕ) → IsUtf8 text → IsCharBoundary text from → from ≤ end → chars (take end text) ≡ chars (take from text) ++ piece text from end
 piece-front text from end u b h =
     let whole : end ≡ from + (end - from) = omega arith in
     ap (λ (n : ℕ). chars (take n text)) whole ∙ ap chars (take-add from (end - from) text) ∙ chars-append (take from text) (take (end - from) (drop from text)) (IsUtf8-take text from u b)
 
+some-split : (cs front : List ℕ) (last : ℕ) → cs ≡ front ++ last ∷ [] → IsSomeText cs
+some-split cs [] last e = (last, [], e)
+some-split cs (x ∷ xs) last e = (x, xs ++ last ∷ [], e)
+
 -- what was taken of the text is what these characters come to
-takes : (es : Entities) (text run : List ℕ) (from end : ℕ) (at : Stop) (p p' : Parser) (o o' : List Op) → chars (take end text) ≡ chars (take from text) ++ run
+takes : (es : Entities) (text run : List ℕ) (from end : ℕ) (at : Stop) (p p' : Parser) (o o' : List Op) → IsSomeText run → chars (take end text) ≡ chars (take from text) ++ run
     → IsOver (parse es p run) o (length run) p' o' at → Takes es text from (record { stop = at; used = end }) p o p' o'
-takes es text run from end at p p' o o' front over = record { run = run; front = front; ops = over.ops; state = over.state; used = over.used; stop = over.at_stop }
+takes es text run from end at p p' o o' some front over = record { run = run; some = some; front = front; ops = over.ops; state = over.state; used = over.used; stop = over.at_stop }
 
 pub taken_tag : (es : Entities) (text : List ℕ) (from end : ℕ) (at : Stop) (t : Token) (p p' : Parser) (o o' : List Op) → IsUtf8 text → IsCharBoundary text from → from ≤ end
     → ReadsTags p → MakesAlone (piece text from end) t → has_cr (piece text from end) ≡ false
     → after_ops o (build p.tokenizer p.after_cr (t ∷ []) p.open_state) ≡ took o' p' at → Takes es text from (record { stop = at; used = end }) p o p' o'
 taken_tag es text from end at t p p' o o' u b h reads alone no_cr built =
     let same : p ≡ parser data_state false p.open_state = ap (λ s. parser s p.after_cr p.open_state) reads.tokenizer ∙ ap (λ cr. parser data_state cr p.open_state) reads.after_cr in
-    takes es text (piece text from end) from end at p p' o o' (piece-front text from end u b h)
+    takes es text (piece text from end) from end at p p' o o' (some-split (piece text from end) alone.front alone.last alone.split) (piece-front text from end u b h)
     (subst (λ (q : Parser). IsOver (parse es q (piece text from end)) o (length (piece text from end)) p' o' at) (sym same)
     (over-tag es p.open_state (piece text from end) t o o' p' at alone no_cr
     (subst (λ (q : Parser). after_ops o (build q.tokenizer q.after_cr (t ∷ []) p.open_state) ≡ took o' p' at) same built)))
@@ -133,7 +137,7 @@ taken_tag es text from end at t p p' o o' u b h reads alone no_cr built =
 pub taken_character : (es : Entities) (text : List ℕ) (from end c : ℕ) (at : Stop) (p q p' : Parser) (o n o' : List Op) → chars (take end text) ≡ chars (take from text) ++ c ∷ []
     → q ≡ p → n ≡ o → after_ops n (take_character es q c) ≡ took o' p' at → Takes es text from (record { stop = at; used = end }) p o p' o'
 taken_character es text from end c at p q p' o n o' front same none is =
-    takes es text (c ∷ []) from end at p p' o o' front
+    takes es text (c ∷ []) from end at p p' o o' (c, [], refl) front
     (one-character es p c o o' p' at (ap (λ (l : List Op). after_ops l (take_character es p c)) (sym none) ∙ ap (λ (v : Parser). after_ops n (take_character es v c)) (sym same) ∙ is))
 
 -- ---- behind what is parsed

@@ -9,21 +9,24 @@ ghost use Rattle.standard.specs.Parser as definition;
 ghost use Rattle.standard.specs.Parser.{new_parser, took, after_ops, build, build_end, take_character, finish as finished, parse, AreSame, after_all};
 ghost use Rattle.builder_state.specs.Texts.{behind_text};
 ghost use Rattle.standard.specs.Instructions.{here, texts};
-ghost use Rattle.parse_machine.specs.Runs.{ArePlain, reads_runs as state_reads_runs, ReadsTags, Takes, TakesRuns, TakesRun};
+ghost use Rattle.std.specs.List.{list_any};
+ghost use Rattle.entity_table.specs.View.{characters_in};
+ghost use Rattle.parse_machine.specs.Runs.{ArePlain, reads_runs as state_reads_runs, Ahead, Inserts, ReadsTags, Takes, TakesRuns, TakesRun};
 ghost use Rattle.parse_machine.specs.Machine.{WentTo, EndedTo, Builds, BuildsLast, RanAs, stops as stops_at};
 
 use crate::token::construct;
 use builder_state::Builder;
 use char_class::{class_of, first_mark};
-use entity_table::Table;
+use entity_table::{Characters, Table};
 use html_types::{
-    Finish, Name, Next, NoMemory, NodeId, Ops, RawText, Stop, TextState, TokState, Token,
+    Finish, Name, Next, NoMemory, NodeId, Ops, RawText, Stop, Text, TextState, TokState, Token,
     TokenizerSwitch, Word, char_at,
 };
 use std::alloc::Global;
 use std::marker::Model;
 use tokenizer::Tokenizer;
 use tokenizer::reading::is_plain;
+use tokenizer::reference::whole_reference;
 use tokenizer::whole::whole_tag;
 
 /// A parser: contracts see the tokenizer's state, whether the last character was a CR, and the open state.
@@ -330,6 +333,24 @@ fn plain_run(text: &str, from: usize) -> &str
     &rest[..first_mark(rest.as_bytes())]
 }
 
+fn has_nul(characters: Characters) -> bool
+    ensures { result ≡ list_any (λ c. c == 0) (characters_in characters) }
+{
+    characters.first == '\0' || characters.second == Some('\0')
+}
+
+// What a reference stands for.
+fn text_of(alloc: Global, characters: Characters) -> Result<Text, NoMemory>
+    ensures { IfOk result (λ t. t ≡ characters_in characters) }
+{
+    let mut text = Text::new(alloc);
+    text.push(characters.first)?;
+    if let Some(second) = characters.second {
+        text.push(second)?;
+    }
+    Ok(text)
+}
+
 impl Machine {
     /// The parser at the beginning of a page. Its elements are of that realm. It takes no memory.
     pub fn new(alloc: Global, realm: u64) -> Machine
@@ -462,8 +483,58 @@ impl Machine {
         }))
     }
 
+    // Takes the named reference that begins at a place, where it is looked up at once and inserted as it is, and gives the place behind it.
+    fn take_reference(
+        &mut self,
+        alloc: Global,
+        table: &Table,
+        text: &str,
+        from: usize,
+        ops: &mut Ops,
+    ) -> Result<Option<usize>, NoMemory>
+        requires { IsCharBoundary text.now from }
+        ensures boundary { IfOk result (λ o. IfSome o (λ end. IsCharBoundary text.now end)) }
+        ensures onward { IfOk result (λ o. IfSome o (λ end. from < end)) }
+        ensures within { IfOk result (λ o. IfSome o (λ end. end < length text.now)) }
+        ensures parsed { IfOk result (λ o. IfSome o (λ end. Inserts table.now text.now from end self.old ops.old self.new ops.new)) }
+        ensures none { IfOk result (λ o. o ≡ None → self.new ≡ self.old) }
+        ensures none_added { IfOk result (λ o. o ≡ None → ops.new ≡ ops.old) }
+    {
+        let Some(reference) = whole_reference(table, text, from) else {
+            return Ok(None);
+        };
+        let characters = reference.characters;
+        if has_nul(characters) || !self.reads_tags() || !self.builder.takes_text() {
+            return Ok(None);
+        }
+        let inserted = text_of(alloc, characters)?;
+        self.insert_run(alloc, inserted.as_str(), ops)?;
+        Ok(Some(reference.end))
+    }
+
+    // Takes all such references from a place on, each with some character behind it, and gives the place behind the last.
+    fn take_references(
+        &mut self,
+        alloc: Global,
+        table: &Table,
+        text: &str,
+        from: usize,
+        ops: &mut Ops,
+    ) -> Result<usize, NoMemory>
+        requires { IsCharBoundary text.now from }
+        ensures boundary { IfOk result (λ end. IsCharBoundary text.now end) }
+        ensures onward { IfOk result (λ end. from ≤ end) }
+        ensures ahead { IfOk result (λ end. Ahead table.now text.now from end self.old ops.old self.new ops.new) }
+    {
+        let mut end = from;
+        while let Some(behind) = self.take_reference(alloc, table, text, end, ops)? {
+            end = behind;
+        }
+        Ok(end)
+    }
+
     // Takes a tag, or else one character, and says what it took; none at the end of the text.
-    fn take_next(
+    fn take_one(
         &mut self,
         alloc: Global,
         table: &Table,
@@ -489,6 +560,27 @@ impl Machine {
                 Ok(Some(Ran { stop, used: behind }))
             }
         }
+    }
+
+    // Takes references, and then a tag or else one character, and says what it took; none at the end of the text.
+    fn take_next(
+        &mut self,
+        alloc: Global,
+        table: &Table,
+        text: &str,
+        from: usize,
+        ops: &mut Ops,
+    ) -> Result<Option<Ran>, NoMemory>
+        requires { IsCharBoundary text.now from }
+        ensures boundary { IfOk result (λ o. IfSome o (λ ran. IsCharBoundary text.now ran.used)) }
+        ensures onward { IfOk result (λ o. IfSome o (λ ran. from < ran.used)) }
+        ensures parsed { IfOk result (λ o. IfSome o (λ ran. Takes table.now text.now from ran self.old ops.old self.new ops.new)) }
+        ensures end { IfOk result (λ o. o ≡ None → from ≡ length text.now) }
+        ensures none { IfOk result (λ o. o ≡ None → self.new ≡ self.old) }
+        ensures none_added { IfOk result (λ o. o ≡ None → ops.new ≡ ops.old) }
+    {
+        let start = self.take_references(alloc, table, text, from, ops)?;
+        self.take_one(alloc, table, text, start, ops)
     }
 
     /// Takes the characters of a text, up to the first stop, with the named character references of `table`. Operations are added at the end of `ops`.

@@ -1,17 +1,22 @@
 -- What a relation between the open states before and behind has to be closed under, so that each instruction is in it, and so
 -- each row, each round and each token.
-use Rattle.std.proofs.Common.{◌≡◌, refl, sym, true≢false, ℕ, Bool, true, false, ◌&&◌, List, [], ◌∷◌, Option, Some, None, reverse}
+use Rattle.std.proofs.Common.{◌≡◌, refl, sym, true≢false, ℕ, Bool, true, false, ◌&&◌, List, [], ◌∷◌, Option, Some, None, reverse, zero, suc, ◌++◌}
 use Rattle.std.specs.Prelude.{if◌then◌else◌}
 use Rattle.html_types.specs.Operations.{later}
+use Rattle.html_types.specs.declared.word.Word.{Word}
 use Rattle.html_types.specs.declared.word.Word.TheVariants as word
 use Rattle.html_types.specs.declared.name.Name.{Name}
-use Rattle.html_types.specs.declared.name.Name.TheVariants.{Known}
+use Rattle.html_types.specs.declared.name.Name.TheVariants.{Known, Other}
 use Rattle.html_types.specs.declared.instruction.Instr.{Instr}
 use Rattle.html_types.specs.declared.instruction.Instr.TheVariants as ins
 use Rattle.html_types.specs.declared.instruction.Who.TheVariants as who
 use Rattle.html_types.specs.declared.instruction.Flow.{Flow}
 use Rattle.html_types.specs.declared.instruction.Flow.TheVariants.{On, Skip, Leave}
+use Rattle.html_types.specs.declared.instruction.Next.{Next}
 use Rattle.html_types.specs.declared.instruction.Next.TheVariants as next
+use Rattle.html_types.specs.declared.instruction.Then.{Then}
+use Rattle.html_types.specs.declared.instruction.Mode.{Mode}
+use Rattle.html_types.specs.declared.instruction.Mode.TheVariants.{InBody}
 use Rattle.html_types.specs.declared.token.Tag.{Tag}
 use Rattle.html_types.specs.declared.token.Token.{Token}
 use Rattle.html_types.specs.declared.token.Token.TheVariants.{StartTag, EndTag, Character, Comment, Doctype}
@@ -26,9 +31,12 @@ use Rattle.html_types.specs.declared.open.Format.TheVariants.{Element}
 use Rattle.standard.specs.WhiteSpace.{is_space}
 use Rattle.standard.specs.Elements.{is_word, is_meant, is_one_of}
 use Rattle.standard.specs.Stack.{on_stack, pop, until, pop_to, pop_to_root, implied, implied_thoroughly, close, close_item, other_end, first_open, second_open, without_open}
-use Rattle.standard.specs.Formatting.{lost, kept}
-use Rattle.standard.specs.Instructions.{Config, config, on, room, here, made, pushed, insert_at, insert, insert_root, void, void_as, named, tag_of, for_tag, enlist, reopen, reopen_all, reconstruct, insert_text, insert_comment, append_doctype, end_of, add_attributes, detach_second, body_text, body_characters, push_head, form_closed, form_closed_in_template, end_form, step}
-use Rattle.rule_laws.proofs.Thinned.{Thinned, thin-pop, thin-until, thin-pop_to, thin-pop_to_root, thin-implied, thin-implied_thoroughly, thin-close, thin-close_item, thin-other_end, thin-without_open, thin-form_closed, thin-form_closed_in_template}
+use Rattle.standard.specs.Formatting.{lost, kept, entry_named}
+use Rattle.standard.specs.Instructions.{Config, config, on, room, here, made, pushed, insert_at, insert, insert_root, void, void_as, named, tag_of, for_tag, enlist, reopen, reopen_all, reconstruct, insert_text, insert_comment, append_doctype, end_of, add_attributes, detach_second, body_text, body_character, body_characters, push_head, form_closed, form_closed_in_template, end_form, append_pending, all_space, texts, none_pending, insert_pending, pop_mode, adopt_name, adopt_own, adopt_anchor, stop_at_script, step, turn, run}
+use Rattle.standard.specs.Adoption.{Adopted, adopt}
+use Rattle.standard.specs.RulesBody.{after_adopt}
+use Rattle.standard.specs.Rules.{Answer, answer, row, by_mode, adopting, with_adoption, by_rules, round_after, go_round, process, rounds, is_line_feed, settled_answer, construct}
+use Rattle.rule_laws.proofs.Thinned.{Thinned, thin-same, thin-trans, thin-pop, thin-until, thin-pop_to, thin-pop_to_root, thin-implied, thin-implied_thoroughly, thin-close, thin-close_item, thin-other_end, thin-without_open, thin-form_closed, thin-form_closed_in_template}
 
 -- All parts of the open state but the modes and the pending table text may change so.
 pub record IsClosed (R : Open → Open → Type 0) : Type 0 where
@@ -151,7 +159,7 @@ module _ (R : Open → Open → Type 0) (c : IsClosed R) where
 
   -- ---- elements opened again, and characters
 
-  reopen-went : (tag : Tag) (b : Open) (o : List Op) → Went R b (reopen tag b o)
+  pub reopen-went : (tag : Tag) (b : Open) (o : List Op) → Went R b (reopen tag b o)
   reopen-went tag b o = roomy b _ o _ (λ e. c.onward b (pushed tag b) _ (pushed-in tag b e) (c.lists (pushed tag b) (Element b.next tag ∷ b.formats)))
 
   reopen_all-went : (tags : List Tag) (a b : Open) (o : List Op) (f : Flow) → R a b → goes_on f ≡ true → Went R a (reopen_all tags (config b o f))
@@ -171,13 +179,17 @@ module _ (R : Open → Open → Type 0) (c : IsClosed R) where
   body_text-went k a b o Skip r s = absurd (true≢false (sym s))
   body_text-went k a b o (Leave n) r s = (r, s)
 
+  pub body_character-went : (k : ℕ) (b : Open) (o : List Op) → Went R b (body_character k b o)
+  body_character-went k b o =
+      let again : Config = reconstruct b o in
+      let w = reconstruct-went b o in
+      body_text-went k b again.open_state again.ops again.flow w.0 w.1
+
   pub body_characters-went : (ks : List ℕ) (a b : Open) (o : List Op) (f : Flow) → R a b → goes_on f ≡ true → Went R a (body_characters ks (config b o f))
   body_characters-went [] a b o f r s = (r, s)
   body_characters-went (k ∷ ks) a b o On r s =
-      let again : Config = reconstruct b o in
-      let d : Config = body_text k again in
-      let w = reconstruct-went b o in
-      let v = body_text-went k b again.open_state again.ops again.flow w.0 w.1 in
+      let d : Config = body_character k b o in
+      let v = body_character-went k b o in
       body_characters-went ks a d.open_state d.ops d.flow (c.onward a b d.open_state r v.0) v.1
   body_characters-went (k ∷ ks) a b o Skip r s = absurd (true≢false (sym s))
   body_characters-went (k ∷ ks) a b o (Leave n) r s = (r, s)
@@ -226,3 +238,147 @@ module _ (R : Open → Open → Type 0) (c : IsClosed R) where
   step-went ins.AddToSecond t b o p = for_tag-went (add_attributes (second_open b.stack)) (add_attributes-went (second_open b.stack)) t b o
   step-went ins.DetachSecond t b o p = detach_second-went (second_open b.stack) b o
   step-went _ t b o p = absurd (true≢false (sym p))
+
+-- ---- every instruction, and what comes of them
+
+-- The modes and the pending table text may change too, and the adoption agency algorithm may run.
+pub record IsClosedWhole (R : Open → Open → Type 0) : Type 0 where
+  pub parts : IsClosed R
+  pub modes : (b : Open) (m : Mode) (original : Option Mode) (templates : List Mode) → R b (record b { mode = m; original = original; template_modes = templates })
+  pub pends : (b : Open) (text : List ℕ) → R b (record b { pending_text = text })
+  pub adopts : (w : Word) (b : Open) (o : List Op) → R b (adopt w b o).open_state
+
+module _ (R : Open → Open → Type 0) (c : IsClosedWhole R) where
+  same : (b : Open) → R b b
+  same = c.parts.same
+
+  entered : (b : Open) (m : Mode) (original : Option Mode) → R b (record b { mode = m; original = original })
+  entered b m original = c.modes b m original b.template_modes
+
+  templates-in : (b : Open) (templates : List Mode) → R b (record b { template_modes = templates })
+  templates-in b templates = c.modes b b.mode b.original templates
+
+  append_pending-in : (t : Token) (b : Open) (o : List Op) → R b (append_pending t b o).open_state
+  append_pending-in (Character k) b o = c.pends b (b.pending_text ++ k ∷ [])
+  append_pending-in _ b o = same b
+
+  none_pending-in : (a b : Open) (o : List Op) (f : Flow) → R a b → R a (none_pending (config b o f)).open_state
+  none_pending-in a b o f r =
+      let b' : Open = record b { pending_text = [] } in
+      c.parts.onward a b _ r (c.parts.onward b b' _ (c.pends b []) (c.parts.marks b' b.frameset_ok b.quirks b.skip_line_feed false))
+
+  insert_pending-in : (b : Open) (o : List Op) → R b (insert_pending b o).open_state
+  insert_pending-in b o = by (all_space b.pending_text)
+    where
+      by : (v : Bool) → R b (let r : Config = if v then on (record b { pending_text = [] }) (o ++ texts (here b) b.pending_text) else none_pending (body_characters b.pending_text (on (record b { foster = true }) o)) in r.open_state)
+      by true = c.pends b []
+      by false =
+          let r : Config = body_characters b.pending_text (on (record b { foster = true }) o) in
+          none_pending-in b r.open_state r.ops r.flow
+          (body_characters-went R c.parts b.pending_text b (record b { foster = true }) o On (c.parts.marks b b.frameset_ok b.quirks b.skip_line_feed true) refl).0
+
+  adopt_name-in : (n : Name) (b : Open) (o : List Op) → R b (adopt_name n b o).open_state
+  adopt_name-in (Known w) b o = same b
+  adopt_name-in (Other text) b o = same b
+
+  adopt-in : (t : Token) (b : Open) (o : List Op) → R b (for_tag adopt_own t b o).open_state
+  adopt-in (StartTag tag) b o = adopt_name-in tag.name b o
+  adopt-in (EndTag tag) b o = adopt_name-in tag.name b o
+  adopt-in _ b o = same b
+
+  anchor-in : (i : Option NodeId) (b : Open) (o : List Op) → R b (adopt_anchor i b o).open_state
+  anchor-in None b o = same b
+  anchor-in (Some i) b o = same b
+
+  script-in : (es : List OpenElement) (b : Open) (o : List Op) → Thinned b.stack es → R b (stop_at_script es b o).open_state
+  script-in [] b o h = same b
+  script-in (e ∷ es) b o h = c.parts.thins b es (thin-trans b.stack (e ∷ es) es h (thin-pop (e ∷ es)))
+
+  pub step-in : (i : Instr) (t : Token) (b : Open) (o : List Op) → R b (step i t b o).open_state
+  step-in (ins.Need x) t b o = same b
+  step-in (ins.Forbid x) t b o = same b
+  step-in (ins.When x) t b o = same b
+  step-in (ins.Unless x) t b o = same b
+  step-in (ins.Enter m) t b o = entered b m b.original
+  step-in ins.KeepMode t b o = entered b b.mode (Some b.mode)
+  step-in ins.Restore t b o = entered b _ None
+  step-in (ins.PushTemplateMode m) t b o = templates-in b (m ∷ b.template_modes)
+  step-in ins.PopTemplateMode t b o = templates-in b (pop_mode b.template_modes)
+  step-in ins.Reset t b o = entered b _ b.original
+  step-in ins.AppendPending t b o = append_pending-in t b o
+  step-in ins.InsertPending t b o = insert_pending-in b o
+  step-in ins.Adopt t b o = adopt-in t b o
+  step-in ins.AdoptAnchor t b o = anchor-in (entry_named (is_word word.A) b.formats) b o
+  step-in ins.AdoptNobr t b o = same b
+  step-in (ins.Switch x) t b o = same b
+  step-in (ins.Using m) t b o = same b
+  step-in ins.Foster t b o = c.parts.marks b b.frameset_ok b.quirks b.skip_line_feed true
+  step-in ins.Again t b o = same b
+  step-in ins.StopAtScript t b o = script-in b.stack b o (thin-same b.stack)
+  step-in ins.Finish t b o = same b
+  step-in i t b o = (step-went R c.parts i t b o refl).0
+
+  -- ---- rows and rounds
+
+  pub turn-in : (t : Token) (b : Open) (o : List Op) (f : Flow) (i : Instr) → R b (turn t (config b o f) i).open_state
+  turn-in t b o On i = step-in i t b o
+  turn-in t b o Skip i = same b
+  turn-in t b o (Leave n) i = same b
+
+  pub run-in : (t : Token) (x : Config) (row : List Instr) → R x.open_state (run t x row).open_state
+  unfolding run
+  run-in t x [] = same x.open_state
+  run-in t x (i ∷ is) =
+      let y : Config = turn t x i in
+      c.parts.onward x.open_state y.open_state (run t y is).open_state (turn-in t x.open_state x.ops x.flow i) (run-in t y is)
+
+  pub by_mode-in : (m : Mode) (t : Token) (b : Open) (o : List Op) → R b (by_mode m t b o).open_state
+  unfolding by_mode
+  by_mode-in m t b o = run-in t (on b o) (row m t)
+
+  adopting-in : (w : Word) (h : Then) (t : Token) (b : Open) (o : List Op) → R b (adopting w h t b o).open_state
+  unfolding adopting
+  adopting-in w h t b o =
+      let a : Adopted = adopt w b o in
+      let x : Config = on a.open_state a.ops in
+      c.parts.onward b a.open_state (run t x (after_adopt h a.other)).open_state (c.adopts w b o) (run-in t x (after_adopt h a.other))
+
+  with_adoption-in : (t : Token) (b : Open) (o : List Op) (n : Next) → R b (with_adoption t b o n).open_state
+  with_adoption-in t b o (next.Adopt w h) = adopting-in w h t b o
+  with_adoption-in t b o next.Done = same b
+  with_adoption-in t b o _ = same b
+
+  pub by_rules-in : (m : Mode) (t : Token) (b : Open) (o : List Op) → R b (by_rules m t b o).open_state
+  by_rules-in m t b o =
+      let a : Answer = by_mode m t b o in
+      c.parts.onward b a.open_state (with_adoption t a.open_state a.ops a.next).open_state (by_mode-in m t b o) (with_adoption-in t a.open_state a.ops a.next)
+
+  round-in : (more : Mode → Answer) (b : Open) (o : List Op) (n : Next) → ((m : Mode) → R b (more m).open_state) → R b (go_round more b o (round_after b n)).open_state
+  round-in more b o next.Again each = each b.mode
+  round-in more b o (next.Using m) each = each m
+  round-in more b o next.Foster each = each InBody
+  round-in more b o _ each = same b
+
+  pub process-in : (n : ℕ) (m : Mode) (t : Token) (b : Open) (o : List Op) → R b (process n m t b o).open_state
+  unfolding process
+  process-in zero m t b o = same b
+  process-in (suc n) m t b o =
+      let a : Answer = by_rules m t b o in
+      c.parts.onward b a.open_state _ (by_rules-in m t b o)
+      (round-in (λ m'. process n m' t a.open_state a.ops) a.open_state a.ops a.next (λ m'. process-in n m' t a.open_state a.ops))
+
+  pub construct-in : (t : Token) (b : Open) (o : List Op) → R b (construct t b o).open_state
+  unfolding construct
+  construct-in t b o = by (b.skip_line_feed && is_line_feed t)
+    where
+      b' : Open
+      b' = record b { skip_line_feed = false }
+
+      settled : (x : Open) → R b' x → R b (record x { foster = false })
+      settled x r =
+          c.parts.onward b b' _ (c.parts.marks b b.frameset_ok b.quirks false b.foster)
+          (c.parts.onward b' x _ r (c.parts.marks x x.frameset_ok x.quirks x.skip_line_feed false))
+
+      by : (v : Bool) → R b (settled_answer (if v then answer b' o next.Done else process rounds b.mode t b' o)).open_state
+      by true = settled b' (same b')
+      by false = settled (process rounds b.mode t b' o).open_state (process-in rounds b.mode t b' o)

@@ -172,7 +172,7 @@ pending-takes b o = let c : Config = insert_pending b o in taken b c.open_state 
     by true e k v s h = lower-change false b (record b { pending_text = [] }) (no-pending-weight b.stack b.original b.pending_text) (λ s'. s') k v s h
     by false e k v s h =
         let c : Config = body_characters b.pending_text (on (record b { foster = true }) o) in
-        let kept : Kept b.original c.open_state = body_characters-kept b.original b.pending_text (record b { foster = true }) o On (s, refl) in
+        let kept : Kept b.original c.open_state = body_characters-kept b.original b.pending_text (record b { foster = true }) o (s, refl) in
         lower-change false b (record c.open_state { pending_text = []; foster = false }) (pending-weight b.original b.stack b.pending_text c.open_state kept e) (λ s'. kept.0) k v s h
 
 -- ---- every instruction

@@ -90,12 +90,12 @@ name_row _ tag c h e = ap (λ (n : ℕ). to (in_tag (TagName (record tag { name 
 -- ---- rows in a row
 
 -- a row that goes to a state and makes nothing
-feed-to : (es : Entities) (s t : TokState) (c : ℕ) (cs : List ℕ) → row es s (class_of c) c ≡ to t → feed es s (c ∷ cs) ≡ feed es t cs
+pub feed-to : (es : Entities) (s t : TokState) (c : ℕ) (cs : List ℕ) → row es s (class_of c) c ≡ to t → feed es s (c ∷ cs) ≡ feed es t cs
 unfolding feed
 feed-to es s t c cs e = ap (λ (m : Reached). after_tokens m.tokens (feed es m.state cs)) (reading-emit es s t [] (class_of c) c e)
 
 -- a row that reads the character again in a state that is done with it
-feed-again : (es : Entities) (s t : TokState) (c : ℕ) (cs : List ℕ) → row es s (class_of c) c ≡ again t → (row es t (class_of c) c).again ≡ false → feed es s (c ∷ cs) ≡ feed es t (c ∷ cs)
+pub feed-again : (es : Entities) (s t : TokState) (c : ℕ) (cs : List ℕ) → row es s (class_of c) c ≡ again t → (row es t (class_of c) c).again ≡ false → feed es s (c ∷ cs) ≡ feed es t (c ∷ cs)
 unfolding feed
 feed-again es s t c cs e d =
     let k = class_of c in

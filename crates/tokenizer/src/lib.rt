@@ -3,6 +3,7 @@
 
 mod discard;
 pub mod reading;
+pub mod reference;
 pub mod run;
 pub mod whole;
 

@@ -20,7 +20,7 @@ pub struct Whole {
 }
 
 // The ASCII character at a place; none at the end, or where another stands.
-fn ascii_at(text: &str, place: usize) -> Option<char>
+pub(crate) fn ascii_at(text: &str, place: usize) -> Option<char>
     requires { IsCharBoundary text.now place }
     ensures within { IfSome result (λ _. place < length text.now) }
     ensures boundary { IfSome result (λ _. IsCharBoundary text.now (place + 1)) }
@@ -147,10 +147,11 @@ fn name_end(text: &str, from: usize) -> Option<usize>
 }
 
 // The place behind the character at a place, if it is of this kind.
-fn past(text: &str, from: usize, kind: char) -> Option<usize>
+pub(crate) fn past(text: &str, from: usize, kind: char) -> Option<usize>
     requires { IsCharBoundary text.now from }
     ensures boundary { IfSome result (λ to. IsCharBoundary text.now to) }
     ensures onward { IfSome result (λ to. from < to) }
+    ensures next { IfSome result (λ to. to ≡ from + 1) }
     ensures read { IfSome result (λ to. piece text.now from to ≡ kind ∷ []) }
 {
     let Some(c) = ascii_at(text, from) else {
@@ -482,7 +483,7 @@ fn has_cr_byte(bytes: &[u8]) -> bool
     bytes.iter().any(|byte| *byte == b'\r')
 }
 
-fn lacks_cr(text: &str) -> bool
+pub(crate) fn lacks_cr(text: &str) -> bool
     ensures { IsTrue result → has_cr (chars text.now) ≡ false }
 {
     !has_cr_byte(text.as_bytes())

@@ -1,27 +1,31 @@
 use Rattle.std.proofs.Common.{map}
 use Rattle.std.specs.String.{string_bytes}
-use Rattle.outside.specs.Outside.{seen}
 use Rattle.page_runner.specs.Words.{asked}
 use Rattle.page_runner.proofs.Complete.{completes}
-use Rattle.page_runner.proofs.Causes.{usage, absent, read_fault}
+use Rattle.page_runner.proofs.Causes.{usage, absent, read_fault, write_fault}
 use Rattle.page_runner.proofs.command.run.Goals as goal
 
 pub returns-clause-complete : goal.returns-clause-complete
 returns-clause-complete g c =
-    let at = seen g.F.Outside.files g.F.Outside.left g.F.Outside.faults g.F.Outside.absences in
-    completes (asked (map string_bytes c.args.words.now)) (at c.args.files.now) (at c.run_words.new.files) _ _ _ _ c.run_words.result c.run_words.ensures.answer c.run_words.ensures.write_fault
+    let at = g.F.Outside.seen in
+    completes (asked (map string_bytes c.args.words.now)) (at c.args.files.now) (at c.run_words.new.files) _ _ _ _ c.run_words.result c.run_words.ensures.answer
 
 pub returns-clause-usage : goal.returns-clause-usage
 returns-clause-usage g c =
-    let at = seen g.F.Outside.files g.F.Outside.left g.F.Outside.faults g.F.Outside.absences in
-    usage (asked (map string_bytes c.args.words.now)) (at c.args.files.now) (at c.run_words.new.files) _ _ c.run_words.result c.run_words.ensures.answer
+    let at = g.F.Outside.seen in
+    usage (asked (map string_bytes c.args.words.now)) (at c.args.files.now) (at c.run_words.new.files) _ _ _ _ c.run_words.result c.run_words.ensures.answer
 
 pub returns-clause-absent : goal.returns-clause-absent
 returns-clause-absent g c e =
-    let at = seen g.F.Outside.files g.F.Outside.left g.F.Outside.faults g.F.Outside.absences in
-    absent (asked (map string_bytes c.args.words.now)) (at c.args.files.now) (at c.run_words.new.files) _ _ c.run_words.result c.run_words.ensures.answer e
+    let at = g.F.Outside.seen in
+    absent (asked (map string_bytes c.args.words.now)) (at c.args.files.now) (at c.run_words.new.files) _ _ _ _ c.run_words.result c.run_words.ensures.answer e
 
 pub returns-clause-read_fault : goal.returns-clause-read_fault
 returns-clause-read_fault g c e =
-    let at = seen g.F.Outside.files g.F.Outside.left g.F.Outside.faults g.F.Outside.absences in
-    read_fault (asked (map string_bytes c.args.words.now)) (at c.args.files.now) (at c.run_words.new.files) _ _ c.run_words.result c.run_words.ensures.answer e
+    let at = g.F.Outside.seen in
+    read_fault (asked (map string_bytes c.args.words.now)) (at c.args.files.now) (at c.run_words.new.files) _ _ _ _ c.run_words.result c.run_words.ensures.answer e
+
+pub returns-clause-write_fault : goal.returns-clause-write_fault
+returns-clause-write_fault g c e =
+    let at = g.F.Outside.seen in
+    write_fault (asked (map string_bytes c.args.words.now)) (at c.args.files.now) (at c.run_words.new.files) _ _ _ _ c.run_words.result c.run_words.ensures.answer e

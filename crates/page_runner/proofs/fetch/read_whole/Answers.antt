@@ -1,7 +1,7 @@
-use Rattle.std.proofs.Common.{◌≤◌, ◌+◌, ◌++◌, length, take, drop, arith, refl, length-take, length-append}
-use Rattle.outside.specs.Outside.{seen}
+use Rattle.std.proofs.Common.{◌≤◌, ◌+◌, ◌++◌, length, take, drop, arith, refl, ap, ◌∙◌, length-take, length-append}
 use Rattle.page_runner.specs.Given.{AreRead, file_at, begun}
-use Rattle.page_runner.proofs.KeepsLemmas.{keeps-then}
+use Rattle.outside.proofs.KeepsLemmas.{keeps-then}
+use Rattle.page_runner.proofs.KeepsLemmas.{begun_stays}
 use Rattle.page_runner.proofs.RunReads.{read_more, read_none, read_failed, piece_front}
 use Rattle.page_runner.proofs.fetch.read_whole.Goals as goal
 use Rattle.page_runner.proofs.fetch.read_whole.Goals.{else-reads-test, then-reads-test+in-Ok-eq0}
@@ -18,6 +18,8 @@ reads-preserved g c =
     record {
       bound = omega (arith, len, most, room, c.read.auto.into, c.in-Ok.ensures.count, c.min-room.ensures, c.len-in-reads.ensures);
       others = keeps-then _ _ _ _ c.reads.invariant.others c.read.ensures.others;
+      begun = begun_stays _ _ _ _ c.reads.invariant.begun (ap (λ begun. begun c.args.port) c.read.ensures.begun);
+      no_fault = c.in-Ok.ensures.no_fault ∙ c.reads.invariant.no_fault;
       read = rw c.in_ok-extend_from_slice.ensures.items
           (read_more _ _ _ c.reads.bytes.items c.read.new.into (take c.in-Ok.n (c.read.new.into ++ drop c.min-room.result c.reads.piece)) c.in-Ok.n c.reads.invariant.read c.in-Ok.ensures.moved
           (piece_front c.read.new.into (drop c.min-room.result c.reads.piece) c.in-Ok.n fits));
@@ -32,10 +34,22 @@ returns-in_err-extend_from_slice-clause-no_further g c =
 
 pub returns-clause-no_further : goal.returns-clause-no_further
 returns-clause-no_further g c =
-    let at = seen g.F.Outside.files g.F.Outside.left g.F.Outside.faults g.F.Outside.absences in
+    let at = g.F.Outside.seen in
     let small : length c.reads.bytes.items ≤ c.args.limit + 1 = omega (arith, c.reads.bytes.ok.0, c.reads.invariant.bound) in
-    let here : AreRead (file_at (at c.args.files.now) c.args.path.now) (g.F.Outside.left c.reads-test.files c.args.port) c.reads.bytes.items = elim c.reads-test.branch [
+    let here : AreRead (file_at (at c.args.files.now) c.args.path.now) ((at c.reads-test.files).left c.args.port) c.reads.bytes.items = elim c.reads-test.branch [
       | else-reads-test w ↦ rw w.files-is c.reads.invariant.read
       | then-reads-test+in-Ok-eq0 w ↦ rw w.files-is (read_none _ _ _ _ _ _ c.reads.invariant.read w.in-Ok-eq0.ensures.moved w.in-Ok-eq0.field-0-test)
     ] in
     begun c.reads.bytes.items here small
+
+pub returns-in-Err-read-clause-begun : goal.returns-in-Err-read-clause-begun
+returns-in-Err-read-clause-begun g c = begun_stays _ _ _ _ c.reads.invariant.begun (ap (λ begun. begun c.args.port) c.read.ensures.begun)
+
+pub returns-in_err-extend_from_slice-clause-begun : goal.returns-in_err-extend_from_slice-clause-begun
+returns-in_err-extend_from_slice-clause-begun g c = begun_stays _ _ _ _ c.reads.invariant.begun (ap (λ begun. begun c.args.port) c.read.ensures.begun)
+
+pub returns-clause-begun : goal.returns-clause-begun
+returns-clause-begun g c = elim c.reads-test.branch [
+  | else-reads-test w ↦ rw w.files-is c.reads.invariant.begun
+  | then-reads-test+in-Ok-eq0 w ↦ rw w.files-is (begun_stays _ _ _ _ c.reads.invariant.begun (ap (λ begun. begun c.args.port) w.read.ensures.begun))
+]

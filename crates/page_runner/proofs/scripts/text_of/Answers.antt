@@ -1,4 +1,4 @@
-use Rattle.std.proofs.Common.{◌≡◌, ◌≤◌, ◌∙◌, sym, ap, length, arith}
+use Rattle.std.proofs.Common.{◌≤◌, ◌∙◌, sym, ap, length, arith}
 use Rattle.std.specs.Str.{chars}
 use Rattle.standard.specs.Scripts.{script_limit}
 use Rattle.standard.specs.Statements.{statements}

@@ -1,9 +1,10 @@
 use Rattle.std.proofs.Common.{sym, subst}
-use Rattle.std.specs.Prelude.{OnErr}
+use Rattle.std.specs.Prelude.{OnErr, is_ok}
 use Rattle.std.proofs.lemmas.Result.{IfOk-weaker}
-use Rattle.outside.specs.Outside.{seen}
 use Rattle.write_parser.specs.Writing.{Stands, AtTag}
 use Rattle.page_runner.specs.declared.driver.Driver.{Driver}
+use Rattle.page_runner.specs.Scripts.{Fetches}
+use Rattle.page_runner.proofs.MeetLemmas.{fetches_same}
 use Rattle.page_runner.specs.Moments.{Arrives, Reaches, ReachesInPart}
 use Rattle.page_runner.proofs.WayLemmas.{on_err, err_weaker, part-tag, part-then, reaches-then, part-written, reaches-written, way-leads, suits-before}
 use Rattle.page_runner.proofs.driver.Driver.run_script.Goals as goal
@@ -20,7 +21,7 @@ returns-in_err-write_lines-clause-part g c =
 
 pub returns-clause-reaches : goal.returns-clause-reaches
 returns-clause-reaches g c =
-    let at = seen g.F.Outside.files g.F.Outside.left g.F.Outside.faults g.F.Outside.absences in
+    let at = g.F.Outside.seen in
     let first : Reaches c.args.table.now c.write_lines.new.self.scripts (AtTag c.args.id c.args.self.now.writer) (Stands c.write_lines.new.self.writer) (g.K.Sink.taken c.args.out.now) (g.K.Sink.taken c.write_lines.new.out) =
     subst (λ (d : Driver). Reaches c.args.table.now d.scripts (AtTag c.args.id c.args.self.now.writer) (Stands d.writer) (g.K.Sink.taken c.args.out.now) (g.K.Sink.taken c.write_lines.new.out)) (sym c.write_lines.ensures.others)
     (reaches-written c.args.table.now c.args.self.now.scripts (AtTag c.args.id c.args.self.now.writer) c.end_tag.new.self (g.K.Sink.taken c.args.out.now) (g.K.Sink.taken c.write_lines.new.out)
@@ -31,7 +32,7 @@ returns-clause-reaches g c =
 
 pub returns-clause-part : goal.returns-clause-part
 returns-clause-part g c =
-    let at = seen g.F.Outside.files g.F.Outside.left g.F.Outside.faults g.F.Outside.absences in
+    let at = g.F.Outside.seen in
     let first : Reaches c.args.table.now c.write_lines.new.self.scripts (AtTag c.args.id c.args.self.now.writer) (Stands c.write_lines.new.self.writer) (g.K.Sink.taken c.args.out.now) (g.K.Sink.taken c.write_lines.new.out) =
     subst (λ (d : Driver). Reaches c.args.table.now d.scripts (AtTag c.args.id c.args.self.now.writer) (Stands d.writer) (g.K.Sink.taken c.args.out.now) (g.K.Sink.taken c.write_lines.new.out)) (sym c.write_lines.ensures.others)
     (reaches-written c.args.table.now c.args.self.now.scripts (AtTag c.args.id c.args.self.now.writer) c.end_tag.new.self (g.K.Sink.taken c.args.out.now) (g.K.Sink.taken c.write_lines.new.out)
@@ -39,3 +40,12 @@ returns-clause-part g c =
     err_weaker c.feed.result _ _ (λ h. part-then c.args.table.now c.write_lines.new.self.scripts c.feed.new.self.scripts (AtTag c.args.id c.args.self.now.writer) (Stands c.write_lines.new.self.writer)
     (g.K.Sink.taken c.args.out.now) (g.K.Sink.taken c.write_lines.new.out) (g.K.Sink.taken c.feed.new.out)
     (λ w. suits-before c.args.table.now (at c.args.files.now) (at c.feed.new.files) c.write_lines.new.self.scripts c.feed.new.self.scripts w c.feed.ensures.fetches) first h) c.feed.ensures.part
+
+pub returns-in_err-end_tag-clause-fetches : goal.returns-in_err-end_tag-clause-fetches
+returns-in_err-end_tag-clause-fetches g c = fetches_same (is_ok c.from_residual.result) (g.F.Outside.seen c.args.files.now) c.args.self.now.scripts
+
+pub returns-in_err-write_lines-clause-fetches : goal.returns-in_err-write_lines-clause-fetches
+returns-in_err-write_lines-clause-fetches g c =
+    let at = g.F.Outside.seen in
+    subst (λ (d : Driver). Fetches (is_ok c.from_residual-in_err-write_lines.result) (at c.args.files.now) (at c.args.files.now) c.args.self.now.scripts d.scripts) (sym c.write_lines.ensures.others)
+    (fetches_same (is_ok c.from_residual-in_err-write_lines.result) (at c.args.files.now) c.args.self.now.scripts)
