@@ -1,0 +1,25 @@
+use Rattle.std.proofs.Common.{arith}
+use Rattle.std.specs.String.{string_bytes}
+use Rattle.std.specs.Arc.{arc_value}
+use Rattle.std.proofs.lemmas.Str.{IsUtf8-string_bytes}
+use Rattle.page_pieces.proofs.Parts.{onward, rest-place, skipped}
+use Rattle.page_pieces.proofs.shared_text.SharedText.skip.Goals as goal
+
+pub overflow_add-self : goal.overflow_add-self
+overflow_add-self c =
+    let i = c.self.inside in
+    let h = rw (← c.self.view_is) at c.requires in
+    let n = onward (string_bytes (arc_value i.whole)) i.begin i.end c.args.bytes (IsUtf8-string_bytes (arc_value i.whole)) c.self.invariant h in
+    omega (arith, n)
+
+pub invariant_of-self : goal.invariant_of-self
+invariant_of-self c =
+    let i = c.self.inside in
+    let h = rw (← c.self.view_is) at c.requires in
+    rest-place (string_bytes (arc_value i.whole)) i.begin i.end c.args.bytes (IsUtf8-string_bytes (arc_value i.whole)) c.self.invariant h
+
+pub returns : goal.returns
+returns c =
+    let i = c.self.inside in
+    let h = rw (← c.self.view_is) at c.requires in
+    rw (← c.self.view_is) (skipped (string_bytes (arc_value i.whole)) i.begin i.end c.args.bytes (IsUtf8-string_bytes (arc_value i.whole)) c.self.invariant h)
