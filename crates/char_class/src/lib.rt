@@ -8,4 +8,4 @@ pub mod next;
 
 pub use class::{class_of, name_char, shown};
 pub use mark::first_mark;
-pub use next::Next;
+pub use next::Transition;

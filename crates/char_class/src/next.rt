@@ -12,30 +12,30 @@ use std::alloc::Global;
 
 /// The next state, and whether the character is reconsumed there.
 #[derive(Drop)]
-pub struct Next {
+pub struct Transition {
     pub state: TokState,
     pub again: bool,
 }
 
 /// Switches to a state, and emits nothing.
-pub fn to(state: TokState, out: &mut Tokens) -> Result<Next, NoMemory>
+pub fn to(state: TokState, out: &mut Tokens) -> Result<Transition, NoMemory>
     ensures { IfOk result (Follows (steps.to state) out.old out.new) }
 {
-    Ok(Next {
+    Ok(Transition {
         state,
         again: false,
     })
 }
 
 /// Reconsumes the character in a state, and emits nothing.
-pub fn again(state: TokState, out: &mut Tokens) -> Result<Next, NoMemory>
+pub fn again(state: TokState, out: &mut Tokens) -> Result<Transition, NoMemory>
     ensures { IfOk result (Follows (steps.again state) out.old out.new) }
 {
-    Ok(Next { state, again: true })
+    Ok(Transition { state, again: true })
 }
 
 /// Emits a token and switches to a state of text, where every row goes that emits one.
-pub fn emit(token: Token, state: TextState, out: &mut Tokens) -> Result<Next, NoMemory>
+pub fn emit(token: Token, state: TextState, out: &mut Tokens) -> Result<Transition, NoMemory>
     ensures { IfOk result (Follows (steps.emit (token ∷ []) (steps.in_text state)) out.old out.new) }
 {
     out.push(token)?;
@@ -43,7 +43,7 @@ pub fn emit(token: Token, state: TextState, out: &mut Tokens) -> Result<Next, No
 }
 
 /// Emits a token and reconsumes the character in a state of text.
-pub fn emit_again(token: Token, state: TextState, out: &mut Tokens) -> Result<Next, NoMemory>
+pub fn emit_again(token: Token, state: TextState, out: &mut Tokens) -> Result<Transition, NoMemory>
     ensures { IfOk result (Follows (steps.emit_again (token ∷ []) (steps.in_text state)) out.old out.new) }
 {
     out.push(token)?;
@@ -58,14 +58,14 @@ pub fn data_state() -> TokState
 }
 
 /// Emits the end-of-file token.
-pub fn finish(out: &mut Tokens) -> Result<Next, NoMemory>
+pub fn finish(out: &mut Tokens) -> Result<Transition, NoMemory>
     ensures { IfOk result (Follows steps.finish out.old out.new) }
 {
     emit(Token::EndOfFile, TextState::Data, out)
 }
 
 /// Emits a token, and then the end-of-file token.
-pub fn finish_after(token: Token, out: &mut Tokens) -> Result<Next, NoMemory>
+pub fn finish_after(token: Token, out: &mut Tokens) -> Result<Transition, NoMemory>
     ensures { IfOk result (Follows (steps.emit (token ∷ EndOfFile ∷ []) steps.data_state) out.old out.new) }
 {
     out.push(token)?;
@@ -73,7 +73,7 @@ pub fn finish_after(token: Token, out: &mut Tokens) -> Result<Next, NoMemory>
 }
 
 /// Emits a comment, and switches to the data state.
-pub fn emit_comment(text: Text, out: &mut Tokens) -> Result<Next, NoMemory>
+pub fn emit_comment(text: Text, out: &mut Tokens) -> Result<Transition, NoMemory>
     ensures { IfOk result (Follows (steps.emit (Comment text ∷ []) steps.data_state) out.old out.new) }
 {
     emit(Token::Comment(text), TextState::Data, out)
@@ -91,7 +91,7 @@ pub fn new_tag(alloc: Global, kind: TagKind, name: Text) -> PartialTag
 }
 
 /// Emits the tag, its self-closing flag set or not, and switches to the data state.
-pub fn emit_tag_as(closing: bool, partial: PartialTag, out: &mut Tokens) -> Result<Next, NoMemory>
+pub fn emit_tag_as(closing: bool, partial: PartialTag, out: &mut Tokens) -> Result<Transition, NoMemory>
     ensures { IfOk result (Follows (steps.emit_tag_as closing partial) out.old out.new) }
 {
     let PartialTag {
@@ -111,7 +111,7 @@ pub fn emit_tag_as(closing: bool, partial: PartialTag, out: &mut Tokens) -> Resu
 }
 
 /// Emits the tag, and switches to the data state.
-pub fn emit_tag(partial: PartialTag, out: &mut Tokens) -> Result<Next, NoMemory>
+pub fn emit_tag(partial: PartialTag, out: &mut Tokens) -> Result<Transition, NoMemory>
     ensures { IfOk result (Follows (steps.emit_tag partial) out.old out.new) }
 {
     emit_tag_as(false, partial, out)

@@ -21,7 +21,7 @@ use Rattle.standard.specs.Prepare.{Prepared, still, inline, external, prepare}
 use Rattle.standard.specs.Parser.{Parser, Took, took, take_character, Parsed, parse}
 use Rattle.rule_laws.specs.Naming.{rename_parser, rename_ops, rename_stop, rename_took}
 use Rattle.standard_laws.specs.Laws.{executed}
-use Rattle.standard.specs.Serial.{World, fetched, Serial, Flow, goes, refuses, starved, ◌then◌, advanced, advance, before_point, after_point, moved, tree_of, inside, back_at, insert, awaiting, remove, with_line, read, one_more_executed, prepared, write_limit, execute, run_statements, on_element, write, go_on, stopped, end_of_script, run_prepared, Moment, reading, tag_ended, awaits, over, refusal, after_script, after_fetch, behind_script, unless_pending, read_next, after_character, moment_after}
+use Rattle.standard.specs.Serial.{World, fetched, Serial, Course, goes, refuses, starved, ◌then◌, advanced, advance, before_point, after_point, moved, tree_of, inside, back_at, insert, awaiting, remove, with_line, read, one_more_executed, prepared, write_limit, execute, run_statements, on_element, write, go_on, stopped, end_of_script, run_prepared, Moment, reading, tag_ended, awaits, over, refusal, after_script, after_fetch, behind_script, unless_pending, read_next, after_character, moment_after}
 use Rattle.standard_laws.proofs.Parse.{advance-parse}
 use Rattle.rule_laws.proofs.RenamingTexts.{texts-renamed, characters-renamed}
 use Rattle.core_laws.specs.Alike.{own_of, behind, Okay, Both, ScriptsRename, AreAlike, MomentsRename, FetchesRename}
@@ -29,7 +29,7 @@ use Rattle.core_rules.specs.Settling.{is_empty, is_settled}
 use Rattle.core_laws.proofs.Okay.{OkayBehind, okay-parse, okay-character}
 
 module _ (r : NodeId → NodeId) (page : List ℕ) where
-  both_then : (f g : Flow) (h k : Serial → Flow) → Both r page f g →
+  both_then : (f g : Course) (h k : Serial → Course) → Both r page f g →
       ((s : Serial) (d : Doc) → Okay r s.parser s.side.doc d → Both r page (h (behind page s)) (k (own_of r d s))) → Both r page (f then h) (g then k)
   both_then f starved h k e each = ap (λ x. x then h) e
   both_then f (goes t) h k (s, d, e, q, o) each =
@@ -172,7 +172,7 @@ module _ (r : NodeId → NodeId) (page : List ℕ) (e : Ending) (w : World) wher
   landed s d o None idle = (s, d, refl, refl, o, idle)
   landed s d o (Some name) idle = (awaiting None s, d, refl, refl, o, refl)
 
-  concluded : (s : Serial) (d : Doc) (f g : Flow) (own' : Moment) → Both r page f g → after_script (g then λ t. goes (back_at (own_of r d s) t)) ≡ Some own' →
+  concluded : (s : Serial) (d : Doc) (f g : Course) (own' : Moment) → Both r page f g → after_script (g then λ t. goes (back_at (own_of r d s) t)) ≡ Some own' →
       Follows (after_script (f then λ t. goes (back_at (with_page s) t))) own'
   concluded s d f starved own' b a = absurd (none-some own' a)
   concluded s d f (goes t) own' (s', d', p, q, o) a =

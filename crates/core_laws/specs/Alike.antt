@@ -5,7 +5,7 @@ use Rattle.html_types.specs.declared.script.Ending.{Ending}
 use Rattle.standard.specs.Act.{Doc, is_bound, SameUpTo}
 use Rattle.standard.specs.Parser.{Parser}
 use Rattle.rule_laws.specs.Naming.{Serves, CameBefore, Renames, rename_parser}
-use Rattle.standard.specs.Serial.{World, Serial, Flow, goes, refuses, starved, Moment, reading, tag_ended, awaits, over, Outcome, end_of_script, moment_after}
+use Rattle.standard.specs.Serial.{World, Serial, Course, goes, refuses, starved, Moment, reading, tag_ended, awaits, over, Outcome, end_of_script, moment_after}
 use Rattle.core_rules.specs.Settling.{is_settled}
 
 -- the state with its ids renamed, over this document
@@ -26,7 +26,7 @@ pub record Okay (r : NodeId → NodeId) (p : Parser) (d own : Doc) : Type 0 wher
   pub serial : p.open_state.next.realm ≡ 0
 
 -- What a part of the parse comes to, from a state with the page's rest and from its own.
-abbrev pub Both : (NodeId → NodeId) → List ℕ → Flow → Flow → Type 0
+abbrev pub Both : (NodeId → NodeId) → List ℕ → Course → Course → Type 0
 Both r page f starved = f ≡ starved
 Both r page f (goes t) = (s : Serial) × (d : Doc) × (f ≡ goes (behind page s)) × (t ≡ own_of r d s) × Okay r s.parser s.side.doc d
 Both r page f (refuses why t) = (s : Serial) × (d : Doc) × (f ≡ refuses why (behind page s)) × (t ≡ own_of r d s) × SameUpTo r s.side.doc d

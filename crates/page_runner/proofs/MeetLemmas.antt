@@ -20,8 +20,8 @@ use Rattle.standard.specs.Statements.{statements}
 use Rattle.page_runner.specs.declared.fetch.Fetch.{Fetch}
 use Rattle.page_runner.specs.declared.fetch.Fetch.TheVariants as fetches
 use Rattle.page_runner.specs.declared.scripts.TheConstants.{SCRIPT_LIMIT}
-use Rattle.page_runner.specs.declared.scripts.Script.{Script}
-use Rattle.page_runner.specs.declared.scripts.Script.TheVariants.{Text, Missing, Faulted}
+use Rattle.page_runner.specs.declared.scripts.FetchedScript.{FetchedScript}
+use Rattle.page_runner.specs.declared.scripts.FetchedScript.TheVariants.{Text, Missing, Faulted}
 use Rattle.page_runner.specs.declared.scripts.ScriptFiles.{ScriptFiles}
 use Rattle.page_runner.specs.Given.{given_of, NoFault, AbsencesRose, file_at, MayGive, AreRead, ReadTo, untouched, unbegun, begun}
 use Rattle.page_runner.specs.Scripts.{path_of, IsAbsent, MayFetch, ReadScriptsTo, none_begun, last, met_of, IsScriptOf, MayMeet, AreDistinct, NamesOnce, BeginsNew, Fetches}
@@ -41,7 +41,7 @@ got_at (Some None) limit bytes text is read same = absurd read
 got_at (Some (Some whole)) limit bytes text is read same = (whole, refl, same ∙ ap file_statements read ∙ cut-statements limit whole is)
 
 -- what fetching gave of a name may be met
-pub may_meet : (dir : List ℕ) (before after : Seen) (name : List ℕ) (limit : ℕ) (fetch : Fetch) (script : Script) → limit ≡ SCRIPT_LIMIT → MayGive limit port.Script (path_of dir name) before after (given_of fetch)
+pub may_meet : (dir : List ℕ) (before after : Seen) (name : List ℕ) (limit : ℕ) (fetch : Fetch) (script : FetchedScript) → limit ≡ SCRIPT_LIMIT → MayGive limit port.Script (path_of dir name) before after (given_of fetch)
     → IsScriptOf fetch script → MayMeet dir before after name script
 may_meet dir before after name limit (fetches.Got bytes) (Text text) is may same =
     let there = got_at (file_at before (path_of dir name)) limit bytes.items (chars (string_bytes text)) is may.0 same in (got there.0, there.1, there.2)
@@ -118,7 +118,7 @@ bytes-refl a = (bytes_eq-Decides a a).1 refl
 pub met-there : (files : ScriptFiles) (bs : List ℕ) (there : Bool) → IsUtf8 bs → is_lawful (chars bs) ≡ true → there ≡ is_some (met_of files bs) → there ≡ true → IsSome (met_of files (chars bs))
 met-there files bs there utf8 lawful is e = subst (λ q. IsSome (met_of files q)) (sym (lawful-bytes bs utf8 lawful)) (by_some (met_of files bs) (sym is ∙ e))
   where
-    by_some : (o : Option Script) → is_some o ≡ true → IsSome o
+    by_some : (o : Option FetchedScript) → is_some o ≡ true → IsSome o
     by_some None e = absurd (cc e)
     by_some (Some s) e = e
 
@@ -136,7 +136,7 @@ module _ (before after : Seen) (dir path bs : List ℕ) (utf8 : IsUtf8 bs) (lawf
     none_before : met_of old (chars bs) ≡ None
     none_before = subst (λ q. met_of old q ≡ None) (sym (lawful-bytes bs utf8 lawful)) (by_none (met_of old bs) (sym looked ∙ not_there))
       where
-        by_none : (o : Option Script) → is_some o ≡ false → o ≡ None
+        by_none : (o : Option FetchedScript) → is_some o ≡ false → o ≡ None
         by_none None e = refl
         by_none (Some s) e = absurd (cc e)
 
@@ -160,7 +160,7 @@ module _ (before after : Seen) (dir path bs : List ℕ) (utf8 : IsUtf8 bs) (lawf
         here name = ap (lookup (is_at (λ k. slice_cmp nat_cmp name (string_bytes k)))) met_same
 
     -- and it is met
-    module _ (new : ScriptFiles) (script : Script) (key : List ℕ) (key_is : key ≡ bs) (updates : (cs : List ℕ) → met_of new cs ≡ update bytes_eq (met_of old) key (Some script) cs) where
+    module _ (new : ScriptFiles) (script : FetchedScript) (key : List ℕ) (key_is : key ≡ bs) (updates : (cs : List ℕ) → met_of new cs ≡ update bytes_eq (met_of old) key (Some script) cs) where
       updates_there : (cs : List ℕ) → met_of new cs ≡ update bytes_eq (met_of old) (chars bs) (Some script) cs
       updates_there = subst (λ k. (cs : List ℕ) → met_of new cs ≡ update bytes_eq (met_of old) k (Some script) cs) (key_is ∙ sym (lawful-bytes bs utf8 lawful)) updates
 
@@ -176,11 +176,11 @@ module _ (before after : Seen) (dir path bs : List ℕ) (utf8 : IsUtf8 bs) (lawf
             let given : MayGive SCRIPT_LIMIT port.Script (path_of dir (chars bs)) before after (given_of fetch) = subst (λ p. MayGive SCRIPT_LIMIT port.Script p before after (given_of fetch)) path_is may in
             subst (λ d. MayMeet d before after (chars bs) script) same (may_meet dir before after (chars bs) SCRIPT_LIMIT fetch script refl given script_is)
 
-        kept_by : (q : List ℕ) (s : Script) → met_of old q ≡ Some s → (b : Bool) → bytes_eq (chars bs) q ≡ b → cond b (Some script) (met_of old q) ≡ Some s
+        kept_by : (q : List ℕ) (s : FetchedScript) → met_of old q ≡ Some s → (b : Bool) → bytes_eq (chars bs) q ≡ b → cond b (Some script) (met_of old q) ≡ Some s
         kept_by q s is true e = let none : met_of old q ≡ None = subst (λ n. met_of old n ≡ None) (bytes-same (chars bs) q e) none_before in absurd (cc (sym none ∙ is))
         kept_by q s is false e = is
 
-        fresh_by : (q : List ℕ) (s : Script) (b : Bool) → bytes_eq (chars bs) q ≡ b → cond b (Some script) (met_of old q) ≡ Some s → (met_of old q ≡ Some s) ⊎ MayMeet (string_bytes old.dir) before after q s
+        fresh_by : (q : List ℕ) (s : FetchedScript) (b : Bool) → bytes_eq (chars bs) q ≡ b → cond b (Some script) (met_of old q) ≡ Some s → (met_of old q ≡ Some s) ⊎ MayMeet (string_bytes old.dir) before after q s
         fresh_by q s true e is =
             let one : script ≡ s = cc in
             inr (subst (λ k. MayMeet (string_bytes old.dir) before after q k) one (subst (λ n. MayMeet (string_bytes old.dir) before after n script) (bytes-same (chars bs) q e) may_here))
@@ -201,7 +201,7 @@ module _ (before after : Seen) (dir path bs : List ℕ) (utf8 : IsUtf8 bs) (lawf
         unfailed_by fetches.Missing may is = inl may.2
         unfailed_by fetches.Faulted may is = inr (is_faulted script is)
           where
-            is_faulted : (s : Script) → IsScriptOf fetches.Faulted s → s ≡ Faulted
+            is_faulted : (s : FetchedScript) → IsScriptOf fetches.Faulted s → s ≡ Faulted
             is_faulted (Text text) is = absurd is
             is_faulted Missing is = absurd is
             is_faulted Faulted is = refl
@@ -211,12 +211,12 @@ module _ (before after : Seen) (dir path bs : List ℕ) (utf8 : IsUtf8 bs) (lawf
 
 -- ---- a script is looked up
 
-pub found-there : (files : ScriptFiles) (bs : List ℕ) (o : Option (Bor Script)) → IsUtf8 bs → is_lawful (chars bs) ≡ true → option_map (λ r. r.now) o ≡ met_of files bs
+pub found-there : (files : ScriptFiles) (bs : List ℕ) (o : Option (Bor FetchedScript)) → IsUtf8 bs → is_lawful (chars bs) ≡ true → option_map (λ r. r.now) o ≡ met_of files bs
     → IfSome o (λ script. (is_lawful (chars bs) ≡ true) × (met_of files (chars bs) ≡ Some script.now))
 found-there files bs None utf8 lawful is = tt
 found-there files bs (Some script) utf8 lawful is = (lawful, subst (λ q. met_of files q ≡ Some script.now) (sym (lawful-bytes bs utf8 lawful)) (sym is))
 
-pub found-none : (files : ScriptFiles) (bs : List ℕ) (o : Option (Bor Script)) → IsUtf8 bs → is_lawful (chars bs) ≡ true → option_map (λ r. r.now) o ≡ met_of files bs
+pub found-none : (files : ScriptFiles) (bs : List ℕ) (o : Option (Bor FetchedScript)) → IsUtf8 bs → is_lawful (chars bs) ≡ true → option_map (λ r. r.now) o ≡ met_of files bs
     → IfNone o (is_lawful (chars bs) ≡ true → met_of files (chars bs) ≡ None)
 found-none files bs None utf8 lawful is = λ _. subst (λ q. met_of files q ≡ None) (sym (lawful-bytes bs utf8 lawful)) (sym is)
 found-none files bs (Some script) utf8 lawful is = tt
@@ -277,17 +277,17 @@ module _ (before now after : Seen) (first : Later before now) (second : Later no
     distinct-then files xs ys first.1 second met.1 fresh,
   )
 
-  none-before : (old mid : ScriptFiles) (name : List ℕ) → ((s : Script) → met_of old name ≡ Some s → met_of mid name ≡ Some s) → met_of mid name ≡ None → met_of old name ≡ None
+  none-before : (old mid : ScriptFiles) (name : List ℕ) → ((s : FetchedScript) → met_of old name ≡ Some s → met_of mid name ≡ Some s) → met_of mid name ≡ None → met_of old name ≡ None
   none-before old mid name kept none = by_met (met_of old name) refl
     where
-      by_met : (o : Option Script) → met_of old name ≡ o → met_of old name ≡ None
+      by_met : (o : Option FetchedScript) → met_of old name ≡ o → met_of old name ≡ None
       by_met None e = e
       by_met (Some s) e = absurd (cc (sym (kept s e) ∙ none))
 
-  some-after : (mid new : ScriptFiles) (name : List ℕ) → ((s : Script) → met_of mid name ≡ Some s → met_of new name ≡ Some s) → IsSome (met_of mid name) → IsSome (met_of new name)
+  some-after : (mid new : ScriptFiles) (name : List ℕ) → ((s : FetchedScript) → met_of mid name ≡ Some s → met_of new name ≡ Some s) → IsSome (met_of mid name) → IsSome (met_of new name)
   some-after mid new name kept some = by_met (met_of mid name) refl some
     where
-      by_met : (o : Option Script) → met_of mid name ≡ o → IsSome o → IsSome (met_of new name)
+      by_met : (o : Option FetchedScript) → met_of mid name ≡ o → IsSome o → IsSome (met_of new name)
       by_met None e some = absurd (cc some)
       by_met (Some s) e some = subst IsSome (sym (kept s e)) refl
 
@@ -300,8 +300,8 @@ module _ (before now after : Seen) (first : Later before now) (second : Later no
     once = distinct-then files first.names second.names first.once second.once met fresh;
   }
 
-  begins-then : (da db : Bool) (dir : List ℕ) (b n a : Paths) (old mid new : ScriptFiles) → da ≡ true → ((name : List ℕ) (s : Script) → met_of old name ≡ Some s → met_of mid name ≡ Some s)
-      → ((name : List ℕ) (s : Script) → met_of mid name ≡ Some s → met_of new name ≡ Some s) → BeginsNew da dir b n old mid → BeginsNew db dir n a mid new → BeginsNew db dir b a old new
+  begins-then : (da db : Bool) (dir : List ℕ) (b n a : Paths) (old mid new : ScriptFiles) → da ≡ true → ((name : List ℕ) (s : FetchedScript) → met_of old name ≡ Some s → met_of mid name ≡ Some s)
+      → ((name : List ℕ) (s : FetchedScript) → met_of mid name ≡ Some s → met_of new name ≡ Some s) → BeginsNew da dir b n old mid → BeginsNew db dir n a mid new → BeginsNew db dir b a old new
   begins-then da db dir b n a old mid new done kept kept' first second = record {
     which = names-then dir b n a mid first.which second.which (first.met done) second.fresh;
     fresh = each_then (λ name. met_of old name ≡ None) first.which.names second.which.names first.fresh
@@ -320,11 +320,11 @@ module _ (before now after : Seen) (first : Later before now) (second : Later no
         (subst (λ d. BeginsNew db d (now.begun port.Script) (after.begun port.Script) mid new) (ap string_bytes a.dir) b.begins);
   }
     where
-      stay_of : (name : List ℕ) (script : Script) → (met_of old name ≡ Some script) ⊎ MayMeet (string_bytes old.dir) before now name script → (met_of old name ≡ Some script) ⊎ MayMeet (string_bytes old.dir) before after name script
+      stay_of : (name : List ℕ) (script : FetchedScript) → (met_of old name ≡ Some script) ⊎ MayMeet (string_bytes old.dir) before now name script → (met_of old name ≡ Some script) ⊎ MayMeet (string_bytes old.dir) before after name script
       stay_of name script (inl is) = inl is
       stay_of name script (inr may) = inr (may.0, fetch-stays (string_bytes old.dir) name may.0 may.1, may.2)
 
-      fresh_of : (name : List ℕ) (script : Script) → (met_of mid name ≡ Some script) ⊎ MayMeet (string_bytes mid.dir) now after name script → (met_of old name ≡ Some script) ⊎ MayMeet (string_bytes old.dir) before after name script
+      fresh_of : (name : List ℕ) (script : FetchedScript) → (met_of mid name ≡ Some script) ⊎ MayMeet (string_bytes mid.dir) now after name script → (met_of old name ≡ Some script) ⊎ MayMeet (string_bytes old.dir) before after name script
       fresh_of name script (inl is) = stay_of name script (a.fresh name script is)
       fresh_of name script (inr may) =
           let there : MayMeet (string_bytes old.dir) now after name script = subst (λ d. MayMeet d now after name script) (ap string_bytes a.dir) may in

@@ -17,7 +17,7 @@ use Rattle.standard.specs.Parser.{Parser, Took, took, take_character, Finished, 
 use Rattle.standard.specs.Prepare.{Prepared, still, inline, external}
 use Rattle.standard.specs.Scripts.{Fetched, got, missing, faulted, is_lawful, file_statements}
 use Rattle.standard.specs.Statements.{statements}
-use Rattle.standard.specs.Serial.{World, fetched_if, fetched, Serial, Outcome, refused, Flow, goes, refuses, starved, ◌then◌, Advanced, advanced, advance, before_point, moved, insert, tree_of, inside, back_at, remove, read, one_more_executed, write_limit, prepared, execute, run_statements, on_element, write, go_on, stopped, end_of_script, run_prepared, run_text, Moment, reading, tag_ended, awaits, over, at_end, after_character, unless_pending, after_script, after_fetch, read_next, moment_after, moments_on, first}
+use Rattle.standard.specs.Serial.{World, fetched_if, fetched, Serial, Outcome, refused, Course, goes, refuses, starved, ◌then◌, Advanced, advanced, advance, before_point, moved, insert, tree_of, inside, back_at, remove, read, one_more_executed, write_limit, prepared, execute, run_statements, on_element, write, go_on, stopped, end_of_script, run_prepared, run_text, Moment, reading, tag_ended, awaits, over, at_end, after_character, unless_pending, after_script, after_fetch, read_next, moment_after, moments_on, first}
 use Rattle.standard_laws.specs.Laws.{outcome_at}
 use Rattle.standard_laws.proofs.Fuel.{serial-over}
 use Rattle.standard_laws.proofs.Passing.{finished-at}
@@ -26,12 +26,12 @@ use Rattle.page_runner.specs.Pages.{PageRead, page_at, ComesTo}
 
 -- ---- a script that runs meets none
 
-abbrev MeetsNone : Flow → Type 0
+abbrev MeetsNone : Course → Type 0
 MeetsNone starved = Unit {0}
 MeetsNone (goes t) = Unit {0}
 MeetsNone (refuses w t) = w ≡ why.Fault → ⊥
 
-then-meets_none : (f : Flow) (h : Serial → Flow) → MeetsNone f → ((t : Serial) → MeetsNone (h t)) → MeetsNone (f then h)
+then-meets_none : (f : Course) (h : Serial → Course) → MeetsNone f → ((t : Serial) → MeetsNone (h t)) → MeetsNone (f then h)
 then-meets_none starved h k each = tt
 then-meets_none (goes t) h k each = each t
 then-meets_none (refuses w t) h k each = k
@@ -125,7 +125,7 @@ behind-meets : (e : Ending) (w : World) (pending : Option (List ℕ)) (t : Seria
 behind-meets e w None t = tt
 behind-meets e w (Some name) t = tt
 
-script-meets : (e : Ending) (w : World) (f : Flow) → MeetsNone f → MeetsOnly e w (after_script f)
+script-meets : (e : Ending) (w : World) (f : Course) → MeetsNone f → MeetsOnly e w (after_script f)
 script-meets e w starved k = tt
 script-meets e w (goes t) k = behind-meets e w t.side.pending t
 script-meets e w (refuses r t) k = λ h. let is : r ≡ why.Fault = cc in absurd (k is)

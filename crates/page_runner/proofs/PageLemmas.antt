@@ -19,7 +19,7 @@ use Rattle.utf8_pieces.proofs.PageLaws.{text_of-nil, text_of-extends, shown-stay
 use Rattle.write_parser.specs.Writing.{View, first_view, serial_of, Finishes}
 use Rattle.page_runner.specs.declared.page.TheConstants.{PAGE_LIMIT}
 use Rattle.page_runner.specs.declared.driver.Driver.{Driver}
-use Rattle.page_runner.specs.declared.driver.Went.TheVariants as went
+use Rattle.page_runner.specs.declared.driver.PartEnd.TheVariants as went
 use Rattle.page_runner.specs.declared.outcome.Outcome.{Outcome as Told}
 use Rattle.page_runner.specs.declared.outcome.Outcome.TheVariants as told
 use Rattle.page_runner.specs.declared.scripts.ScriptFiles.{ScriptFiles}

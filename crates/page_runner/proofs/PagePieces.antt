@@ -10,7 +10,7 @@ use Rattle.utf8_pieces.specs.declared.decoder.Decoder.{Decoder}
 use Rattle.utf8_pieces.specs.Decoder.{HasRead}
 use Rattle.page_runner.specs.declared.page.TheConstants.{PAGE_LIMIT}
 use Rattle.page_runner.specs.declared.driver.Driver.{Driver}
-use Rattle.page_runner.specs.declared.driver.Went.TheVariants as went
+use Rattle.page_runner.specs.declared.driver.PartEnd.TheVariants as went
 use Rattle.page_runner.specs.declared.outcome.Outcome.{Outcome as Told}
 use Rattle.page_runner.specs.declared.outcome.Outcome.TheVariants as told
 use Rattle.page_runner.specs.declared.scripts.ScriptFiles.{ScriptFiles}

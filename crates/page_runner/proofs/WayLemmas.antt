@@ -19,17 +19,17 @@ use Rattle.standard.specs.Act.{Doc}
 use Rattle.standard.specs.Parser.{Parser}
 use Rattle.standard.specs.Scripts.{Fetched, got, missing, faulted, is_lawful, file_statements}
 use Rattle.standard.specs.Statements.{statements}
-use Rattle.standard.specs.Serial.{World, fetched_if, fetched, Serial, Flow, goes, refuses, awaiting, run_text, Moment, reading, tag_ended, awaits, over, behind_script, refusal, Leads}
+use Rattle.standard.specs.Serial.{World, fetched_if, fetched, Serial, Course, goes, refuses, awaiting, run_text, Moment, reading, tag_ended, awaits, over, behind_script, refusal, Leads}
 use Rattle.standard_laws.specs.Laws.{HasParsed, EndsIn, FileComesTo, moment_at, lines_of}
 use Rattle.standard.specs.Output.{line_text}
 use Rattle.standard_laws.proofs.Passing.{leads-batch, parse-left}
 use Rattle.standard_laws.proofs.Scripts.{awaits-missing, awaits-fault, awaits-got, awaits-refuses}
 use Rattle.parse_machine.specs.declared.machine.Ran.{Ran}
 use Rattle.write_parser.specs.Writing.{View, serial_of, moment_by, moment_of, StandsBy, Stands, AtTag, LeadsTo, Parses, ComesBy, Runs, HasRun, HasMissed}
-use Rattle.page_runner.specs.declared.driver.Went.{Went}
-use Rattle.page_runner.specs.declared.driver.Went.TheVariants.{On, Refused}
-use Rattle.page_runner.specs.declared.scripts.Script.{Script}
-use Rattle.page_runner.specs.declared.scripts.Script.TheVariants.{Text, Missing, Faulted}
+use Rattle.page_runner.specs.declared.driver.PartEnd.{PartEnd}
+use Rattle.page_runner.specs.declared.driver.PartEnd.TheVariants.{On, Refused}
+use Rattle.page_runner.specs.declared.scripts.FetchedScript.{FetchedScript}
+use Rattle.page_runner.specs.declared.scripts.FetchedScript.TheVariants.{Text, Missing, Faulted}
 use Rattle.page_runner.specs.declared.scripts.ScriptFiles.{ScriptFiles}
 use Rattle.page_runner.specs.Taken.{Took, TookFront}
 use Rattle.page_runner.specs.Scripts.{met_of, StandsFor, Suits, Fetches}
@@ -48,11 +48,11 @@ err_weaker (Err e) p q h part = h part
 
 -- ---- faults
 
-pub on_unfailed : (went : Went) (before after : Seen) → went ≡ On → StopsAtFault went before after → NoFault port.Script before after
+pub on_unfailed : (went : PartEnd) (before after : Seen) → went ≡ On → StopsAtFault went before after → NoFault port.Script before after
 on_unfailed went before after is (inl none) = none
 on_unfailed went before after is (inr stops) = absurd (cc (sym is ∙ stops))
 
-pub then_unfailed : (went : Went) (before now after : Seen) → NoFault port.Script before now → StopsAtFault went now after → StopsAtFault went before after
+pub then_unfailed : (went : PartEnd) (before now after : Seen) → NoFault port.Script before now → StopsAtFault went now after → StopsAtFault went before after
 then_unfailed went before now after first (inl none) = inl (none ∙ first)
 then_unfailed went before now after first (inr stops) = inr stops
 
@@ -64,7 +64,7 @@ pub unfailed_none : (files : ScriptFiles) (name : List ℕ) (before after : Seen
 unfailed_none files name before after none (inl quiet) = inl quiet
 unfailed_none files name before after none (inr met) = absurd (cc (sym (none met.0) ∙ met.1))
 
-pub unfailed_met : (files : ScriptFiles) (name : List ℕ) (before after : Seen) (script : Script) → met_of files name ≡ Some script → (script ≡ Faulted → ⊥) → FetchUnfailed files name before after → StopsAtFault On before after
+pub unfailed_met : (files : ScriptFiles) (name : List ℕ) (before after : Seen) (script : FetchedScript) → met_of files name ≡ Some script → (script ≡ Faulted → ⊥) → FetchUnfailed files name before after → StopsAtFault On before after
 unfailed_met files name before after script met other (inl quiet) = inl quiet
 unfailed_met files name before after script met other (inr is) = absurd (other (cc (sym met ∙ is.1)))
 
@@ -228,7 +228,7 @@ stands_awaits v name before page m pending halted at =
     there ∙ ap (λ p. moment_by p (serial_of v before page)) pending
 
 -- what came of the name is what the world has of it
-fetched_is : (es : Entities) (files : ScriptFiles) (w : World) (name : List ℕ) (script : Script) → Suits es files w → is_lawful name ≡ true → met_of files name ≡ Some script → StandsFor script (fetched w name)
+fetched_is : (es : Entities) (files : ScriptFiles) (w : World) (name : List ℕ) (script : FetchedScript) → Suits es files w → is_lawful name ≡ true → met_of files name ≡ Some script → StandsFor script (fetched w name)
 fetched_is es files w name script suits lawful is = subst (λ b. StandsFor script (fetched_if b w name)) (sym lawful) (suits.knows.each name script is)
 
 stands_missing : (f : Fetched) → StandsFor Missing f → f ≡ missing
@@ -285,7 +285,7 @@ module _ (es : Entities) (files : ScriptFiles) (old : View) (name : List ℕ) (p
           (ap (λ l. reading (serial_with old page l)) (append_assoc before old.lines (line.Miss name ∷ []) ∙ ap (λ l. l ++ (old.lines ++ line.Miss name ∷ [])) (sym (append-nil before))))
 
   -- fetching it failed
-  pub resumes_faulted : (script : Script) → script ≡ Faulted → is_lawful name ≡ true → met_of files name ≡ Some script → Way es files (Stands old) (Resumes old (Refused why.Fault)) []
+  pub resumes_faulted : (script : FetchedScript) → script ≡ Faulted → is_lawful name ≡ true → met_of files name ≡ Some script → Way es files (Stands old) (Resumes old (Refused why.Fault)) []
   resumes_faulted script is lawful met = record {
     leads = λ e w m from before page suits is' at.
         let await = stands_awaits old name before page from pending halted is' in
@@ -294,11 +294,11 @@ module _ (es : Entities) (files : ScriptFiles) (old : View) (name : List ℕ) (p
         (over (refusal why.Fault (serial_of old before page)), record { last = serial_of old before page; is = refl; lines_are = ap (λ l. l ++ old.lines) (sym (append-nil before)) }, leads);
   }
 
-  pub missing_met : (script : Script) → script ≡ Missing → is_lawful name ≡ true → met_of files name ≡ Some script → (w : World) → Suits es files w → fetched w name ≡ missing
+  pub missing_met : (script : FetchedScript) → script ≡ Missing → is_lawful name ≡ true → met_of files name ≡ Some script → (w : World) → Suits es files w → fetched w name ≡ missing
   missing_met script is lawful met w suits = stands_missing (fetched w name) (subst (λ s. StandsFor s (fetched w name)) is (fetched_is es files w name script suits lawful met))
 
   -- its text ran
-  pub resumes_text : (new : View) (script : Script) (text : String Global) → script ≡ Text text → is_lawful name ≡ true → met_of files name ≡ Some script
+  pub resumes_text : (new : View) (script : FetchedScript) (text : String Global) → script ≡ Text text → is_lawful name ≡ true → met_of files name ≡ Some script
       → HasRun es old.halted old new (statements (chars (string_bytes text))) → Way es files (Stands old) (Resumes new On) []
   resumes_text new script text is lawful met run = record {
     leads = λ e w m from before page suits is' at.
@@ -310,7 +310,7 @@ module _ (es : Entities) (files : ScriptFiles) (old : View) (name : List ℕ) (p
         behind e w m before page file.0 comes.0 new.halted comes.1 there (subst (λ k. Leads e w m k) await at) file.1;
   }
     where
-      behind : (e : Ending) (w : World) (m : Moment) (before : List Line) (page bytes : List ℕ) (f : Flow) (h : Option Why) → ComesBy h new before page f → FileComesTo w bytes (serial_of old before page) f
+      behind : (e : Ending) (w : World) (m : Moment) (before : List Line) (page bytes : List ℕ) (f : Course) (h : Option Why) → ComesBy h new before page f → FileComesTo w bytes (serial_of old before page) f
           → Leads e w m (awaits name (serial_of old before page)) → fetched w name ≡ got bytes → (to : Moment) × StandsBy h new (before ++ []) page to × Leads e w m to
       behind e w m before page bytes f None is comes leads there =
           let s = serial_of old before page in
@@ -332,15 +332,15 @@ unlawful_missing name unlawful w = by_test (is_lawful name) refl
 
 -- ---- and its lines are written
 
-resumes-lines : (v : View) (went : Went) (before : List Line) (page : List ℕ) (m : Moment) → Resumes v went before page m → lines_of m ≡ before ++ v.lines
+resumes-lines : (v : View) (went : PartEnd) (before : List Line) (page : List ℕ) (m : Moment) → Resumes v went before page m → lines_of m ≡ before ++ v.lines
 resumes-lines v On before page m at = stands-lines v before page m at
 resumes-lines v (Refused r) before page m at = ap lines_of at.is ∙ at.lines_are
 
-resumes-taken : (v : View) (went : Went) (before : List Line) (page : List ℕ) (m : Moment) → Resumes v went before page m → Resumes (record v { lines = [] }) went (before ++ v.lines) page m
+resumes-taken : (v : View) (went : PartEnd) (before : List Line) (page : List ℕ) (m : Moment) → Resumes v went before page m → Resumes (record v { lines = [] }) went (before ++ v.lines) page m
 resumes-taken v On before page m at = stands-taken v before page m at
 resumes-taken v (Refused r) before page m at = record { last = at.last; is = at.is; lines_are = at.lines_are ∙ sym (append-nil (before ++ v.lines)) }
 
-module _ (es : Entities) (files : ScriptFiles) (From : List Line → List ℕ → Moment → Type 0) (mid : View) (went : Went) (t t' : Option (List ℕ)) (way : Way es files From (Resumes mid went) []) where
+module _ (es : Entities) (files : ScriptFiles) (From : List Line → List ℕ → Moment → Type 0) (mid : View) (went : PartEnd) (t t' : Option (List ℕ)) (way : Way es files From (Resumes mid went) []) where
   pub resumed-written : Took t t' (flat_map line_text mid.lines) → Reaches es files From (Resumes (record mid { lines = [] }) went) t t'
   resumed-written took = record {
     more = mid.lines;
@@ -465,7 +465,7 @@ module _ (es : Entities) (files : ScriptFiles) (From : List Line → List ℕ �
 
   -- its stop was passed
   module _ (files' : ScriptFiles) (t'' : Option (List ℕ)) (agrees : Agrees es files files') where
-    pub text-passes : (new' : View) (went : Went) → Reaches es files' (AtStop new ran.stop) (Arrives new' went) t' t''
+    pub text-passes : (new' : View) (went : PartEnd) → Reaches es files' (AtStop new ran.stop) (Arrives new' went) t' t''
         → Reaches es files' From (λ before page m. Arrives new' went before (chars (drop ran.used bytes) ++ page) m) t t''
     text-passes new' went passes =
         let left : List ℕ = chars (drop ran.used bytes) in

@@ -6,7 +6,7 @@ use Rattle.outside.specs.Outside.{Seen, KeepsOthers}
 use Rattle.outside.specs.declared.traits.Port.TheVariants as port
 use Rattle.standard.specs.Entities.{Entities}
 use Rattle.standard.specs.Scripts.{Fetched, got, missing}
-use Rattle.page_runner.specs.declared.scripts.Script.{Script}
+use Rattle.page_runner.specs.declared.scripts.FetchedScript.{FetchedScript}
 use Rattle.page_runner.specs.declared.scripts.ScriptFiles.{ScriptFiles}
 use Rattle.page_runner.specs.Given.{AbsencesRose, file_at, KeepsEntities}
 use Rattle.page_runner.specs.Scripts.{path_of, IsAbsent, MayFetch, AreScriptsOf, met_of, StandsFor, Suits, MayMeet, Fetches}
@@ -52,12 +52,12 @@ file_may dir before after name = by_file (file_at before (path_of dir name)) ref
     by_file (Some (Some bytes)) is = subst (λ f. IfSome f (λ file. file ≡ Some bytes)) (sym is) refl
 
 -- a script of the name that agrees with what was met
-record Agreed (dir : List ℕ) (before after : Seen) (met : Option Script) (name : List ℕ) : Type 0 where
+record Agreed (dir : List ℕ) (before after : Seen) (met : Option FetchedScript) (name : List ℕ) : Type 0 where
   given : Fetched
   may : MayFetch dir before after name given
-  stands : (s : Script) → met ≡ Some s → StandsFor s given
+  stands : (s : FetchedScript) → met ≡ Some s → StandsFor s given
 
-agreed : (dir : List ℕ) (before after : Seen) (met : Option Script) (name : List ℕ) → ((s : Script) → met ≡ Some s → MayMeet dir before after name s) → Agreed dir before after met name
+agreed : (dir : List ℕ) (before after : Seen) (met : Option FetchedScript) (name : List ℕ) → ((s : FetchedScript) → met ≡ Some s → MayMeet dir before after name s) → Agreed dir before after met name
 agreed dir before after None name meets = record { given = file_of (file_at before (path_of dir name)); may = file_may dir before after name; stands = λ s is. absurd (cc is) }
 agreed dir before after (Some s) name meets =
     let there = meets s refl in
@@ -76,7 +76,7 @@ has_world es before after old new none fetches = record {
   suits = record { entities = refl; knows = record { each = λ name s is. (at name).stands s is } };
 }
   where
-    only_fresh : (name : List ℕ) (s : Script) → (met_of old name ≡ Some s) ⊎ MayMeet (string_bytes old.dir) before after name s → MayMeet (string_bytes old.dir) before after name s
+    only_fresh : (name : List ℕ) (s : FetchedScript) → (met_of old name ≡ Some s) ⊎ MayMeet (string_bytes old.dir) before after name s → MayMeet (string_bytes old.dir) before after name s
     only_fresh name s (inl was) = absurd (cc (sym (none name) ∙ was))
     only_fresh name s (inr may) = may
 

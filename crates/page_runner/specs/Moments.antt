@@ -13,8 +13,8 @@ use Rattle.standard.specs.Output.{line_text}
 use Rattle.write_parser.specs.declared.left.Left.{Left}
 use Rattle.write_parser.specs.declared.left.Left.TheVariants as left
 use Rattle.write_parser.specs.Writing.{View, serial_of, Stands, AtTag, why_of}
-use Rattle.page_runner.specs.declared.driver.Went.{Went}
-use Rattle.page_runner.specs.declared.driver.Went.TheVariants.{On, Refused}
+use Rattle.page_runner.specs.declared.driver.PartEnd.{PartEnd}
+use Rattle.page_runner.specs.declared.driver.PartEnd.TheVariants.{On, Refused}
 use Rattle.page_runner.specs.declared.scripts.ScriptFiles.{ScriptFiles}
 use Rattle.outside.specs.Outside.{Seen}
 use Rattle.outside.specs.declared.traits.Port.TheVariants as port
@@ -55,17 +55,17 @@ AtStop v (stop.Script id) before page m = AtTag id v before page m
 AtStop v stop.Deep before page m = IsRefused why.Depth (before ++ v.lines) m
 
 -- where a part of the parse ends
-abbrev pub Arrives : View → Went → List Line → List ℕ → Moment → Type 0
+abbrev pub Arrives : View → PartEnd → List Line → List ℕ → Moment → Type 0
 Arrives v On before page m = m ≡ reading (serial_of v before page)
 Arrives v (Refused reason) before page m = IsRefused reason before m
 
 -- where an awaited script ends: the writer stands for the moment, or fetching the script failed
-abbrev pub Resumes : View → Went → List Line → List ℕ → Moment → Type 0
+abbrev pub Resumes : View → PartEnd → List Line → List ℕ → Moment → Type 0
 Resumes v On before page m = Stands v before page m
 Resumes v (Refused reason) before page m = IsRefused reason (before ++ v.lines) m
 
 -- No fetch of a script failed, or the parse is refused for the fault.
-abbrev pub StopsAtFault : Went → Seen → Seen → Type 0
+abbrev pub StopsAtFault : PartEnd → Seen → Seen → Type 0
 StopsAtFault went before after = NoFault port.Script before after ⊎ (went ≡ Refused why.Fault)
 
 -- any with just these lines
@@ -93,7 +93,7 @@ pub record ReachesInPart (es : Entities) (files : ScriptFiles) (From : List Line
   pub way : Way es files From HasLines more
 
 -- A text of the page was taken, up to its end or to where the page is refused.
-abbrev pub Takes : Entities → ScriptFiles → View → View → List ℕ → Option (List ℕ) → Option (List ℕ) → Went → Type 0
+abbrev pub Takes : Entities → ScriptFiles → View → View → List ℕ → Option (List ℕ) → Option (List ℕ) → PartEnd → Type 0
 Takes es files old new text taken taken' went = Reaches es files (AtText old text) (Arrives new went) taken taken'
 
 abbrev pub TakesFront : Entities → ScriptFiles → View → List ℕ → Option (List ℕ) → Option (List ℕ) → Type 0

@@ -13,8 +13,8 @@ use Rattle.standard.specs.Serial.{World}
 use Rattle.page_runner.specs.declared.fetch.Fetch.{Fetch}
 use Rattle.page_runner.specs.declared.fetch.Fetch.TheVariants as fetches
 use Rattle.page_runner.specs.declared.scripts.TheConstants.{SCRIPT_LIMIT}
-use Rattle.page_runner.specs.declared.scripts.Script.{Script}
-use Rattle.page_runner.specs.declared.scripts.Script.TheVariants.{Text, Missing, Faulted}
+use Rattle.page_runner.specs.declared.scripts.FetchedScript.{FetchedScript}
+use Rattle.page_runner.specs.declared.scripts.FetchedScript.TheVariants.{Text, Missing, Faulted}
 use Rattle.page_runner.specs.declared.scripts.ScriptFiles.{ScriptFiles}
 use Rattle.page_runner.specs.Given.{FaultsRose, AbsencesRose, file_at, ReadTo}
 
@@ -70,7 +70,7 @@ world_in es files dir = record { entities = es; scripts = λ name. fetched_of (f
 -- ---- what was met so far
 
 -- what came of the script of a name that was fetched
-abbrev pub met_of : ScriptFiles → List ℕ → Option Script
+abbrev pub met_of : ScriptFiles → List ℕ → Option FetchedScript
 met_of files name = get_by_text files.met name
 
 -- What came of a script stands for what the parse is given of it: its text has the statements of the file.
@@ -81,7 +81,7 @@ StandsFor Faulted faulted = Unit {0}
 StandsFor _ _ = ⊥
 
 -- what came of a script is that of what fetching gave
-abbrev pub IsScriptOf : Fetch → Script → Type 0
+abbrev pub IsScriptOf : Fetch → FetchedScript → Type 0
 IsScriptOf (fetches.Got bytes) (Text text) = statements (chars (string_bytes text)) ≡ file_statements bytes.items
 IsScriptOf fetches.Missing Missing = Unit {0}
 IsScriptOf fetches.Faulted Faulted = Unit {0}
@@ -89,7 +89,7 @@ IsScriptOf _ _ = ⊥
 
 -- These scripts agree with what was met so far.
 pub record Knows (files : ScriptFiles) (scripts : List ℕ → Fetched) : Type 0 where
-  pub each : (name : List ℕ) (script : Script) → met_of files name ≡ Some script → StandsFor script (scripts name)
+  pub each : (name : List ℕ) (script : FetchedScript) → met_of files name ≡ Some script → StandsFor script (scripts name)
 
 -- The world has these entities, and its scripts agree with what was met so far.
 pub record Suits (es : Entities) (files : ScriptFiles) (w : World) : Type 0 where
@@ -97,7 +97,7 @@ pub record Suits (es : Entities) (files : ScriptFiles) (w : World) : Type 0 wher
   pub knows : Knows files w.scripts
 
 -- what came of a name stands for something that may come of it
-abbrev pub MayMeet : List ℕ → Seen → Seen → List ℕ → Script → Type 0
+abbrev pub MayMeet : List ℕ → Seen → Seen → List ℕ → FetchedScript → Type 0
 MayMeet dir before after name script = (f : Fetched) × MayFetch dir before after name f × StandsFor script f
 
 -- No script was begun whose name was met before, and where the fetching is done, all that were begun are met.
@@ -109,8 +109,8 @@ pub record BeginsNew (done : Bool) (dir : List ℕ) (before after : Paths) (old 
 -- Scripts were fetched: more names are met, and what was met stays. It is done, or memory ran out.
 pub record Fetches (done : Bool) (before after : Seen) (old new : ScriptFiles) : Type 0 where
   pub dir : new.dir ≡ old.dir
-  pub kept : (name : List ℕ) (script : Script) → met_of old name ≡ Some script → met_of new name ≡ Some script
-  pub fresh : (name : List ℕ) (script : Script) → met_of new name ≡ Some script
+  pub kept : (name : List ℕ) (script : FetchedScript) → met_of old name ≡ Some script → met_of new name ≡ Some script
+  pub fresh : (name : List ℕ) (script : FetchedScript) → met_of new name ≡ Some script
       → (met_of old name ≡ Some script) ⊎ MayMeet (string_bytes old.dir) before after name script
   pub no_further : ReadScriptsTo SCRIPT_LIMIT (string_bytes old.dir) before after
   pub begins : BeginsNew done (string_bytes old.dir) (before.begun script_port) (after.begun script_port) old new

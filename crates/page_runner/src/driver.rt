@@ -13,17 +13,17 @@ ghost use Rattle.page_runner.specs.Moments.{StopsAtFault, IsReady, IsLeft, AtSto
 
 use crate::output::write_lines;
 use crate::page::Failure;
-use crate::scripts::{Script, ScriptFiles};
+use crate::scripts::{FetchedScript, ScriptFiles};
 use entity_table::Table;
 use html_types::{Finish, NoMemory, NodeId, Stop, Why};
 use op_exec::Doc;
 use outside::{Outside, Port, Sink};
 use std::alloc::Global;
-use write_parser::{Left, Limit, Writer};
+use write_parser::{Left, Overrun, Writer};
 
 /// How a part of the parse ended.
 #[derive(Clone, Copy, Debug, PartialEq, Eq)]
-pub(crate) enum Went {
+pub(crate) enum PartEnd {
     /// The parse goes on.
     On,
     Refused(Why),
@@ -36,12 +36,12 @@ pub(crate) struct Driver {
     scripts: ScriptFiles,
 }
 
-fn why_of(limit: Limit) -> Why
+fn why_of(limit: Overrun) -> Why
     ensures { result ≡ why_of limit }
 {
     match limit {
-        Limit::Depth => Why::Depth,
-        Limit::Writes => Why::Writes,
+        Overrun::Depth => Why::Depth,
+        Overrun::Writes => Why::Writes,
     }
 }
 
@@ -111,11 +111,11 @@ impl Driver {
         table: &Table,
         files: &mut F,
         name: &str,
-    ) -> Result<Went, NoMemory>
+    ) -> Result<PartEnd, NoMemory>
         requires awaits { self.old.writer.pending ≡ Some (chars name.now) }
         requires halted { self.old.writer.halted ≡ None }
         ensures resumes { IfOk result (λ went. Way table.now self.new.scripts (Stands self.old.writer) (Resumes self.new.writer went) []) }
-        ensures less { IfOk result (λ went. went ≡ Went.On → left_to_do self.new.writer < left_to_do self.old.writer) }
+        ensures less { IfOk result (λ went. went ≡ PartEnd.On → left_to_do self.new.writer < left_to_do self.old.writer) }
         ensures unfailed { IfOk result (λ went. StopsAtFault went (F.seen files.old) (F.seen files.new)) }
         ensures fetches { Fetches (is_ok result) (F.seen files.old) (F.seen files.new) self.old.scripts self.new.scripts }
         ensures others { KeepsOthers Port.Script (F.seen files.old) (F.seen files.new) }
@@ -125,16 +125,16 @@ impl Driver {
             // A name that isn't lawful is missing.
             None => {
                 self.writer.miss()?;
-                Ok(Went::On)
+                Ok(PartEnd::On)
             }
-            Some(Script::Missing) => {
+            Some(FetchedScript::Missing) => {
                 self.writer.miss()?;
-                Ok(Went::On)
+                Ok(PartEnd::On)
             }
-            Some(Script::Faulted) => Ok(Went::Refused(Why::Fault)),
-            Some(Script::Text(text)) => {
+            Some(FetchedScript::Faulted) => Ok(PartEnd::Refused(Why::Fault)),
+            Some(FetchedScript::Text(text)) => {
                 self.writer.run_script(table, text.as_str())?;
-                Ok(Went::On)
+                Ok(PartEnd::On)
             }
         }
     }
@@ -147,13 +147,13 @@ impl Driver {
         files: &mut F,
         out: &mut K,
         name: &str,
-    ) -> Result<Went, Failure>
+    ) -> Result<PartEnd, Failure>
         requires awaits { self.old.writer.pending ≡ Some (chars name.now) }
         requires halted { self.old.writer.halted ≡ None }
         ensures reaches { IfOk result (λ went. Reaches table.now self.new.scripts (Stands self.old.writer) (Resumes self.new.writer went) (K.taken out.old) (K.taken out.new)) }
         ensures part { OnErr result (ReachesInPart table.now self.new.scripts (Stands self.old.writer) (K.taken out.old) (K.taken out.new)) }
         ensures lines { OnOk result (self.new.writer.lines ≡ []) }
-        ensures less { IfOk result (λ went. went ≡ Went.On → left_to_do self.new.writer < left_to_do self.old.writer) }
+        ensures less { IfOk result (λ went. went ≡ PartEnd.On → left_to_do self.new.writer < left_to_do self.old.writer) }
         ensures unfailed { IfOk result (λ went. StopsAtFault went (F.seen files.old) (F.seen files.new)) }
         ensures fetches { Fetches (is_ok result) (F.seen files.old) (F.seen files.new) self.old.scripts self.new.scripts }
         ensures others { KeepsOthers Port.Script (F.seen files.old) (F.seen files.new) }
@@ -172,8 +172,8 @@ impl Driver {
         table: &Table,
         files: &mut F,
         out: &mut K,
-    ) -> Result<Went, Failure>
-        ensures ready { IfOk result (λ went. went ≡ Went.On → IsReady self.new.writer) }
+    ) -> Result<PartEnd, Failure>
+        ensures ready { IfOk result (λ went. went ≡ PartEnd.On → IsReady self.new.writer) }
         ensures reaches { IfOk result (λ went. Reaches table.now self.new.scripts (Stands self.old.writer) (Arrives self.new.writer went) (K.taken out.old) (K.taken out.new)) }
         ensures part { OnErr result (ReachesInPart table.now self.new.scripts (Stands self.old.writer) (K.taken out.old) (K.taken out.new)) }
         ensures unfailed { IfOk result (λ went. StopsAtFault went (F.seen files.old) (F.seen files.new)) }
@@ -184,12 +184,12 @@ impl Driver {
     {
         'turns: loop {
             match self.feed_left(alloc, table, out)? {
-                Left::Empty => return Ok(Went::On),
-                Left::Limit(limit) => return Ok(Went::Refused(why_of(limit))),
+                Left::Empty => return Ok(PartEnd::On),
+                Left::Limit(limit) => return Ok(PartEnd::Refused(why_of(limit))),
                 Left::Awaits(name) => {
                     match self.run_awaited(alloc, table, files, out, name.as_str())? {
-                        Went::On => {}
-                        Went::Refused(why) => return Ok(Went::Refused(why)),
+                        PartEnd::On => {}
+                        PartEnd::Refused(why) => return Ok(PartEnd::Refused(why)),
                     }
                 }
             }
@@ -204,10 +204,10 @@ impl Driver {
         files: &mut F,
         out: &mut K,
         id: NodeId,
-    ) -> Result<Went, Failure>
+    ) -> Result<PartEnd, Failure>
         requires ready { IsReady self.old.writer }
         requires bound { IsTrue (is_bound self.old.writer.doc.bound id) }
-        ensures ready { IfOk result (λ went. went ≡ Went.On → IsReady self.new.writer) }
+        ensures ready { IfOk result (λ went. went ≡ PartEnd.On → IsReady self.new.writer) }
         ensures reaches { IfOk result (λ went. Reaches table.now self.new.scripts (AtTag id self.old.writer) (Arrives self.new.writer went) (K.taken out.old) (K.taken out.new)) }
         ensures part { OnErr result (ReachesInPart table.now self.new.scripts (AtTag id self.old.writer) (K.taken out.old) (K.taken out.new)) }
         ensures unfailed { IfOk result (λ went. StopsAtFault went (F.seen files.old) (F.seen files.new)) }
@@ -229,10 +229,10 @@ impl Driver {
         files: &mut F,
         out: &mut K,
         stop: Stop,
-    ) -> Result<Went, Failure>
+    ) -> Result<PartEnd, Failure>
         requires ready { IsReady self.old.writer }
         requires bound { IsStopBound (is_bound self.old.writer.doc.bound) stop }
-        ensures ready { IfOk result (λ went. went ≡ Went.On → IsReady self.new.writer) }
+        ensures ready { IfOk result (λ went. went ≡ PartEnd.On → IsReady self.new.writer) }
         ensures reaches { IfOk result (λ went. Reaches table.now self.new.scripts (AtStop self.old.writer stop) (Arrives self.new.writer went) (K.taken out.old) (K.taken out.new)) }
         ensures part { OnErr result (ReachesInPart table.now self.new.scripts (AtStop self.old.writer stop) (K.taken out.old) (K.taken out.new)) }
         ensures unfailed { IfOk result (λ went. StopsAtFault went (F.seen files.old) (F.seen files.new)) }
@@ -242,9 +242,9 @@ impl Driver {
         ensures faults { K.faults out.old ≤ K.faults out.new }
     {
         match stop {
-            Stop::InputEnd => Ok(Went::On),
+            Stop::InputEnd => Ok(PartEnd::On),
             Stop::Script(id) => self.run_script(alloc, table, files, out, id),
-            Stop::Deep => Ok(Went::Refused(Why::Depth)),
+            Stop::Deep => Ok(PartEnd::Refused(Why::Depth)),
         }
     }
 
@@ -256,9 +256,9 @@ impl Driver {
         files: &mut F,
         out: &mut K,
         text: &str,
-    ) -> Result<Went, Failure>
+    ) -> Result<PartEnd, Failure>
         requires { IsReady self.old.writer }
-        ensures ready { IfOk result (λ went. went ≡ Went.On → IsReady self.new.writer) }
+        ensures ready { IfOk result (λ went. went ≡ PartEnd.On → IsReady self.new.writer) }
         // The serial parse goes over the text, or is over in it, and the sink took the lines of its scripts.
         ensures takes { IfOk result (λ went. Takes table.now self.new.scripts self.old.writer self.new.writer (chars text.now) (K.taken out.old) (K.taken out.new) went) }
         ensures front { OnErr result (TakesFront table.now self.new.scripts self.old.writer (chars text.now) (K.taken out.old) (K.taken out.new)) }
@@ -272,12 +272,12 @@ impl Driver {
         'stops: loop {
             let ran = self.writer.parse(table, rest)?;
             if ran.stop == Stop::InputEnd {
-                return Ok(Went::On);
+                return Ok(PartEnd::On);
             }
             rest = &rest[ran.used..];
             match self.pass(alloc, table, files, out, ran.stop)? {
-                Went::On => {}
-                Went::Refused(why) => return Ok(Went::Refused(why)),
+                PartEnd::On => {}
+                PartEnd::Refused(why) => return Ok(PartEnd::Refused(why)),
             }
         }
     }

@@ -10,7 +10,7 @@ ghost use Rattle.page_runner.specs.Moments.{IsReady};
 ghost use Rattle.utf8_pieces.specs.Decoder.{HasRead};
 ghost use Rattle.page_runner.specs.Pages.{AreTaken, ReadsOn, ClosesAt, EndsAs, TakesPiece, TakesPieceInPart, PieceMeetsFaults, ParsesPage, ParsesFront, EndsWithScripts, FrontWithScripts};
 
-use crate::driver::{Driver, Went};
+use crate::driver::{Driver, PartEnd};
 use crate::outcome::{Outcome, outcome_at};
 use crate::scripts::SCRIPT_LIMIT;
 use entity_table::Table;
@@ -113,8 +113,8 @@ fn take_piece<F: Outside, K: Sink>(
 {
     let fed = decoder.feed(alloc, piece)?;
     match driver.take(alloc, table, files, out, fed.text.as_str())? {
-        Went::Refused(why) => Ok(Some(Outcome::Refused(why))),
-        Went::On => match fed.ending {
+        PartEnd::Refused(why) => Ok(Some(Outcome::Refused(why))),
+        PartEnd::On => match fed.ending {
             None => Ok(None),
             Some(ending) => {
                 let outcome = end(table, driver, ending)?;

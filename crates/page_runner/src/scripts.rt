@@ -25,7 +25,7 @@ const OUTSIDE_THE_LANGUAGE: &str = "?";
 
 /// What came of a script's file.
 #[derive(Drop)]
-pub(crate) enum Script {
+pub(crate) enum FetchedScript {
     /// The text that runs.
     Text(String),
     /// There is no such file.
@@ -38,7 +38,7 @@ pub(crate) enum Script {
 #[derive(Drop)]
 pub(crate) struct ScriptFiles {
     dir: String,
-    met: BTreeMap<String, Script>,
+    met: BTreeMap<String, FetchedScript>,
 }
 
 fn is_name_character(c: char) -> bool
@@ -88,15 +88,15 @@ fn text_of(alloc: Global, bytes: &[u8]) -> Result<String, NoMemory>
     Ok(String::from_str(alloc, text)?)
 }
 
-fn script_of(alloc: Global, fetch: Fetch) -> Result<Script, NoMemory>
+fn script_of(alloc: Global, fetch: Fetch) -> Result<FetchedScript, NoMemory>
     ensures { IfOk result (λ script. IsScriptOf fetch script) }
 {
     match fetch {
-        Fetch::Missing => Ok(Script::Missing),
-        Fetch::Faulted => Ok(Script::Faulted),
+        Fetch::Missing => Ok(FetchedScript::Missing),
+        Fetch::Faulted => Ok(FetchedScript::Faulted),
         Fetch::Got(bytes) => {
             let text = text_of(alloc, &bytes)?;
-            Ok(Script::Text(text))
+            Ok(FetchedScript::Text(text))
         }
     }
 }
@@ -122,7 +122,7 @@ impl ScriptFiles {
     ) -> Result<(), NoMemory>
         ensures met { OnOk result (is_lawful (chars name.now) ≡ true → IsSome (met_of self.new (chars name.now))) }
         ensures unfailed { OnOk result (NoFault Port.Script (F.seen files.old) (F.seen files.new)
-            ⊎ ((is_lawful (chars name.now) ≡ true) × (met_of self.new (chars name.now) ≡ Some Script.Faulted))) }
+            ⊎ ((is_lawful (chars name.now) ≡ true) × (met_of self.new (chars name.now) ≡ Some FetchedScript.Faulted))) }
         ensures fetches { Fetches (is_ok result) (F.seen files.old) (F.seen files.new) self.old self.new }
         ensures others { KeepsOthers Port.Script (F.seen files.old) (F.seen files.new) }
     {
@@ -137,7 +137,7 @@ impl ScriptFiles {
     }
 
     /// What came of the script of this name. None has come of one whose name isn't lawful.
-    pub fn find(&self, name: &str) -> Option<&Script>
+    pub fn find(&self, name: &str) -> Option<&FetchedScript>
         ensures found { IfSome result (λ script. (is_lawful (chars name.now) ≡ true) × (met_of self.now (chars name.now) ≡ Some script.now)) }
         ensures none { IfNone result (is_lawful (chars name.now) ≡ true → met_of self.now (chars name.now) ≡ None) }
     {

@@ -79,13 +79,13 @@ fn words(alloc: Global, piece: &str, dump: bool) -> Result<Vec<String>, NoMemory
 
 // What a run answers, what its sink took, and the files, which tell how many calls were made.
 #[derive(Drop)]
-struct Ran {
+struct PageRun {
     status: Status,
     files: MemFiles,
     sink: MemSink,
 }
 
-impl Ran {
+impl PageRun {
     // Whether the run answers and writes what is wanted.
     fn is_as_wanted(&self, row: &Row) -> bool {
         self.status == row.status && self.sink.bytes() == row.text.as_bytes()
@@ -106,13 +106,13 @@ fn outcome<R: Threads + Wait + Copy + Send + Sync + 'static>(
     fail: &[(Port, u64)],
     piece: &str,
     size: usize,
-) -> Result<Ran, NoMemory> {
+) -> Result<PageRun, NoMemory> {
     let words = words(alloc, piece, row.dump)?;
     let mut files = files(alloc, row, fail)?;
     let mut sink = MemSink::new(alloc, size)?;
     let gate = Arc::new(alloc, OpenGate)?;
     let status = run(rt, alloc, &words, &mut files, &mut sink, &gate);
-    Ok(Ran {
+    Ok(PageRun {
         status,
         files,
         sink,

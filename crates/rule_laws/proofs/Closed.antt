@@ -57,8 +57,8 @@ goes_on On = true
 goes_on (Leave next.Deep) = true
 goes_on _ = false
 
-abbrev pub Went : (Open → Open → Type 0) → Open → Config → Type 0
-Went R b c = R b c.open_state × (goes_on c.flow ≡ true)
+abbrev pub WentOn : (Open → Open → Type 0) → Open → Config → Type 0
+WentOn R b c = R b c.open_state × (goes_on c.flow ≡ true)
 
 -- the instructions that neither leave a row, nor leave out the next one, nor touch the modes or the pending table text
 abbrev pub is_plain : Instr → Bool
@@ -86,26 +86,26 @@ is_plain ins.Finish = false
 is_plain _ = true
 
 module _ (R : Open → Open → Type 0) (c : IsClosed R) where
-  went : (b : Open) (o : List Op) → Went R b (on b o)
+  went : (b : Open) (o : List Op) → WentOn R b (on b o)
   went b o = (c.same b, refl)
 
-  thinned : (b : Open) (o : List Op) (es : List OpenElement) → Thinned b.stack es → Went R b (on (record b { stack = es }) o)
+  thinned : (b : Open) (o : List Op) (es : List OpenElement) → Thinned b.stack es → WentOn R b (on (record b { stack = es }) o)
   thinned b o es h = (c.thins b es h, refl)
 
-  marked : (b : Open) (o : List Op) (ok quirks skip : Bool) → Went R b (on (record b { frameset_ok = ok; quirks = quirks; skip_line_feed = skip }) o)
+  marked : (b : Open) (o : List Op) (ok quirks skip : Bool) → WentOn R b (on (record b { frameset_ok = ok; quirks = quirks; skip_line_feed = skip }) o)
   marked b o ok quirks skip = (c.marks b ok quirks skip b.foster, refl)
 
-  pointed : (b : Open) (o : List Op) (head form : Option NodeId) → Went R b (on (record b { head = head; form = form }) o)
+  pointed : (b : Open) (o : List Op) (head form : Option NodeId) → WentOn R b (on (record b { head = head; form = form }) o)
   pointed b o head form = (c.points b head form, refl)
 
-  roomy : (b b' : Open) (o o' : List Op) → (room b ≡ true → R b b') → Went R b (if room b then on b' o' else config b o (Leave next.Deep))
+  roomy : (b b' : Open) (o o' : List Op) → (room b ≡ true → R b b') → WentOn R b (if room b then on b' o' else config b o (Leave next.Deep))
   roomy b b' o o' there = by (room b) refl
     where
-      by : (v : Bool) → room b ≡ v → Went R b (if v then on b' o' else config b o (Leave next.Deep))
+      by : (v : Bool) → room b ≡ v → WentOn R b (if v then on b' o' else config b o (Leave next.Deep))
       by true e = (there e, refl)
       by false e = (c.same b, refl)
 
-  for_tag-went : (f : Tag → Open → List Op → Config) → ((tag : Tag) (b : Open) (o : List Op) → Went R b (f tag b o)) → (t : Token) (b : Open) (o : List Op) → Went R b (for_tag f t b o)
+  for_tag-went : (f : Tag → Open → List Op → Config) → ((tag : Tag) (b : Open) (o : List Op) → WentOn R b (f tag b o)) → (t : Token) (b : Open) (o : List Op) → WentOn R b (for_tag f t b o)
   for_tag-went f h (StartTag tag) b o = h tag b o
   for_tag-went f h (EndTag tag) b o = h tag b o
   for_tag-went f h _ b o = went b o
@@ -115,43 +115,43 @@ module _ (R : Open → Open → Type 0) (c : IsClosed R) where
       let top : OpenElement = record { id = b.next; name = tag.name } in
       c.onward b (record b { stack = top ∷ b.stack }) (pushed tag b) (c.opens b top e) (c.gives (record b { stack = top ∷ b.stack }))
 
-  insert_at-went : (p : Place) (tag : Tag) (b : Open) (o : List Op) → Went R b (insert_at p tag b o)
+  insert_at-went : (p : Place) (tag : Tag) (b : Open) (o : List Op) → WentOn R b (insert_at p tag b o)
   insert_at-went p tag b o = roomy b (pushed tag b) o (made p tag b o) (pushed-in tag b)
 
-  insert-went : (tag : Tag) (b : Open) (o : List Op) → Went R b (insert tag b o)
+  insert-went : (tag : Tag) (b : Open) (o : List Op) → WentOn R b (insert tag b o)
   insert-went tag b o = insert_at-went (here b) tag b o
 
-  void-went : (tag : Tag) (b : Open) (o : List Op) → Went R b (void tag b o)
+  void-went : (tag : Tag) (b : Open) (o : List Op) → WentOn R b (void tag b o)
   void-went tag b o = roomy b _ o _ (λ e. c.gives b)
 
-  insert_text-went : (t : Token) (b : Open) (o : List Op) → Went R b (insert_text t b o)
+  insert_text-went : (t : Token) (b : Open) (o : List Op) → WentOn R b (insert_text t b o)
   insert_text-went (Character k) b o = (c.same b, refl)
   insert_text-went _ b o = went b o
 
-  insert_comment-went : (p : Place) (t : Token) (b : Open) (o : List Op) → Went R b (insert_comment p t b o)
+  insert_comment-went : (p : Place) (t : Token) (b : Open) (o : List Op) → WentOn R b (insert_comment p t b o)
   insert_comment-went p (Comment text) b o = (c.same b, refl)
   insert_comment-went p _ b o = went b o
 
-  append_doctype-went : (t : Token) (b : Open) (o : List Op) → Went R b (append_doctype t b o)
+  append_doctype-went : (t : Token) (b : Open) (o : List Op) → WentOn R b (append_doctype t b o)
   append_doctype-went (Doctype name force) b o = (c.same b, refl)
   append_doctype-went _ b o = went b o
 
-  add_attributes-went : (e : Option OpenElement) (tag : Tag) (b : Open) (o : List Op) → Went R b (add_attributes e tag b o)
+  add_attributes-went : (e : Option OpenElement) (tag : Tag) (b : Open) (o : List Op) → WentOn R b (add_attributes e tag b o)
   add_attributes-went None tag b o = went b o
   add_attributes-went (Some e) tag b o = (c.same b, refl)
 
-  detach_second-went : (e : Option OpenElement) (b : Open) (o : List Op) → Went R b (detach_second e b o)
+  detach_second-went : (e : Option OpenElement) (b : Open) (o : List Op) → WentOn R b (detach_second e b o)
   detach_second-went None b o = went b o
   detach_second-went (Some e) b o = (c.same b, refl)
 
-  push_head-went : (i : Option NodeId) (b : Open) (o : List Op) → Went R b (push_head i b o)
+  push_head-went : (i : Option NodeId) (b : Open) (o : List Op) → WentOn R b (push_head i b o)
   push_head-went None b o = went b o
   push_head-went (Some i) b o = roomy b _ o o (c.opens b (record { id = i; name = Known word.Head }))
 
-  end_form-went : (nobody : Name → Bool) (b : Open) (o : List Op) → Went R b (end_form nobody b o)
+  end_form-went : (nobody : Name → Bool) (b : Open) (o : List Op) → WentOn R b (end_form nobody b o)
   end_form-went nobody b o = by (on_stack (is_word word.Template) b.stack)
     where
-      by : (v : Bool) → Went R b (if v then on (record b { stack = form_closed_in_template nobody b.stack }) o else on (record b { stack = form_closed nobody b.form b.stack; form = None }) o)
+      by : (v : Bool) → WentOn R b (if v then on (record b { stack = form_closed_in_template nobody b.stack }) o else on (record b { stack = form_closed nobody b.form b.stack; form = None }) o)
       by true = thinned b o (form_closed_in_template nobody b.stack) (thin-form_closed_in_template nobody b.stack)
       by false =
           let b' : Open = record b { stack = form_closed nobody b.form b.stack } in
@@ -159,10 +159,10 @@ module _ (R : Open → Open → Type 0) (c : IsClosed R) where
 
   -- ---- elements opened again, and characters
 
-  pub reopen-went : (tag : Tag) (b : Open) (o : List Op) → Went R b (reopen tag b o)
+  pub reopen-went : (tag : Tag) (b : Open) (o : List Op) → WentOn R b (reopen tag b o)
   reopen-went tag b o = roomy b _ o _ (λ e. c.onward b (pushed tag b) _ (pushed-in tag b e) (c.lists (pushed tag b) (Element b.next tag ∷ b.formats)))
 
-  reopen_all-went : (tags : List Tag) (a b : Open) (o : List Op) (f : Flow) → R a b → goes_on f ≡ true → Went R a (reopen_all tags (config b o f))
+  reopen_all-went : (tags : List Tag) (a b : Open) (o : List Op) (f : Flow) → R a b → goes_on f ≡ true → WentOn R a (reopen_all tags (config b o f))
   reopen_all-went [] a b o f r s = (r, s)
   reopen_all-went (tag ∷ tags) a b o On r s =
       let d : Config = reopen tag b o in
@@ -171,21 +171,21 @@ module _ (R : Open → Open → Type 0) (c : IsClosed R) where
   reopen_all-went (tag ∷ tags) a b o Skip r s = absurd (true≢false (sym s))
   reopen_all-went (tag ∷ tags) a b o (Leave n) r s = (r, s)
 
-  pub reconstruct-went : (b : Open) (o : List Op) → Went R b (reconstruct b o)
+  pub reconstruct-went : (b : Open) (o : List Op) → WentOn R b (reconstruct b o)
   reconstruct-went b o = reopen_all-went (reverse (lost b.stack b.formats)) b (record b { formats = kept b.stack b.formats }) o On (c.lists b (kept b.stack b.formats)) refl
 
-  body_text-went : (k : ℕ) (a b : Open) (o : List Op) (f : Flow) → R a b → goes_on f ≡ true → Went R a (body_text k (config b o f))
+  body_text-went : (k : ℕ) (a b : Open) (o : List Op) (f : Flow) → R a b → goes_on f ≡ true → WentOn R a (body_text k (config b o f))
   body_text-went k a b o On r s = (c.onward a b _ r (c.marks b (is_space k && b.frameset_ok) b.quirks b.skip_line_feed b.foster), refl)
   body_text-went k a b o Skip r s = absurd (true≢false (sym s))
   body_text-went k a b o (Leave n) r s = (r, s)
 
-  pub body_character-went : (k : ℕ) (b : Open) (o : List Op) → Went R b (body_character k b o)
+  pub body_character-went : (k : ℕ) (b : Open) (o : List Op) → WentOn R b (body_character k b o)
   body_character-went k b o =
       let again : Config = reconstruct b o in
       let w = reconstruct-went b o in
       body_text-went k b again.open_state again.ops again.flow w.0 w.1
 
-  pub body_characters-went : (ks : List ℕ) (a b : Open) (o : List Op) (f : Flow) → R a b → goes_on f ≡ true → Went R a (body_characters ks (config b o f))
+  pub body_characters-went : (ks : List ℕ) (a b : Open) (o : List Op) (f : Flow) → R a b → goes_on f ≡ true → WentOn R a (body_characters ks (config b o f))
   body_characters-went [] a b o f r s = (r, s)
   body_characters-went (k ∷ ks) a b o On r s =
       let d : Config = body_character k b o in
@@ -196,7 +196,7 @@ module _ (R : Open → Open → Type 0) (c : IsClosed R) where
 
   -- ---- every plain instruction
 
-  pub step-went : (i : Instr) (t : Token) (b : Open) (o : List Op) → is_plain i ≡ true → Went R b (step i t b o)
+  pub step-went : (i : Instr) (t : Token) (b : Open) (o : List Op) → is_plain i ≡ true → WentOn R b (step i t b o)
   step-went ins.Insert t b o p = for_tag-went insert insert-went t b o
   step-went (ins.InsertA w) t b o p = insert-went (tag_of w) b o
   step-went ins.InsertRoot t b o p = for_tag-went insert_root (insert_at-went Page) t b o

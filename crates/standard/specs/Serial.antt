@@ -81,13 +81,13 @@ first page = record {
 }
 
 -- A part of the parse goes on, or refuses, or runs out of fuel.
-pub data Flow : Type 0 where
-  goes : Serial → Flow
-  refuses : Why → Serial → Flow
-  starved : Flow
+pub data Course : Type 0 where
+  goes : Serial → Course
+  refuses : Why → Serial → Course
+  starved : Course
 
 infixl 20 ◌then◌
-abbrev pub ◌then◌ : Flow → (Serial → Flow) → Flow
+abbrev pub ◌then◌ : Course → (Serial → Course) → Course
 (goes s) then f = f s
 (refuses w s) then f = refuses w s
 starved then f = starved
@@ -168,12 +168,12 @@ prepared i s = prepare s.side.doc.tree (node_of s.side.doc.bound i)
 -- script, counted from 1 over the scripts executed.
 unfoldable mutual
   -- a text runs: the statements of its language, or none
-  pub execute : ℕ → World → Option (List Statement) → Serial → Flow
+  pub execute : ℕ → World → Option (List Statement) → Serial → Course
   execute zero w text s = starved
   execute (suc n) w None s = goes (with_line (line.Syntax (suc s.side.executed)) (one_more_executed s))
   execute (suc n) w (Some list) s = run_statements n w (suc s.side.executed) list (one_more_executed s)
 
-  pub run_statements : ℕ → World → ℕ → List Statement → Serial → Flow
+  pub run_statements : ℕ → World → ℕ → List Statement → Serial → Course
   run_statements zero w k list s = starved
   run_statements (suc n) w k [] s = goes s
   run_statements (suc n) w k (statement.Write t ∷ list) s =
@@ -183,43 +183,43 @@ unfoldable mutual
   run_statements (suc n) w k (statement.LogRoot ∷ list) s = on_element n w k list (read k) (first_element (tree_of s)) s
 
   -- what a statement does to an element, or the end of this text where there is none
-  pub on_element : ℕ → World → ℕ → List Statement → (ℕ → Serial → Serial) → Option ℕ → Serial → Flow
+  pub on_element : ℕ → World → ℕ → List Statement → (ℕ → Serial → Serial) → Option ℕ → Serial → Course
   on_element zero w k list work found s = starved
   on_element (suc n) w k list work None s = goes (with_line (line.Throw k) s)
   on_element (suc n) w k list work (Some e) s = run_statements n w k list (work e s)
 
   -- document.write(): past the limit nothing is inserted
-  pub write : ℕ → World → Bool → List ℕ → Serial → Flow
+  pub write : ℕ → World → Bool → List ℕ → Serial → Course
   write zero w fits t s = starved
   write (suc n) w false t s = refuses why.Writes s
   write (suc n) w true t s = go_on n w s.side.pending (insert t s)
 
   -- the parser goes on up to the insertion point, unless a script is pending
-  pub go_on : ℕ → World → Option (List ℕ) → Serial → Flow
+  pub go_on : ℕ → World → Option (List ℕ) → Serial → Course
   go_on zero w pending s = starved
   go_on (suc n) w None s = stopped n w s (advance w.entities s.parser s.side.doc (before_point s))
   go_on (suc n) w (Some name) s = goes s
 
   -- the parser took the characters before the insertion point, or those up to a stop
-  pub stopped : ℕ → World → Serial → Advanced → Flow
+  pub stopped : ℕ → World → Serial → Advanced → Course
   stopped zero w s a = starved
   stopped (suc n) w s (advanced p d rest stop.InputEnd) = goes (moved p d rest s)
   stopped (suc n) w s (advanced p d rest (stop.Script i)) = end_of_script n w i (moved p d rest s) then λ t. go_on n w t.side.pending t
   stopped (suc n) w s (advanced p d rest stop.Deep) = refuses why.Depth (moved p d rest s)
 
   -- the end tag of a script: it is prepared one level up, with the insertion point just before the next input character
-  pub end_of_script : ℕ → World → NodeId → Serial → Flow
+  pub end_of_script : ℕ → World → NodeId → Serial → Course
   end_of_script zero w i s = starved
   end_of_script (suc n) w i s = run_prepared n w (prepared i s) (inside s) then λ t. goes (back_at s t)
 
-  pub run_prepared : ℕ → World → Prepared → Serial → Flow
+  pub run_prepared : ℕ → World → Prepared → Serial → Course
   run_prepared zero w k s = starved
   run_prepared (suc n) w still s = goes s
   run_prepared (suc n) w (inline t) s = execute n w (statements t) s
   run_prepared (suc n) w (external name) s = goes (awaiting (Some name) s)
 
 -- a script that was awaited runs, one level up
-abbrev pub run_text : ℕ → World → Option (List Statement) → Serial → Flow
+abbrev pub run_text : ℕ → World → Option (List Statement) → Serial → Course
 run_text n w text s = execute n w text (inside s) then λ t. goes (back_at s t)
 
 -- ---- the moments at level 0
@@ -264,7 +264,7 @@ unless_pending (Some name) s = awaits name (awaiting None s)
 abbrev pub behind_script : Serial → Moment
 behind_script t = unless_pending t.side.pending t
 
-abbrev pub after_script : Flow → Option Moment
+abbrev pub after_script : Course → Option Moment
 after_script (goes t) = Some (behind_script t)
 after_script (refuses w t) = Some (over (refusal w t))
 after_script starved = None

@@ -16,7 +16,7 @@ use Rattle.standard.specs.Outer.{outer_text}
 use Rattle.standard.specs.Scripts.{file_statements}
 use Rattle.standard.specs.Statements.{statements}
 use Rattle.standard.specs.Parser.{Parser}
-use Rattle.standard.specs.Serial.{World, Serial, Flow, goes, refuses, starved, ◌then◌, advanced, advance, before_point, after_point, moved, inside, back_at, insert, remove, with_line, read, execute, run_statements, on_element, write, go_on, stopped, end_of_script, run_prepared}
+use Rattle.standard.specs.Serial.{World, Serial, Course, goes, refuses, starved, ◌then◌, advanced, advance, before_point, after_point, moved, inside, back_at, insert, remove, with_line, read, execute, run_statements, on_element, write, go_on, stopped, end_of_script, run_prepared}
 use Rattle.standard_laws.specs.Laws.{HasParsed, HasEnded, EndsIn}
 use Rattle.standard_laws.specs.Frames.{Frame, Nest, rests, state_of, back_in, resume_in, resume, NestComesTo, TagComesTo, FramesEnd, ScriptsEnter, FilesEnter, StillTags, ExternalTags, InlineTags, outside_language, OutsideTexts, TextsBegin, begun, parsed_to, RestsEnd, RestsStop, RestsRefuse, Waits, frame_ended, FrameEnds, wrote, WritesFit, WritesRefuse, Removes, ReadsById, ReadsRoot, LacksElement, thrown, Throws}
 use Rattle.standard_laws.proofs.Fuel.{Refines, Refines_refl, Refines_trans, Refines_then, run_statements-more, go_on-more}
@@ -25,18 +25,18 @@ use Rattle.standard_laws.proofs.Passing.{parse-left}
 
 -- ---- flows
 
-then_assoc : (f : Flow) (g h : Serial → Flow) → (f then g) then h ≡ f then (λ s. g s then h)
+then_assoc : (f : Course) (g h : Serial → Course) → (f then g) then h ≡ f then (λ s. g s then h)
 then_assoc starved g h = refl
 then_assoc (goes s) g h = refl
 then_assoc (refuses w t) g h = refl
 
-then_goes : (f : Flow) → (f then λ t. goes t) ≡ f
+then_goes : (f : Course) → (f then λ t. goes t) ≡ f
 then_goes starved = refl
 then_goes (goes s) = refl
 then_goes (refuses w t) = refl
 
 -- what has come to g comes to g with more fuel
-raised : (h : ℕ → Flow) (f g : Flow) (k : ℕ) → f ≡ g → HasEnded g → Refines f (h k) → EndsIn h g
+raised : (h : ℕ → Course) (f g : Course) (k : ℕ) → f ≡ g → HasEnded g → Refines f (h k) → EndsIn h g
 raised h starved g k q ended r = absurd (subst HasEnded (sym q) ended)
 raised h (goes s) g k q ended r = (k, r ∙ q, ended)
 raised h (refuses w t) g k q ended r = (k, r ∙ q, ended)
@@ -56,7 +56,7 @@ statements-two : (n : ℕ) (w : World) (k : ℕ) (list : List Statement) (s : Se
 statements-two n w k list s = Refines_trans _ _ _ (run_statements-more n w k list s) (run_statements-more (suc n) w k list s)
 
 -- what is left to do once the innermost frame's text is parsed
-abbrev after_rest : ℕ → World → Frame → List Frame → List ℕ → Serial → Flow
+abbrev after_rest : ℕ → World → Frame → List Frame → List ℕ → Serial → Course
 after_rest n w f fs behind t = run_statements n w f.number f.list t then λ u. resume_in n w fs behind (back_in fs behind u)
 
 after_rest-two : (n : ℕ) (w : World) (f : Frame) (fs : List Frame) (behind : List ℕ) (t : Serial) →
@@ -141,7 +141,7 @@ files-enter w bytes x g e (n, q, ended) = (n, subst (λ fs. (execute n w (file_s
 
 -- ---- the end tag of a script
 
-abbrev tag : World → NodeId → Nest → ℕ → Flow
+abbrev tag : World → NodeId → Nest → ℕ → Course
 tag w i x n = end_of_script n w i (state_of x) then λ t. resume_in n w x.frames x.behind t
 
 pub still-tag : StillTags
@@ -162,14 +162,14 @@ external-tag w i x name g h (n, q, ended) =
     raised (tag w i x) _ g (suc (suc n)) q ended (rw is (resume_in-two x.frames n w x.behind (state_of y)))
 
 -- a script's text and what follows it
-abbrev text_in : World → Option (List Statement) → Nest → ℕ → Flow
+abbrev text_in : World → Option (List Statement) → Nest → ℕ → Course
 text_in w text x n = execute n w text (inside (state_of x)) then λ t. resume_in n w x.frames x.behind (back_at (state_of x) t)
 
 pub inline-tag : InlineTags
 unfolding execute
 inline-tag w i x t g h (n, q, ended) =
     let s : Serial = state_of x in
-    let behind : Serial → Flow = λ u. resume_in (suc (suc n)) w x.frames x.behind u in
+    let behind : Serial → Course = λ u. resume_in (suc (suc n)) w x.frames x.behind u in
     let is : tag w i x (suc (suc n)) ≡ execute n w (statements t) (inside s) then λ u. behind (back_at s u) =
     ap (λ k. (run_prepared (suc n) w k (inside s) then λ u. goes (back_at s u)) then behind) h
     ∙ then_assoc (execute n w (statements t) (inside s)) (λ u. goes (back_at s u)) behind in
@@ -218,7 +218,7 @@ goes-on n w f fs x p d left k none b =
 resumed : (n : ℕ) (w : World) (f : Frame) (fs : List Frame) (x : Nest) (p : Parser) (d : Doc) (left : List ℕ) (k : Stop) → x.pending ≡ None →
     HasParsed w.entities x.parser x.doc f.rest p d left k →
     resume (suc n) w (framed f fs x) ≡ stopped n w (state_of (framed f fs x)) (advanced p d left k) then after_rest (suc n) w f fs x.behind
-resumed n w f fs x p d left k none b = ap (λ (o : Flow). o then after_rest (suc n) w f fs x.behind) (goes-on n w f fs x p d left k none b)
+resumed n w f fs x p d left k none b = ap (λ (o : Course). o then after_rest (suc n) w f fs x.behind) (goes-on n w f fs x p d left k none b)
 
 pub rest-ends : RestsEnd
 unfolding execute
@@ -243,7 +243,7 @@ rest-stops w x f fs p d left i g e none b c = at_frames (λ y. NestComesTo w y g
     framed-stops : TagComesTo w i (parsed_to p d left f fs x) g → NestComesTo w (framed f fs x) g
     framed-stops (n, q, ended) =
         let y : Nest = parsed_to p d left f fs x in
-        let onward : Serial → Flow = λ t. go_on n w t.side.pending t in
+        let onward : Serial → Course = λ t. go_on n w t.side.pending t in
         let is : resume (suc (suc n)) w (framed f fs x) ≡ end_of_script n w i (state_of y) then λ t. onward t then after_rest (suc (suc n)) w f fs x.behind =
         resumed (suc n) w f fs x p d left (stop.Script i) none b
         ∙ (ap (λ s. (end_of_script n w i s then onward) then after_rest (suc (suc n)) w f fs x.behind) (moved-is p d left f fs x)
@@ -268,7 +268,7 @@ statements-next : (n : ℕ) (w : World) (f : Frame) (fs : List Frame) (x : Nest)
     then λ u. resume_in (suc (suc n)) w fs x.behind (back_in fs x.behind u)
 statements-next n w f fs x list h l =
     let s : Serial = state_of (framed f fs x) in
-    ap (λ (o : Flow). o then after_rest (suc (suc n)) w f fs x.behind) (waits n w x.pending f fs x h)
+    ap (λ (o : Course). o then after_rest (suc (suc n)) w f fs x.behind) (waits n w x.pending f fs x h)
     ∙ ap (λ k. run_statements (suc (suc n)) w f.number k s then λ u. resume_in (suc (suc n)) w fs x.behind (back_in fs x.behind u)) l
 
 -- back in the frames around one that ended
@@ -303,8 +303,8 @@ write-fits w x f fs t list g e l h le c = at_frames (λ y. NestComesTo w y g) x 
     framed-writes (n, q, ended) =
         let s : Serial = state_of (framed f fs x) in
         let y : Nest = wrote t list f fs x in
-        let behind : Serial → Flow = λ u. resume_in (suc (suc n)) w fs x.behind (back_in fs x.behind u) in
-        let rest : Serial → Flow = λ u. run_statements (suc n) w f.number list u in
+        let behind : Serial → Course = λ u. resume_in (suc (suc n)) w fs x.behind (back_in fs x.behind u) in
+        let rest : Serial → Course = λ u. run_statements (suc n) w f.number list u in
         let is : resume (suc (suc n)) w (framed f fs x) ≡ go_on n w x.pending (state_of y) then λ u. rest u then behind =
         statements-next n w f fs x (statement.Write t ∷ list) h l
         ∙ (ap (λ k. (write (suc n) w k t s then rest) then behind) (le-leb _ _ le)
@@ -332,7 +332,7 @@ abbrev done : Doc → List Line → List Statement → Frame → List Frame → 
 done d lines list f fs x = record x { doc = d; lines = lines; frames = record f { list = list } ∷ fs }
 
 -- a statement that leaves the parser where it stands
-statement-done : (w : World) (x : Nest) (f : Frame) (fs : List Frame) (a : Statement) (more list : List Statement) (d : Doc) (lines : List Line) (g : Flow) →
+statement-done : (w : World) (x : Nest) (f : Frame) (fs : List Frame) (a : Statement) (more list : List Statement) (d : Doc) (lines : List Line) (g : Course) →
     x.frames ≡ f ∷ fs → f.list ≡ a ∷ more → Waits x.pending f.rest →
     ((n : ℕ) → Refines (run_statements n w f.number list (state_of (done d lines list f fs x))) (run_statements (suc (suc n)) w f.number (a ∷ more) (state_of (framed f fs x)))) →
     NestComesTo w (done d lines list f fs x) g → NestComesTo w x g

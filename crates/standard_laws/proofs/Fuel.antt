@@ -12,31 +12,31 @@ use Rattle.standard.specs.Tree.{find_id, first_element}
 use Rattle.standard.specs.Prepare.{Prepared, still, inline, external}
 use Rattle.standard.specs.Scripts.{Fetched, got, missing, faulted, file_statements}
 use Rattle.standard.specs.Page.{Page}
-use Rattle.standard.specs.Serial.{World, fetched, Outcome, Serial, Flow, goes, refuses, starved, ◌then◌, Advanced, advanced, advance, before_point, moved, tree_of, inside, back_at, insert, remove, read, one_more_executed, prepared, execute, run_statements, on_element, write, go_on, stopped, end_of_script, run_prepared, run_text, first, Moment, reading, tag_ended, awaits, over, after_script, after_fetch, moment_after, moments_on, outcome_in, serial_with, IsSerial}
+use Rattle.standard.specs.Serial.{World, fetched, Outcome, Serial, Course, goes, refuses, starved, ◌then◌, Advanced, advanced, advance, before_point, moved, tree_of, inside, back_at, insert, remove, read, one_more_executed, prepared, execute, run_statements, on_element, write, go_on, stopped, end_of_script, run_prepared, run_text, first, Moment, reading, tag_ended, awaits, over, after_script, after_fetch, moment_after, moments_on, outcome_in, serial_with, IsSerial}
 
 -- g is f, unless f ran out of fuel
-abbrev pub Refines : Flow → Flow → Type 0
+abbrev pub Refines : Course → Course → Type 0
 Refines starved g = ⊤
 Refines (goes s) g = g ≡ goes s
 Refines (refuses w t) g = g ≡ refuses w t
 
-pub Refines_refl : (f : Flow) → Refines f f
+pub Refines_refl : (f : Course) → Refines f f
 Refines_refl starved = tt
 Refines_refl (goes s) = refl
 Refines_refl (refuses w t) = refl
 
-pub Refines_then : (f g : Flow) (h k : Serial → Flow) → Refines f g → ((s : Serial) → Refines (h s) (k s)) → Refines (f then h) (g then k)
+pub Refines_then : (f g : Course) (h k : Serial → Course) → Refines f g → ((s : Serial) → Refines (h s) (k s)) → Refines (f then h) (g then k)
 Refines_then starved g h k r each = tt
 Refines_then (goes s) g h k r each = rw r (each s)
 Refines_then (refuses w t) g h k r each = rw r refl
 
-pub Refines_trans : (f g h : Flow) → Refines f g → Refines g h → Refines f h
+pub Refines_trans : (f g h : Course) → Refines f g → Refines g h → Refines f h
 Refines_trans starved g h r t = tt
 Refines_trans (goes s) g h r t = rw r at t
 Refines_trans (refuses w u) g h r t = rw r at t
 
 -- of what only grows with the fuel
-pub Refines-by : (f : ℕ → Flow) → ((n : ℕ) → Refines (f n) (f (suc n))) → (k n : ℕ) → Refines (f n) (f (k + n))
+pub Refines-by : (f : ℕ → Course) → ((n : ℕ) → Refines (f n) (f (suc n))) → (k n : ℕ) → Refines (f n) (f (k + n))
 Refines-by f more zero n = rw zero-add (Refines_refl (f n))
 Refines-by f more (suc k) n =
     let e : suc k + n ≡ suc (k + n) = omega arith in
@@ -96,7 +96,7 @@ run_text-more n w text s = Refines_then _ _ _ _ (execute-more n w text (inside s
 
 -- ---- moments
 
-after_script-kept : (f g : Flow) (m : Moment) → Refines f g → after_script f ≡ Some m → after_script g ≡ Some m
+after_script-kept : (f g : Course) (m : Moment) → Refines f g → after_script f ≡ Some m → after_script g ≡ Some m
 after_script-kept starved g m r h = absurd (none-some m h)
 after_script-kept (goes t) g m r h = rw r h
 after_script-kept (refuses w t) g m r h = rw r h

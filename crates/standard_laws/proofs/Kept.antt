@@ -14,7 +14,7 @@ use Rattle.standard.specs.Act.{Doc}
 use Rattle.standard.specs.Statements.{statements}
 use Rattle.standard.specs.Prepare.{Prepared, still, inline, external}
 use Rattle.standard.specs.Parser.{Parser}
-use Rattle.standard.specs.Serial.{World, Serial, Flow, goes, refuses, starved, ◌then◌, Advanced, advanced, advance, before_point, moved, tree_of, inside, back_at, insert, awaiting, remove, with_line, read, one_more_executed, prepared, write_limit, execute, run_statements, on_element, write, go_on, stopped, end_of_script, run_prepared, run_text}
+use Rattle.standard.specs.Serial.{World, Serial, Course, goes, refuses, starved, ◌then◌, Advanced, advanced, advance, before_point, moved, tree_of, inside, back_at, insert, awaiting, remove, with_line, read, one_more_executed, prepared, write_limit, execute, run_statements, on_element, write, go_on, stopped, end_of_script, run_prepared, run_text}
 
 pub record Steps (R : Serial → Serial → Type 0) : Type 0 where
   pub same : (s : Serial) → R s s
@@ -29,23 +29,23 @@ pub record Steps (R : Serial → Serial → Type 0) : Type 0 where
   pub enters : (s : Serial) → R s (inside s)
 
 -- it holds of the state that is reached, also by a refusal
-abbrev pub Kept : (Serial → Serial → Type 0) → Serial → Flow → Type 0
+abbrev pub Kept : (Serial → Serial → Type 0) → Serial → Course → Type 0
 Kept R s starved = ⊤
 Kept R s (goes t) = R s t
 Kept R s (refuses w t) = R s t
 
 module _ (R : Serial → Serial → Type 0) (r : Steps R) where
-  Kept-from : (s t : Serial) (f : Flow) → R s t → Kept R t f → Kept R s f
+  Kept-from : (s t : Serial) (f : Course) → R s t → Kept R t f → Kept R s f
   Kept-from s t starved a k = tt
   Kept-from s t (goes u) a k = r.join s t u a k
   Kept-from s t (refuses w u) a k = r.join s t u a k
 
-  Kept-then : (s : Serial) (f : Flow) (h : Serial → Flow) → Kept R s f → ((t : Serial) → R s t → Kept R s (h t)) → Kept R s (f then h)
+  Kept-then : (s : Serial) (f : Course) (h : Serial → Course) → Kept R s f → ((t : Serial) → R s t → Kept R s (h t)) → Kept R s (f then h)
   Kept-then s starved h k each = tt
   Kept-then s (goes t) h k each = each t k
   Kept-then s (refuses w t) h k each = k
 
-  Kept-script : (s : Serial) (f : Flow) → Kept R (inside s) f → Kept R s (f then λ t. goes (back_at s t))
+  Kept-script : (s : Serial) (f : Course) → Kept R (inside s) f → Kept R s (f then λ t. goes (back_at s t))
   Kept-script s starved k = tt
   Kept-script s (goes t) k = r.script s t k
   Kept-script s (refuses w u) k = r.join s (inside s) u (r.enters s) k

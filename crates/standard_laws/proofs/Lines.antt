@@ -12,7 +12,7 @@ use Rattle.standard.specs.Page.{Page}
 use Rattle.standard.specs.Scripts.{Fetched, got, missing, faulted, file_statements}
 use Rattle.standard.specs.Act.{Doc, acts}
 use Rattle.standard.specs.Parser.{Parser, Took, took, take_character, Finished, finish}
-use Rattle.standard.specs.Serial.{World, fetched, Outcome, Serial, Flow, goes, refuses, starved, Moment, reading, tag_ended, awaits, over, at_end, after_character, unless_pending, after_script, after_fetch, read_next, moment_after, moments_on, first, Passes, IsSerial}
+use Rattle.standard.specs.Serial.{World, fetched, Outcome, Serial, Course, goes, refuses, starved, Moment, reading, tag_ended, awaits, over, at_end, after_character, unless_pending, after_script, after_fetch, read_next, moment_after, moments_on, first, Passes, IsSerial}
 use Rattle.standard.specs.Output.{line_text, result_with, output_with}
 use Rattle.standard_laws.specs.Laws.{outcome_at, lines_of, GoesOnFrom, LinesBegin, OutputBegins}
 use Rattle.standard_laws.proofs.Kept.{Kept, Grows, Grows-steps, end_of_script-kept, run_text-kept}
@@ -53,7 +53,7 @@ pending-follows : (a : List Line) (pending : Option (List ℕ)) (t : Serial) →
 pending-follows a None t k = k
 pending-follows a (Some name) t k = k
 
-script-follows : (s : Serial) (f : Flow) → Kept Grows s f → Follows s.side.lines (after_script f)
+script-follows : (s : Serial) (f : Course) → Kept Grows s f → Follows s.side.lines (after_script f)
 script-follows s starved k = tt
 script-follows s (goes t) k = pending-follows s.side.lines t.side.pending t k
 script-follows s (refuses w t) k = k

@@ -18,7 +18,7 @@ use Rattle.standard.specs.Prepare.{Prepared, still, inline, external}
 use Rattle.standard.specs.Scripts.{Fetched, got, missing, faulted, file_statements}
 use Rattle.standard.specs.Parser.{Parser, Took, took, take_character}
 use Rattle.standard.specs.Page.{Page}
-use Rattle.standard.specs.Serial.{World, fetched, Outcome, Serial, Flow, goes, refuses, starved, ◌then◌, Advanced, advanced, advance, done_then, before_point, after_point, moved, tree_of, inside, back_at, insert, remove, read, one_more_executed, prepared, write_limit, execute, run_statements, on_element, write, go_on, stopped, end_of_script, run_prepared, run_text, first, Moment, reading, tag_ended, awaits, over, after_character, unless_pending, after_script, after_fetch, read_next, moment_after, moments_on, IsSerial}
+use Rattle.standard.specs.Serial.{World, fetched, Outcome, Serial, Course, goes, refuses, starved, ◌then◌, Advanced, advanced, advance, done_then, before_point, after_point, moved, tree_of, inside, back_at, insert, remove, read, one_more_executed, prepared, write_limit, execute, run_statements, on_element, write, go_on, stopped, end_of_script, run_prepared, run_text, first, Moment, reading, tag_ended, awaits, over, after_character, unless_pending, after_script, after_fetch, read_next, moment_after, moments_on, IsSerial}
 use Rattle.standard_laws.proofs.Fuel.{Refines, Refines-by, run_statements-more, write-more, go_on-more, end_of_script-more, run_prepared-more, moment_after-by, moments_on-by, over-by, over-serial}
 
 -- ---- the parser takes characters
@@ -46,13 +46,13 @@ abbrev pub left : Serial → ℕ
 left s = length s.input + (write_limit - s.side.written)
 
 -- nothing was won, and a script is pending only where one was or a character was taken
-abbrev pub Spends : Serial → Flow → Type 0
+abbrev pub Spends : Serial → Course → Type 0
 Spends s starved = ⊥
 Spends s (goes t) = (left t ≤ left s) × ((left t < left s) ⊎ (t.side.pending ≡ s.side.pending))
 Spends s (refuses w t) = ⊤
 
 -- nothing was won
-abbrev pub Keeps : Serial → Flow → Type 0
+abbrev pub Keeps : Serial → Course → Type 0
 Keeps s starved = ⊥
 Keeps s (goes t) = left t ≤ left s
 Keeps s (refuses w t) = ⊤
@@ -81,16 +81,16 @@ moved_less p d rest s h =
 
 -- ---- enough fuel
 
-abbrev Ends : (Flow → Type 0) → (ℕ → Flow) → Type 0
+abbrev Ends : (Course → Type 0) → (ℕ → Course) → Type 0
 Ends P f = (n : ℕ) × P (f n)
 
-kept : (P : Flow → Type 0) → (P starved → ⊥) → (f g : Flow) → Refines f g → P f → P g
+kept : (P : Course → Type 0) → (P starved → ⊥) → (f g : Course) → Refines f g → P f → P g
 kept P never starved g r h = absurd (never h)
 kept P never (goes t) g r h = rw r h
 kept P never (refuses w t) g r h = rw r h
 
-Ends-then : (P Q : Flow → Type 0) → (P starved → ⊥) → (Q starved → ⊥) → ((w : Why) (t : Serial) → P (refuses w t)) →
-    (f : ℕ → Flow) (h : ℕ → Serial → Flow) → ((n : ℕ) → Refines (f n) (f (suc n))) → ((t : Serial) (n : ℕ) → Refines (h n t) (h (suc n) t)) →
+Ends-then : (P Q : Course → Type 0) → (P starved → ⊥) → (Q starved → ⊥) → ((w : Why) (t : Serial) → P (refuses w t)) →
+    (f : ℕ → Course) (h : ℕ → Serial → Course) → ((n : ℕ) → Refines (f n) (f (suc n))) → ((t : Serial) (n : ℕ) → Refines (h n t) (h (suc n) t)) →
     Ends Q f → ((t : Serial) → Q (goes t) → Ends P (λ n. h n t)) → Ends P (λ n. f n then h n)
 Ends-then P Q no-P no-Q refusal f h f-more h-more (n, q) rest = go (f n) refl q
   where
@@ -101,12 +101,12 @@ Ends-then P Q no-P no-Q refusal f h f-more h-more (n, q) rest = go (f n) refl q
         let h-is : P (h (m + n) t) = (let r : P (h (n + m) t) = kept P no-P _ _ (Refines-by (λ k. h k t) (h-more t) n m) p in rw c at r) in
         (m + n, rw f-is h-is)
 
-    go : (r : Flow) → f n ≡ r → Q r → Ends P (λ m. f m then h m)
+    go : (r : Course) → f n ≡ r → Q r → Ends P (λ m. f m then h m)
     go starved e q' = absurd (no-Q q')
     go (goes t) e q' = at t e (rest t q')
     go (refuses w t) e q' = (n, rw e (refusal w t))
 
-later : (P : Flow → Type 0) (f : ℕ → Flow) → Ends P (λ n. f (suc n)) → Ends P f
+later : (P : Course → Type 0) (f : ℕ → Course) → Ends P (λ n. f (suc n)) → Ends P f
 later P f (n, p) = (suc n, p)
 
 -- ---- each function ends, where the ones that it calls do
@@ -115,25 +115,25 @@ later P f (n, p) = (suc n, p)
 abbrev GoesOn : ℕ → World → Type 0
 GoesOn b w = (s : Serial) → left s < b → Ends (Spends s) (λ n. go_on n w None s)
 
-Spends-via : (s s' : Serial) (f : Flow) → left s' ≤ left s → s'.side.pending ≡ s.side.pending → Spends s' f → Spends s f
+Spends-via : (s s' : Serial) (f : Course) → left s' ≤ left s → s'.side.pending ≡ s.side.pending → Spends s' f → Spends s f
 Spends-via s s' starved h e p = p
 Spends-via s s' (goes t) h e (le, inl lt) = (omega arith, inl (omega arith))
 Spends-via s s' (goes t) h e (le, inr same) = (omega arith, inr (same ∙ e))
 Spends-via s s' (refuses w t) h e p = p
 
-Spends-on : (s t : Serial) (f : Flow) → Spends s (goes t) → Spends t f → Spends s f
+Spends-on : (s t : Serial) (f : Course) → Spends s (goes t) → Spends t f → Spends s f
 Spends-on s t starved p q = q
 Spends-on s t (goes u) (le, inl lt) (le2, b) = (omega arith, inl (omega arith))
 Spends-on s t (goes u) (le, inr same) (le2, inl lt) = (omega arith, inl (omega arith))
 Spends-on s t (goes u) (le, inr same) (le2, inr same2) = (omega arith, inr (same2 ∙ same))
 Spends-on s t (refuses w u) p q = q
 
-Spends-less : (s t : Serial) (f : Flow) → left t < left s → Spends t f → Spends s f
+Spends-less : (s t : Serial) (f : Course) → left t < left s → Spends t f → Spends s f
 Spends-less s t starved h p = p
 Spends-less s t (goes u) h (le, _) = (omega arith, inl (omega arith))
 Spends-less s t (refuses w u) h p = p
 
-Keeps-spends : (s : Serial) (f : Flow) → Spends s f → Keeps s f
+Keeps-spends : (s : Serial) (f : Course) → Spends s f → Keeps s f
 Keeps-spends s starved p = p
 Keeps-spends s (goes t) p = p.0
 Keeps-spends s (refuses w t) p = p
@@ -231,7 +231,7 @@ end_of_script_ends w i s = end_of_script-ends (suc (left s)) w (goes_on (suc (le
 execute_ends : (w : World) (text : Option (List Statement)) (s : Serial) → Ends (Spends s) (λ n. execute n w text s)
 execute_ends w text s = execute-ends (suc (left s)) w (goes_on (suc (left s)) w) text s (omega arith)
 
-Spends-back : (s : Serial) (f : Flow) → Spends (inside s) f → Spends s (f then λ t. goes (back_at s t))
+Spends-back : (s : Serial) (f : Course) → Spends (inside s) f → Spends s (f then λ t. goes (back_at s t))
 Spends-back s starved p = p
 Spends-back s (goes t) p = p
 Spends-back s (refuses w t) p = p
@@ -271,7 +271,7 @@ unless_pending-lowers : (n : ℕ) (pending : Option (List ℕ)) (t : Serial) →
 unless_pending-lowers n None t h = (tt, omega arith)
 unless_pending-lowers n (Some name) t h = (refl, h)
 
-after_tag-lowers : (i : NodeId) (s : Serial) (f : Flow) → Keeps s f → Lowers (rank (tag_ended i s)) (after_script f)
+after_tag-lowers : (i : NodeId) (s : Serial) (f : Course) → Keeps s f → Lowers (rank (tag_ended i s)) (after_script f)
 after_tag-lowers i s starved k = k
 after_tag-lowers i s (goes t) k = unless_pending-lowers (rank (tag_ended i s)) t.side.pending t (omega arith)
 after_tag-lowers i s (refuses w t) k = (tt, omega arith)
@@ -283,7 +283,7 @@ pending-lowers n s t None e le h = (tt, omega arith)
 pending-lowers n s t (Some name) e le (inl lt) = (refl, omega arith)
 pending-lowers n s t (Some name) e le (inr same) = absurd (none-some name (sym same))
 
-after_file-lowers : (name : List ℕ) (s : Serial) (f : Flow) → s.side.pending ≡ None → Spends s f → Lowers (rank (awaits name s)) (after_script f)
+after_file-lowers : (name : List ℕ) (s : Serial) (f : Course) → s.side.pending ≡ None → Spends s f → Lowers (rank (awaits name s)) (after_script f)
 after_file-lowers name s starved e p = p
 after_file-lowers name s (goes t) e (le, inl lt) = pending-lowers _ s t t.side.pending refl le (inl lt)
 after_file-lowers name s (goes t) e (le, inr same) = pending-lowers _ s t t.side.pending refl le (inr (same ∙ e))

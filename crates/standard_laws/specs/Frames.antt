@@ -8,7 +8,7 @@
 -- How a program uses this. It holds a `Nest` (all but the page's part of `behind`, which stays the same). Its loop has one
 -- frame or more, and shows of every state x that it comes to
 --
---     (g : Flow) → NestComesTo w x g → TagComesTo w i x0 g         (or TextComesTo w text x0 g)
+--     (g : Course) → NestComesTo w x g → TagComesTo w i x0 g         (or TextComesTo w text x0 g)
 --
 -- where x0 is the state, without a frame, in which it was called. Each turn is one law below, which says: what comes of the
 -- state behind the turn comes of the state before it. The law of a refusal and `FramesEnd` give the flow itself:
@@ -39,7 +39,7 @@ use Rattle.standard.specs.Prepare.{Prepared, still, inline, external, prepare}
 use Rattle.standard.specs.Scripts.{file_statements}
 use Rattle.standard.specs.Statements.{statements}
 use Rattle.standard.specs.Parser.{Parser}
-use Rattle.standard.specs.Serial.{World, Serial, Flow, goes, refuses, ◌then◌, at_level, at_point, back_at, inside, write_limit, execute, run_statements, go_on, end_of_script}
+use Rattle.standard.specs.Serial.{World, Serial, Course, goes, refuses, ◌then◌, at_level, at_point, back_at, inside, write_limit, execute, run_statements, go_on, end_of_script}
 use Rattle.standard_laws.specs.Laws.{HasParsed, EndsIn, ScriptComesTo, FileComesTo}
 
 -- ---- the state
@@ -91,24 +91,24 @@ abbrev pub back_in : List Frame → List ℕ → Serial → Serial
 back_in fs behind s = at_level (length fs) (at_point (point_of fs behind) s)
 
 -- the parser goes on up to the insertion point, then the innermost script's statements run, then that script ends
-abbrev pub resume_in : ℕ → World → List Frame → List ℕ → Serial → Flow
+abbrev pub resume_in : ℕ → World → List Frame → List ℕ → Serial → Course
 resume_in n w [] behind s = goes s
 resume_in n w (f ∷ fs) behind s =
     go_on n w s.side.pending s then λ t. run_statements n w f.number f.list t then λ u. resume_in n w fs behind (back_in fs behind u)
 
-abbrev pub resume : ℕ → World → Nest → Flow
+abbrev pub resume : ℕ → World → Nest → Course
 resume n w x = resume_in n w x.frames x.behind (state_of x)
 
 -- what a state comes to, with enough fuel
-abbrev pub NestComesTo : World → Nest → Flow → Type 0
+abbrev pub NestComesTo : World → Nest → Course → Type 0
 NestComesTo w x = EndsIn (λ n. resume n w x)
 
 -- the same from the end tag of a script
-abbrev pub TagComesTo : World → NodeId → Nest → Flow → Type 0
+abbrev pub TagComesTo : World → NodeId → Nest → Course → Type 0
 TagComesTo w i x = EndsIn (λ n. end_of_script n w i (state_of x) then λ t. resume_in n w x.frames x.behind t)
 
 -- and from the beginning of a script's text
-abbrev pub TextComesTo : World → Option (List Statement) → Nest → Flow → Type 0
+abbrev pub TextComesTo : World → Option (List Statement) → Nest → Course → Type 0
 TextComesTo w text x = EndsIn (λ n. execute n w text (inside (state_of x)) then λ t. resume_in n w x.frames x.behind (back_at (state_of x) t))
 
 -- ---- at level 0
@@ -118,10 +118,10 @@ abbrev pub FramesEnd : Type 0
 FramesEnd = (w : World) (x : Nest) → x.frames ≡ [] → NestComesTo w x (goes (state_of x))
 
 abbrev pub ScriptsEnter : Type 0
-ScriptsEnter = (w : World) (i : NodeId) (x : Nest) (g : Flow) → x.frames ≡ [] → TagComesTo w i x g → ScriptComesTo w i (state_of x) g
+ScriptsEnter = (w : World) (i : NodeId) (x : Nest) (g : Course) → x.frames ≡ [] → TagComesTo w i x g → ScriptComesTo w i (state_of x) g
 
 abbrev pub FilesEnter : Type 0
-FilesEnter = (w : World) (bytes : List ℕ) (x : Nest) (g : Flow) → x.frames ≡ [] → TextComesTo w (file_statements bytes) x g → FileComesTo w bytes (state_of x) g
+FilesEnter = (w : World) (bytes : List ℕ) (x : Nest) (g : Course) → x.frames ≡ [] → TextComesTo w (file_statements bytes) x g → FileComesTo w bytes (state_of x) g
 
 -- ---- the end tag of a script
 
@@ -131,16 +131,16 @@ prepared_in i x = prepare x.doc.tree (node_of x.doc.bound i)
 
 -- it doesn't run
 abbrev pub StillTags : Type 0
-StillTags = (w : World) (i : NodeId) (x : Nest) (g : Flow) → prepared_in i x ≡ still → NestComesTo w x g → TagComesTo w i x g
+StillTags = (w : World) (i : NodeId) (x : Nest) (g : Course) → prepared_in i x ≡ still → NestComesTo w x g → TagComesTo w i x g
 
 -- it is external
 abbrev pub ExternalTags : Type 0
-ExternalTags = (w : World) (i : NodeId) (x : Nest) (name : List ℕ) (g : Flow) → prepared_in i x ≡ external name →
+ExternalTags = (w : World) (i : NodeId) (x : Nest) (name : List ℕ) (g : Course) → prepared_in i x ≡ external name →
     NestComesTo w (record x { pending = Some name }) g → TagComesTo w i x g
 
 -- its text runs
 abbrev pub InlineTags : Type 0
-InlineTags = (w : World) (i : NodeId) (x : Nest) (t : List ℕ) (g : Flow) → prepared_in i x ≡ inline t →
+InlineTags = (w : World) (i : NodeId) (x : Nest) (t : List ℕ) (g : Course) → prepared_in i x ≡ inline t →
     TextComesTo w (statements t) x g → TagComesTo w i x g
 
 -- ---- a text
@@ -154,11 +154,11 @@ abbrev pub begun : List Statement → Nest → Nest
 begun list x = record x { executed = suc x.executed; frames = record { number = suc x.executed; list = list; rest = [] } ∷ x.frames }
 
 abbrev pub OutsideTexts : Type 0
-OutsideTexts = (w : World) (text : Option (List Statement)) (x : Nest) (g : Flow) → text ≡ None →
+OutsideTexts = (w : World) (text : Option (List Statement)) (x : Nest) (g : Course) → text ≡ None →
     NestComesTo w (outside_language x) g → TextComesTo w text x g
 
 abbrev pub TextsBegin : Type 0
-TextsBegin = (w : World) (text : Option (List Statement)) (list : List Statement) (x : Nest) (g : Flow) → text ≡ Some list →
+TextsBegin = (w : World) (text : Option (List Statement)) (list : List Statement) (x : Nest) (g : Course) → text ≡ Some list →
     NestComesTo w (begun list x) g → TextComesTo w text x g
 
 -- ---- the parser takes what the innermost frame wrote
@@ -169,13 +169,13 @@ parsed_to p d left f fs x = record x { parser = p; doc = d; frames = record f { 
 
 -- all of it
 abbrev pub RestsEnd : Type 0
-RestsEnd = (w : World) (x : Nest) (f : Frame) (fs : List Frame) (p : Parser) (d : Doc) (left : List ℕ) (g : Flow) →
+RestsEnd = (w : World) (x : Nest) (f : Frame) (fs : List Frame) (p : Parser) (d : Doc) (left : List ℕ) (g : Course) →
     x.frames ≡ f ∷ fs → x.pending ≡ None → HasParsed w.entities x.parser x.doc f.rest p d left stop.InputEnd →
     NestComesTo w (parsed_to p d [] f fs x) g → NestComesTo w x g
 
 -- up to a script's end tag
 abbrev pub RestsStop : Type 0
-RestsStop = (w : World) (x : Nest) (f : Frame) (fs : List Frame) (p : Parser) (d : Doc) (left : List ℕ) (i : NodeId) (g : Flow) →
+RestsStop = (w : World) (x : Nest) (f : Frame) (fs : List Frame) (p : Parser) (d : Doc) (left : List ℕ) (i : NodeId) (g : Course) →
     x.frames ≡ f ∷ fs → x.pending ≡ None → HasParsed w.entities x.parser x.doc f.rest p d left (stop.Script i) →
     TagComesTo w i (parsed_to p d left f fs x) g → NestComesTo w x g
 
@@ -198,7 +198,7 @@ frame_ended rest [] x = record x { frames = []; behind = rest ++ x.behind }
 frame_ended rest (f ∷ fs) x = record x { frames = record f { rest = rest ++ f.rest } ∷ fs }
 
 abbrev pub FrameEnds : Type 0
-FrameEnds = (w : World) (x : Nest) (f : Frame) (fs : List Frame) (g : Flow) → x.frames ≡ f ∷ fs → f.list ≡ [] → Waits x.pending f.rest →
+FrameEnds = (w : World) (x : Nest) (f : Frame) (fs : List Frame) (g : Course) → x.frames ≡ f ∷ fs → f.list ≡ [] → Waits x.pending f.rest →
     NestComesTo w (frame_ended f.rest fs x) g → NestComesTo w x g
 
 -- a text was written
@@ -206,7 +206,7 @@ abbrev pub wrote : List ℕ → List Statement → Frame → List Frame → Nest
 wrote t list f fs x = record x { written = x.written + length t; frames = record f { list = list; rest = f.rest ++ t } ∷ fs }
 
 abbrev pub WritesFit : Type 0
-WritesFit = (w : World) (x : Nest) (f : Frame) (fs : List Frame) (t : List ℕ) (list : List Statement) (g : Flow) →
+WritesFit = (w : World) (x : Nest) (f : Frame) (fs : List Frame) (t : List ℕ) (list : List Statement) (g : Course) →
     x.frames ≡ f ∷ fs → f.list ≡ statement.Write t ∷ list → Waits x.pending f.rest → x.written + length t ≤ write_limit →
     NestComesTo w (wrote t list f fs x) g → NestComesTo w x g
 
@@ -221,7 +221,7 @@ abbrev pub removed : ℕ → List Statement → Frame → List Frame → Nest �
 removed e list f fs x = record x { doc = record x.doc { tree = detached x.doc.tree e }; frames = record f { list = list } ∷ fs }
 
 abbrev pub Removes : Type 0
-Removes = (w : World) (x : Nest) (f : Frame) (fs : List Frame) (v : List ℕ) (list : List Statement) (e : ℕ) (g : Flow) →
+Removes = (w : World) (x : Nest) (f : Frame) (fs : List Frame) (v : List ℕ) (list : List Statement) (e : ℕ) (g : Course) →
     x.frames ≡ f ∷ fs → f.list ≡ statement.Remove v ∷ list → Waits x.pending f.rest → find_id x.doc.tree v ≡ Some e →
     NestComesTo w (removed e list f fs x) g → NestComesTo w x g
 
@@ -230,12 +230,12 @@ abbrev pub has_read : ℕ → List Statement → Frame → List Frame → Nest �
 has_read e list f fs x = record x { lines = x.lines ++ line.Log f.number (outer_text x.doc.tree e) ∷ []; frames = record f { list = list } ∷ fs }
 
 abbrev pub ReadsById : Type 0
-ReadsById = (w : World) (x : Nest) (f : Frame) (fs : List Frame) (v : List ℕ) (list : List Statement) (e : ℕ) (g : Flow) →
+ReadsById = (w : World) (x : Nest) (f : Frame) (fs : List Frame) (v : List ℕ) (list : List Statement) (e : ℕ) (g : Course) →
     x.frames ≡ f ∷ fs → f.list ≡ statement.LogById v ∷ list → Waits x.pending f.rest → find_id x.doc.tree v ≡ Some e →
     NestComesTo w (has_read e list f fs x) g → NestComesTo w x g
 
 abbrev pub ReadsRoot : Type 0
-ReadsRoot = (w : World) (x : Nest) (f : Frame) (fs : List Frame) (list : List Statement) (e : ℕ) (g : Flow) →
+ReadsRoot = (w : World) (x : Nest) (f : Frame) (fs : List Frame) (list : List Statement) (e : ℕ) (g : Course) →
     x.frames ≡ f ∷ fs → f.list ≡ statement.LogRoot ∷ list → Waits x.pending f.rest → first_element x.doc.tree ≡ Some e →
     NestComesTo w (has_read e list f fs x) g → NestComesTo w x g
 
@@ -251,6 +251,6 @@ abbrev pub thrown : Frame → List Frame → Nest → Nest
 thrown f fs x = record x { lines = x.lines ++ line.Throw f.number ∷ []; frames = record f { list = [] } ∷ fs }
 
 abbrev pub Throws : Type 0
-Throws = (w : World) (x : Nest) (f : Frame) (fs : List Frame) (a : Statement) (list : List Statement) (g : Flow) →
+Throws = (w : World) (x : Nest) (f : Frame) (fs : List Frame) (a : Statement) (list : List Statement) (g : Course) →
     x.frames ≡ f ∷ fs → f.list ≡ a ∷ list → Waits x.pending f.rest → LacksElement x.doc.tree a →
     NestComesTo w (thrown f fs x) g → NestComesTo w x g

@@ -18,7 +18,7 @@ use Rattle.standard.specs.Prepare.{still, inline, external}
 use Rattle.standard.specs.Scripts.{got, missing, faulted, file_statements}
 use Rattle.standard.specs.Parser.{Parser, Parsed, parse, finish}
 use Rattle.standard.specs.Page.{Page}
-use Rattle.standard.specs.Serial.{World, fetched, Outcome, IsSerial, Advanced, advanced, advance, Serial, Flow, goes, refuses, starved, with_line, awaiting, one_more_executed, end_of_script, prepared, run_text, Moment, reading, tag_ended, awaits, over, behind_script, finished, refusal, taken, ended, Leads, Passes}
+use Rattle.standard.specs.Serial.{World, fetched, Outcome, IsSerial, Advanced, advanced, advance, Serial, Course, goes, refuses, starved, with_line, awaiting, one_more_executed, end_of_script, prepared, run_text, Moment, reading, tag_ended, awaits, over, behind_script, finished, refusal, taken, ended, Leads, Passes}
 use Rattle.standard.specs.Output.{line_text, output_with}
 
 -- ---- outcomes
@@ -112,16 +112,16 @@ OverIsSerial = (page : Page) (w : World) (o : Outcome) → Passes page w (over o
 -- ---- scripts
 
 -- a part of the parse that ran to its end
-abbrev pub HasEnded : Flow → Type 0
+abbrev pub HasEnded : Course → Type 0
 HasEnded starved = ⊥
 HasEnded _ = ⊤
 
 -- With fuel enough it runs to its end, and comes to that.
-abbrev pub EndsIn : (ℕ → Flow) → Flow → Type 0
+abbrev pub EndsIn : (ℕ → Course) → Course → Type 0
 EndsIn run f = (n : ℕ) × (run n ≡ f) × HasEnded f
 
 -- what a script whose end tag was met comes to; level and insertion point are then again those of s
-abbrev pub ScriptComesTo : World → NodeId → Serial → Flow → Type 0
+abbrev pub ScriptComesTo : World → NodeId → Serial → Course → Type 0
 ScriptComesTo w i s = EndsIn (λ n. end_of_script n w i s)
 
 -- The moment behind a script: it comes to that moment, or the parse is over.
@@ -158,7 +158,7 @@ AwaitsFault = (e : Ending) (w : World) (m : Moment) (name : List ℕ) (s : Seria
     Leads e w m (awaits name s) → fetched w name ≡ faulted → Leads e w m (over (refusal why.Fault s))
 
 -- what a file of these bytes comes to; level and insertion point are then again those of s
-abbrev pub FileComesTo : World → List ℕ → Serial → Flow → Type 0
+abbrev pub FileComesTo : World → List ℕ → Serial → Course → Type 0
 FileComesTo w bytes s = EndsIn (λ n. run_text n w (file_statements bytes) s)
 
 abbrev pub AwaitsGot : Type 0

@@ -5,7 +5,7 @@ ghost use Rattle.standard.specs.CommentStates as rows;
 ghost use Rattle.standard.specs.Step as steps;
 ghost use Rattle.char_class.specs.Steps.{Follows};
 
-use char_class::next::{Next, again, emit_comment, finish_after, to};
+use char_class::next::{Transition, again, emit_comment, finish_after, to};
 use char_class::shown;
 use html_types::{Class, CommentState, MarkState, NoMemory, Text, TokState, Token, Tokens};
 use std::alloc::Global;
@@ -17,7 +17,7 @@ pub fn comment_state_row(
     class: Class,
     c: char,
     out: &mut Tokens,
-) -> Result<Next, NoMemory>
+) -> Result<Transition, NoMemory>
     ensures { IfOk result (Follows (rows.comment_state_row state class c) out.old out.new) }
 {
     match state {
@@ -35,21 +35,21 @@ pub fn comment_state_row(
 }
 
 /// Switches to a state of comments.
-fn to_comment(state: CommentState, out: &mut Tokens) -> Result<Next, NoMemory>
+fn to_comment(state: CommentState, out: &mut Tokens) -> Result<Transition, NoMemory>
     ensures { IfOk result (Follows (steps.to (rows.in_comment state)) out.old out.new) }
 {
     to(TokState::Mark(MarkState::Comment(state)), out)
 }
 
 /// Reconsumes the character in a state of comments.
-fn again_in_comment(state: CommentState, out: &mut Tokens) -> Result<Next, NoMemory>
+fn again_in_comment(state: CommentState, out: &mut Tokens) -> Result<Transition, NoMemory>
     ensures { IfOk result (Follows (steps.again (rows.in_comment state)) out.old out.new) }
 {
     again(TokState::Mark(MarkState::Comment(state)), out)
 }
 
 /// Emits a comment as it is, at the end of the input.
-fn finish_comment(text: Text, out: &mut Tokens) -> Result<Next, NoMemory>
+fn finish_comment(text: Text, out: &mut Tokens) -> Result<Transition, NoMemory>
     ensures { IfOk result (Follows (rows.finish_comment text) out.old out.new) }
 {
     finish_after(Token::Comment(text), out)
@@ -80,7 +80,7 @@ fn comment_start_row(
     class: Class,
     c: char,
     out: &mut Tokens,
-) -> Result<Next, NoMemory>
+) -> Result<Transition, NoMemory>
     ensures { IfOk result (Follows (rows.comment_start_row class c) out.old out.new) }
 {
     match class {
@@ -97,7 +97,7 @@ fn comment_start_dash_row(
     class: Class,
     c: char,
     out: &mut Tokens,
-) -> Result<Next, NoMemory>
+) -> Result<Transition, NoMemory>
     ensures { IfOk result (Follows (rows.comment_start_dash_row class c) out.old out.new) }
 {
     let mut text = Text::new(alloc);
@@ -118,7 +118,7 @@ fn comment_inside_row(
     class: Class,
     c: char,
     out: &mut Tokens,
-) -> Result<Next, NoMemory>
+) -> Result<Transition, NoMemory>
     ensures { IfOk result (Follows (rows.comment_inside_row text class c) out.old out.new) }
 {
     match class {
@@ -141,7 +141,7 @@ fn comment_less_than_row(
     class: Class,
     c: char,
     out: &mut Tokens,
-) -> Result<Next, NoMemory>
+) -> Result<Transition, NoMemory>
     ensures { IfOk result (Follows (rows.comment_less_than_row text class c) out.old out.new) }
 {
     match class {
@@ -159,7 +159,7 @@ fn comment_less_than_row(
 }
 
 /// 13.2.5.47 Comment less-than sign bang state
-fn comment_bang_row(text: Text, class: Class, c: char, out: &mut Tokens) -> Result<Next, NoMemory>
+fn comment_bang_row(text: Text, class: Class, c: char, out: &mut Tokens) -> Result<Transition, NoMemory>
     ensures { IfOk result (Follows (rows.comment_bang_row text class c) out.old out.new) }
 {
     match class {
@@ -175,7 +175,7 @@ fn comment_bang_dash_row(
     class: Class,
     c: char,
     out: &mut Tokens,
-) -> Result<Next, NoMemory>
+) -> Result<Transition, NoMemory>
     ensures { IfOk result (Follows (rows.comment_bang_dash_row text class c) out.old out.new) }
 {
     match class {
@@ -191,7 +191,7 @@ fn comment_bang_dash_dash_row(
     class: Class,
     c: char,
     out: &mut Tokens,
-) -> Result<Next, NoMemory>
+) -> Result<Transition, NoMemory>
     ensures { IfOk result (Follows (rows.comment_bang_dash_dash_row text class c) out.old out.new) }
 {
     match class {
@@ -206,7 +206,7 @@ fn comment_end_dash_row(
     class: Class,
     c: char,
     out: &mut Tokens,
-) -> Result<Next, NoMemory>
+) -> Result<Transition, NoMemory>
     ensures { IfOk result (Follows (rows.comment_end_dash_row text class c) out.old out.new) }
 {
     match class {
@@ -225,7 +225,7 @@ fn comment_end_row(
     class: Class,
     c: char,
     out: &mut Tokens,
-) -> Result<Next, NoMemory>
+) -> Result<Transition, NoMemory>
     ensures { IfOk result (Follows (rows.comment_end_row text class c) out.old out.new) }
 {
     match class {
@@ -246,7 +246,7 @@ fn comment_end_bang_row(
     class: Class,
     c: char,
     out: &mut Tokens,
-) -> Result<Next, NoMemory>
+) -> Result<Transition, NoMemory>
     ensures { IfOk result (Follows (rows.comment_end_bang_row text class c) out.old out.new) }
 {
     match class {

@@ -8,7 +8,7 @@ ghost use Rattle.char_class.specs.Steps.{Follows};
 
 use crate::comment::comment_state_row;
 use crate::doctype::doctype_state_row;
-use char_class::next::{Next, again, emit_comment, finish_after, to};
+use char_class::next::{Transition, again, emit_comment, finish_after, to};
 use char_class::shown;
 use html_types::{
     Class, CommentState, DoctypeState, MarkState, NoMemory, Text, TokState, Token, Tokens,
@@ -22,7 +22,7 @@ pub fn step(
     class: Class,
     c: char,
     out: &mut Tokens,
-) -> Result<Next, NoMemory>
+) -> Result<Transition, NoMemory>
     ensures { IfOk result (Follows (rows.mark_row state class c) out.old out.new) }
 {
     match state {
@@ -41,7 +41,7 @@ fn bogus_comment_row(
     class: Class,
     c: char,
     out: &mut Tokens,
-) -> Result<Next, NoMemory>
+) -> Result<Transition, NoMemory>
     ensures { IfOk result (Follows (rows.bogus_comment_row text class c) out.old out.new) }
 {
     match class {
@@ -76,7 +76,7 @@ fn declaration_step(
     held: Text,
     seen: Text,
     out: &mut Tokens,
-) -> Result<Next, NoMemory>
+) -> Result<Transition, NoMemory>
     ensures { IfOk result (Follows (rows.declaration_step held seen) out.old out.new) }
 {
     let lower = seen.lower(alloc)?;
@@ -101,7 +101,7 @@ fn markup_declaration_open_row(
     class: Class,
     c: char,
     out: &mut Tokens,
-) -> Result<Next, NoMemory>
+) -> Result<Transition, NoMemory>
     ensures { IfOk result (Follows (rows.markup_declaration_open_row held class c) out.old out.new) }
 {
     match class {

@@ -8,7 +8,7 @@ ghost use Rattle.char_class.specs.Steps.{Follows};
 
 use crate::declaration::begins;
 use char_class::name_char;
-use char_class::next::{Next, again, emit, finish_after, to};
+use char_class::next::{Transition, again, emit, finish_after, to};
 use html_types::{
     Class, DoctypeState, MarkState, NoMemory, Quote, Text, TextState, TokState, Token, Tokens,
 };
@@ -21,7 +21,7 @@ pub fn doctype_state_row(
     class: Class,
     c: char,
     out: &mut Tokens,
-) -> Result<Next, NoMemory>
+) -> Result<Transition, NoMemory>
     ensures { IfOk result (Follows (rows.doctype_state_row state class c) out.old out.new) }
 {
     match state {
@@ -55,35 +55,35 @@ pub fn doctype_state_row(
 }
 
 /// Switches to a state of doctypes.
-fn to_doctype(state: DoctypeState, out: &mut Tokens) -> Result<Next, NoMemory>
+fn to_doctype(state: DoctypeState, out: &mut Tokens) -> Result<Transition, NoMemory>
     ensures { IfOk result (Follows (steps.to (rows.in_doctype state)) out.old out.new) }
 {
     to(TokState::Mark(MarkState::Doctype(state)), out)
 }
 
 /// Reconsumes the character in a state of doctypes.
-fn again_in_doctype(state: DoctypeState, out: &mut Tokens) -> Result<Next, NoMemory>
+fn again_in_doctype(state: DoctypeState, out: &mut Tokens) -> Result<Transition, NoMemory>
     ensures { IfOk result (Follows (steps.again (rows.in_doctype state)) out.old out.new) }
 {
     again(TokState::Mark(MarkState::Doctype(state)), out)
 }
 
 /// Emits the doctype, and switches to the data state.
-fn emit_doctype(name: Text, force_quirks: bool, out: &mut Tokens) -> Result<Next, NoMemory>
+fn emit_doctype(name: Text, force_quirks: bool, out: &mut Tokens) -> Result<Transition, NoMemory>
     ensures { IfOk result (Follows (rows.emit_doctype name force_quirks) out.old out.new) }
 {
     emit(Token::Doctype { name, force_quirks }, TextState::Data, out)
 }
 
 /// Emits the doctype at the end of the input.
-fn finish_doctype(name: Text, force_quirks: bool, out: &mut Tokens) -> Result<Next, NoMemory>
+fn finish_doctype(name: Text, force_quirks: bool, out: &mut Tokens) -> Result<Transition, NoMemory>
     ensures { IfOk result (Follows (rows.finish_doctype name force_quirks) out.old out.new) }
 {
     finish_after(Token::Doctype { name, force_quirks }, out)
 }
 
 /// 13.2.5.53 DOCTYPE state
-fn doctype_row(alloc: Global, class: Class, c: char, out: &mut Tokens) -> Result<Next, NoMemory>
+fn doctype_row(alloc: Global, class: Class, c: char, out: &mut Tokens) -> Result<Transition, NoMemory>
     ensures { IfOk result (Follows (rows.doctype_row class c) out.old out.new) }
 {
     match class {
@@ -99,7 +99,7 @@ fn before_doctype_name_row(
     class: Class,
     c: char,
     out: &mut Tokens,
-) -> Result<Next, NoMemory>
+) -> Result<Transition, NoMemory>
     ensures { IfOk result (Follows (rows.before_doctype_name_row class c) out.old out.new) }
 {
     match class {
@@ -120,7 +120,7 @@ fn doctype_name_row(
     class: Class,
     c: char,
     out: &mut Tokens,
-) -> Result<Next, NoMemory>
+) -> Result<Transition, NoMemory>
     ensures { IfOk result (Follows (rows.doctype_name_row name class c) out.old out.new) }
 {
     match class {
@@ -144,7 +144,7 @@ fn begins_keyword(seen: &Text) -> bool
 
 /// Behind the letters `seen`, in lower case: on with `public` or `system`, or nothing of the kind.
 #[tactic(auto, using(crate::proofs::Fronts::chars_public, crate::proofs::Fronts::chars_system))]
-fn keyword_step(name: Text, seen: Text, out: &mut Tokens) -> Result<Next, NoMemory>
+fn keyword_step(name: Text, seen: Text, out: &mut Tokens) -> Result<Transition, NoMemory>
     ensures { IfOk result (Follows (rows.keyword_step name seen) out.old out.new) }
 {
     if seen.is("public") {
@@ -165,7 +165,7 @@ fn after_doctype_name_row(
     class: Class,
     c: char,
     out: &mut Tokens,
-) -> Result<Next, NoMemory>
+) -> Result<Transition, NoMemory>
     ensures { IfOk result (Follows (rows.after_doctype_name_row name class c) out.old out.new) }
 {
     match class {
@@ -187,7 +187,7 @@ fn doctype_keyword_row(
     class: Class,
     c: char,
     out: &mut Tokens,
-) -> Result<Next, NoMemory>
+) -> Result<Transition, NoMemory>
     ensures { IfOk result (Follows (rows.doctype_keyword_row name held class c) out.old out.new) }
 {
     match class {
@@ -205,7 +205,7 @@ fn after_public_keyword_row(
     class: Class,
     c: char,
     out: &mut Tokens,
-) -> Result<Next, NoMemory>
+) -> Result<Transition, NoMemory>
     ensures { IfOk result (Follows (rows.after_public_keyword_row name class c) out.old out.new) }
 {
     match class {
@@ -225,7 +225,7 @@ fn public_identifier_row(
     class: Class,
     c: char,
     out: &mut Tokens,
-) -> Result<Next, NoMemory>
+) -> Result<Transition, NoMemory>
     ensures { IfOk result (Follows (rows.public_identifier_row name quote class c) out.old out.new) }
 {
     match (quote, class) {
@@ -244,7 +244,7 @@ fn after_public_identifier_row(
     class: Class,
     c: char,
     out: &mut Tokens,
-) -> Result<Next, NoMemory>
+) -> Result<Transition, NoMemory>
     ensures { IfOk result (Follows (rows.after_public_identifier_row name class c) out.old out.new) }
 {
     match class {
@@ -263,7 +263,7 @@ fn after_system_keyword_row(
     class: Class,
     c: char,
     out: &mut Tokens,
-) -> Result<Next, NoMemory>
+) -> Result<Transition, NoMemory>
     ensures { IfOk result (Follows (rows.after_system_keyword_row name class c) out.old out.new) }
 {
     match class {
@@ -283,7 +283,7 @@ fn system_identifier_row(
     class: Class,
     c: char,
     out: &mut Tokens,
-) -> Result<Next, NoMemory>
+) -> Result<Transition, NoMemory>
     ensures { IfOk result (Follows (rows.system_identifier_row name quote class c) out.old out.new) }
 {
     match (quote, class) {
@@ -302,7 +302,7 @@ fn after_system_identifier_row(
     class: Class,
     c: char,
     out: &mut Tokens,
-) -> Result<Next, NoMemory>
+) -> Result<Transition, NoMemory>
     ensures { IfOk result (Follows (rows.after_system_identifier_row name class c) out.old out.new) }
 {
     match class {
@@ -320,7 +320,7 @@ fn bogus_doctype_row(
     class: Class,
     c: char,
     out: &mut Tokens,
-) -> Result<Next, NoMemory>
+) -> Result<Transition, NoMemory>
     ensures { IfOk result (Follows (rows.bogus_doctype_row name force_quirks class c) out.old out.new) }
 {
     match class {

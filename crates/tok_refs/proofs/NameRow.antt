@@ -5,7 +5,7 @@ use Rattle.html_types.specs.declared.token.Token.{Token}
 use Rattle.html_types.specs.declared.class.Class.{Class}
 use Rattle.html_types.specs.declared.class.Class.TheVariants.{InputEnd}
 use Rattle.html_types.specs.declared.reference_state.ReturnState.{ReturnState}
-use Rattle.char_class.specs.declared.next.Next.{Next}
+use Rattle.char_class.specs.declared.next.Transition.{Transition}
 use Rattle.char_class.specs.Steps.{Follows}
 use Rattle.standard.specs.Entities.{Entities, begins_some, longest}
 use Rattle.standard.specs.ReferenceStates.{named_row, named_step}
@@ -29,7 +29,7 @@ none_goes_on r best false is told = refl
 none_goes_on r best true is told = let more : r ≡ More = told.1 refl in cc
 
 -- the code did what the row says
-pub IfOk-row : (r : Result Next NoMemory) (before after : List Token) (es : Entities) (back : ReturnState) (held : List ℕ) (k : Class) (c : ℕ)
+pub IfOk-row : (r : Result Transition NoMemory) (before after : List Token) (es : Entities) (back : ReturnState) (held : List ℕ) (k : Class) (c : ℕ)
     → named_step back held (longest held es) k ≡ named_row es back held k c
     → IfOk r (Follows (named_step back held (longest held es) k) before after) → IfOk r (Follows (named_row es back held k c) before after)
 IfOk-row r before after es back held k c e h = subst (λ s. IfOk r (Follows s before after)) e h

@@ -6,7 +6,7 @@ ghost use Rattle.char_class.specs.Steps.{Follows};
 ghost use Rattle.standard.specs.ReferenceStates as rows;
 ghost use Rattle.html_types.specs.declared.token.Token.TheVariants.{Character};
 
-use char_class::Next;
+use char_class::Transition;
 use html_types::{
     Attribute, NoMemory, RawText, ReturnState, TagState, TextState, TokState, Token, Tokens,
 };
@@ -41,7 +41,7 @@ pub fn put(
     text: &str,
     reconsumes: bool,
     out: &mut Tokens,
-) -> Result<Next, NoMemory>
+) -> Result<Transition, NoMemory>
     ensures { IfOk result (Follows (rows.literally back (chars text.now) reconsumes) out.old out.new) }
 {
     let state = match back {
@@ -62,14 +62,14 @@ pub fn put(
             TokState::Tag(TagState::AttributeValueUnquoted(tag, longer))
         }
     };
-    Ok(Next {
+    Ok(Transition {
         state,
         again: reconsumes,
     })
 }
 
 /// Returns from what was no reference: its text stands as it was written.
-pub fn literally(back: ReturnState, text: &str, out: &mut Tokens) -> Result<Next, NoMemory>
+pub fn literally(back: ReturnState, text: &str, out: &mut Tokens) -> Result<Transition, NoMemory>
     ensures { IfOk result (Follows (rows.literally back (chars text.now) true) out.old out.new) }
 {
     put(back, text, true, out)

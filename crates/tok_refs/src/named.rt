@@ -10,7 +10,7 @@ ghost use Rattle.entity_table.specs.View.{characters_in};
 
 use crate::literal::literally;
 use char_class::class_of;
-use char_class::next::{Next, to};
+use char_class::next::{Transition, to};
 use entity_table::{Characters, Cursor, Match, Step, Table};
 use html_types::{Class, NoMemory, ReferenceState, ReturnState, Text, TokState, Tokens};
 use std::alloc::Global;
@@ -24,7 +24,7 @@ pub fn named_row(
     class: Class,
     c: char,
     out: &mut Tokens,
-) -> Result<Next, NoMemory>
+) -> Result<Transition, NoMemory>
     ensures { IfOk result (Follows (rows.named_row table.now back held class c) out.old out.new) }
 {
     // The state holds the text alone, so that equal states are equal data.
@@ -49,7 +49,7 @@ fn end_of_name(
     best: Option<Match>,
     class: Class,
     out: &mut Tokens,
-) -> Result<Next, NoMemory>
+) -> Result<Transition, NoMemory>
     ensures { (found : Option Entity) → Tells found best
         → IfOk result (Follows (rows.named_step back held.now found class) out.old out.new) }
 {
@@ -67,7 +67,7 @@ fn end_of_match(
     found: Match,
     class: Class,
     out: &mut Tokens,
-) -> Result<Next, NoMemory>
+) -> Result<Transition, NoMemory>
     ensures { (e : Entity) → IsMatch e found
         → IfOk result (Follows (rows.named_step back held.now (Option.Some e) class) out.old out.new) }
 {

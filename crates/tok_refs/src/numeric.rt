@@ -6,7 +6,7 @@ ghost use Rattle.char_class.specs.Steps.{Follows};
 ghost use Rattle.standard.specs.ReferenceStates as rows;
 
 use crate::literal::{literally, put};
-use char_class::next::{Next, again, to};
+use char_class::next::{Transition, again, to};
 use html_types::{Class, NoMemory, ReferenceState, ReturnState, Text, TokState, Tokens};
 use std::alloc::Global;
 
@@ -20,7 +20,7 @@ pub fn numeric_row(
     class: Class,
     c: char,
     out: &mut Tokens,
-) -> Result<Next, NoMemory>
+) -> Result<Transition, NoMemory>
     ensures { IfOk result (Follows (rows.numeric_row back class c) out.old out.new) }
 {
     match class {
@@ -41,7 +41,7 @@ pub fn hexadecimal_start_row(
     class: Class,
     c: char,
     out: &mut Tokens,
-) -> Result<Next, NoMemory>
+) -> Result<Transition, NoMemory>
     ensures { IfOk result (Follows (rows.hexadecimal_start_row back x class c) out.old out.new) }
 {
     match class {
@@ -58,7 +58,7 @@ pub fn hexadecimal_start_row(
 }
 
 // No digit stands behind `&#x`.
-fn no_digits(alloc: Global, back: ReturnState, x: char, out: &mut Tokens) -> Result<Next, NoMemory>
+fn no_digits(alloc: Global, back: ReturnState, x: char, out: &mut Tokens) -> Result<Transition, NoMemory>
     ensures { IfOk result (Follows (rows.literally back (38 ∷ 35 ∷ x ∷ []) true) out.old out.new) }
 {
     let mut text = Text::new(alloc);
@@ -76,7 +76,7 @@ pub fn hexadecimal_row(
     class: Class,
     c: char,
     out: &mut Tokens,
-) -> Result<Next, NoMemory>
+) -> Result<Transition, NoMemory>
     ensures { IfOk result (Follows (rows.hexadecimal_row back code class c) out.old out.new) }
 {
     match class {
@@ -102,7 +102,7 @@ pub fn decimal_row(
     class: Class,
     c: char,
     out: &mut Tokens,
-) -> Result<Next, NoMemory>
+) -> Result<Transition, NoMemory>
     ensures { IfOk result (Follows (rows.decimal_row back code class c) out.old out.new) }
 {
     match class {
@@ -145,7 +145,7 @@ fn end_of_digits(
     code: u32,
     reconsumes: bool,
     out: &mut Tokens,
-) -> Result<Next, NoMemory>
+) -> Result<Transition, NoMemory>
     ensures { IfOk result (Follows (rows.referred back code reconsumes) out.old out.new) }
 {
     let mut text = Text::new(alloc);

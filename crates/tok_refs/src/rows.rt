@@ -7,7 +7,7 @@ ghost use Rattle.standard.specs.ReferenceStates as rows;
 use crate::literal::literally;
 use crate::named::named_row;
 use crate::numeric::{decimal_row, hexadecimal_row, hexadecimal_start_row, numeric_row};
-use char_class::next::{Next, again, to};
+use char_class::next::{Transition, again, to};
 use entity_table::Table;
 use html_types::{Class, NoMemory, ReferenceState, ReturnState, Text, TokState, Tokens};
 use std::alloc::Global;
@@ -20,7 +20,7 @@ pub fn step(
     class: Class,
     c: char,
     out: &mut Tokens,
-) -> Result<Next, NoMemory>
+) -> Result<Transition, NoMemory>
     ensures { IfOk result (Follows (rows.reference_row table.now state class c) out.old out.new) }
 {
     match state {
@@ -45,7 +45,7 @@ fn ampersand_row(
     class: Class,
     c: char,
     out: &mut Tokens,
-) -> Result<Next, NoMemory>
+) -> Result<Transition, NoMemory>
     ensures { IfOk result (Follows (rows.ampersand_row back class c) out.old out.new) }
 {
     match class {

@@ -7,7 +7,7 @@ ghost use Rattle.char_class.specs.Steps.{Follows};
 use crate::parts::{bare, fresh, longer_value, with_attribute, with_bare};
 use char_class::name_char;
 use char_class::next::{
-    Next, again, data_state, emit_again, emit_tag, emit_tag_as, finish, finish_after, new_tag, to,
+    Transition, again, data_state, emit_again, emit_tag, emit_tag_as, finish, finish_after, new_tag, to,
 };
 use html_types::{
     Attribute, Class, MarkState, NoMemory, PartialTag, Quote, ReferenceState, ReturnState, TagKind,
@@ -22,7 +22,7 @@ pub fn step(
     class: Class,
     c: char,
     out: &mut Tokens,
-) -> Result<Next, NoMemory>
+) -> Result<Transition, NoMemory>
     ensures { IfOk result (Follows (rows.tag_row state class c) out.old out.new) }
 {
     match state {
@@ -47,7 +47,7 @@ pub fn step(
 }
 
 /// 13.2.5.6 Tag open state
-fn tag_open_row(alloc: Global, class: Class, c: char, out: &mut Tokens) -> Result<Next, NoMemory>
+fn tag_open_row(alloc: Global, class: Class, c: char, out: &mut Tokens) -> Result<Transition, NoMemory>
     ensures { IfOk result (Follows (rows.tag_open_row class c) out.old out.new) }
 {
     match class {
@@ -75,7 +75,7 @@ fn end_tag_open_row(
     class: Class,
     c: char,
     out: &mut Tokens,
-) -> Result<Next, NoMemory>
+) -> Result<Transition, NoMemory>
     ensures { IfOk result (Follows (rows.end_tag_open_row class c) out.old out.new) }
 {
     match class {
@@ -101,7 +101,7 @@ fn tag_name_row(
     class: Class,
     c: char,
     out: &mut Tokens,
-) -> Result<Next, NoMemory>
+) -> Result<Transition, NoMemory>
     ensures { IfOk result (Follows (rows.tag_name_row tag class c) out.old out.new) }
 {
     match class {
@@ -123,7 +123,7 @@ fn before_attribute_name_row(
     class: Class,
     c: char,
     out: &mut Tokens,
-) -> Result<Next, NoMemory>
+) -> Result<Transition, NoMemory>
     ensures { IfOk result (Follows (rows.before_attribute_name_row tag class c) out.old out.new) }
 {
     match class {
@@ -150,7 +150,7 @@ fn attribute_name_row(
     class: Class,
     c: char,
     out: &mut Tokens,
-) -> Result<Next, NoMemory>
+) -> Result<Transition, NoMemory>
     ensures { IfOk result (Follows (rows.attribute_name_row tag name class c) out.old out.new) }
 {
     match class {
@@ -180,7 +180,7 @@ fn after_attribute_name_row(
     class: Class,
     c: char,
     out: &mut Tokens,
-) -> Result<Next, NoMemory>
+) -> Result<Transition, NoMemory>
     ensures { IfOk result (Follows (rows.after_attribute_name_row tag held class c) out.old out.new) }
 {
     match class {
@@ -211,7 +211,7 @@ fn before_attribute_value_row(
     class: Class,
     c: char,
     out: &mut Tokens,
-) -> Result<Next, NoMemory>
+) -> Result<Transition, NoMemory>
     ensures { IfOk result (Follows (rows.before_attribute_value_row tag held class c) out.old out.new) }
 {
     match class {
@@ -248,7 +248,7 @@ fn quoted_row(
     class: Class,
     c: char,
     out: &mut Tokens,
-) -> Result<Next, NoMemory>
+) -> Result<Transition, NoMemory>
     ensures { IfOk result (Follows (rows.quoted_row tag held quote class c) out.old out.new) }
 {
     match (quote, class) {
@@ -278,7 +278,7 @@ fn unquoted_row(
     class: Class,
     c: char,
     out: &mut Tokens,
-) -> Result<Next, NoMemory>
+) -> Result<Transition, NoMemory>
     ensures { IfOk result (Follows (rows.unquoted_row tag held class c) out.old out.new) }
 {
     match class {
@@ -308,7 +308,7 @@ fn after_quoted_row(
     class: Class,
     c: char,
     out: &mut Tokens,
-) -> Result<Next, NoMemory>
+) -> Result<Transition, NoMemory>
     ensures { IfOk result (Follows (rows.after_quoted_row tag class c) out.old out.new) }
 {
     match class {
@@ -326,7 +326,7 @@ fn self_closing_row(
     class: Class,
     c: char,
     out: &mut Tokens,
-) -> Result<Next, NoMemory>
+) -> Result<Transition, NoMemory>
     ensures { IfOk result (Follows (rows.self_closing_row tag class c) out.old out.new) }
 {
     match class {

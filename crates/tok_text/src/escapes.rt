@@ -6,13 +6,13 @@ ghost use Rattle.standard.specs.EscapeStates as rows;
 ghost use Rattle.standard.specs.Step as steps;
 ghost use Rattle.char_class.specs.Steps.{Follows};
 
-use char_class::next::{Next, again, emit, finish, to};
+use char_class::next::{Transition, again, emit, finish, to};
 use char_class::{name_char, shown};
 use html_types::{Class, NoMemory, RawText, Text, TextState, TokState, Token, Tokens, Word};
 use std::alloc::Global;
 
 /// Reconsumes the character in a state of text.
-fn again_in(state: TextState, out: &mut Tokens) -> Result<Next, NoMemory>
+fn again_in(state: TextState, out: &mut Tokens) -> Result<Transition, NoMemory>
     ensures { IfOk result (Follows (steps.again (steps.in_text state)) out.old out.new) }
 {
     again(TokState::Text(state), out)
@@ -31,7 +31,7 @@ pub fn escape_start_row(
     class: Class,
     c: char,
     out: &mut Tokens,
-) -> Result<Next, NoMemory>
+) -> Result<Transition, NoMemory>
     ensures { IfOk result (Follows (rows.escape_start_row last class c) out.old out.new) }
 {
     match class {
@@ -46,7 +46,7 @@ pub fn escape_start_dash_row(
     class: Class,
     c: char,
     out: &mut Tokens,
-) -> Result<Next, NoMemory>
+) -> Result<Transition, NoMemory>
     ensures { IfOk result (Follows (rows.escape_start_dash_row last class c) out.old out.new) }
 {
     match class {
@@ -61,7 +61,7 @@ pub fn escaped_dash_row(
     class: Class,
     c: char,
     out: &mut Tokens,
-) -> Result<Next, NoMemory>
+) -> Result<Transition, NoMemory>
     ensures { IfOk result (Follows (rows.escaped_dash_row last class c) out.old out.new) }
 {
     match class {
@@ -85,7 +85,7 @@ pub fn escaped_dash_dash_row(
     class: Class,
     c: char,
     out: &mut Tokens,
-) -> Result<Next, NoMemory>
+) -> Result<Transition, NoMemory>
     ensures { IfOk result (Follows (rows.escaped_dash_dash_row last class c) out.old out.new) }
 {
     match class {
@@ -115,7 +115,7 @@ pub fn double_escape_start_row(
     class: Class,
     c: char,
     out: &mut Tokens,
-) -> Result<Next, NoMemory>
+) -> Result<Transition, NoMemory>
     ensures { IfOk result (Follows (rows.double_escape_start_row last name class c) out.old out.new) }
 {
     match class {
@@ -148,7 +148,7 @@ pub fn double_escaped_row(
     class: Class,
     c: char,
     out: &mut Tokens,
-) -> Result<Next, NoMemory>
+) -> Result<Transition, NoMemory>
     ensures { IfOk result (Follows (rows.double_escaped_row last class c) out.old out.new) }
 {
     match class {
@@ -173,7 +173,7 @@ pub fn double_escaped_dash_row(
     class: Class,
     c: char,
     out: &mut Tokens,
-) -> Result<Next, NoMemory>
+) -> Result<Transition, NoMemory>
     ensures { IfOk result (Follows (rows.double_escaped_dash_row last class c) out.old out.new) }
 {
     match class {
@@ -202,7 +202,7 @@ pub fn double_escaped_dash_dash_row(
     class: Class,
     c: char,
     out: &mut Tokens,
-) -> Result<Next, NoMemory>
+) -> Result<Transition, NoMemory>
     ensures { IfOk result (Follows (rows.double_escaped_dash_dash_row last class c) out.old out.new) }
 {
     match class {
@@ -237,7 +237,7 @@ pub fn double_escaped_less_than_row(
     class: Class,
     c: char,
     out: &mut Tokens,
-) -> Result<Next, NoMemory>
+) -> Result<Transition, NoMemory>
     ensures { IfOk result (Follows (rows.double_escaped_less_than_row last class c) out.old out.new) }
 {
     match class {
@@ -257,7 +257,7 @@ pub fn double_escape_end_row(
     class: Class,
     c: char,
     out: &mut Tokens,
-) -> Result<Next, NoMemory>
+) -> Result<Transition, NoMemory>
     ensures { IfOk result (Follows (rows.double_escape_end_row last name class c) out.old out.new) }
 {
     match class {

@@ -9,7 +9,7 @@ use crate::escapes::{
     double_escaped_dash_row, double_escaped_less_than_row, double_escaped_row,
     escape_start_dash_row, escape_start_row, escaped_dash_dash_row, escaped_dash_row,
 };
-use char_class::next::{Next, again, emit, emit_again, emit_tag, finish, new_tag, to};
+use char_class::next::{Transition, again, emit, emit_again, emit_tag, finish, new_tag, to};
 use char_class::shown;
 use html_types::{
     Class, NoMemory, PartialTag, RawText, ReferenceState, ReturnState, TagKind, TagState, Text,
@@ -24,7 +24,7 @@ pub fn step(
     class: Class,
     c: char,
     out: &mut Tokens,
-) -> Result<Next, NoMemory>
+) -> Result<Transition, NoMemory>
     ensures { IfOk result (Follows (rows.text_row state class c) out.old out.new) }
 {
     match state {
@@ -58,7 +58,7 @@ pub fn step(
 }
 
 /// 13.2.5.1 Data state
-fn data_row(class: Class, c: char, out: &mut Tokens) -> Result<Next, NoMemory>
+fn data_row(class: Class, c: char, out: &mut Tokens) -> Result<Transition, NoMemory>
     ensures { IfOk result (Follows (rows.data_row class c) out.old out.new) }
 {
     match class {
@@ -79,7 +79,7 @@ fn raw_row(
     class: Class,
     c: char,
     out: &mut Tokens,
-) -> Result<Next, NoMemory>
+) -> Result<Transition, NoMemory>
     ensures { IfOk result (Follows (rows.raw_row raw last class c) out.old out.new) }
 {
     match (raw, class) {
@@ -99,7 +99,7 @@ fn raw_row(
 }
 
 /// 13.2.5.5 PLAINTEXT state
-fn plaintext_row(class: Class, c: char, out: &mut Tokens) -> Result<Next, NoMemory>
+fn plaintext_row(class: Class, c: char, out: &mut Tokens) -> Result<Transition, NoMemory>
     ensures { IfOk result (Follows (rows.plaintext_row class c) out.old out.new) }
 {
     match class {
@@ -116,7 +116,7 @@ fn raw_less_than_row(
     class: Class,
     c: char,
     out: &mut Tokens,
-) -> Result<Next, NoMemory>
+) -> Result<Transition, NoMemory>
     ensures { IfOk result (Follows (rows.raw_less_than_row raw last class c) out.old out.new) }
 {
     match (raw, class) {
@@ -145,7 +145,7 @@ fn raw_end_tag_open_row(
     class: Class,
     c: char,
     out: &mut Tokens,
-) -> Result<Next, NoMemory>
+) -> Result<Transition, NoMemory>
     ensures { IfOk result (Follows (rows.raw_end_tag_open_row raw last class c) out.old out.new) }
 {
     match class {
@@ -179,7 +179,7 @@ fn no_end_tag(
     last: Option<Word>,
     written: &Text,
     out: &mut Tokens,
-) -> Result<Next, NoMemory>
+) -> Result<Transition, NoMemory>
     ensures { IfOk result (Follows (rows.no_end_tag raw last written.now) out.old out.new) }
 {
     out.push(Token::Character('<'))?;
@@ -217,7 +217,7 @@ fn raw_end_tag_name_row(
     class: Class,
     c: char,
     out: &mut Tokens,
-) -> Result<Next, NoMemory>
+) -> Result<Transition, NoMemory>
     ensures { IfOk result (Follows (rows.raw_end_tag_name_row raw last written class c) out.old out.new) }
 {
     match class {

@@ -4,7 +4,7 @@ use crate::spelling::{MANY, spelling};
 use entity_table::Table;
 use html_types::{NoMemory, RawText, TextState, TokState, Tokens, Word, eq_state};
 use std::alloc::Global;
-use tokenizer::{Pause, Ran, Tokenizer};
+use tokenizer::{Pause, Paused, Tokenizer};
 
 /// Where the tokenizer begins.
 #[derive(Clone, Copy)]
@@ -70,7 +70,7 @@ fn read(
         let Some((_, rest)) = piece.split_at_checked(place) else {
             break;
         };
-        let Ran { pause, used } = tokenizer.run(alloc, table, rest)?;
+        let Paused { pause, used } = tokenizer.run(alloc, table, rest)?;
         place = place.saturating_add(used);
         match pause {
             Pause::Token(token) => tokens.push(token)?,

@@ -4,7 +4,7 @@ use Rattle.html_types.specs.declared.memory.NoMemory.{NoMemory}
 use Rattle.html_types.specs.declared.token.Token.{Token}
 use Rattle.html_types.specs.declared.state.TokState.{TokState}
 use Rattle.html_types.specs.declared.class.Class.{Class}
-use Rattle.char_class.specs.declared.next.Next.{Next}
+use Rattle.char_class.specs.declared.next.Transition.{Transition}
 use Rattle.char_class.specs.Steps.{Follows}
 use Rattle.standard.specs.Entities.{Entities}
 use Rattle.standard.specs.Tokenizer.{Reached, row, settle}
@@ -12,7 +12,7 @@ use Rattle.tokenizer_laws.proofs.SettleLemmas.{settle-again, settle-done}
 use Rattle.tokenizer.specs.Adds.{Adds}
 
 -- the code did a row, and is done
-pub Adds-from_last : {before after : List Token} {next : Next} (es : Entities) (n : ℕ) (s : TokState) (k : Class) (c : ℕ) → 0 < n → Follows (row es s k c) before after next → next.again ≡ false → Adds (settle es n s k c) before after next.state
+pub Adds-from_last : {before after : List Token} {next : Transition} (es : Entities) (n : ℕ) (s : TokState) (k : Class) (c : ℕ) → 0 < n → Follows (row es s k c) before after next → next.again ≡ false → Adds (settle es n s k c) before after next.state
 Adds-from_last {before} es n s k c h f a =
     let q = settle-done es n s k c h (sym f.again ∙ a) in
     record {
@@ -21,7 +21,7 @@ Adds-from_last {before} es n s k c h f a =
     }
 
 -- the code did a row, and read again
-Adds-from_more : {before middle after : List Token} {next : Next} {now : TokState} (es : Entities) (n : ℕ) (s : TokState) (k : Class) (c : ℕ) → 0 < n → Follows (row es s k c) before middle next → next.again ≡ true → Adds (settle es (n - 1) next.state k c) middle after now → Adds (settle es n s k c) before after now
+Adds-from_more : {before middle after : List Token} {next : Transition} {now : TokState} (es : Entities) (n : ℕ) (s : TokState) (k : Class) (c : ℕ) → 0 < n → Follows (row es s k c) before middle next → next.again ≡ true → Adds (settle es (n - 1) next.state k c) middle after now → Adds (settle es n s k c) before after now
 Adds-from_more {before} {middle} {next = next} es n s k c h f a x =
     let q = settle-again es n s k c h (sym f.again ∙ a) in
     let rest = settle es (n - 1) (row es s k c).state k c in
@@ -32,6 +32,6 @@ Adds-from_more {before} {middle} {next = next} es n s k c h f a x =
           ∙ append_assoc before (row es s k c).tokens rest.tokens ∙ ap (λ (m : Reached). before ++ m.tokens) (sym q);
     }
 
-pub IfOk-from_more : {before middle : List Token} {next : Next} (after : List Token) (r : Result TokState NoMemory) (es : Entities) (n : ℕ) (s : TokState) (k : Class) (c : ℕ) → 0 < n → Follows (row es s k c) before middle next → next.again ≡ true → IfOk r (Adds (settle es (n - 1) next.state k c) middle after) → IfOk r (Adds (settle es n s k c) before after)
+pub IfOk-from_more : {before middle : List Token} {next : Transition} (after : List Token) (r : Result TokState NoMemory) (es : Entities) (n : ℕ) (s : TokState) (k : Class) (c : ℕ) → 0 < n → Follows (row es s k c) before middle next → next.again ≡ true → IfOk r (Adds (settle es (n - 1) next.state k c) middle after) → IfOk r (Adds (settle es n s k c) before after)
 IfOk-from_more after (Ok now) es n s k c h f a x = Adds-from_more es n s k c h f a x
 IfOk-from_more after (Err e) es n s k c h f a x = tt

@@ -4,7 +4,7 @@ use Rattle.standard.specs.Entities.{Entities}
 use Rattle.standard.specs.Tokenizer.{Reached, onward}
 use Rattle.tokenizer.specs.declared.run.Pause.{Pause}
 use Rattle.tokenizer.specs.declared.run.Pause.TheVariants.{Token, InputEnd}
-use Rattle.tokenizer.specs.declared.run.Ran.{Ran}
+use Rattle.tokenizer.specs.declared.run.Paused.{Paused}
 
 -- of what the text came to, the pause is the first token, and the tokenizer has the rest; or there is no token
 abbrev pub IsNext : Reached → Pause → Reached → Type 0
@@ -20,5 +20,5 @@ abbrev pub UsesAllAt : Pause → ℕ → List ℕ → Type 0
 UsesAllAt (Token t) used text = Unit {0}
 UsesAllAt InputEnd used text = used ≡ length text
 
-abbrev pub UsesAll : Ran → List ℕ → Type 0
+abbrev pub UsesAll : Paused → List ℕ → Type 0
 UsesAll r text = UsesAllAt r.pause r.used text

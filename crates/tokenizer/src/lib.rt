@@ -7,4 +7,4 @@ pub mod reference;
 pub mod run;
 pub mod whole;
 
-pub use run::{Pause, Ran, Tokenizer};
+pub use run::{Pause, Paused, Tokenizer};

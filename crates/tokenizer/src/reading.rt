@@ -8,7 +8,7 @@ ghost use Rattle.standard.specs.Tokenizer as rows;
 ghost use Rattle.html_types.specs.declared.token.Token.TheVariants.{Character};
 ghost use Rattle.tokenizer.specs.Adds.{Adds};
 
-use char_class::Next;
+use char_class::Transition;
 use entity_table::Table;
 use html_types::{Class, NoMemory, TokState, Tokens};
 use std::alloc::Global;
@@ -24,7 +24,7 @@ fn row(
     class: Class,
     c: char,
     out: &mut Tokens,
-) -> Result<Next, NoMemory>
+) -> Result<Transition, NoMemory>
     ensures { IfOk result (Follows (rows.row table.now state class c) out.old out.new) }
 {
     match state {

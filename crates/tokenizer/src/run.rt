@@ -26,7 +26,7 @@ pub enum Pause {
 
 /// Why a run stopped, and how many bytes of its text it used.
 #[derive(Drop)]
-pub struct Ran {
+pub struct Paused {
     pub pause: Pause,
     pub used: usize,
 }
@@ -125,7 +125,7 @@ impl Tokenizer {
     /// Gives the next token: the first that waits, else the first that the text makes, of which no more is used than that
     /// needs. `InputEnd` comes where no token waits and all of the text makes none. Named character references are those of
     /// `table`.
-    pub fn run(&mut self, alloc: Global, table: &Table, text: &str) -> Result<Ran, NoMemory>
+    pub fn run(&mut self, alloc: Global, table: &Table, text: &str) -> Result<Paused, NoMemory>
         ensures boundary { IfOk result (λ r. IsCharBoundary text.now r.used) }
         ensures next { IfOk result
             (λ r. IsNext (onward table.now self.old (chars (take r.used text.now))) r.pause self.new) }
@@ -134,7 +134,7 @@ impl Tokenizer {
         ensures all { IfOk result (λ r. UsesAll r text.now) }
     {
         if let Some(token) = self.waiting.pop() {
-            return Ok(Ran {
+            return Ok(Paused {
                 pause: Pause::Token(token),
                 used: 0,
             });
@@ -144,20 +144,20 @@ impl Tokenizer {
             used = behind;
             let class = class_of(c);
             if is_plain(&self.state, class) {
-                return Ok(Ran {
+                return Ok(Paused {
                     pause: Pause::Token(Token::Character(c)),
                     used,
                 });
             }
             self.read_class(alloc, table, class, c)?;
             if let Some(token) = self.waiting.pop() {
-                return Ok(Ran {
+                return Ok(Paused {
                     pause: Pause::Token(token),
                     used,
                 });
             }
         }
-        Ok(Ran {
+        Ok(Paused {
             pause: Pause::InputEnd,
             used,
         })

@@ -8,7 +8,7 @@ use Rattle.standard.specs.Act.{node_of}
 use Rattle.standard.specs.Tree.{Nodes, kind_of, attributes_of, attribute, is_connected, script_text}
 use Rattle.standard.specs.Prepare.{Prepared, still, inline, external, has, may_run, prepared_by, prepared_with, prepare}
 use Rattle.standard.specs.Statements.{statements}
-use Rattle.standard.specs.Serial.{World, Flow}
+use Rattle.standard.specs.Serial.{World, Course}
 use Rattle.standard_laws.specs.Frames.{Frame, NestComesTo, TextComesTo}
 use Rattle.op_exec.specs.Scripts.{script_kind}
 use Rattle.op_exec.specs.declared.script.ScriptKind.TheVariants.{Still, Inline, External}
@@ -42,7 +42,7 @@ begins-inside text old new b is number done rest some = subst (λ n. Begins text
   wrote = rest;
 })
   where
-    by_begun : (w : World) (fs : List Frame) (before : List Line) (page : List ℕ) (g : Flow)
+    by_begun : (w : World) (fs : List Frame) (before : List Line) (page : List ℕ) (g : Course)
         → NestComesTo w (nest_of (record old { executed = suc old.executed }) (record { number = suc old.executed; list = b.script; rest = [] } ∷ fs) before page) g
         → TextComesTo w (statements text) (nest_of old fs before page) g
     by_begun w fs before page g come = text-begins w (statements text) b.script (nest_of old fs before page) g some come

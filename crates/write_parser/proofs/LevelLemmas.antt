@@ -11,10 +11,10 @@ use Rattle.standard.specs.Act.{Doc}
 use Rattle.standard.specs.Parser.{Parser}
 use Rattle.standard.specs.Statements.{statements}
 use Rattle.standard_laws.specs.Laws.{HasParsed, EndsIn, moment_at}
-use Rattle.standard.specs.Serial.{World, Flow, goes, refuses, awaiting, run_text, Moment, reading, tag_ended, over, refusal, taken, unless_pending, behind_script, Leads}
+use Rattle.standard.specs.Serial.{World, Course, goes, refuses, awaiting, run_text, Moment, reading, tag_ended, over, refusal, taken, unless_pending, behind_script, Leads}
 use Rattle.standard_laws.specs.Frames.{rests, state_of, NestComesTo, TagComesTo, TextComesTo}
-use Rattle.write_parser.specs.declared.left.Limit.{Limit}
-use Rattle.write_parser.specs.declared.left.Limit.TheVariants as limit
+use Rattle.write_parser.specs.declared.left.Overrun.{Overrun}
+use Rattle.write_parser.specs.declared.left.Overrun.TheVariants as limit
 use Rattle.write_parser.specs.declared.nesting.Begun.{Begun}
 use Rattle.write_parser.specs.declared.live.Live.{Live}
 use Rattle.write_parser.specs.Parsing.{RestParsed}
@@ -27,12 +27,12 @@ use Rattle.write_parser.proofs.NestingLemmas.{awaited-one}
 
 -- ---- a script that was begun, and all behind it
 
-then-of : (w : World) (Of : Flow → Type 0) (mid new : Live) (begun : Option Begun) (before : List Line) (page : List ℕ) →
-    ((g : Flow) → NestComesTo w (nest_of mid (with_begun begun []) before page) g → Of g) → Then w (NestComesTo w (nest_of mid (with_begun begun []) before page)) new [] before page →
+then-of : (w : World) (Of : Course → Type 0) (mid new : Live) (begun : Option Begun) (before : List Line) (page : List ℕ) →
+    ((g : Course) → NestComesTo w (nest_of mid (with_begun begun []) before page) g → Of g) → Then w (NestComesTo w (nest_of mid (with_begun begun []) before page)) new [] before page →
     Then w Of new [] before page
 then-of w Of mid new begun before page first = by new.halted
   where
-    by : (h : Option Limit) → ThenBy h w (NestComesTo w (nest_of mid (with_begun begun []) before page)) new [] before page → ThenBy h w Of new [] before page
+    by : (h : Option Overrun) → ThenBy h w (NestComesTo w (nest_of mid (with_begun begun []) before page)) new [] before page → ThenBy h w Of new [] before page
     by None second = λ g come. first g (second g come)
     by (Some l) (g, refusal, come) = (g, refusal, first g come)
 
@@ -83,10 +83,10 @@ pub tag-leads : (es : Entities) (id : NodeId) (old new : Live) → old.pending �
     w.entities ≡ es → Leads e w m (tag_ended id (serial_of (view_of old false) before page)) → Reaches e w m new before page
 tag-leads es id old new none ends e w m before page is at = by new.halted (ends.comes w before page is)
   where
-    tag : (g : Flow) → TagComesTo w id (nest_of old [] before page) g → Leads e w m (tag_ended id (state_of (nest_of old [] before page)))
+    tag : (g : Course) → TagComesTo w id (nest_of old [] before page) g → Leads e w m (tag_ended id (state_of (nest_of old [] before page)))
     tag g come = subst (λ p. Leads e w m (tag_ended id (awaiting p (serial_of (view_of old false) before page)))) (sym none) at
 
-    by : (h : Option Limit) → ThenBy h w (TagComesTo w id (nest_of old [] before page)) new [] before page →
+    by : (h : Option Overrun) → ThenBy h w (TagComesTo w id (nest_of old [] before page)) new [] before page →
         (to : Moment) × StandsBy (halted_of h) (view_of new false) before page to × Leads e w m to
     by None each =
         let come = each (goes (state_of (nest_of new [] before page))) (frames-end w (nest_of new [] before page) refl) in (
@@ -111,8 +111,8 @@ tag-leads-to es id old new none ends = record {
 pub text-runs : (es : Entities) (text : List ℕ) (old : Live) (spent : Bool) (new : Live) → RunsText es text old new → Runs es (view_of old spent) (view_of new false) (statements text)
 text-runs es text old spent new runs = record { comes = λ w before page is. by w before page new.halted (runs.comes w before page is) }
   where
-    by : (w : World) (before : List Line) (page : List ℕ) (h : Option Limit) → ThenBy h w (TextComesTo w (statements text) (nest_of (awaits_none old) [] before page)) new [] before page →
-        (f : Flow) × ComesBy (halted_of h) (view_of new false) before page f × EndsIn (λ n. run_text n w (statements text) (serial_of (view_of old false) before page)) f
+    by : (w : World) (before : List Line) (page : List ℕ) (h : Option Overrun) → ThenBy h w (TextComesTo w (statements text) (nest_of (awaits_none old) [] before page)) new [] before page →
+        (f : Course) × ComesBy (halted_of h) (view_of new false) before page f × EndsIn (λ n. run_text n w (statements text) (serial_of (view_of old false) before page)) f
     by w before page None each =
         (goes (state_of (nest_of new [] before page)), refl, each (goes (state_of (nest_of new [] before page))) (frames-end w (nest_of new [] before page) refl))
     by w before page (Some l) (g, refusal, come) = (g, refusal, come)
@@ -213,7 +213,7 @@ leads-nowhere es a = record { leads = λ e w m from before page is stands at. (f
 pub stays-on : (old mid new : Live) → StaysAt old.halted old.pending old mid → mid.halted ≡ None → mid.pending ≡ None → StaysAt old.halted old.pending old new
 stays-on old mid new stays on none = by old.halted old.pending refl refl stays
   where
-    by : (h : Option Limit) (p : Option (List ℕ)) → old.halted ≡ h → old.pending ≡ p → StaysAt h p old mid → StaysAt h p old new
+    by : (h : Option Overrun) (p : Option (List ℕ)) → old.halted ≡ h → old.pending ≡ p → StaysAt h p old mid → StaysAt h p old new
     by None None is is' s = tt
     by None (Some name) is is' s = absurd (cc (sym is' ∙ (sym (ap (λ (l : Live). l.pending) s) ∙ none)))
     by (Some l) p is is' s = absurd (cc (sym is ∙ (sym (ap (λ (k : Live). k.halted) s) ∙ on)))

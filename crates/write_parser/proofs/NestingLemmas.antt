@@ -11,10 +11,10 @@ use Rattle.standard.specs.Entities.{Entities}
 use Rattle.standard.specs.Act.{Doc}
 use Rattle.standard.specs.Parser.{Parser}
 use Rattle.standard_laws.specs.Laws.{HasParsed}
-use Rattle.standard.specs.Serial.{World, Flow, refuses}
+use Rattle.standard.specs.Serial.{World, Course, refuses}
 use Rattle.standard_laws.specs.Frames.{Frame, rests, state_of, parsed_to, NestComesTo, Waits}
-use Rattle.write_parser.specs.declared.left.Limit.{Limit}
-use Rattle.write_parser.specs.declared.left.Limit.TheVariants as limit
+use Rattle.write_parser.specs.declared.left.Overrun.{Overrun}
+use Rattle.write_parser.specs.declared.left.Overrun.TheVariants as limit
 use Rattle.write_parser.specs.declared.nesting.Begun.{Begun}
 use Rattle.write_parser.specs.declared.nesting.Nesting.{Nesting}
 use Rattle.write_parser.specs.declared.live.Live.{Live}
@@ -32,11 +32,11 @@ use Rattle.write_parser.proofs.StatementLemmas.{then-on, on-then}
 -- ---- one part behind another
 
 -- what comes of the state between comes of the first
-pub then-then : (w : World) (Of : Flow → Type 0) (mid new : Live) (fs fs' : List Frame) (before : List Line) (page : List ℕ) → mid.halted ≡ None → Then w Of mid fs before page →
+pub then-then : (w : World) (Of : Course → Type 0) (mid new : Live) (fs fs' : List Frame) (before : List Line) (page : List ℕ) → mid.halted ≡ None → Then w Of mid fs before page →
     Then w (NestComesTo w (nest_of mid fs before page)) new fs' before page → Then w Of new fs' before page
 then-then w Of mid new fs fs' before page on first second = by new.halted second
   where
-    by : (h : Option Limit) → ThenBy h w (NestComesTo w (nest_of mid fs before page)) new fs' before page → ThenBy h w Of new fs' before page
+    by : (h : Option Overrun) → ThenBy h w (NestComesTo w (nest_of mid fs before page)) new fs' before page → ThenBy h w Of new fs' before page
     by None second = λ g come. on-then w Of mid fs before page on first g (second g come)
     by (Some l) (g, refusal, come) = (g, refusal, on-then w Of mid fs before page on first g come)
 
@@ -121,7 +121,7 @@ light-over old new k list rest rest' fs light =
     omega (arith, light.light, ap length light.behind, ap scripts_awaited light.pending, length-append rest (rests fs))
 
 -- where the page is refused, it doesn't matter which scripts are left
-refused-then : (w : World) (Of : Flow → Type 0) (new : Live) (fs fs' : List Frame) (before : List Line) (page : List ℕ) (l : Limit) → new.halted ≡ Some l → Then w Of new fs before page →
+refused-then : (w : World) (Of : Course → Type 0) (new : Live) (fs fs' : List Frame) (before : List Line) (page : List ℕ) (l : Overrun) → new.halted ≡ Some l → Then w Of new fs before page →
     Then w Of new fs' before page
 refused-then w Of new fs fs' before page l is then_ = subst (λ h. ThenBy h w Of new fs' before page) (sym is) (subst (λ h. ThenBy h w Of new fs before page) is then_)
 
@@ -129,7 +129,7 @@ refused-then w Of new fs fs' before page l is then_ = subst (λ h. ThenBy h w Of
 abbrev pub NextIs : Begun → Statement → Type 0
 NextIs b a = drop b.done b.script ≡ a ∷ drop (b.done + 1) b.script
 
-pub step-refused : (old new : Live) (n n' : Nesting) (a : Statement) (rest' : List ℕ) (d : Did) (l : Limit) → NextIs n.top a → Does n.top.number a old n.top.rest new rest' d →
+pub step-refused : (old new : Live) (n n' : Nesting) (a : Statement) (rest' : List ℕ) (d : Did) (l : Overrun) → NextIs n.top a → Does n.top.number a old n.top.rest new rest' d →
     new.halted ≡ Some l → Steps old n new n' turn.Over
 step-refused old new n n' a rest' d l next does refused = record {
   moves = λ es. subst (λ list. Moves es old (framed n.top.number list n.top.rest ∷ map frame_of (reverse n.below.items)) new []) (sym next) (record {

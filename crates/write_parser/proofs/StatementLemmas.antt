@@ -9,10 +9,10 @@ use Rattle.html_types.specs.declared.script.Statement.TheVariants as statement
 use Rattle.html_types.specs.declared.script.Why.TheVariants as why
 use Rattle.standard.specs.Outer.{outer_text}
 use Rattle.standard.specs.Tree.{find_id, first_element, detached}
-use Rattle.standard.specs.Serial.{World, Flow, refuses, write_limit}
+use Rattle.standard.specs.Serial.{World, Course, refuses, write_limit}
 use Rattle.standard_laws.specs.Frames.{Frame, state_of, NestComesTo, Waits, LacksElement}
-use Rattle.write_parser.specs.declared.left.Limit.{Limit}
-use Rattle.write_parser.specs.declared.left.Limit.TheVariants as limit
+use Rattle.write_parser.specs.declared.left.Overrun.{Overrun}
+use Rattle.write_parser.specs.declared.left.Overrun.TheVariants as limit
 use Rattle.write_parser.specs.declared.live.Live.{Live}
 use Rattle.write_parser.specs.declared.live.Did.{Did}
 use Rattle.write_parser.specs.declared.live.Did.TheVariants as did
@@ -21,12 +21,12 @@ use Rattle.standard_laws.proofs.Frames.{write-fits, write-refuses, removes, read
 
 -- ---- where the page isn't refused, and where it is
 
-pub then-on : (w : World) (Of : Flow → Type 0) (new : Live) (fs : List Frame) (before : List Line) (page : List ℕ) → new.halted ≡ None →
-    ((g : Flow) → NestComesTo w (nest_of new fs before page) g → Of g) → Then w Of new fs before page
+pub then-on : (w : World) (Of : Course → Type 0) (new : Live) (fs : List Frame) (before : List Line) (page : List ℕ) → new.halted ≡ None →
+    ((g : Course) → NestComesTo w (nest_of new fs before page) g → Of g) → Then w Of new fs before page
 then-on w Of new fs before page on each = subst (λ h. ThenBy h w Of new fs before page) (sym on) each
 
-pub on-then : (w : World) (Of : Flow → Type 0) (new : Live) (fs : List Frame) (before : List Line) (page : List ℕ) → new.halted ≡ None → Then w Of new fs before page →
-    (g : Flow) → NestComesTo w (nest_of new fs before page) g → Of g
+pub on-then : (w : World) (Of : Course → Type 0) (new : Live) (fs : List Frame) (before : List Line) (page : List ℕ) → new.halted ≡ None → Then w Of new fs before page →
+    (g : Course) → NestComesTo w (nest_of new fs before page) g → Of g
 on-then w Of new fs before page on each = subst (λ h. ThenBy h w Of new fs before page) on each
 
 -- ---- a write
@@ -115,7 +115,7 @@ does-remove k v old rest new rest' d going waits same = by_found (find_id old.do
 -- a statement that reads an element
 abbrev Reads : Statement → Live → List ℕ → ℕ → Type 0
 Reads a old rest e =
-    (w : World) (k : ℕ) (list : List Statement) (fs : List Frame) (before : List Line) (page : List ℕ) (g : Flow) →
+    (w : World) (k : ℕ) (list : List Statement) (fs : List Frame) (before : List Line) (page : List ℕ) (g : Course) →
     NestComesTo w (record (nest_of old (framed k list rest ∷ fs) before page) { lines = (before ++ old.lines) ++ line.Log k (outer_text old.doc.tree e) ∷ [] }) g →
     NestComesTo w (nest_of old (framed k (a ∷ list) rest ∷ fs) before page) g
 
@@ -194,11 +194,11 @@ if_ok (Err e) P Q more has = tt
 pub next-is : (list : List Statement) (i : ℕ) (a : Statement) → i < length list → a ≡ get_or list i a → drop i list ≡ a ∷ drop (i + 1) list
 next-is list i a lt is = rw add-one (drop-cons list i a lt ∙ ap (λ x. x ∷ drop (suc i) list) (sym is))
 
-pub halted-some : (h : Option Limit) → is_some h ≡ true → (l : Limit) × (h ≡ Some l)
+pub halted-some : (h : Option Overrun) → is_some h ≡ true → (l : Overrun) × (h ≡ Some l)
 halted-some None is = absurd (cc is)
 halted-some (Some l) is = (l, refl)
 
-pub halted-none : (h : Option Limit) → is_some h ≡ false → h ≡ None
+pub halted-none : (h : Option Overrun) → is_some h ≡ false → h ≡ None
 halted-none None is = refl
 halted-none (Some l) is = absurd (cc is)
 

@@ -10,10 +10,10 @@ use Rattle.standard.specs.Entities.{Entities}
 use Rattle.standard.specs.Tree.{detached}
 use Rattle.standard.specs.Outer.{outer_text}
 use Rattle.standard.specs.Statements.{statements}
-use Rattle.standard.specs.Serial.{World, Flow, write_limit}
+use Rattle.standard.specs.Serial.{World, Course, write_limit}
 use Rattle.standard_laws.specs.Frames.{Frame, Nest, rests, NestComesTo, TagComesTo, TextComesTo, Waits, LacksElement}
-use Rattle.write_parser.specs.declared.left.Limit.{Limit}
-use Rattle.write_parser.specs.declared.left.Limit.TheVariants as limit
+use Rattle.write_parser.specs.declared.left.Overrun.{Overrun}
+use Rattle.write_parser.specs.declared.left.Overrun.TheVariants as limit
 use Rattle.write_parser.specs.declared.nesting.Begun.{Begun}
 use Rattle.write_parser.specs.declared.nesting.Nesting.{Nesting}
 use Rattle.write_parser.specs.declared.live.Live.{Live}
@@ -26,7 +26,7 @@ use Rattle.write_parser.specs.Writing.{View, first_view, why_of, IsRefusal, Lead
 
 -- ---- what it holds
 
-abbrev pub halted_of : Option Limit → Option Why
+abbrev pub halted_of : Option Overrun → Option Why
 halted_of None = None
 halted_of (Some l) = Some (why_of l)
 
@@ -84,11 +84,11 @@ nest_of l fs before page = record {
 -- ---- what comes of them
 
 -- What comes of the new state is `Of` the old; where the page is refused, that is.
-abbrev pub ThenBy : Option Limit → World → (Flow → Type 0) → Live → List Frame → List Line → List ℕ → Type 0
-ThenBy None w Of new fs before page = (g : Flow) → NestComesTo w (nest_of new fs before page) g → Of g
-ThenBy (Some l) w Of new fs before page = (g : Flow) × IsRefusal (why_of l) (view_of new false) before g × Of g
+abbrev pub ThenBy : Option Overrun → World → (Course → Type 0) → Live → List Frame → List Line → List ℕ → Type 0
+ThenBy None w Of new fs before page = (g : Course) → NestComesTo w (nest_of new fs before page) g → Of g
+ThenBy (Some l) w Of new fs before page = (g : Course) × IsRefusal (why_of l) (view_of new false) before g × Of g
 
-abbrev pub Then : World → (Flow → Type 0) → Live → List Frame → List Line → List ℕ → Type 0
+abbrev pub Then : World → (Course → Type 0) → Live → List Frame → List Line → List ℕ → Type 0
 Then w Of new fs before page = ThenBy new.halted w Of new fs before page
 
 -- from nested scripts to nested scripts, in each world with these entities
@@ -128,7 +128,7 @@ Keeps old new = new ≡ record old { executed = new.executed; lines = new.lines;
 
 -- The text of a script was read: what comes of the script begun, comes of the text. No other script comes to be awaited.
 pub record Begins (text : List ℕ) (old : Live) (begun : Option Begun) (new : Live) : Type 0 where
-  pub comes : (w : World) (fs : List Frame) (before : List Line) (page : List ℕ) (g : Flow) →
+  pub comes : (w : World) (fs : List Frame) (before : List Line) (page : List ℕ) (g : Course) →
       NestComesTo w (nest_of new (with_begun begun fs) before page) g → TextComesTo w (statements text) (nest_of old fs before page) g
   pub keeps : Keeps old new
   pub pending : new.pending ≡ old.pending
@@ -136,7 +136,7 @@ pub record Begins (text : List ℕ) (old : Live) (begun : Option Begun) (new : L
 
 -- A script was prepared at its end tag.
 pub record Prepares (id : NodeId) (old : Live) (begun : Option Begun) (new : Live) : Type 0 where
-  pub comes : (w : World) (fs : List Frame) (before : List Line) (page : List ℕ) (g : Flow) →
+  pub comes : (w : World) (fs : List Frame) (before : List Line) (page : List ℕ) (g : Course) →
       NestComesTo w (nest_of new (with_begun begun fs) before page) g → TagComesTo w id (nest_of old fs before page) g
   pub keeps : Keeps old new
   pub wrote : WroteNothing begun
@@ -208,7 +208,7 @@ pub record ParsesOn (es : Entities) (old : Live) (n : Nesting) (new : Live) (n' 
 
 -- A script more was begun inside the others, if its end tag began one.
 pub record Nests (id : NodeId) (old : Live) (n : Nesting) (new : Live) (n' : Nesting) : Type 0 where
-  pub comes : (w : World) (before : List Line) (page : List ℕ) (g : Flow) →
+  pub comes : (w : World) (before : List Line) (page : List ℕ) (g : Course) →
       NestComesTo w (nest_of new (frames_of n') before page) g → TagComesTo w id (nest_of old (frames_of n) before page) g
   pub keeps : Keeps old new
   pub rests : rests (frames_of n') ≡ rests (frames_of n)
@@ -244,7 +244,7 @@ pub record FeedsOn (es : Entities) (old new : Live) : Type 0 where
 abbrev pub IsFed : Live → Type 0
 IsFed l = l.halted ≡ None → Waits l.pending l.rest
 
-abbrev pub StaysAt : Option Limit → Option (List ℕ) → Live → Live → Type 0
+abbrev pub StaysAt : Option Overrun → Option (List ℕ) → Live → Live → Type 0
 StaysAt None None old new = ⊤
 StaysAt None (Some name) old new = new ≡ old
 StaysAt (Some l) pending old new = new ≡ old

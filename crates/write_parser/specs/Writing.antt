@@ -14,11 +14,11 @@ use Rattle.standard.specs.Entities.{Entities}
 use Rattle.standard.specs.Act.{Doc, new_doc, is_bound}
 use Rattle.standard.specs.Parser.{Parser, new_parser}
 use Rattle.rule_laws.specs.Naming.{IsStopBound}
-use Rattle.standard.specs.Serial.{World, Serial, Flow, goes, refuses, awaiting, run_text, write_limit, Moment, reading, tag_ended, awaits, over, refusal, Leads}
+use Rattle.standard.specs.Serial.{World, Serial, Course, goes, refuses, awaiting, run_text, write_limit, Moment, reading, tag_ended, awaits, over, refusal, Leads}
 use Rattle.standard_laws.specs.Laws.{HasParsed, HasFinished, EndsIn}
 use Rattle.parse_machine.specs.declared.machine.Ran.{Ran}
-use Rattle.write_parser.specs.declared.left.Limit.{Limit}
-use Rattle.write_parser.specs.declared.left.Limit.TheVariants as limit
+use Rattle.write_parser.specs.declared.left.Overrun.{Overrun}
+use Rattle.write_parser.specs.declared.left.Overrun.TheVariants as limit
 use Rattle.write_parser.specs.declared.left.Left.{Left}
 use Rattle.write_parser.specs.declared.left.Left.TheVariants as left
 
@@ -116,24 +116,24 @@ pub record Finishes (es : Entities) (old new : View) (finish : Finish) : Type 0 
 -- ---- scripts
 
 -- The page is refused, with the lines and the document of the view.
-pub record IsRefusal (r : Why) (v : View) (before : List Line) (f : Flow) : Type 0 where
+pub record IsRefusal (r : Why) (v : View) (before : List Line) (f : Course) : Type 0 where
   pub last : Serial
   pub is : f ≡ refuses r last
   pub lines : last.side.lines ≡ before ++ v.lines
   pub doc : last.side.doc ≡ v.doc
 
-abbrev pub ComesBy : Option Why → View → List Line → List ℕ → Flow → Type 0
+abbrev pub ComesBy : Option Why → View → List Line → List ℕ → Course → Type 0
 ComesBy None v before page f = f ≡ goes (awaiting v.pending (serial_of v before page))
 ComesBy (Some r) v before page f = IsRefusal r v before f
 
 -- what a part of the parse comes to, as the view has it
-abbrev pub Comes : View → List Line → List ℕ → Flow → Type 0
+abbrev pub Comes : View → List Line → List ℕ → Course → Type 0
 Comes v before page f = ComesBy v.halted v before page f
 
 -- The text of a script ran, one level up: none is a text outside the language.
 pub record Runs (es : Entities) (old new : View) (text : Option (List Statement)) : Type 0 where
   pub comes : (w : World) (before : List Line) (page : List ℕ) → w.entities ≡ es →
-      (f : Flow) × Comes new before page f × EndsIn (λ n. run_text n w text (serial_of old before page)) f
+      (f : Course) × Comes new before page f × EndsIn (λ n. run_text n w text (serial_of old before page)) f
 
 -- nothing runs once the page is refused
 abbrev pub HasRun : Entities → Option Why → View → View → Option (List Statement) → Type 0
@@ -148,7 +148,7 @@ HasMissed (Some r) pending old new = new ≡ old
 
 -- ---- what is left
 
-abbrev pub why_of : Limit → Why
+abbrev pub why_of : Overrun → Why
 why_of limit.Depth = why.Depth
 why_of limit.Writes = why.Writes
 

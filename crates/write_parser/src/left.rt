@@ -4,7 +4,7 @@ use html_types::Text;
 
 /// A limit of a page.
 #[derive(Clone, Copy, Debug, PartialEq, Eq)]
-pub enum Limit {
+pub enum Overrun {
     /// More than 512 open elements.
     Depth,
     /// More than 1,048,576 characters written by scripts.
@@ -19,5 +19,5 @@ pub enum Left {
     /// The script of that `src` is awaited.
     Awaits(Text),
     /// The page is refused.
-    Limit(Limit),
+    Limit(Overrun),
 }

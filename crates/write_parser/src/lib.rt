@@ -10,6 +10,6 @@ mod rest;
 mod tests;
 mod writer;
 
-pub use left::{Left, Limit};
+pub use left::{Left, Overrun};
 pub use parse_machine::Ran;
 pub use writer::Writer;

@@ -10,7 +10,7 @@ ghost use Rattle.write_parser.specs.Parsing.{IsServed, TextParsed, EndParsed};
 ghost use Rattle.write_parser.specs.Steps.{view_of, IsGoing, IsFirst, Begins, Prepares, Continues, HasWritten, HasRemoved, HasRead, DoesMost, Does, Steps, RunsOn, ParsesOn, Moves, frames_of, with_begun, Nests, EndsTag, RunsText, Misses, FeedsOn, IsFed, Fed};
 ghost use Rattle.write_parser.specs.Writing.{LeftIs};
 
-use crate::left::{Left, Limit};
+use crate::left::{Left, Overrun};
 use crate::nesting::{Begun, Nesting};
 use crate::rest::{Rest, parse_text};
 use entity_table::Table;
@@ -50,7 +50,7 @@ pub(crate) struct Live {
     pub lines: Lines,
     pub rest: Rest,
     pub pending: Option<Text>,
-    pub halted: Option<Limit>,
+    pub halted: Option<Overrun>,
 }
 
 // One script more. A page has fewer of them than it has characters, and those that are written.
@@ -159,7 +159,7 @@ impl Live {
     {
         let written = self.written.saturating_add(text.len());
         if written > WRITE_LIMIT {
-            self.halted = Some(Limit::Writes);
+            self.halted = Some(Overrun::Writes);
             return Ok(Did::All);
         }
         self.written = written;
@@ -321,7 +321,7 @@ impl Live {
                 Ok(Progress::On)
             }
             Stop::Deep => {
-                self.halted = Some(Limit::Depth);
+                self.halted = Some(Overrun::Depth);
                 Ok(Progress::Over)
             }
         }
@@ -393,7 +393,7 @@ impl Live {
             Stop::InputEnd => Ok(()),
             Stop::Script(id) => self.end_tag(table, id),
             Stop::Deep => {
-                self.halted = Some(Limit::Depth);
+                self.halted = Some(Overrun::Depth);
                 Ok(())
             }
         }

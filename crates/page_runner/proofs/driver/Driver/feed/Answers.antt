@@ -2,7 +2,7 @@ use Rattle.std.proofs.Common.{subst, sym, arith, refl, ap, ◌∙◌, true}
 use Rattle.std.specs.Prelude.{is_ok}
 use Rattle.write_parser.specs.Writing.{Stands, why_of}
 use Rattle.write_parser.specs.declared.left.Left.TheVariants as left
-use Rattle.page_runner.specs.declared.driver.Went.TheVariants.{Refused}
+use Rattle.page_runner.specs.declared.driver.PartEnd.TheVariants.{Refused}
 use Rattle.page_runner.specs.Scripts.{Fetches}
 use Rattle.page_runner.specs.Moments.{StopsAtFault, IsLeft, IsReady, Resumes, Reaches}
 use Rattle.outside.proofs.KeepsLemmas.{keeps-same, keeps-then}

@@ -1,7 +1,7 @@
 use Rattle.std.proofs.Common.{sym, subst, true}
 use Rattle.std.specs.Prelude.{IfOk, OnErr}
 use Rattle.html_types.specs.declared.script.Why.TheVariants as why
-use Rattle.page_runner.specs.declared.driver.Went.TheVariants.{On, Refused}
+use Rattle.page_runner.specs.declared.driver.PartEnd.TheVariants.{On, Refused}
 use Rattle.page_runner.specs.Moments.{AtStop, Arrives, Reaches, ReachesInPart}
 use Rattle.page_runner.proofs.MeetLemmas.{fetches_same}
 use Rattle.page_runner.proofs.WayLemmas.{passes-end, passes-deep}

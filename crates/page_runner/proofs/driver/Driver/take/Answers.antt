@@ -2,7 +2,7 @@ use Rattle.std.proofs.Common.{rules, ◌≡◌, refl, sym, ap, subst, arith, ◌
 use Rattle.std.specs.Prelude.{is_ok}
 use Rattle.std.specs.Str.{chars}
 use Rattle.html_types.specs.declared.instruction.Stop.TheVariants as stop
-use Rattle.page_runner.specs.declared.driver.Went.TheVariants.{On, Refused}
+use Rattle.page_runner.specs.declared.driver.PartEnd.TheVariants.{On, Refused}
 use Rattle.page_runner.specs.Moments.{StopsAtFault, AtText, AtStop, Arrives, Reaches}
 use Rattle.outside.proofs.KeepsLemmas.{keeps-same, keeps-then}
 use Rattle.page_runner.proofs.MeetLemmas.{fetches_same, fetches_as, never_done, fetches-on}

@@ -1,5 +1,5 @@
 use Rattle.std.proofs.Common.{Some, refl}
-use Rattle.write_parser.specs.declared.left.Limit.TheVariants as limit
+use Rattle.write_parser.specs.declared.left.Overrun.TheVariants as limit
 use Rattle.write_parser.proofs.StatementLemmas.{on_ok}
 use Rattle.write_parser.proofs.LevelLemmas.{fed, feeds-end, feeds-deep, feeds-script}
 use Rattle.write_parser.proofs.live.Live.feed_once.Goals as goal

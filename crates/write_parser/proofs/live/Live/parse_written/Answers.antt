@@ -1,5 +1,5 @@
 use Rattle.std.proofs.Common.{Some, refl}
-use Rattle.write_parser.specs.declared.left.Limit.TheVariants as limit
+use Rattle.write_parser.specs.declared.left.Overrun.TheVariants as limit
 use Rattle.write_parser.proofs.NestingLemmas.{parsed_live, with_rest, parse-ends, parse-deep, parse-nests}
 use Rattle.write_parser.proofs.live.Live.parse_written.Goals as goal
 
