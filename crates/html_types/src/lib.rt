@@ -28,9 +28,9 @@ pub use class::Class;
 pub use instruction::{
     Finish, Flow, Group, Instr, Mode, Next, Scope, Stop, Test, Then, TokenizerSwitch, Turn, Who,
 };
-pub use mark_state::{CommentState, DoctypeState, MarkState};
+pub use mark_state::{CdataState, CommentState, DoctypeState, MarkState};
 pub use memory::NoMemory;
-pub use name::Name;
+pub use name::{Name, Space};
 pub use open::{Format, Formats, Modes, Open, OpenElement, Stack};
 pub use operation::{NodeId, Op, Ops, Place};
 pub use reference_state::{ReferenceState, ReturnState};

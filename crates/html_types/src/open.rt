@@ -16,6 +16,8 @@ use std::marker::Model;
 pub struct OpenElement {
     pub id: NodeId,
     pub name: Name,
+    /// An annotation-xml of MathML whose start tag named an encoding of HTML: an HTML integration point (13.2.6).
+    pub html_point: bool,
 }
 
 impl OpenElement {
@@ -24,14 +26,18 @@ impl OpenElement {
         ensures { IfOk result (λ e. e ≡ self.now) }
     {
         let name = self.name.copy(alloc)?;
-        Ok(OpenElement { id: self.id, name })
+        Ok(OpenElement {
+            id: self.id,
+            name,
+            html_point: self.html_point,
+        })
     }
 
     /// Whether two are the same.
     pub fn same(&self, other: &OpenElement) -> bool
         ensures { IsTrue result ↔ (self.now ≡ other.now) }
     {
-        self.id == other.id && self.name.same(&other.name)
+        self.id == other.id && self.html_point == other.html_point && self.name.same(&other.name)
     }
 }
 
