@@ -120,8 +120,8 @@ pub enum Test {
     OptionInOptgroup,
     /// The token's self-closing flag is set.
     SelfClosing,
-    /// The token has an attribute `color`, `face` or `size`.
-    FontBreaksOut,
+    /// The token is a start tag at which foreign content is left (13.2.6.5).
+    BreaksOut,
 }
 
 /// An instruction of a row. One that leaves the row stands last.
