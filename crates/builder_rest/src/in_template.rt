@@ -29,11 +29,11 @@ pub fn in_template(token: &Token) -> &'static [Instr]
         Token::Character(_) => &[Using(Mode::InBody)],
         Token::StartTag(tag) => match &tag.name {
             Name::Known(word) => start(*word),
-            Name::Other(_) => AS_BODY,
+            Name::Other(_, _) => AS_BODY,
         },
         Token::EndTag(tag) => match &tag.name {
             Name::Known(word) => end(*word),
-            Name::Other(_) => &[],
+            Name::Other(_, _) => &[],
         },
         Token::Comment(_) => &[Using(Mode::InBody)],
         Token::Doctype {

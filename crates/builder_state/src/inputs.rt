@@ -9,7 +9,7 @@ ghost use Rattle.standard.specs.Instructions.{is_hidden, is_hidden_input};
 use html_types::{Attribute, Tag, Text, Token};
 
 /// The value of the attribute with that name.
-fn value_of<'a>(attributes: &'a [Attribute], name: &str) -> Option<&'a Text>
+pub fn value_of<'a>(attributes: &'a [Attribute], name: &str) -> Option<&'a Text>
     ensures { option_map (λ text. text.now) result ≡ attribute (chars name.now) attributes.now }
 {
     for attribute in attributes {
