@@ -43,7 +43,7 @@ fn climb_one(
     if let Some(tag) = tag_of(alloc, formats, id)? {
         let clone = take_id(next)?;
         renew_entry(alloc, formats, id, clone)?;
-        let element = opened(alloc, clone, &tag)?;
+        let element = opened(clone, &tag)?;
         ops.push(Op::Make {
             id: clone,
             name: tag.name,

@@ -11,7 +11,7 @@ use html_types::{
     Attribute, Attributes, Name, NoMemory, NodeId, Open, OpenElement, Space, Tag, Text, Token, Word,
 };
 use std::alloc::Global;
-use tag_sets::{is_math_text, is_svg_point, is_the};
+use tag_sets::{is_math_text, is_svg_point, is_text, is_the};
 
 /// The adjusted current node (13.2.4.2).
 pub fn adjusted(state: &Open) -> Option<&OpenElement>
@@ -55,7 +55,7 @@ fn is_annotation(name: &Name) -> bool
     ensures { result ≡ definition.is_annotation name.now }
 {
     match name {
-        Name::Other(Space::MathMl, text) => text.is("annotation-xml"),
+        Name::Other(Space::MathMl, text) => is_text(text, "annotation-xml"),
         _ => false,
     }
 }
@@ -161,10 +161,10 @@ fn is_html_annotation(tag: &Tag) -> bool
 }
 
 /// The open element that is made for a tag.
-pub fn opened(alloc: Global, id: NodeId, tag: &Tag) -> Result<OpenElement, NoMemory>
+pub fn opened(id: NodeId, tag: &Tag) -> Result<OpenElement, NoMemory>
     ensures { IfOk result (λ e. e ≡ definition.opened id tag.now) }
 {
-    let name = tag.name.copy(alloc)?;
+    let name = tag.name.copy()?;
     Ok(OpenElement {
         id,
         name,
@@ -177,10 +177,8 @@ fn name_in(alloc: Global, space: Space, name: &Name) -> Result<Name, NoMemory>
     ensures { IfOk result (λ n. n ≡ definition.name_in space name.now) }
 {
     match space {
-        Space::Html => name.copy(alloc),
-        Space::MathMl | Space::Svg => {
-            Ok(Name::Other(space, Text::from_str(alloc, name.as_str())?))
-        }
+        Space::Html => name.copy(),
+        Space::MathMl | Space::Svg => Name::other(alloc, space, name.as_str()),
     }
 }
 
@@ -192,7 +190,7 @@ fn foreign_name(alloc: Global, space: Space, name: &Name) -> Result<Name, NoMemo
         Space::Html | Space::MathMl => name_in(alloc, space, name),
         Space::Svg => match svg_name(name.as_str()) {
             None => name_in(alloc, space, name),
-            Some(written) => Ok(Name::Other(space, Text::from_str(alloc, written)?)),
+            Some(written) => Name::other(alloc, space, written),
         },
     }
 }
