@@ -5,19 +5,22 @@ ghost use Rattle.std.specs.Str.{chars};
 ghost use Rattle.standard.specs.Tree.{attribute};
 ghost use Rattle.standard.specs.Foreign as definition;
 
-use crate::inputs::value_of;
+use crate::inputs::{is_spelled, value_of};
 use foreign_tables::{math_attribute, svg_attribute, svg_name};
 use html_types::{
     Attribute, Attributes, Name, NoMemory, NodeId, Open, OpenElement, Space, Tag, Text, Token, Word,
 };
 use std::alloc::Global;
-use tag_sets::{is_math_text, is_svg_point, is_text, is_the};
+use tag_sets::{is_annotation_text, is_math_text, is_svg_point, is_the};
 
 /// The adjusted current node (13.2.4.2).
 pub fn adjusted(state: &Open) -> Option<&OpenElement>
     ensures { option_map (λ e. e.now) result ≡ definition.adjusted state.now }
 {
-    state.stack.as_slice().last()
+    match state.stack.as_slice().split_last() {
+        None => None,
+        Some((last, _)) => Some(last),
+    }
 }
 
 /// Whether the name is one of HTML.
@@ -26,7 +29,8 @@ pub fn is_html(name: &Name) -> bool
 {
     match name {
         Name::Known(_) => true,
-        Name::Other(space, _) => *space == Space::Html,
+        Name::Other(Space::Html, _) => true,
+        Name::Other(_, _) => false,
     }
 }
 
@@ -45,7 +49,7 @@ pub fn is_html_point(element: &OpenElement) -> bool
     ensures { result ≡ definition.is_html_point element.now }
 {
     match &element.name {
-        Name::Other(Space::Svg, name) => is_svg_point(name),
+        Name::Other(Space::Svg, name) => is_svg_point(name) || element.html_point,
         _ => element.html_point,
     }
 }
@@ -55,7 +59,7 @@ fn is_annotation(name: &Name) -> bool
     ensures { result ≡ definition.is_annotation name.now }
 {
     match name {
-        Name::Other(Space::MathMl, text) => is_text(text, "annotation-xml"),
+        Name::Other(Space::MathMl, text) => is_annotation_text(text),
         _ => false,
     }
 }
@@ -136,13 +140,11 @@ pub fn is_foreign(state: &Open) -> bool
 fn is_html_encoding(text: &Text) -> bool
     ensures { result ≡ definition.is_html_encoding (Some text.now) }
 {
-    text.as_str().eq_ignore_ascii_case("text/html")
-        || text
-            .as_str()
-            .eq_ignore_ascii_case("application/xhtml+xml")
+    is_spelled(text, "text/html") || is_spelled(text, "application/xhtml+xml")
 }
 
-/// Whether one of the attributes is an `encoding` of HTML.
+/// Whether the `encoding` is one of HTML.
+#[tactic(auto, using(std::proofs::lemmas::Grind::common_steps, crate::proofs::Literals::encoding_text))]
 fn has_html_encoding(attributes: &Attributes) -> bool
     ensures { result ≡ definition.is_html_encoding (attribute (codes "encoding") attributes.now) }
 {

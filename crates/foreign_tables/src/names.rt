@@ -13,7 +13,10 @@ pub fn is_lower_of(lower: &str, name: &str) -> bool
 {
     let mut rest = lower.chars();
     for c in name.chars() {
-        if rest.next() != Some(c.to_ascii_lowercase()) {
+        let Some(d) = rest.next() else {
+            return false;
+        };
+        if d != c.to_ascii_lowercase() {
             return false;
         }
     }
@@ -21,6 +24,7 @@ pub fn is_lower_of(lower: &str, name: &str) -> bool
 }
 
 // The first of the names that is `lower` in ASCII lower case.
+#[tactic(auto, unfolding(standard::specs::ForeignNames::respelled))]
 fn respelled(names: &'static [&'static str], lower: &str) -> Option<&'static str>
     ensures { option_map (λ name. chars name.now) result ≡ respelled (map (λ name. chars name.now) names.now) (chars lower.now) }
 {
