@@ -12,7 +12,8 @@ use crate::doctype::doctype_state_row;
 use char_class::next::{Transition, again, emit_comment, finish_after, to};
 use char_class::shown;
 use html_types::{
-    CdataState, Class, CommentState, DoctypeState, MarkState, NoMemory, Text, TokState, Token, Tokens,
+    CdataState, Class, CommentState, DoctypeState, MarkState, NoMemory, Text, TokState, Token,
+    Tokens,
 };
 use std::alloc::Global;
 

@@ -1,6 +1,6 @@
 -- A CDATA section: its characters as they are, up to the first `]]>`.
 use Rattle.std.proofs.Common.{◌≡◌, ℕ, ◌==◌, Bool, true, false, true≢false, ◌||◌, ◌&&◌, if◌then◌else◌, List, [], ◌∷◌, ◌++◌, refl, sym, ap, subst, ◌∙◌, codes}
-use Rattle.std.specs.Prelude.{map, nat_le}
+use Rattle.std.specs.Prelude.{map, nat_le, not}
 use Rattle.std.specs.Char.{is_ascii_alphabetic}
 use Rattle.std.proofs.lemmas.Bool.{and_parts}
 use Rattle.std.proofs.lemmas.Bool.Decides.{Decides-eqb}
@@ -11,7 +11,7 @@ use Rattle.html_types.specs.declared.state.TokState.{TokState}
 use Rattle.html_types.specs.declared.class.Class.{Class}
 use Rattle.html_types.specs.declared.class.Class.TheVariants.{RightBracket, Greater, InputEnd}
 use Rattle.standard.specs.Class.{class_of}
-use Rattle.standard.specs.Entities.{Entities}
+use Rattle.standard.specs.Entities.{Entities, is_front}
 use Rattle.standard.specs.Step.{data_state}
 use Rattle.standard.specs.CdataStates.{in_cdata}
 use Rattle.standard.specs.Tokenizer.{Reached, after_tokens, settle, reading, read, feed}
@@ -102,29 +102,45 @@ feed-read : (es : Entities) (foreign : Bool) (s t : TokState) (ts us : List Toke
 unfolding feed
 feed-read es foreign s t ts us c cs e f = ap (λ (m : Reached). after_tokens m.tokens (feed es foreign m.state cs)) e ∙ ap (after_tokens ts) f
 
+lacks-rest : (c : ℕ) (cs : List ℕ) → lacks_close (c ∷ cs) ≡ true → lacks_close cs ≡ true
+lacks-rest c cs h = (and_parts (not (is_front (codes "]]>") (c ∷ cs))) (lacks_close cs) h).1
+
+lacks-rest_of_two : (c d : ℕ) (cs : List ℕ) → lacks_close (c ∷ d ∷ cs) ≡ true → lacks_close cs ≡ true
+lacks-rest_of_two c d cs h = lacks-rest d cs (lacks-rest c (d ∷ cs) h)
+
 -- one more character in front: `]`, `>` or another
 with-bracket : (es : Entities) (foreign : Bool) (cs : List ℕ) → Reads es foreign cs → Reads es foreign (93 ∷ cs)
 unfolding settle
-with-bracket es foreign cs r = record {
-  section = λ h. feed-read es foreign (in_cdata Section) (in_cdata Bracket) [] (Character 93 ∷ map Character cs) 93 (cs ++ codes "]]>") refl (r.bracket h);
-  bracket = λ h. feed-read es foreign (in_cdata Bracket) (in_cdata End) [] (Character 93 ∷ Character 93 ∷ map Character cs) 93 (cs ++ codes "]]>") refl (r.end h);
-  end = λ h. feed-read es foreign (in_cdata End) (in_cdata End) (Character 93 ∷ []) (Character 93 ∷ Character 93 ∷ map Character cs) 93 (cs ++ codes "]]>") refl (r.end (and_parts _ _ h).1);
-}
+with-bracket es foreign cs r =
+    let rest = cs ++ codes "]]>" in
+    let lacked = cs ++ codes "]]" in
+    record {
+      section = λ h. feed-read es foreign (in_cdata Section) (in_cdata Bracket) [] (Character 93 ∷ map Character cs) 93 rest refl (r.bracket h);
+      bracket = λ h. feed-read es foreign (in_cdata Bracket) (in_cdata End) [] (Character 93 ∷ Character 93 ∷ map Character cs) 93 rest refl (r.end h);
+      end = λ h. feed-read es foreign (in_cdata End) (in_cdata End) (Character 93 ∷ []) (Character 93 ∷ Character 93 ∷ map Character cs) 93 rest refl (r.end (lacks-rest 93 (93 ∷ 93 ∷ lacked) h));
+    }
 
 with-greater : (es : Entities) (foreign : Bool) (cs : List ℕ) → Reads es foreign cs → Reads es foreign (62 ∷ cs)
 unfolding settle
-with-greater es foreign cs r = record {
-  section = λ h. feed-read es foreign (in_cdata Section) (in_cdata Section) (Character 62 ∷ []) (map Character cs) 62 (cs ++ codes "]]>") refl (r.section (and_parts _ _ h).1);
-  bracket = λ h. feed-read es foreign (in_cdata Bracket) (in_cdata Section) (Character 93 ∷ Character 62 ∷ []) (map Character cs) 62 (cs ++ codes "]]>") refl (r.section (and_parts _ _ (and_parts _ _ h).1).1);
-  end = λ h. absurd (true≢false (sym h));
-}
+with-greater es foreign cs r =
+    let rest = cs ++ codes "]]>" in
+    let lacked = cs ++ codes "]]" in
+    record {
+      section = λ h. feed-read es foreign (in_cdata Section) (in_cdata Section) (Character 62 ∷ []) (map Character cs) 62 rest refl (r.section (lacks-rest 62 lacked h));
+      bracket = λ h. feed-read es foreign (in_cdata Bracket) (in_cdata Section) (Character 93 ∷ Character 62 ∷ []) (map Character cs) 62 rest refl (r.section (lacks-rest_of_two 93 62 lacked h));
+      end = λ h. absurd (true≢false (sym h));
+    }
 
 with-other : (es : Entities) (foreign : Bool) (c : ℕ) (cs : List ℕ) → is_other (class_of c) ≡ true → Reads es foreign cs → Reads es foreign (c ∷ cs)
-with-other es foreign c cs o r = record {
-  section = λ h. feed-read es foreign (in_cdata Section) (in_cdata Section) (Character c ∷ []) (map Character cs) c (cs ++ codes "]]>") (section-other es foreign (class_of c) c o) (r.section (and_parts _ _ h).1);
-  bracket = λ h. feed-read es foreign (in_cdata Bracket) (in_cdata Section) (Character 93 ∷ Character c ∷ []) (map Character cs) c (cs ++ codes "]]>") (bracket-other es foreign (class_of c) c o) (r.section (and_parts _ _ (and_parts _ _ h).1).1);
-  end = λ h. feed-read es foreign (in_cdata End) (in_cdata Section) (Character 93 ∷ Character 93 ∷ Character c ∷ []) (map Character cs) c (cs ++ codes "]]>") (end-other es foreign (class_of c) c o) (r.section (and_parts _ _ (and_parts _ _ (and_parts _ _ h).1).1).1);
-}
+with-other es foreign c cs o r =
+    let rest = cs ++ codes "]]>" in
+    let lacked = cs ++ codes "]]" in
+    let k = class_of c in
+    record {
+      section = λ h. feed-read es foreign (in_cdata Section) (in_cdata Section) (Character c ∷ []) (map Character cs) c rest (section-other es foreign k c o) (r.section (lacks-rest c lacked h));
+      bracket = λ h. feed-read es foreign (in_cdata Bracket) (in_cdata Section) (Character 93 ∷ Character c ∷ []) (map Character cs) c rest (bracket-other es foreign k c o) (r.section (lacks-rest_of_two 93 c lacked h));
+      end = λ h. feed-read es foreign (in_cdata End) (in_cdata Section) (Character 93 ∷ Character 93 ∷ Character c ∷ []) (map Character cs) c rest (end-other es foreign k c o) (r.section (lacks-rest_of_two 93 c lacked (lacks-rest 93 (93 ∷ c ∷ lacked) h)));
+    }
 
 longer : (es : Entities) (foreign : Bool) (c : ℕ) (cs : List ℕ) → Reads es foreign cs → Reads es foreign (c ∷ cs)
 longer es foreign c cs r = by (c == 93) (c == 62) refl refl
