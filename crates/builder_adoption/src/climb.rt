@@ -43,7 +43,7 @@ fn climb_one(
     if let Some(tag) = tag_of(alloc, formats, id)? {
         let clone = take_id(next)?;
         renew_entry(alloc, formats, id, clone)?;
-        let name = tag.name.copy(alloc)?;
+        let name = tag.name.copy()?;
         ops.push(Op::Make {
             id: clone,
             name: tag.name,

@@ -62,7 +62,7 @@ fn make_clone(
 ) -> Result<(), NoMemory>
     ensures { IfOk result (λ _. ops.new ≡ ops.old ++ op.Make clone tag.now.name tag.now.attributes ∷ [] ++ op.MoveChildren block clone ∷ [] ++ op.Put clone (Inside block) ∷ []) }
 {
-    let name = tag.name.copy(alloc)?;
+    let name = tag.name.copy()?;
     let attributes = tag.attributes.copy(alloc)?;
     ops.push(Op::Make {
         id: clone,
@@ -117,7 +117,7 @@ pub fn rebuild(
     ops.push(Op::Put { node: last, place })?;
     let clone = take_id(&mut state.next)?;
     make_clone(alloc, clone, &tag, block, ops)?;
-    let name = tag.name.copy(alloc)?;
+    let name = tag.name.copy()?;
     take_off(&mut state.stack, element);
     insert_below(
         alloc,

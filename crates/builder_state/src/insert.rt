@@ -51,7 +51,7 @@ fn make(
     ensures ops { IfOk result (λ _. ops.new ≡ made place tag.now state.old ops.old) }
     ensures stack { state.new.stack ≡ state.old.stack }
 {
-    let name = tag.name.copy(alloc)?;
+    let name = tag.name.copy()?;
     let attributes = tag.attributes.copy(alloc)?;
     let id = take_id(&mut state.next)?;
     ops.push(Op::Make {
@@ -79,7 +79,7 @@ fn insert_element(
         return Ok(Flow::Leave(Next::Deep));
     }
     let id = make(alloc, state, place, tag, ops)?;
-    let name = tag.name.copy(alloc)?;
+    let name = tag.name.copy()?;
     state.stack.push(OpenElement { id, name })?;
     Ok(Flow::On)
 }
@@ -248,7 +248,7 @@ fn reopen_entry(alloc: Global, state: &mut Open, tag: Tag, ops: &mut Ops) -> Res
     }
     let place = place_now(state);
     let id = make(alloc, state, place, &tag, ops)?;
-    let name = tag.name.copy(alloc)?;
+    let name = tag.name.copy()?;
     state.stack.push(OpenElement { id, name })?;
     state.formats.push(Format::Element { id, tag })?;
     Ok(Flow::On)

@@ -100,7 +100,7 @@ pub fn emit_tag_as(closing: bool, partial: PartialTag, out: &mut Tokens) -> Resu
         attributes,
     } = partial;
     let tag = Tag {
-        name: Name::from_text(name),
+        name: Name::from_text(name)?,
         attributes,
         self_closing: closing,
     };

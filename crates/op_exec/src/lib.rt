@@ -20,7 +20,7 @@ mod tests {
         let alloc = rt.alloc();
         let id = NodeId { realm: 1, n: 0 };
         let mut doc = Doc::new(alloc)?;
-        let name = Name::from_text(Text::from_str(alloc, "script")?);
+        let name = Name::of(alloc, "script")?;
         let attributes = Attributes::new(alloc);
         doc.apply(Op::Make {
             id,
@@ -39,7 +39,7 @@ mod tests {
         let mut doc = Doc::new(alloc)?;
         doc.apply(Op::Make {
             id: NodeId { realm: 1, n: 0 },
-            name: Name::from_text(Text::from_str(alloc, "template")?),
+            name: Name::of(alloc, "template")?,
             attributes: Attributes::new(alloc),
         })?;
         assert!(rt; doc.tree().len() == 3);

@@ -463,3 +463,66 @@ framesets =
     -- comments beside framesets
     record { page = "<frameset><!--a--></frameset><!--b--></html><!--c-->"; text = "tree \"<html><head></head><frameset><!--a--></frameset><!--b--></html><!--c-->\"\n" } ∷
     []
+
+-- svg and math
+abbrev pub foreign_content : List Example
+foreign_content =
+    -- attributes and an element respelled; a foreignObject stays open at the end of its svg
+    record { page = "<svg viewbox=\"0\"><foreignobject><p>a</svg>b"; text = "tree \"<html><head></head><body><svg viewBox=\\\"0\\\"><foreignObject><p>ab</p></foreignObject></svg></body></html>\"\n" } ∷
+    -- a CDATA section in svg, and none outside
+    record { page = "<svg><![CDATA[a<b]]></svg><![CDATA[c]]>"; text = "tree \"<html><head></head><body><svg>a&lt;b</svg><!--[CDATA[c]]--></body></html>\"\n" } ∷
+    -- brackets in a CDATA section
+    record { page = "<svg><![CDATA[a]b]]c]]]></svg>"; text = "tree \"<html><head></head><body><svg>a]b]]c]</svg></body></html>\"\n" } ∷
+    -- a CDATA section cut by the end
+    record { page = "<svg><![CDATA[x]]"; text = "tree \"<html><head></head><body><svg>x]]</svg></body></html>\"\n" } ∷
+    -- in small letters it is a comment
+    record { page = "<svg><![cdata[x]]></svg>"; text = "tree \"<html><head></head><body><svg><!--[cdata[x]]--></svg></body></html>\"\n" } ∷
+    -- a CDATA section at an integration point
+    record { page = "<math><mi><![CDATA[<]]></mi>"; text = "tree \"<html><head></head><body><math><mi>&lt;</mi></math></body></html>\"\n" } ∷
+    -- foreign content is left at p
+    record { page = "<svg><g><p>y"; text = "tree \"<html><head></head><body><svg><g></g></svg><p>y</p></body></html>\"\n" } ∷
+    -- a script of svg never runs
+    record { page = "<svg><script>document.write(\"n\");</script></svg>m"; text = "tree \"<html><head></head><body><svg><script>document.write(\\\"n\\\");</script></svg>m</body></html>\"\n" } ∷
+    -- a script that closes itself
+    record { page = "<svg><script/>x"; text = "tree \"<html><head></head><body><svg><script></script>x</svg></body></html>\"\n" } ∷
+    -- mglyph is of MathML at a text integration point
+    record { page = "<math><mi>a<mglyph></mi>b"; text = "tree \"<html><head></head><body><math><mi>a<mglyph></mglyph></mi>b</math></body></html>\"\n" } ∷
+    -- other start tags there are of HTML
+    record { page = "<math><mo><p>a</mo>b"; text = "tree \"<html><head></head><body><math><mo><p>ab</p></mo></math></body></html>\"\n" } ∷
+    -- a title of svg is no RCDATA
+    record { page = "<svg><title><p>x</title>"; text = "tree \"<html><head></head><body><svg><title><p>x</p></title></svg></body></html>\"\n" } ∷
+    -- annotation-xml of an encoding of HTML
+    record { page = "<math><annotation-xml encoding=\"Text/HTML\"><p>a"; text = "tree \"<html><head></head><body><math><annotation-xml encoding=\\\"Text/HTML\\\"><p>a</p></annotation-xml></math></body></html>\"\n" } ∷
+    -- annotation-xml of none
+    record { page = "<math><annotation-xml><p>a"; text = "tree \"<html><head></head><body><math><annotation-xml></annotation-xml></math><p>a</p></body></html>\"\n" } ∷
+    -- svg in annotation-xml
+    record { page = "<math><annotation-xml><svg>a"; text = "tree \"<html><head></head><body><math><annotation-xml><svg>a</svg></annotation-xml></math></body></html>\"\n" } ∷
+    -- font with a color leaves svg
+    record { page = "<svg><font color=x>a"; text = "tree \"<html><head></head><body><svg></svg><font color=\\\"x\\\">a</font></body></html>\"\n" } ∷
+    -- font without is of svg
+    record { page = "<svg><font>a"; text = "tree \"<html><head></head><body><svg><font>a</font></svg></body></html>\"\n" } ∷
+    -- the end of p leaves svg
+    record { page = "<svg></p>a"; text = "tree \"<html><head></head><body><svg></svg><p></p>a</body></html>\"\n" } ∷
+    -- svg in a table is foster parented
+    record { page = "<table><svg>x"; text = "tree \"<html><head></head><body><svg>x</svg><table></table></body></html>\"\n" } ∷
+    -- a cell in desc is left out
+    record { page = "<svg><desc><td>x"; text = "tree \"<html><head></head><body><svg><desc>x</desc></svg></body></html>\"\n" } ∷
+    -- an attribute of MathML
+    record { page = "<math definitionurl=x viewbox=y>"; text = "tree \"<html><head></head><body><math definitionURL=\\\"x\\\" viewbox=\\\"y\\\"></math></body></html>\"\n" } ∷
+    -- attributes and elements of svg
+    record { page = "<svg clippathunits=1><clippath/><g definitionurl=x />"; text = "tree \"<html><head></head><body><svg clipPathUnits=\\\"1\\\"><clipPath></clipPath><g definitionurl=\\\"x\\\"></g></svg></body></html>\"\n" } ∷
+    -- an end tag is compared in lower case
+    record { page = "<svg><foreignobject></foreignobject>a"; text = "tree \"<html><head></head><body><svg><foreignObject></foreignObject>a</svg></body></html>\"\n" } ∷
+    -- a template of svg has no contents
+    record { page = "<svg><template>a"; text = "tree \"<html><head></head><body><svg><template>a</template></svg></body></html>\"\n" } ∷
+    -- an end tag of HTML is for HTML elements alone
+    record { page = "<math><mn><s></mn>x"; text = "tree \"<html><head></head><body><math><mn><s>x</s></mn></math></body></html>\"\n" } ∷
+    -- an end tag reaches an HTML element
+    record { page = "<div><svg><g></div>a"; text = "tree \"<html><head></head><body><div><svg><g></g></svg></div>a</body></html>\"\n" } ∷
+    -- mi ends a scope
+    record { page = "<p><math><mi></p>a"; text = "tree \"<html><head></head><body><p><math><mi><p></p>a</mi></math></p></body></html>\"\n" } ∷
+    -- svg that closes itself
+    record { page = "<svg/>a"; text = "tree \"<html><head></head><body><svg></svg>a</body></html>\"\n" } ∷
+    -- a foreign br is void by no name
+    record { page = "<svg><input>a"; text = "tree \"<html><head></head><body><svg><input>a</input></svg></body></html>\"\n" } ∷
+    []
