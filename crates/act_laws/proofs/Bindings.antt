@@ -1,5 +1,5 @@
 -- Ids and elements stand one to one.
-use Rattle.std.proofs.Common.{◌≡◌, ◌≢◌, ℕ, zero, suc, Bool, true, false, cond, List, [], ◌∷◌, length, Option, Some, None, refl, sym, ap, ◌∙◌, subst, inl, inr, ◌⊎◌, arith}
+use Rattle.std.proofs.Common.{◌≡◌, ◌≢◌, ℕ, zero, suc, true, false, cond, List, [], ◌∷◌, length, Some, refl, sym, ap, ◌∙◌, inl, inr, ◌⊎◌}
 use Rattle.std.specs.Prelude.{unwrap_or, is_some}
 use Rattle.std.specs.BTreeMap.{insert_entry}
 use Rattle.std.proofs.lemmas.Bool.{cases_eq}
@@ -66,7 +66,7 @@ pub NamesElements-detached : (d : Doc) (n : ℕ) → NamesElements d → NamesEl
 NamesElements-detached d n names = NamesElements-alike d (detached d.tree n) names (Alike-detached d.tree n)
 
 module _ (d : Doc) (id : NodeId) (name : Name) (attributes : List Attribute) (names : NamesElements d) (free : is_bound d.bound id ≡ false) where
-  made : Nodes
+  abbrev made : Nodes
   made = element_made d.tree name attributes
 
   is_more : IsMore d.tree made

@@ -1,5 +1,5 @@
 -- Which ids are bound once operations are done.
-use Rattle.std.proofs.Common.{◌≡◌, ℕ, Bool, true, false, cond, ◌||◌, List, [], ◌∷◌, ◌++◌, length, Option, Some, refl, sym, ap, ◌∙◌, subst, inl, inr}
+use Rattle.std.proofs.Common.{◌≡◌, ℕ, Bool, true, false, cond, ◌||◌, List, length, Option, Some, refl, sym, ap, ◌∙◌, subst, inl, inr}
 use Rattle.std.specs.Prelude.{is_some, ◌==◌}
 use Rattle.std.specs.Ordering.{is_eq}
 use Rattle.std.proofs.lemmas.Bool.{and_from, eq-eqb, false_from_ne_true, and_parts, eqb-true}
@@ -7,7 +7,7 @@ use Rattle.html_types.specs.Operations.{same_id}
 use Rattle.html_types.specs.declared.operation.NodeId.{NodeId}
 use Rattle.html_types.specs.declared.operation.Op.{Op}
 use Rattle.html_types.specs.declared.operation.Op.TheVariants.{Make, Put, Text, Note, Doctype, Detach, MoveChildren, AddAttributes}
-use Rattle.standard.specs.Act.{Doc, id_cmp, bound_to, act, acts, is_bound, known_after, AreOpsBound}
+use Rattle.standard.specs.Act.{Doc, id_cmp, bound_to, act, is_bound, known_after, AreOpsBound}
 use Rattle.act_laws.proofs.Renamed.{tells, bound_to-insert}
 
 -- the test of two ids
