@@ -18,6 +18,7 @@ mod Counts
 mod Readings
 mod Calm
 mod Pending
+mod Resets
 mod Depth
 mod Takes
 mod Walk
