@@ -27,3 +27,4 @@ mod Rounds
 mod Thinned
 mod Closed
 mod Proper
+mod ProperModes

@@ -113,14 +113,14 @@ until-change w t b heavy k v s h = (thinner-fit b left all-fewer s, cut k v (wei
     by (inr e) = inr (fewer-weight false b.stack left b.original b.pending_text (until-fewer is_weighty is b.stack), e)
 
 -- the modes stay insertion modes
-main-insertion : (m : Mode) → is_main_mode m ≡ true → is_insertion_mode m ≡ true
+pub main-insertion : (m : Mode) → is_main_mode m ≡ true → is_insertion_mode m ≡ true
 main-insertion InForeign h = h
 main-insertion _ h = refl
 
 enter-fit : (m : Mode) (b : Open) → is_insertion_mode m ≡ true → Fit b → Fit (record b { mode = m })
 enter-fit m b e s = (s.0, record { mode = e; original = s.1.original; templates = s.1.templates })
 
-both : (x y : Bool) → x ≡ true → y ≡ true → x && y ≡ true
+pub both : (x y : Bool) → x ≡ true → y ≡ true → x && y ≡ true
 both true y e f = f
 both false y e f = e
 

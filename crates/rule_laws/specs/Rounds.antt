@@ -9,6 +9,7 @@ use Rattle.html_types.specs.declared.token.Token.{Token}
 use Rattle.html_types.specs.declared.operation.Op.{Op}
 use Rattle.html_types.specs.declared.open.Open.{Open}
 use Rattle.standard.specs.Rules.{process, rounds}
+use Rattle.rule_laws.specs.Proper.{IsProper}
 
 -- the rules for foreign content are no insertion mode
 abbrev pub is_insertion_mode : Mode → Bool
@@ -44,3 +45,6 @@ is_answer _ = true
 
 abbrev pub RoundsAnswer : Type 0
 RoundsAnswer = (m : Mode) (t : Token) (b : Open) (o : List Op) → length b.stack ≤ 512 → HasModes b → is_answer (process rounds m t b o).next ≡ true
+
+abbrev pub ProperHasModes : Type 0
+ProperHasModes = (b : Open) → IsProper b → HasModes b
