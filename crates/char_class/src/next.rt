@@ -34,7 +34,7 @@ pub fn again(state: TokState, out: &mut Tokens) -> Result<Transition, NoMemory>
     Ok(Transition { state, again: true })
 }
 
-/// Emits a token and switches to a state of text, where every row goes that emits one.
+/// Emits a token and switches to a state of text, where all rows go that emit one, but those of CDATA sections.
 pub fn emit(token: Token, state: TextState, out: &mut Tokens) -> Result<Transition, NoMemory>
     ensures { IfOk result (Follows (steps.emit (token ∷ []) (steps.in_text state)) out.old out.new) }
 {
