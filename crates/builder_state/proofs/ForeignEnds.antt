@@ -7,7 +7,7 @@ use Rattle.standard.specs.ForeignNames.{is_lower_of}
 use Rattle.standard.specs.Foreign.{is_html}
 use Rattle.standard.specs.Instructions.{foreign_end}
 use Rattle.builder_state.specs.declared.foreign_end.End.{End}
-use Rattle.builder_state.specs.declared.foreign_end.End.TheVariants.{Nothing, Here, ByMode}
+use Rattle.builder_state.specs.declared.foreign_end.End.TheVariants.{Here, ByMode}
 use Rattle.builder_state.specs.ForeignEnds.{end_found, through, stack_after}
 
 one_more : (here html : Bool) (all left right : List OpenElement) (found : End) (r : Option (List OpenElement)) → r ≡ stack_after found all right
