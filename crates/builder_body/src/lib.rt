@@ -7,14 +7,14 @@ ghost use Rattle.standard.specs.Rules.{answer, by_mode, row as row_of};
 ghost use Rattle.builder_body.specs.Modes.{is_body_mode};
 
 mod after_adoption;
-mod in_foreign;
 mod in_body;
 mod in_body_end;
 mod in_body_start;
+mod in_foreign;
 mod in_text;
 
-pub use after_adoption::after_adopt;
 use crate::in_foreign::in_foreign;
+pub use after_adoption::after_adopt;
 use builder_state::Builder;
 use html_types::{Instr, Mode, Next, NoMemory, Ops, Token};
 use std::alloc::Global;

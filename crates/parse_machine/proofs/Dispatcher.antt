@@ -7,14 +7,14 @@ use Rattle.html_types.specs.declared.open.OpenElement.{OpenElement}
 use Rattle.standard.specs.Foreign.{is_html, adjusted_of, is_foreign_element, is_foreign, goes_foreign}
 use Rattle.standard.specs.Rules.{rules_for}
 
-by_html : (html rest : Bool) → not html ≡ false → not (html || rest) ≡ false
-by_html true rest h = refl
-by_html false rest h = absurd (cc)
+by_html : (html p q r s : Bool) → not html ≡ false → not (html || p || q || r || s) ≡ false
+by_html true p q r s h = refl
+by_html false p q r s h = absurd (cc)
 
 stays : (t : Token) (es : List OpenElement) → is_foreign_element (adjusted_of es) ≡ false → goes_foreign t (adjusted_of es) ≡ false
 unfolding goes_foreign
 stays t [] h = refl
-stays t (e ∷ es) h = by_html (is_html e.name) _ h
+stays t (e ∷ es) h = by_html (is_html e.name) _ _ _ _ h
 
 pub by_mode_in_html : (t : Token) (b : Open) → is_foreign b ≡ false → rules_for t b ≡ b.mode
 unfolding is_foreign
