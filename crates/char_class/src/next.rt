@@ -91,7 +91,11 @@ pub fn new_tag(alloc: Global, kind: TagKind, name: Text) -> PartialTag
 }
 
 /// Emits the tag, its self-closing flag set or not, and switches to the data state.
-pub fn emit_tag_as(closing: bool, partial: PartialTag, out: &mut Tokens) -> Result<Transition, NoMemory>
+pub fn emit_tag_as(
+    closing: bool,
+    partial: PartialTag,
+    out: &mut Tokens,
+) -> Result<Transition, NoMemory>
     ensures { IfOk result (Follows (steps.emit_tag_as closing partial) out.old out.new) }
 {
     let PartialTag {

@@ -132,7 +132,10 @@ impl Doc {
     /// No two ids stand for one node.
     pub fn ids_are_one_to_one(&self)
         ensures { IsOneToOne self.now.bound }
-    {}
+    {
+        // A struct's invariant is known where a field is looked at.
+        let _bound = &self.bound;
+    }
 
     // Where a place lies on the tree as it is now.
     fn spot(&self, place: Place) -> Spot

@@ -92,7 +92,14 @@ fn read_pieces(
     let mut tokens = Tokens::new(alloc);
     let mut tokenizer = begin(alloc, row.start);
     for piece in pieces {
-        read(alloc, table, row.foreign, &mut tokenizer, piece, &mut tokens)?;
+        read(
+            alloc,
+            table,
+            row.foreign,
+            &mut tokenizer,
+            piece,
+            &mut tokens,
+        )?;
     }
     let before = tokenizer.copy(alloc)?;
     tokenizer.finish(alloc, table, row.foreign)?;
