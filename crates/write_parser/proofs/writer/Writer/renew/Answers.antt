@@ -8,4 +8,4 @@ use Rattle.write_parser.proofs.writer.Writer.renew.Goals as goal
 pub invariant_of-self : goal.invariant_of-self
 invariant_of-self c = λ kept.
     renewed-serves c.args.realm c.self.inside.live.machine c.self.inside.live.doc
-    (subst (λ (v : View). AreBelow c.args.realm (is_bound v.doc.bound)) (sym c.self.view_is) c.requires) (c.self.invariant kept)
+    (subst (λ (v : View). AreBelow c.args.realm (is_bound v.doc.bound)) (sym c.self.view_is) c.requires.below) (c.self.invariant kept)
