@@ -16,6 +16,7 @@ mod state;
 #[cfg(test)]
 mod tests;
 mod walks;
+mod weight;
 
 pub use formatting::{entry_of, take_entry_off};
 pub use insert::take_id;
