@@ -5,7 +5,7 @@
 pub mod batch;
 pub mod checkpoint;
 mod cutting;
-pub mod decide;
+pub mod deciding;
 pub mod in_force;
 pub mod reply;
 pub mod request;
@@ -16,7 +16,7 @@ pub mod worker;
 pub use batch::{Batch, Batches, Halt};
 pub use checkpoint::Checkpoint;
 pub use core_rules::Verdict;
-pub use decide::decide;
+pub use deciding::decide;
 pub use in_force::InForce;
 pub use reply::{Reply, Said};
 pub use request::Request;

@@ -4,7 +4,7 @@ ghost use Rattle.std.specs.Prelude.{◌≡◌};
 
 use crate::batch::{Batches, Halt};
 use crate::checkpoint::Checkpoint;
-use crate::decide::decide;
+use crate::deciding::decide;
 use crate::request::Request;
 use crate::worker::Worker;
 use core_rules::Verdict;
