@@ -1,5 +1,5 @@
 -- A text that is cut into batches, one behind another.
-use Rattle.std.proofs.Common.{◌≡◌, ◌≤◌, ◌<◌, ℕ, zero, suc, List, [], ◌∷◌, ◌++◌, length, take, drop, Option, Some, None, refl, sym, ◌∙◌, ap, subst, append_assoc, append_nil, take-append-drop, length-drop, arith}
+use Rattle.std.proofs.Common.{◌≡◌, ◌≤◌, ◌<◌, ℕ, zero, suc, Bool, true, false, if◌then◌else◌, List, [], ◌∷◌, ◌++◌, length, take, drop, Option, Some, None, refl, sym, ◌∙◌, ap, subst, append_assoc, append-nil, take-append-drop, length-drop, arith}
 use Rattle.std.specs.Str.{chars, IsCharBoundary, IsUtf8, encode_utf8_all}
 use Rattle.std.proofs.lemmas.Str.{IsUtf8-take, chars-append, encodes-chars}
 use Rattle.std.proofs.lemmas.List.{append_cancel_left}
@@ -25,12 +25,15 @@ rest-chars bs used k text boundary front =
     ∙ (ap chars (take-append-drop used bs)
     ∙ (sym (take-append-drop k (chars bs)) ∙ ap (λ xs. xs ++ drop k (chars bs)) (sym front))))
 
+abbrev batch_of : Parser → List ℕ → List Op → Parser → Stop → Batch
+batch_of start used ops after why = record { start = start; text = used; ops = ops; after = after; halt = at why }
+
 -- a machine has parsed a text up to the first stop
 pub record HasRun (es : Entities) (p : Parser) (text : List ℕ) (p' : Parser) (ops : List Op) (ran : Ran) : Type 0 where
   pub boundary : IsCharBoundary (encode_utf8_all text) ran.used
   pub front : chars (take ran.used (encode_utf8_all text)) ≡ take (parse es p text).used text
   pub rest : chars (drop ran.used (encode_utf8_all text)) ≡ drop (parse es p text).used text
-  pub ops : ops ≡ (parse es p text).ops
+  pub operations : ops ≡ (parse es p text).ops
   pub state : p' ≡ (parse es p text).parser
   pub stop : ran.stop ≡ (parse es p text).stop
 
@@ -42,7 +45,7 @@ run-of es p bytes p' before ops ran utf8 none run boundary =
       boundary = subst (λ (x : List ℕ). IsCharBoundary x ran.used) (sym is) boundary;
       front = ap (λ x. chars (take ran.used x)) is ∙ run.used;
       rest = ap (λ x. chars (drop ran.used x)) is ∙ rest-chars bytes ran.used (parse es p (chars bytes)).used utf8 boundary run.used;
-      ops = run.ops ∙ ap (λ l. l ++ (parse es p (chars bytes)).ops) none;
+      operations = run.ops ∙ ap (λ l. l ++ (parse es p (chars bytes)).ops) none;
       state = run.state;
       stop = run.stop;
     }
@@ -51,6 +54,11 @@ pub has-run : (es : Entities) (p : Parser) (bytes text : List ℕ) (p' : Parser)
     RanAs (parse es p (chars bytes)) before p' ops ran bytes → IsCharBoundary bytes ran.used → HasRun es p text p' ops ran
 has-run es p bytes text p' before ops ran utf8 is none run boundary =
     subst (λ (t : List ℕ). HasRun es p t p' ops ran) is (run-of es p bytes p' before ops ran utf8 none run boundary)
+
+-- the batch that is made of it
+pub is-first : (es : Entities) (p : Parser) (t : List ℕ) (start : Parser) (used : List ℕ) (ops : List Op) (after : Parser) (why : Stop) → start ≡ p → used ≡ take (parse es p t).used t →
+    ops ≡ (parse es p t).ops → after ≡ (parse es p t).parser → why ≡ (parse es p t).stop → batch_of start used ops after why ≡ first_batch es p t
+is-first es p t start used ops after why a b c d e = rw (a, b, c, d, e) refl
 
 -- ---- what comes behind it
 
@@ -70,7 +78,7 @@ cut-on es p (c ∷ cs) some =
     let k : length back ≤ length back = omega arith in
     ap (and_behind (first_batch es p (c ∷ cs)) r.stop) (cut-enough (length cs) (length back) es r.parser back (shorter es p c cs (length cs) n) k)
 
-stop_in : Halt → Stop
+abbrev stop_in : Halt → Stop
 stop_in (at s) = s
 stop_in (finishing f) = stop.InputEnd
 stop_in (refusing w) = stop.InputEnd
@@ -94,7 +102,7 @@ module _ (es : Entities) (made : List Batch) (p : Parser) (t : List ℕ) (before
   unfolding cut
   none-left none =
       let empty : cut (length t) es p t ≡ record { batches = []; parser = Some p } = ap (λ (u : List ℕ). cut (length u) es p u) none in
-      (sym (append_nil made) ∙ (ap (λ (a : Answered). made ++ a.batches) (sym empty) ∙ left.batches), sym left.parser ∙ ap (λ (a : Answered). a.parser) empty)
+      (sym (append-nil made) ∙ (ap (λ (a : Answered). made ++ a.batches) (sym empty) ∙ left.batches), sym left.parser ∙ ap (λ (a : Answered). a.parser) empty)
 
   module _ (b : Batch) (p' : Parser) (t' : List ℕ) (next : IsMade es p t b p' t') where
     abbrev r : Parsed
@@ -161,3 +169,43 @@ module _ (es : Entities) (p : Parser) (x : Piece) where
   pub answer-ended : (q : Parser) (e : Ending) → text_cut.parser ≡ Some q → x.ending ≡ Some e → answer es (Some p) x ≡ record { batches = text_cut.batches ++ end_batch es q e ∷ []; parser = None }
   unfolding answer
   answer-ended q e some is = ended-by x.ending e text_cut q is some
+
+-- nothing is made of it where there is no parser
+pub answer-none : (es : Entities) (x : Piece) → answer es None x ≡ record { batches = []; parser = None }
+unfolding answer
+answer-none es x = refl
+
+-- ---- a piece whose text was cut
+
+module _ (es : Entities) (p : Parser) (x : Piece) (t : List ℕ) (goes_on : Bool) (q : Parser) (before made : List Batch) (is : t ≡ x.text)
+    (parser : (cut (length t) es p t).parser ≡ (if goes_on then Some q else None)) (batches : made ≡ before ++ (cut (length t) es p t).batches) where
+  in-all : (cut (length x.text) es p x.text).parser ≡ (if goes_on then Some q else None)
+  in-all = ap (λ (u : List ℕ). (cut (length u) es p u).parser) (sym is) ∙ parser
+
+  made-all : made ≡ before ++ (cut (length x.text) es p x.text).batches
+  made-all = batches ∙ ap (λ (u : List ℕ). before ++ (cut (length u) es p u).batches) is
+
+  pub piece-refused : goes_on ≡ false → (made ≡ before ++ (answer es (Some p) x).batches) × (None ≡ (answer es (Some p) x).parser)
+  piece-refused off =
+      let a : answer es (Some p) x ≡ record { batches = (cut (length x.text) es p x.text).batches; parser = None } =
+      answer-refused es p x (in-all ∙ ap (λ (b : Bool). if b then Some q else None) off) in
+      (made-all ∙ ap (λ (y : Answered). before ++ y.batches) (sym a), sym (ap (λ (y : Answered). y.parser) a))
+
+  module _ (on : goes_on ≡ true) where
+    there : (cut (length x.text) es p x.text).parser ≡ Some q
+    there = in-all ∙ ap (λ (b : Bool). if b then Some q else None) on
+
+    pub piece-open : None ≡ x.ending → (made ≡ before ++ (answer es (Some p) x).batches) × (Some q ≡ (answer es (Some p) x).parser)
+    piece-open none =
+        let a : answer es (Some p) x ≡ cut (length x.text) es p x.text = answer-open es p x (sym none) in
+        (made-all ∙ ap (λ (y : Answered). before ++ y.batches) (sym a), sym there ∙ sym (ap (λ (y : Answered). y.parser) a))
+
+    pub piece-ended : (e : Ending) (b : Batch) (made' : List Batch) → Some e ≡ x.ending → b ≡ end_batch es q e → made' ≡ made ++ b ∷ [] →
+        (made' ≡ before ++ (answer es (Some p) x).batches) × (None ≡ (answer es (Some p) x).parser)
+    piece-ended e b made' some last added =
+        let text : List Batch = (cut (length x.text) es p x.text).batches in
+        let a : answer es (Some p) x ≡ record { batches = text ++ end_batch es q e ∷ []; parser = None } = answer-ended es p x q e there (sym some) in
+        (added
+        ∙ (ap (λ (l : List Batch). l ++ b ∷ []) made-all
+        ∙ (append_assoc before text (b ∷ [])
+        ∙ (ap (λ (y : Batch). before ++ (text ++ y ∷ [])) last ∙ ap (λ (y : Answered). before ++ y.batches) (sym a)))), sym (ap (λ (y : Answered). y.parser) a))
