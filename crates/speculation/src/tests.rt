@@ -5,10 +5,11 @@ ghost use Rattle.std.specs.Prelude.{◌≡◌};
 use crate::batch::{Batches, Halt};
 use crate::checkpoint::Checkpoint;
 use crate::deciding::decide;
+use crate::in_force::InForce;
 use crate::request::Request;
 use crate::worker::Worker;
 use core_rules::Verdict;
-use entity_table::{Table, TableFault};
+use entity_table::Table;
 use html_types::{Ending, Finish, NoMemory, NodeId, Stop};
 use page_pieces::{Piece, SharedText};
 use parse_machine::Machine;
@@ -16,15 +17,27 @@ use std::alloc::Global;
 use std::marker::Brand;
 use std::test::Fail;
 
-// What a worker answers where the table's entities are in force.
+// What a worker answers.
+fn batches_in<E: InForce>(
+    alloc: Global,
+    table: &Table,
+    worker: &mut Worker,
+    request: Request,
+) -> Result<Batches, NoMemory>
+    requires { table.now ≡ E.entities }
+{
+    let reply = worker.answer::<E>(alloc, table, request)?;
+    Ok(reply.said.into_batches())
+}
+
+// The same, the table's entities being in force.
 fn batches_of(
     alloc: Global,
     table: &Table,
     worker: &mut Worker,
     request: Request,
 ) -> Result<Batches, NoMemory> {
-    let reply = worker.answer::<Brand>(alloc, table, request)?;
-    Ok(reply.said.into_batches())
+    batches_in::<Brand>(alloc, table, worker, request)
 }
 
 #[test]
