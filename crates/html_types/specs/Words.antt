@@ -3,7 +3,7 @@ use Rattle.std.specs.Prelude.{ℕ, Bool, List, [], ◌∷◌, codes}
 use denote.Enum.Bare.{sameb}
 use Rattle.html_types.specs.contracts.word.Word.{the_type}
 use Rattle.html_types.specs.declared.word.Word.{Word}
-use Rattle.html_types.specs.declared.word.Word.TheVariants.{A, Address, Applet, Area, Article, Aside, B, Base, Basefont, Bgsound, Big, Blockquote, Body, Br, Button, Caption, Center, Code, Col, Colgroup, Dd, Details, Dialog, Dir, Div, Dl, Dt, Em, Embed, Fieldset, Figcaption, Figure, Font, Footer, Form, Frame, Frameset, H1, H2, H3, H4, H5, H6, Head, Header, Hgroup, Hr, Html, I, Iframe, Image, Img, Input, Keygen, Li, Link, Listing, Main, Marquee, Menu, Meta, Nav, Nobr, Noembed, Noframes, Noscript, Object, Ol, Optgroup, Option, P, Param, Plaintext, Pre, Rb, Rp, Rt, Rtc, Ruby, S, Script, Search, Section, Select, Small, Source, Strike, Strong, Style, Summary, Table, Tbody, Td, Template, Textarea, Tfoot, Th, Thead, Title, Tr, Track, Tt, U, Ul, Wbr, Xmp}
+use Rattle.html_types.specs.declared.word.Word.TheVariants.{A, Address, Applet, Area, Article, Aside, B, Base, Basefont, Bgsound, Big, Blockquote, Body, Br, Button, Caption, Center, Code, Col, Colgroup, Dd, Details, Dialog, Dir, Div, Dl, Dt, Em, Embed, Fieldset, Figcaption, Figure, Font, Footer, Form, Frame, Frameset, H1, H2, H3, H4, H5, H6, Head, Header, Hgroup, Hr, Html, I, Iframe, Image, Img, Input, Keygen, Li, Link, Listing, Main, Malignmark, Marquee, Math, Menu, Meta, Mglyph, Nav, Nobr, Noembed, Noframes, Noscript, Object, Ol, Optgroup, Option, P, Param, Plaintext, Pre, Rb, Rp, Rt, Rtc, Ruby, S, Script, Search, Section, Select, Small, Source, Span, Strike, Strong, Style, Sub, Summary, Sup, Svg, Table, Tbody, Td, Template, Textarea, Tfoot, Th, Thead, Title, Tr, Track, Tt, U, Ul, Var, Wbr, Xmp}
 
 abbrev pub same_word : Word → Word → Bool
 same_word v w = sameb the_type v w
@@ -68,9 +68,12 @@ word_text Li = codes "li"
 word_text Link = codes "link"
 word_text Listing = codes "listing"
 word_text Main = codes "main"
+word_text Malignmark = codes "malignmark"
 word_text Marquee = codes "marquee"
+word_text Math = codes "math"
 word_text Menu = codes "menu"
 word_text Meta = codes "meta"
+word_text Mglyph = codes "mglyph"
 word_text Nav = codes "nav"
 word_text Nobr = codes "nobr"
 word_text Noembed = codes "noembed"
@@ -96,10 +99,14 @@ word_text Section = codes "section"
 word_text Select = codes "select"
 word_text Small = codes "small"
 word_text Source = codes "source"
+word_text Span = codes "span"
 word_text Strike = codes "strike"
 word_text Strong = codes "strong"
 word_text Style = codes "style"
+word_text Sub = codes "sub"
 word_text Summary = codes "summary"
+word_text Sup = codes "sup"
+word_text Svg = codes "svg"
 word_text Table = codes "table"
 word_text Tbody = codes "tbody"
 word_text Td = codes "td"
@@ -114,6 +121,7 @@ word_text Track = codes "track"
 word_text Tt = codes "tt"
 word_text U = codes "u"
 word_text Ul = codes "ul"
+word_text Var = codes "var"
 word_text Wbr = codes "wbr"
 word_text Xmp = codes "xmp"
 
@@ -123,8 +131,8 @@ words =
     A ∷ Address ∷ Applet ∷ Area ∷ Article ∷ Aside ∷ B ∷ Base ∷ Basefont ∷ Bgsound ∷ Big ∷ Blockquote ∷ Body ∷ Br ∷
     Button ∷ Caption ∷ Center ∷ Code ∷ Col ∷ Colgroup ∷ Dd ∷ Details ∷ Dialog ∷ Dir ∷ Div ∷ Dl ∷ Dt ∷ Em ∷ Embed ∷
     Fieldset ∷ Figcaption ∷ Figure ∷ Font ∷ Footer ∷ Form ∷ Frame ∷ Frameset ∷ H1 ∷ H2 ∷ H3 ∷ H4 ∷ H5 ∷ H6 ∷ Head ∷
-    Header ∷ Hgroup ∷ Hr ∷ Html ∷ I ∷ Iframe ∷ Image ∷ Img ∷ Input ∷ Keygen ∷ Li ∷ Link ∷ Listing ∷ Main ∷ Marquee ∷
-    Menu ∷ Meta ∷ Nav ∷ Nobr ∷ Noembed ∷ Noframes ∷ Noscript ∷ Object ∷ Ol ∷ Optgroup ∷ Option ∷ P ∷ Param ∷ Plaintext ∷
-    Pre ∷ Rb ∷ Rp ∷ Rt ∷ Rtc ∷ Ruby ∷ S ∷ Script ∷ Search ∷ Section ∷ Select ∷ Small ∷ Source ∷ Strike ∷ Strong ∷
-    Style ∷ Summary ∷ Table ∷ Tbody ∷ Td ∷ Template ∷ Textarea ∷ Tfoot ∷ Th ∷ Thead ∷ Title ∷ Tr ∷ Track ∷ Tt ∷
-    U ∷ Ul ∷ Wbr ∷ Xmp ∷ []
+    Header ∷ Hgroup ∷ Hr ∷ Html ∷ I ∷ Iframe ∷ Image ∷ Img ∷ Input ∷ Keygen ∷ Li ∷ Link ∷ Listing ∷ Main ∷ Malignmark ∷
+    Marquee ∷ Math ∷ Menu ∷ Meta ∷ Mglyph ∷ Nav ∷ Nobr ∷ Noembed ∷ Noframes ∷ Noscript ∷ Object ∷ Ol ∷ Optgroup ∷
+    Option ∷ P ∷ Param ∷ Plaintext ∷ Pre ∷ Rb ∷ Rp ∷ Rt ∷ Rtc ∷ Ruby ∷ S ∷ Script ∷ Search ∷ Section ∷ Select ∷ Small ∷
+    Source ∷ Span ∷ Strike ∷ Strong ∷ Style ∷ Sub ∷ Summary ∷ Sup ∷ Svg ∷ Table ∷ Tbody ∷ Td ∷ Template ∷ Textarea ∷
+    Tfoot ∷ Th ∷ Thead ∷ Title ∷ Tr ∷ Track ∷ Tt ∷ U ∷ Ul ∷ Var ∷ Wbr ∷ Xmp ∷ []

@@ -1,9 +1,10 @@
 //! What a row of tree construction (13.2.6) is made of.
 
+use crate::name::Space;
 use crate::operation::NodeId;
 use crate::word::Word;
 
-/// The insertion modes (13.2.4.1).
+/// The insertion modes (13.2.4.1), and the rules for foreign content.
 #[derive(Clone, Copy, Debug, PartialEq, Eq)]
 pub enum Mode {
     Initial,
@@ -29,6 +30,8 @@ pub enum Mode {
     AfterFrameset,
     AfterAfterBody,
     AfterAfterFrameset,
+    /// The rules for parsing tokens in foreign content (13.2.6.5): no insertion mode, and never entered.
+    InForeign,
 }
 
 /// How the tokenizer reads on behind a start tag.
@@ -115,6 +118,10 @@ pub enum Test {
     InTables,
     /// The current node is an option right below an optgroup.
     OptionInOptgroup,
+    /// The token's self-closing flag is set.
+    SelfClosing,
+    /// The token is a start tag at which foreign content is left (13.2.6.5).
+    BreaksOut,
 }
 
 /// An instruction of a row. One that leaves the row stands last.
@@ -143,8 +150,15 @@ pub enum Instr {
     VoidA(Word),
     /// The same for a start tag of that name with the token's attributes.
     VoidAs(Word),
+    /// A foreign element for the token (13.2.6.1) in the namespace of the adjusted current node, pushed; the names of tag and
+    /// attributes are adjusted as that namespace has it.
+    InsertForeign,
+    /// The same in that namespace; the attributes' names are adjusted.
+    InsertIn(Space),
     /// The character at the appropriate place.
     InsertText,
+    /// U+FFFD at the appropriate place.
+    InsertReplacement,
     /// The comment at the appropriate place.
     InsertComment,
     /// The comment at the end of the Document.
@@ -172,6 +186,11 @@ pub enum Instr {
     CloseItem(Who),
     /// "Any other end tag" of "in body".
     AnyOtherEnd,
+    /// Popped while the current node is neither HTML nor an integration point; the token is then processed by the rules of
+    /// the mode (13.2.6.5).
+    BreakOut,
+    /// "Any other end tag" of the rules for foreign content (13.2.6.5).
+    ForeignEnd,
 
     /// Reconstruct the active formatting elements (13.2.4.3).
     Reconstruct,

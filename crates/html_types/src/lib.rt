@@ -12,6 +12,7 @@ pub mod mark_state;
 pub mod memory;
 pub mod name;
 mod name_index;
+pub mod name_text;
 pub mod open;
 pub mod operation;
 pub mod reference_state;
@@ -28,9 +29,10 @@ pub use class::Class;
 pub use instruction::{
     Finish, Flow, Group, Instr, Mode, Next, Scope, Stop, Test, Then, TokenizerSwitch, Turn, Who,
 };
-pub use mark_state::{CommentState, DoctypeState, MarkState};
+pub use mark_state::{CdataState, CommentState, DoctypeState, MarkState};
 pub use memory::NoMemory;
-pub use name::Name;
+pub use name::{Name, Space};
+pub use name_text::NameText;
 pub use open::{Format, Formats, Modes, Open, OpenElement, Stack};
 pub use operation::{NodeId, Op, Ops, Place};
 pub use reference_state::{ReferenceState, ReturnState};

@@ -1,4 +1,4 @@
-//! The tokenizer's states of comments, markup declarations and doctypes (13.2.5.41 to 13.2.5.56, 13.2.5.57 to 13.2.5.68).
+//! The tokenizer's states of comments, markup declarations, doctypes and CDATA sections (13.2.5.41 to 13.2.5.71).
 
 ghost use Rattle.std.specs.Prelude.{◌≡◌, ◌↔◌, IsTrue, IfOk};
 
@@ -61,15 +61,27 @@ pub enum DoctypeState {
     Bogus(Text, bool),
 }
 
+/// The states of CDATA sections.
+#[derive(Clone, Copy, Debug, PartialEq, Eq)]
+pub enum CdataState {
+    /// 13.2.5.69 CDATA section state
+    Section,
+    /// 13.2.5.70 CDATA section bracket state
+    Bracket,
+    /// 13.2.5.71 CDATA section end state
+    End,
+}
+
 /// The states of what begins with `<!`, and of bogus comments.
 #[derive(Drop)]
 pub enum MarkState {
-    /// 13.2.5.42 Markup declaration open state: what was read of `--` or `DOCTYPE`, as it was written
+    /// 13.2.5.42 Markup declaration open state: what was read of `--`, `DOCTYPE` or `[CDATA[`, as it was written
     MarkupDeclarationOpen(Text),
     /// 13.2.5.41 Bogus comment state: the comment's text so far
     BogusComment(Text),
     Comment(CommentState),
     Doctype(DoctypeState),
+    Cdata(CdataState),
 }
 
 impl CommentState {
@@ -196,6 +208,7 @@ impl MarkState {
             MarkState::BogusComment(text) => Ok(MarkState::BogusComment(text.copy(alloc)?)),
             MarkState::Comment(state) => Ok(MarkState::Comment(state.copy(alloc)?)),
             MarkState::Doctype(state) => Ok(MarkState::Doctype(state.copy(alloc)?)),
+            MarkState::Cdata(state) => Ok(MarkState::Cdata(*state)),
         }
     }
 
@@ -208,6 +221,7 @@ impl MarkState {
             (MarkState::BogusComment(v), MarkState::BogusComment(w)) => v.same(w),
             (MarkState::Comment(s), MarkState::Comment(t)) => s.same(t),
             (MarkState::Doctype(s), MarkState::Doctype(t)) => s.same(t),
+            (MarkState::Cdata(s), MarkState::Cdata(t)) => *s == *t,
             _ => false,
         }
     }

@@ -16,22 +16,28 @@ use std::marker::Model;
 pub struct OpenElement {
     pub id: NodeId,
     pub name: Name,
+    /// An annotation-xml of MathML whose start tag named an encoding of HTML: an HTML integration point (13.2.6).
+    pub html_point: bool,
 }
 
 impl OpenElement {
     /// A copy.
-    pub fn copy(&self, alloc: Global) -> Result<OpenElement, NoMemory>
+    pub fn copy(&self) -> Result<OpenElement, NoMemory>
         ensures { IfOk result (λ e. e ≡ self.now) }
     {
-        let name = self.name.copy(alloc)?;
-        Ok(OpenElement { id: self.id, name })
+        let name = self.name.copy()?;
+        Ok(OpenElement {
+            id: self.id,
+            name,
+            html_point: self.html_point,
+        })
     }
 
     /// Whether two are the same.
     pub fn same(&self, other: &OpenElement) -> bool
         ensures { IsTrue result ↔ (self.now ≡ other.now) }
     {
-        self.id == other.id && self.name.same(&other.name)
+        self.id == other.id && self.html_point == other.html_point && self.name.same(&other.name)
     }
 }
 
@@ -106,7 +112,7 @@ impl Stack {
     {
         let mut items = Vec::new(alloc);
         for element in &self.items {
-            items.push(element.copy(alloc)?)?;
+            items.push(element.copy()?)?;
         }
         Ok(Stack { items })
     }
