@@ -18,6 +18,7 @@ mod state;
 #[cfg(test)]
 mod tests;
 mod walks;
+mod weight;
 
 pub use foreign::opened;
 pub use formatting::{entry_of, take_entry_off};

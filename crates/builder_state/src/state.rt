@@ -14,6 +14,7 @@ use crate::formatting::none_lost;
 use crate::insert::{LIMIT, place_now, reopen_lost};
 use crate::machine::run_row;
 use crate::pending::{insert_body_character, insert_body_text};
+use crate::weight::is_light;
 use html_types::{
     Flow, Formats, Instr, Mode, Modes, Next, NoMemory, NodeId, Open, OpenElement, Ops, Place,
     Stack, Text, Token,
@@ -227,6 +228,11 @@ impl Builder {
         ensures { self.new ≡ record self.old { next = record { realm = realm; n = 0 } } }
     {
         self.state.next = NodeId { realm, n: 0 };
+    }
+
+    /// Whether a copy takes little time. It is a hint: no contract speaks of it.
+    pub fn is_light(&self) -> bool {
+        is_light(&self.state)
     }
 
     /// A copy.

@@ -9,7 +9,7 @@ use Rattle.standard.specs.Parser.{Parser, Took, took, take_character, Parsed, an
 use Rattle.core_rules.specs.Batches.{Piece, Batch, text_batch, end_batch, Halt, at, finishing, refusing, Answered, and_behind, cut, and_ending, answer}
 use Rattle.core_rules.specs.Settling.{is_empty}
 use Rattle.core_rules.specs.Desk.{blank}
-use Rattle.core_laws.proofs.Through.{parse-front}
+use Rattle.moment_laws.proofs.Through.{parse-front}
 
 -- it goes on behind a batch that used all its text or stopped at a script
 abbrev pub GoesOn : Halt → Type 0 → Type 0
@@ -49,11 +49,11 @@ all-used n t =
     let e : length (take n t) ≡ min n (length t) = length-take n t in
     drop_all n (take n t) (grind (arith, e))
 
-shorter : (es : Entities) (p : Parser) (c : ℕ) (cs : List ℕ) (n : ℕ) → length cs ≤ n → length (drop (parse es p (c ∷ cs)).used (c ∷ cs)) ≤ n
+pub shorter : (es : Entities) (p : Parser) (c : ℕ) (cs : List ℕ) (n : ℕ) → length cs ≤ n → length (drop (parse es p (c ∷ cs)).used (c ∷ cs)) ≤ n
 shorter es p c cs n h = rw (length-drop (parse es p (c ∷ cs)).used (c ∷ cs)) (omega (arith, h, uses es p c cs))
 
 -- more fuel than characters makes no difference
-cut-enough : (n k : ℕ) (es : Entities) (p : Parser) (t : List ℕ) → length t ≤ n → length t ≤ k → cut n es p t ≡ cut k es p t
+pub cut-enough : (n k : ℕ) (es : Entities) (p : Parser) (t : List ℕ) → length t ≤ n → length t ≤ k → cut n es p t ≡ cut k es p t
 unfolding cut
 cut-enough zero zero es p t h g = refl
 cut-enough zero (suc k) es p [] h g = refl

@@ -16,6 +16,7 @@ ghost use Rattle.parse_machine.specs.Runs.{ArePlain, reads_runs as state_reads_r
 ghost use Rattle.parse_machine.specs.Machine.{WentTo, EndedTo, Builds, BuildsLast, RanAs, stops as stops_at};
 
 use crate::token::construct;
+use crate::weight::is_light_state;
 use builder_state::Builder;
 use char_class::{class_of, first_mark};
 use entity_table::{Characters, Table};
@@ -626,6 +627,11 @@ impl Machine {
                 Err(error)
             }
         }
+    }
+
+    /// Whether a copy takes little time. It is a hint: no contract speaks of it.
+    pub fn is_light(&self) -> bool {
+        is_light_state(self.tokenizer.state()) && self.builder.is_light()
     }
 
     /// A copy.
