@@ -9,7 +9,7 @@ use Rattle.standard.specs.Parser.{Parser, Took, took, take_character, Parsed, an
 use Rattle.core_rules.specs.Batches.{Piece, Batch, text_batch, end_batch, Halt, at, finishing, refusing, Answered, and_behind, cut, and_ending, answer}
 use Rattle.core_rules.specs.Settling.{is_empty}
 use Rattle.core_rules.specs.Desk.{blank}
-use Rattle.core_laws.proofs.Through.{parse-front}
+use Rattle.moment_laws.proofs.Through.{parse-front}
 
 -- it goes on behind a batch that used all its text or stopped at a script
 abbrev pub GoesOn : Halt → Type 0 → Type 0

@@ -1,6 +1,5 @@
 pub mod Okay
 pub mod Framing
-pub mod Through
 pub mod Rebasing
 pub mod OneResult
 pub mod Cutting

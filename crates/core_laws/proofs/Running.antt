@@ -15,7 +15,7 @@ use Rattle.core_rules.specs.Desk.{Desk, renewed, decided, Concludes, RunsOn}
 use Rattle.core_laws.specs.Alike.{own_of, Okay, AreAlike}
 use Rattle.core_laws.specs.Rebasing.{with_next, rebased, Rebases}
 use Rattle.core_laws.proofs.Framing.{moments-rename, fetches-rename}
-use Rattle.core_laws.proofs.Through.{any-ending, through-any}
+use Rattle.moment_laws.proofs.Through.{any-ending, through-any}
 use Rattle.core_laws.proofs.Rebasing.{states-rebase}
 use Rattle.core_laws.proofs.Back.{verdict-back}
 use Rattle.core_laws.proofs.Watching.{watches-next, longer-watched, written-watched, rest-watched}

@@ -1,6 +1,5 @@
 pub mod Alike
 pub mod Rebasing
-pub mod Ways
 pub mod OneResult
 pub mod DeskLaws
 pub mod CoreLaws

@@ -3,7 +3,6 @@
 
 ghost use Rattle.core_laws.specs.Alike.{ScriptsRename, MomentsRename, FetchesRename};
 ghost use Rattle.core_laws.specs.Rebasing.{StatesRebase};
-ghost use Rattle.core_laws.specs.Ways.{LeadsSame, LeadsNext, LeadsThen, BatchesGoThrough, GoesOn, ThroughLeads, NoEndingMatters, ParsesItsFront};
 ghost use Rattle.core_laws.specs.DeskLaws.{AlwaysStandsFor, EndsAsSerial, EndStays, LinesBegin, FailuresAreEpochs, MoreMayFollow};
 ghost use Rattle.core_laws.specs.CoreLaws.{CoreIsDesk, NeverStuck, EnabledSteps, OneStep};
 ghost use Rattle.core_laws.specs.CoreLaws as core;
@@ -22,26 +21,6 @@ pub fn moments_rename()
 /// A state under other ids goes on under others again from where it is: the ids to come are those from another one on.
 pub fn states_rebase()
     ensures { StatesRebase }
-{}
-
-/// Any two moments of the serial parse of which one leads to the other.
-pub fn leads_on()
-    ensures same { LeadsSame }
-    ensures next { LeadsNext }
-    ensures then { LeadsThen }
-{}
-
-/// Moments one behind another of which none is settled before the last: what is parsed of a front of the input is such a way.
-pub fn goes_through()
-    ensures batches { BatchesGoThrough }
-    ensures onward { GoesOn }
-    ensures leads { ThroughLeads }
-    ensures ending { NoEndingMatters }
-{}
-
-/// The parse of a text up to its first stop is that of the front that it uses.
-pub fn parses_its_front()
-    ensures { ParsesItsFront }
 {}
 
 /// A verdict, a script in hand, and an event of the document's side come to one result.

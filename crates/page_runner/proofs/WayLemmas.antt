@@ -23,6 +23,7 @@ use Rattle.standard.specs.Serial.{World, fetched_if, fetched, Serial, Course, go
 use Rattle.standard_laws.specs.Laws.{HasParsed, EndsIn, FileComesTo, moment_at, lines_of}
 use Rattle.standard.specs.Output.{line_text}
 use Rattle.standard_laws.proofs.Passing.{leads-batch, parse-left}
+use Rattle.moment_laws.proofs.Through.{through-leads}
 use Rattle.standard_laws.proofs.Scripts.{awaits-missing, awaits-fault, awaits-got, awaits-refuses}
 use Rattle.parse_machine.specs.declared.machine.Ran.{Ran}
 use Rattle.write_parser.specs.Writing.{View, serial_of, moment_by, moment_of, StandsBy, Stands, AtTag, LeadsTo, Parses, ComesBy, Runs, HasRun, HasMissed}
@@ -122,8 +123,8 @@ way-same es files From To same = record {
 pub way-leads : (es : Entities) (files : ScriptFiles) (From : List Line → List ℕ → Moment → Type 0) (new : View) → LeadsTo es From new → Way es files From (Stands new) []
 way-leads es files From new leads = record {
   leads = λ e w m from before page suits is at.
-      let there = leads.leads e w m from before page suits.entities is at in
-      (there.0, subst (λ l. Stands new l page there.0) (sym (append-nil before)) there.1, there.2);
+      let there = leads.leads e w from before page suits.entities is in
+      (there.0, subst (λ l. Stands new l page there.0) (sym (append-nil before)) there.1, through-leads e w m from there.0 at there.2);
 }
 
 -- ---- ways on which the sink took the lines

@@ -10,8 +10,8 @@ use Rattle.standard.specs.Entities.{Entities}
 use Rattle.standard.specs.Act.{Doc}
 use Rattle.standard.specs.Parser.{Parser}
 use Rattle.standard.specs.Statements.{statements}
-use Rattle.standard_laws.specs.Laws.{HasParsed, EndsIn, moment_at}
-use Rattle.standard.specs.Serial.{World, Course, goes, refuses, awaiting, run_text, Moment, reading, tag_ended, over, refusal, taken, unless_pending, behind_script, Leads}
+use Rattle.standard_laws.specs.Laws.{HasParsed, EndsIn, ScriptComesTo, moment_at}
+use Rattle.standard.specs.Serial.{World, Serial, Course, goes, refuses, awaiting, run_text, Moment, reading, tag_ended, over, refusal, taken, unless_pending, behind_script, after_script, moment_after}
 use Rattle.standard_laws.specs.Frames.{rests, state_of, NestComesTo, TagComesTo, TextComesTo}
 use Rattle.write_parser.specs.declared.left.Overrun.{Overrun}
 use Rattle.write_parser.specs.declared.left.Overrun.TheVariants as limit
@@ -20,9 +20,10 @@ use Rattle.write_parser.specs.declared.live.Live.{Live}
 use Rattle.write_parser.specs.Parsing.{RestParsed}
 use Rattle.write_parser.specs.Writing.{View, why_of, serial_of, moment_by, moment_of, StandsBy, Stands, AtTag, LeadsTo, ComesBy, Runs, scripts_awaited}
 use Rattle.write_parser.specs.Steps.{IsGoing, halted_of, view_of, with_begun, nest_of, ThenBy, Then, weight, Moves, WroteNothing, Begins, Prepares, Keeps, Continues, EndsTag, awaits_none, RunsText, FeedsOn, StaysAt}
-use Rattle.standard_laws.proofs.Passing.{parse-left, leads-batch}
-use Rattle.standard_laws.proofs.Scripts.{script-leads, script-refuses}
+use Rattle.standard_laws.proofs.Passing.{parse-left}
 use Rattle.standard_laws.proofs.Frames.{frames-end, scripts-enter}
+use Rattle.core_rules.specs.Settling.{Through, here, onward}
+use Rattle.moment_laws.proofs.Through.{goes-on, batches-through}
 use Rattle.write_parser.proofs.NestingLemmas.{awaited-one}
 
 -- ---- a script that was begun, and all behind it
@@ -75,36 +76,41 @@ behind-is l before page = by l.pending
     by None = refl
     by (Some name) = refl
 
--- the parse leads to a moment for which the state stands
+-- the parse goes to a moment for which the state stands
 abbrev pub Reaches : Ending → World → Moment → Live → List Line → List ℕ → Type 0
-Reaches e w m l before page = (to : Moment) × Stands (view_of l false) before page to × Leads e w m to
+Reaches e w from l before page = (to : Moment) × Stands (view_of l false) before page to × Through e w from to
 
-pub tag-leads : (es : Entities) (id : NodeId) (old new : Live) → old.pending ≡ None → EndsTag es id old new → (e : Ending) (w : World) (m : Moment) (before : List Line) (page : List ℕ) →
-    w.entities ≡ es → Leads e w m (tag_ended id (serial_of (view_of old false) before page)) → Reaches e w m new before page
-tag-leads es id old new none ends e w m before page is at = by new.halted (ends.comes w before page is)
+-- a script is one moment
+script-through : (e : Ending) (w : World) (i : NodeId) (s : Serial) (f : Course) (m : Moment) → ScriptComesTo w i s f → after_script f ≡ Some m → Through e w (tag_ended i s) m
+unfolding moment_after
+script-through e w i s f m (n, q, ended) is = onward n (tag_ended i s) m m refl (ap after_script q ∙ is) (here m)
+
+pub tag-leads : (es : Entities) (id : NodeId) (old new : Live) → old.pending ≡ None → EndsTag es id old new → (e : Ending) (w : World) (before : List Line) (page : List ℕ) →
+    w.entities ≡ es → Reaches e w (tag_ended id (serial_of (view_of old false) before page)) new before page
+tag-leads es id old new idle ends e w before page is = by new.halted (ends.comes w before page is)
   where
-    tag : (g : Course) → TagComesTo w id (nest_of old [] before page) g → Leads e w m (tag_ended id (state_of (nest_of old [] before page)))
-    tag g come = subst (λ p. Leads e w m (tag_ended id (awaiting p (serial_of (view_of old false) before page)))) (sym none) at
+    tag : (to : Moment) → Through e w (tag_ended id (state_of (nest_of old [] before page))) to → Through e w (tag_ended id (serial_of (view_of old false) before page)) to
+    tag to path = subst (λ p. Through e w (tag_ended id (awaiting p (serial_of (view_of old false) before page))) to) idle path
 
     by : (h : Option Overrun) → ThenBy h w (TagComesTo w id (nest_of old [] before page)) new [] before page →
-        (to : Moment) × StandsBy (halted_of h) (view_of new false) before page to × Leads e w m to
+        (to : Moment) × StandsBy (halted_of h) (view_of new false) before page to × Through e w (tag_ended id (serial_of (view_of old false) before page)) to
     by None each =
         let come = each (goes (state_of (nest_of new [] before page))) (frames-end w (nest_of new [] before page) refl) in (
           behind_script (state_of (nest_of new [] before page)),
           behind-is new before page,
-          script-leads e w m id (state_of (nest_of old [] before page)) (state_of (nest_of new [] before page)) (tag _ come)
-              (scripts-enter w id (nest_of old [] before page) _ refl come),
+          tag _ (script-through e w id (state_of (nest_of old [] before page)) (goes (state_of (nest_of new [] before page))) _
+              (scripts-enter w id (nest_of old [] before page) _ refl come) refl),
         )
     by (Some l) (g, halt, come) = (
       over (refusal (why_of l) halt.last),
       record { last = halt.last; is = refl; lines = halt.lines; doc = halt.doc },
-      script-refuses e w m id (state_of (nest_of old [] before page)) halt.last (why_of l) (tag g come)
-          (scripts-enter w id (nest_of old [] before page) (refuses (why_of l) halt.last) refl (subst (TagComesTo w id (nest_of old [] before page)) halt.is come)),
+      tag _ (script-through e w id (state_of (nest_of old [] before page)) (refuses (why_of l) halt.last) _
+          (scripts-enter w id (nest_of old [] before page) (refuses (why_of l) halt.last) refl (subst (TagComesTo w id (nest_of old [] before page)) halt.is come)) refl),
     )
 
 pub tag-leads-to : (es : Entities) (id : NodeId) (old new : Live) → old.pending ≡ None → EndsTag es id old new → LeadsTo es (AtTag id (view_of old false)) (view_of new false)
-tag-leads-to es id old new none ends = record {
-  leads = λ e w m from before page is at-tag at. tag-leads es id old new none ends e w m before page is (subst (λ k. Leads e w m k) at-tag at);
+tag-leads-to es id old new idle ends = record {
+  leads = λ e w from before page is at-tag. subst (λ k. Reaches e w k new before page) (sym at-tag) (tag-leads es id old new idle ends e w before page is);
 }
 
 -- what a text that ran came to
@@ -136,25 +142,25 @@ fed p d left l = record l { machine = p; doc = d; rest = left }
 
 -- where the parser stopped
 fed-leads : (es : Entities) (old : Live) (p : Parser) (d : Doc) (left : List ℕ) (s : Stop) → IsGoing old → old.pending ≡ None → HasParsed es old.machine old.doc old.rest p d left s →
-    (e : Ending) (w : World) (m from : Moment) (before : List Line) (page : List ℕ) → w.entities ≡ es → Stands (view_of old false) before page from → Leads e w m from →
-    Leads e w m (moment_at (serial_of (view_of old false) before page) p d (left ++ page) s)
-fed-leads es old p d left s going none parsed e w m from before page is stands at =
-    leads-batch e w m (serial_of (view_of old false) before page) old.rest page p d left s
-    (subst (λ k. Leads e w m k) (stands-reading old before page from going.halted none stands) at) refl
-    (subst (λ k. HasParsed k old.machine old.doc old.rest p d left s) (sym is) parsed)
+    (e : Ending) (w : World) (from : Moment) (before : List Line) (page : List ℕ) → w.entities ≡ es → Stands (view_of old false) before page from →
+    Through e w from (moment_at (serial_of (view_of old false) before page) p d (left ++ page) s)
+fed-leads es old p d left s going idle parsed e w from before page is stands =
+    subst (λ k. Through e w k (moment_at (serial_of (view_of old false) before page) p d (left ++ page) s)) (sym (stands-reading old before page from going.halted idle stands))
+    (batches-through e w (serial_of (view_of old false) before page) old.rest page p d left s refl
+    (subst (λ k. HasParsed k old.machine old.doc old.rest p d left s) (sym is) parsed))
 
 pub feeds-end : (es : Entities) (old new : Live) (p : Parser) (d : Doc) (left : List ℕ) (s : Stop) → IsGoing old → Continues old.pending old.rest →
     RestParsed es old.machine old.doc old.rest p d left s → s ≡ stop.InputEnd → new ≡ fed p d left old → FeedsOn es old new
-feeds-end es old new p d left s going onward parsed ends is = subst (λ l. FeedsOn es old l) (sym is) (record {
+feeds-end es old new p d left s going continues parsed ends is = subst (λ l. FeedsOn es old l) (sym is) (record {
   leads = record {
-    leads = λ e w m from before page world stands at. (
+    leads = λ e w from before page world stands. (
       reading (serial_of (view_of (fed p d left old) false) before page),
-      reading-stands (fed p d left old) before page going.halted onward.pending,
-      fed-leads es old p d left stop.InputEnd going onward.pending whole e w m from before page world stands at,
+      reading-stands (fed p d left old) before page going.halted continues.pending,
+      fed-leads es old p d left stop.InputEnd going continues.pending whole e w from before page world stands,
     );
   };
   served = parsed.served;
-  weight = omega (arith, some-rest old.rest onward.rest, ap length none);
+  weight = omega (arith, some-rest old.rest continues.rest, ap length none);
 })
   where
     whole : HasParsed es old.machine old.doc old.rest p d left stop.InputEnd
@@ -169,12 +175,12 @@ feeds-end es old new p d left s going onward parsed ends is = subst (λ l. Feeds
 
 pub feeds-deep : (es : Entities) (old new : Live) (p : Parser) (d : Doc) (left : List ℕ) (s : Stop) → IsGoing old → Continues old.pending old.rest →
     RestParsed es old.machine old.doc old.rest p d left s → s ≡ stop.Deep → new ≡ record (fed p d left old) { halted = Some limit.Depth } → FeedsOn es old new
-feeds-deep es old new p d left s going onward parsed deep is = subst (λ l. FeedsOn es old l) (sym is) (record {
+feeds-deep es old new p d left s going continues parsed deep is = subst (λ l. FeedsOn es old l) (sym is) (record {
   leads = record {
-    leads = λ e w m from before page world stands at. (
+    leads = λ e w from before page world stands. (
       over (refusal why.Depth (taken p d (left ++ page) (serial_of (view_of old false) before page))),
       record { last = taken p d (left ++ page) (serial_of (view_of old false) before page); is = refl; lines = refl; doc = refl },
-      fed-leads es old p d left stop.Deep going onward.pending (subst (λ k. HasParsed es old.machine old.doc old.rest p d left k) deep parsed.parsed) e w m from before page world stands at,
+      fed-leads es old p d left stop.Deep going continues.pending (subst (λ k. HasParsed es old.machine old.doc old.rest p d left k) deep parsed.parsed) e w from before page world stands,
     );
   };
   served = parsed.served;
@@ -183,31 +189,43 @@ feeds-deep es old new p d left s going onward parsed deep is = subst (λ l. Feed
 
 pub feeds-script : (es : Entities) (old mid new : Live) (p : Parser) (d : Doc) (left : List ℕ) (s : Stop) (id : NodeId) → IsGoing old → Continues old.pending old.rest →
     RestParsed es old.machine old.doc old.rest p d left s → s ≡ stop.Script id → mid ≡ fed p d left old → EndsTag es id mid new → FeedsOn es old new
-feeds-script es old mid new p d left s id going onward parsed stops is ends = by (subst (λ l. EndsTag es id l new) is ends)
+feeds-script es old mid new p d left s id going continues parsed stops is ends = by (subst (λ l. EndsTag es id l new) is ends)
   where
     by : EndsTag es id (fed p d left old) new → FeedsOn es old new
-    by here = record {
+    by ended = record {
       leads = record {
-        leads = λ e w m from before page world stands at.
-            tag-leads es id (fed p d left old) new onward.pending here e w m before page world
-            (fed-leads es old p d left (stop.Script id) going onward.pending (subst (λ k. HasParsed es old.machine old.doc old.rest p d left k) stops parsed.parsed) e w m from before page world stands
-            at);
+        leads = λ e w from before page world stands.
+            let there : Reaches e w (tag_ended id (serial_of (view_of (fed p d left old) false) before page)) new before page = tag-leads es id (fed p d left old) new continues.pending ended e w before page world in (
+              there.0,
+              there.1,
+              goes-on e w from _ there.0
+                  (fed-leads es old p d left (stop.Script id) going continues.pending (subst (λ k. HasParsed es old.machine old.doc old.rest p d left k) stops parsed.parsed) e w from before page world stands)
+                  there.2,
+            );
       };
-      served = here.served;
-      weight = omega (arith, here.weight, parsed.shorter (λ ends'. absurd (cc (sym stops ∙ ends'))));
+      served = ended.served;
+      weight = omega (arith, ended.weight, parsed.shorter (λ ends'. absurd (cc (sym stops ∙ ends'))));
     }
 
 -- ---- one part behind another
 
 pub leads-then : (es : Entities) (a b c : View) → LeadsTo es (Stands a) b → LeadsTo es (Stands b) c → LeadsTo es (Stands a) c
-leads-then es a b c first second = record { leads = λ e w m from before page is stands at. by e w m before page is (first.leads e w m from before page is stands at) }
+leads-then es a b c first second = record { leads = λ e w from before page is stands. by e w from before page is (first.leads e w from before page is stands) }
   where
-    by : (e : Ending) (w : World) (m : Moment) (before : List Line) (page : List ℕ) → w.entities ≡ es → (to : Moment) × Stands b before page to × Leads e w m to →
-        (to : Moment) × Stands c before page to × Leads e w m to
-    by e w m before page is (to, stands, at) = second.leads e w m to before page is stands at
+    by : (e : Ending) (w : World) (from : Moment) (before : List Line) (page : List ℕ) → w.entities ≡ es → (to : Moment) × Stands b before page to × Through e w from to →
+        (to : Moment) × Stands c before page to × Through e w from to
+    by e w from before page is (to, stands, path) = let there = second.leads e w to before page is stands in (there.0, there.1, goes-on e w from to there.0 path there.2)
 
 pub leads-nowhere : (es : Entities) (a : View) → LeadsTo es (Stands a) a
-leads-nowhere es a = record { leads = λ e w m from before page is stands at. (from, stands, at) }
+leads-nowhere es a = record { leads = λ e w from before page is stands. (from, stands, here from) }
+
+pub stays-itself : (old : Live) → StaysAt old.halted old.pending old old
+stays-itself old = by old.halted old.pending
+  where
+    by : (h : Option Overrun) (p : Option (List ℕ)) → StaysAt h p old old
+    by None None = tt
+    by None (Some name) = refl
+    by (Some l) p = refl
 
 -- a turn is only where nothing stays
 pub stays-on : (old mid new : Live) → StaysAt old.halted old.pending old mid → mid.halted ≡ None → mid.pending ≡ None → StaysAt old.halted old.pending old new

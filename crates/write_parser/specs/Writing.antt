@@ -14,7 +14,8 @@ use Rattle.standard.specs.Entities.{Entities}
 use Rattle.standard.specs.Act.{Doc, new_doc, is_bound}
 use Rattle.standard.specs.Parser.{Parser, new_parser}
 use Rattle.rule_laws.specs.Naming.{IsStopBound}
-use Rattle.standard.specs.Serial.{World, Serial, Course, goes, refuses, awaiting, run_text, write_limit, Moment, reading, tag_ended, awaits, over, refusal, Leads}
+use Rattle.standard.specs.Serial.{World, Serial, Course, goes, refuses, awaiting, run_text, write_limit, Moment, reading, tag_ended, awaits, over, refusal}
+use Rattle.core_rules.specs.Settling.{Through}
 use Rattle.standard_laws.specs.Laws.{HasParsed, HasFinished, EndsIn}
 use Rattle.parse_machine.specs.declared.machine.Ran.{Ran}
 use Rattle.write_parser.specs.declared.left.Overrun.{Overrun}
@@ -92,10 +93,10 @@ abbrev pub AtTag : NodeId → View → List Line → List ℕ → Moment → Typ
 AtTag id v before page m = m ≡ tag_ended id (serial_of v before page)
 
 -- From each such moment, whatever the lines before and the text of the page behind, the parse leads to one for which the view
--- stands. That is so in each world with these entities.
+-- stands, and no moment before that is settled. That is so in each world with these entities.
 pub record LeadsTo (es : Entities) (From : List Line → List ℕ → Moment → Type 0) (new : View) : Type 0 where
-  pub leads : (e : Ending) (w : World) (m from : Moment) (before : List Line) (page : List ℕ) → w.entities ≡ es → From before page from → Leads e w m from →
-      (to : Moment) × Stands new before page to × Leads e w m to
+  pub leads : (e : Ending) (w : World) (from : Moment) (before : List Line) (page : List ℕ) → w.entities ≡ es → From before page from →
+      (to : Moment) × Stands new before page to × Through e w from to
 
 -- ---- a text of the page
 

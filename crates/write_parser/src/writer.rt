@@ -1,17 +1,20 @@
 //! The writer.
 
-ghost use Rattle.std.specs.Prelude.{◌≡◌, ◌≢◌, ◌<◌, ◌≤◌, true, false, [], None, IfOk, OnOk, OnErr, IsErr, IsTrue};
+ghost use Rattle.std.specs.Prelude.{◌≡◌, ◌≢◌, ◌<◌, ◌≤◌, ◌+◌, true, false, [], None, IfOk, OnOk, OnErr, IsErr, IsTrue};
 ghost use Rattle.std.specs.Str.{chars};
-ghost use Rattle.standard.specs.Act.{is_bound};
+ghost use Rattle.standard.specs.Act.{acts, is_bound, AreOpsBound};
 ghost use Rattle.standard.specs.Statements.{statements};
+ghost use Rattle.core_rules.specs.Desk.{renewed};
+ghost use Rattle.moment_laws.specs.Served.{AreBelow};
+ghost use Rattle.write_parser.specs.Parsing.{IsServed};
 ghost use Rattle.write_parser.specs.Writing.{first_view, Parses, Finishes, AtTag, LeadsTo, HasRun, HasMissed, Feeds, left_to_do};
 
 use crate::left::Left;
 use crate::live::Live;
 use entity_table::Table;
-use html_types::{Finish, Line, Lines, NoMemory, NodeId};
+use html_types::{Finish, Line, Lines, NoMemory, NodeId, Ops};
 use op_exec::Doc;
-use parse_machine::Ran;
+use parse_machine::{Machine, Ran};
 use std::alloc::Global;
 use std::marker::Model;
 use std::mem;
@@ -106,8 +109,10 @@ impl Writer {
         ensures spent { self.old.spent ≡ true → IsErr result }
         ensures kept { OnOk result (self.new.spent ≡ false) }
         ensures err { OnErr result (self.new.spent ≡ true) }
-        // From that end tag the parse leads to a moment for which the writer then stands.
+        // From that end tag the parse leads to a moment for which the writer then stands, and to no settled one before that.
         ensures leads { OnOk result (LeadsTo table.now (AtTag id self.old) self.new) }
+        // What is left to do grows by one at most: the script may be awaited.
+        ensures one_more { OnOk result (left_to_do self.new ≤ left_to_do self.old + 1) }
     {
         if self.spent {
             return Err(NoMemory);
@@ -181,5 +186,51 @@ impl Writer {
         let left = self.live.left()?;
         self.spent = false;
         Ok(left)
+    }
+}
+
+// What was made of the page's text ahead of the document.
+impl Writer {
+    /// The parser.
+    pub fn machine(&self) -> &Machine
+        ensures { result.now ≡ self.now.parser }
+    {
+        &self.live.machine
+    }
+
+    /// Does operations that were made of a text ahead of the document. The parser then stands in the state `end`, behind that text.
+    pub fn execute(&mut self, ops: Ops, end: Machine) -> Result<(), NoMemory>
+        requires bound { AreOpsBound (is_bound self.old.doc.bound) ops }
+        requires served { IsServed end (acts self.old.doc ops) }
+        ensures spent { self.old.spent ≡ true → IsErr result }
+        ensures kept { OnOk result (self.new.spent ≡ false) }
+        ensures err { OnErr result (self.new.spent ≡ true) }
+        ensures executed { OnOk result (self.new ≡ record self.old { parser = end; doc = acts self.old.doc ops }) }
+    {
+        if self.spent {
+            return Err(NoMemory);
+        }
+        self.spent = true;
+        self.live.doc.apply_all(ops)?;
+        self.live.machine = end;
+        self.spent = false;
+        Ok(())
+    }
+
+    /// The elements that are made from now on have the ids of that realm, from its first on. No element has an id of it yet, nor of a later
+    /// one. It takes no memory.
+    pub fn renew(&mut self, realm: u64)
+        requires below { AreBelow realm (is_bound self.old.doc.bound) }
+        ensures { self.new ≡ record self.old { parser = renewed realm self.old.parser } }
+    {
+        self.live.machine.renew(realm);
+    }
+
+    /// Puts the parser into another state, as one that was held while a script ran. It takes no memory.
+    pub fn load(&mut self, machine: Machine)
+        requires served { IsServed machine self.old.doc }
+        ensures { self.new ≡ record self.old { parser = machine } }
+    {
+        self.live.machine = machine;
     }
 }

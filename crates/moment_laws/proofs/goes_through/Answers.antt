@@ -1,5 +1,5 @@
-use Rattle.core_laws.proofs.Through as law
-use Rattle.core_laws.proofs.goes_through.Goals as goal
+use Rattle.moment_laws.proofs.Through as law
+use Rattle.moment_laws.proofs.goes_through.Goals as goal
 
 pub returns-clause-batches : goal.returns-clause-batches
 returns-clause-batches c = law.batches-through
@@ -12,3 +12,6 @@ returns-clause-leads c = law.through-leads
 
 pub returns-clause-ending : goal.returns-clause-ending
 returns-clause-ending c = law.through-any
+
+pub returns-clause-settles : goal.returns-clause-settles
+returns-clause-settles c = law.through-settles

@@ -12,7 +12,7 @@ use Rattle.standard_laws.proofs.Parse.{acts-append}
 use Rattle.standard_laws.proofs.Batch.{moment_behind}
 use Rattle.standard_laws.proofs.Passing.{leads-next}
 use Rattle.core_rules.specs.Settling.{is_empty, is_settled, Through, here, onward}
-use Rattle.core_laws.specs.Ways.{BatchesGoThrough, GoesOn, ThroughLeads, NoEndingMatters, ParsesItsFront}
+use Rattle.moment_laws.specs.Ways.{BatchesGoThrough, GoesOn, ThroughLeads, ThroughSettles, NoEndingMatters, ParsesItsFront}
 
 pub goes-on : GoesOn
 goes-on e w a b c (here m) more = more
@@ -21,6 +21,10 @@ goes-on e w a b c (onward n m m1 m' open_ q rest) more = onward n m m1 c open_ q
 pub through-leads : ThroughLeads
 through-leads e w m0 a b h (here m) = h
 through-leads e w m0 a b h (onward n m m1 m' open_ q rest) = through-leads e w m0 m1 b (leads-next e w m0 n m m1 h q) rest
+
+pub through-settles : ThroughSettles
+through-settles w a b open_ closed (here m) = absurd (true≢false (sym closed ∙ open_))
+through-settles w a b open_ closed (onward n m m1 m' first q rest) = record { fuel = n; next = m1; first = q; through = rest; settled = closed }
 
 through-step : (k : Took) (e : Ending) (w : World) (p : Parser) (d : Doc) (s : Serial) (c : ℕ) (x y : List ℕ) (f : Parser → Parsed) → take_character w.entities p c ≡ k →
     ((p' : Parser) (d' : Doc) → Through e w (reading (taken p' d' (x ++ y) s)) (moment_behind (taken p' d' (x ++ y) s) x y (f p'))) →

@@ -1,5 +1,5 @@
 use Rattle.standard_laws.proofs.Passing as law
-use Rattle.core_laws.proofs.leads_on.Goals as goal
+use Rattle.moment_laws.proofs.leads_on.Goals as goal
 
 pub returns-clause-same : goal.returns-clause-same
 returns-clause-same c = law.leads-same

@@ -1,13 +1,14 @@
 -- How moments of the serial parse come one behind another.
-use Rattle.std.specs.Prelude.{◌≡◌, ℕ, List, ◌++◌, take, Some}
+use Rattle.std.specs.Prelude.{◌≡◌, ℕ, true, false, List, ◌++◌, take, Some}
 use Rattle.html_types.specs.declared.script.Ending.{Ending}
+use Rattle.html_types.specs.declared.script.Ending.TheVariants as ending
 use Rattle.html_types.specs.declared.instruction.Stop.{Stop}
 use Rattle.standard.specs.Act.{Doc}
 use Rattle.standard.specs.Entities.{Entities}
 use Rattle.standard.specs.Parser.{Parser, parse}
 use Rattle.standard.specs.Serial.{World, Serial, Moment, reading, moment_after, Leads}
 use Rattle.standard_laws.specs.Laws.{HasParsed, moment_at}
-use Rattle.core_rules.specs.Settling.{Through}
+use Rattle.core_rules.specs.Settling.{is_settled, Through, Settles}
 
 -- ---- any two moments
 
@@ -32,6 +33,10 @@ GoesOn = (e : Ending) (w : World) (a b c : Moment) → Through e w a b → Throu
 
 abbrev pub ThroughLeads : Type 0
 ThroughLeads = (e : Ending) (w : World) (m0 a b : Moment) → Leads e w m0 a → Through e w a b → Leads e w m0 b
+
+-- Where the first is at a script's end tag, or at text that isn't used yet, and the last is settled, that is the settled moment.
+abbrev pub ThroughSettles : Type 0
+ThroughSettles = (w : World) (a b : Moment) → is_settled a ≡ false → is_settled b ≡ true → Through ending.End w a b → Settles w a b
 
 -- the page's ending isn't looked at
 abbrev pub NoEndingMatters : Type 0

@@ -1,5 +1,0 @@
-use Rattle.core_laws.proofs.Through.{parse-front}
-use Rattle.core_laws.proofs.parses_its_front.Goals as goal
-
-pub returns : goal.returns
-returns c = parse-front
