@@ -6,7 +6,7 @@ ghost use Rattle.html_types.specs.declared.operation.Place.TheVariants.{Inside};
 ghost use Rattle.standard.specs.Adoption.{climb_at, climb_one, climb};
 
 use crate::entries::{renew_entry, tag_of};
-use builder_state::{take_entry_off, take_id};
+use builder_state::{opened, take_entry_off, take_id};
 use html_types::{Formats, NoMemory, NodeId, Op, OpenElement, Ops, Place};
 use std::alloc::Global;
 
@@ -43,7 +43,7 @@ fn climb_one(
     if let Some(tag) = tag_of(alloc, formats, id)? {
         let clone = take_id(next)?;
         renew_entry(alloc, formats, id, clone)?;
-        let name = tag.name.copy(alloc)?;
+        let element = opened(clone, &tag)?;
         ops.push(Op::Make {
             id: clone,
             name: tag.name,
@@ -53,7 +53,7 @@ fn climb_one(
             node: reached.last,
             place: Place::Inside(clone),
         })?;
-        reached.kept.push(OpenElement { id: clone, name })?;
+        reached.kept.push(element)?;
         reached.last = clone;
         if reached.bookmark.is_none() {
             reached.bookmark = Some(clone);

@@ -10,8 +10,8 @@ ghost use Rattle.standard.specs.Adoption.{climb_at, climb, joined, turned, turn_
 use crate::climb::{Climb, climb_all};
 use crate::entries::{insert_behind, renew_entry};
 use crate::stack::{insert_below, place_above, put_back, take_below, take_through};
-use builder_state::{take_entry_off, take_id, take_off};
-use html_types::{Format, Formats, NoMemory, NodeId, Op, Open, OpenElement, Ops, Place, Tag, Turn};
+use builder_state::{opened, take_entry_off, take_id, take_off};
+use html_types::{Format, Formats, NoMemory, NodeId, Op, Open, Ops, Place, Tag, Turn};
 use std::alloc::Global;
 
 /// Climbs over the elements between the furthest block and the formatting element, and leaves on the stack what is left of
@@ -62,7 +62,7 @@ fn make_clone(
 ) -> Result<(), NoMemory>
     ensures { IfOk result (λ _. ops.new ≡ ops.old ++ op.Make clone tag.now.name tag.now.attributes ∷ [] ++ op.MoveChildren block clone ∷ [] ++ op.Put clone (Inside block) ∷ []) }
 {
-    let name = tag.name.copy(alloc)?;
+    let name = tag.name.copy()?;
     let attributes = tag.attributes.copy(alloc)?;
     ops.push(Op::Make {
         id: clone,
@@ -117,14 +117,9 @@ pub fn rebuild(
     ops.push(Op::Put { node: last, place })?;
     let clone = take_id(&mut state.next)?;
     make_clone(alloc, clone, &tag, block, ops)?;
-    let name = tag.name.copy(alloc)?;
+    let opened = opened(clone, &tag)?;
     take_off(&mut state.stack, element);
-    insert_below(
-        alloc,
-        &mut state.stack,
-        block,
-        OpenElement { id: clone, name },
-    )?;
+    insert_below(alloc, &mut state.stack, block, opened)?;
     mark_entry(alloc, &mut state.formats, element, clone, tag, bookmark)?;
     Ok(Turn::More)
 }

@@ -20,11 +20,11 @@ pub fn in_body(token: &Token) -> &'static [Instr]
         Token::Character(c) => character(*c),
         Token::StartTag(tag) => match &tag.name {
             Name::Known(word) => start(*word),
-            Name::Other(_) => &[Reconstruct, Insert],
+            Name::Other(_, _) => &[Reconstruct, Insert],
         },
         Token::EndTag(tag) => match &tag.name {
             Name::Known(word) => end(*word),
-            Name::Other(_) => &[AnyOtherEnd],
+            Name::Other(_, _) => &[AnyOtherEnd],
         },
         Token::Comment(_) => &[InsertComment],
         Token::Doctype {

@@ -8,7 +8,7 @@ use html_types::instruction::Instr::*;
 use html_types::instruction::Test::*;
 use html_types::instruction::Who::*;
 use html_types::word::Word::*;
-use html_types::{Group, Instr, Mode, Scope, TokenizerSwitch, Word};
+use html_types::{Group, Instr, Mode, Scope, Space, TokenizerSwitch, Word};
 
 /// "Close a p element", where one is in button scope.
 const CLOSE_P: Instr = Close(Scope::Button, The(P));
@@ -151,6 +151,8 @@ pub fn start(word: Word) -> &'static [Instr]
             PointForm,
         ],
         Image => &[Reconstruct, VoidAs(Img), NotOk],
+        Math => &[Reconstruct, InsertIn(Space::MathMl), When(SelfClosing), Pop],
+        Svg => &[Reconstruct, InsertIn(Space::Svg), When(SelfClosing), Pop],
         Input => &[Reconstruct, Void, Unless(HiddenInput), NotOk],
         _ => &[Reconstruct, Insert],
     }

@@ -16,7 +16,7 @@ pub fn in_text(token: &Token) -> &'static [Instr]
         Token::Character(_) => &[InsertText],
         Token::EndTag(tag) => match &tag.name {
             Name::Known(word) => end(*word),
-            Name::Other(_) => &[Pop, Restore],
+            Name::Other(_, _) => &[Pop, Restore],
         },
         Token::EndOfFile => &[Pop, Restore, Again],
         Token::StartTag(_) => &[],

@@ -28,11 +28,11 @@ pub fn after_head(token: &Token) -> &'static [Instr]
         }
         Token::StartTag(tag) => match &tag.name {
             Name::Known(word) => start(*word),
-            Name::Other(_) => OTHERWISE,
+            Name::Other(_, _) => OTHERWISE,
         },
         Token::EndTag(tag) => match &tag.name {
             Name::Known(word) => end(*word),
-            Name::Other(_) => &[],
+            Name::Other(_, _) => &[],
         },
         Token::Comment(_) => &[InsertComment],
         Token::Doctype {

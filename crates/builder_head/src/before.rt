@@ -44,11 +44,11 @@ pub fn before_html(token: &Token) -> &'static [Instr]
         Token::Character(c) => { if is_space(*c) { &[] } else { NO_HTML } }
         Token::StartTag(tag) => match &tag.name {
             Name::Known(word) => before_html_start(*word),
-            Name::Other(_) => NO_HTML,
+            Name::Other(_, _) => NO_HTML,
         },
         Token::EndTag(tag) => match &tag.name {
             Name::Known(word) => before_html_end(*word),
-            Name::Other(_) => &[],
+            Name::Other(_, _) => &[],
         },
         Token::Comment(_) => &[CommentToPage],
         Token::Doctype {
@@ -86,11 +86,11 @@ pub fn before_head(token: &Token) -> &'static [Instr]
         Token::Character(c) => { if is_space(*c) { &[] } else { NO_HEAD } }
         Token::StartTag(tag) => match &tag.name {
             Name::Known(word) => before_head_start(*word),
-            Name::Other(_) => NO_HEAD,
+            Name::Other(_, _) => NO_HEAD,
         },
         Token::EndTag(tag) => match &tag.name {
             Name::Known(word) => before_head_end(*word),
-            Name::Other(_) => &[],
+            Name::Other(_, _) => &[],
         },
         Token::Comment(_) => &[InsertComment],
         Token::Doctype {

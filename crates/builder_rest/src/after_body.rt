@@ -24,11 +24,11 @@ pub fn after_body(token: &Token) -> &'static [Instr]
         }
         Token::StartTag(tag) => match &tag.name {
             Name::Known(word) => after_body_start(*word),
-            Name::Other(_) => BODY_AGAIN,
+            Name::Other(_, _) => BODY_AGAIN,
         },
         Token::EndTag(tag) => match &tag.name {
             Name::Known(word) => after_body_end(*word),
-            Name::Other(_) => BODY_AGAIN,
+            Name::Other(_, _) => BODY_AGAIN,
         },
         Token::Comment(_) => &[CommentToRoot],
         Token::Doctype {
@@ -72,7 +72,7 @@ pub fn after_after_body(token: &Token) -> &'static [Instr]
         }
         Token::StartTag(tag) => match &tag.name {
             Name::Known(word) => after_after_body_start(*word),
-            Name::Other(_) => BODY_AGAIN,
+            Name::Other(_, _) => BODY_AGAIN,
         },
         Token::EndTag(_) => BODY_AGAIN,
         Token::Comment(_) => &[CommentToPage],

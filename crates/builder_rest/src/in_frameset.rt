@@ -19,11 +19,11 @@ pub fn in_frameset(token: &Token) -> &'static [Instr]
         Token::Character(c) => { if is_space(*c) { &[InsertText] } else { &[] } }
         Token::StartTag(tag) => match &tag.name {
             Name::Known(word) => in_frameset_start(*word),
-            Name::Other(_) => &[],
+            Name::Other(_, _) => &[],
         },
         Token::EndTag(tag) => match &tag.name {
             Name::Known(word) => in_frameset_end(*word),
-            Name::Other(_) => &[],
+            Name::Other(_, _) => &[],
         },
         Token::Comment(_) => &[InsertComment],
         Token::Doctype {
@@ -69,11 +69,11 @@ pub fn after_frameset(token: &Token) -> &'static [Instr]
         Token::Character(c) => { if is_space(*c) { &[InsertText] } else { &[] } }
         Token::StartTag(tag) => match &tag.name {
             Name::Known(word) => after_frameset_start(*word),
-            Name::Other(_) => &[],
+            Name::Other(_, _) => &[],
         },
         Token::EndTag(tag) => match &tag.name {
             Name::Known(word) => after_frameset_end(*word),
-            Name::Other(_) => &[],
+            Name::Other(_, _) => &[],
         },
         Token::Comment(_) => &[InsertComment],
         Token::Doctype {
@@ -118,7 +118,7 @@ pub fn after_after_frameset(token: &Token) -> &'static [Instr]
         }
         Token::StartTag(tag) => match &tag.name {
             Name::Known(word) => after_after_frameset_start(*word),
-            Name::Other(_) => &[],
+            Name::Other(_, _) => &[],
         },
         Token::EndTag(_) => &[],
         Token::Comment(_) => &[CommentToPage],

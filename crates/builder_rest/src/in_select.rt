@@ -28,11 +28,11 @@ pub fn in_select(token: &Token) -> &'static [Instr]
         Token::Character(c) => { if *c == '\0' { &[] } else { &[InsertText] } }
         Token::StartTag(tag) => match &tag.name {
             Name::Known(word) => in_select_start(*word),
-            Name::Other(_) => &[],
+            Name::Other(_, _) => &[],
         },
         Token::EndTag(tag) => match &tag.name {
             Name::Known(word) => in_select_end(*word),
-            Name::Other(_) => &[],
+            Name::Other(_, _) => &[],
         },
         Token::Comment(_) => &[InsertComment],
         Token::Doctype {
@@ -101,11 +101,11 @@ pub fn in_select_in_table(token: &Token) -> &'static [Instr]
         Token::Character(_) => &[Using(Mode::InSelect)],
         Token::StartTag(tag) => match &tag.name {
             Name::Known(word) => in_select_in_table_start(*word),
-            Name::Other(_) => &[Using(Mode::InSelect)],
+            Name::Other(_, _) => &[Using(Mode::InSelect)],
         },
         Token::EndTag(tag) => match &tag.name {
             Name::Known(word) => in_select_in_table_end(*word),
-            Name::Other(_) => &[Using(Mode::InSelect)],
+            Name::Other(_, _) => &[Using(Mode::InSelect)],
         },
         Token::Comment(_) => &[InsertComment],
         Token::Doctype {

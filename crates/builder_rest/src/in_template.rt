@@ -1,7 +1,9 @@
 //! The rows of "in template" (13.2.6.4.18).
 
-ghost use Rattle.std.specs.Prelude.{◌≡◌};
+ghost use Rattle.std.specs.Prelude.{◌≡◌, drop};
+ghost use Rattle.standard.specs.Rows.{row_for};
 ghost use Rattle.standard.specs.Rules.{row, start_row, end_row};
+ghost use Rattle.standard.specs.RulesRest.{in_template_start, in_template_any_start};
 
 use html_types::instruction::Instr::*;
 use html_types::instruction::Test::OnStack;
@@ -29,11 +31,11 @@ pub fn in_template(token: &Token) -> &'static [Instr]
         Token::Character(_) => &[Using(Mode::InBody)],
         Token::StartTag(tag) => match &tag.name {
             Name::Known(word) => start(*word),
-            Name::Other(_) => AS_BODY,
+            Name::Other(_, _) => AS_BODY,
         },
         Token::EndTag(tag) => match &tag.name {
             Name::Known(word) => end(*word),
-            Name::Other(_) => &[],
+            Name::Other(_, _) => &[],
         },
         Token::Comment(_) => &[Using(Mode::InBody)],
         Token::Doctype {
@@ -52,7 +54,7 @@ pub fn in_template(token: &Token) -> &'static [Instr]
     }
 }
 
-// The template's mode is replaced by one that fits what comes.
+// The head's elements go by its rules; else the template's mode is replaced by one that fits what comes.
 fn start(word: Word) -> &'static [Instr]
     ensures { result.now ≡ start_row Mode.InTemplate (Name.Known word) }
 {
@@ -60,6 +62,15 @@ fn start(word: Word) -> &'static [Instr]
         Base | Basefont | Bgsound | Link | Meta | Noframes | Script | Style | Template | Title => {
             &[Using(Mode::InHead)]
         }
+        _ => start_of_content(word),
+    }
+}
+
+// The same for a name that isn't the head's.
+fn start_of_content(word: Word) -> &'static [Instr]
+    ensures { result.now ≡ row_for (drop 1 in_template_start) in_template_any_start (Name.Known word) }
+{
+    match word {
         Caption | Colgroup | Tbody | Tfoot | Thead => &[
             PopTemplateMode,
             PushTemplateMode(Mode::InTable),

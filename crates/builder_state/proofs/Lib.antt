@@ -3,3 +3,4 @@ pub mod Top
 pub mod Literals
 pub mod Lowered
 pub mod Characters
+pub mod ForeignEnds

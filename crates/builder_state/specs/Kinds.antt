@@ -24,6 +24,10 @@ goes_on ins.InsertRootA = false
 goes_on ins.Void = false
 goes_on (ins.VoidA w) = false
 goes_on (ins.VoidAs w) = false
+goes_on ins.InsertForeign = false
+goes_on (ins.InsertIn s) = false
+goes_on ins.BreakOut = false
+goes_on ins.ForeignEnd = false
 goes_on ins.Reconstruct = false
 goes_on ins.PushHead = false
 goes_on ins.InsertPending = false
@@ -41,6 +45,7 @@ goes_on _ = true
 -- it takes memory: it adds to a list or to the pending text, or asks for an operation that makes no element
 abbrev pub adds : Instr → Bool
 adds ins.InsertText = true
+adds ins.InsertReplacement = true
 adds ins.InsertComment = true
 adds ins.CommentToPage = true
 adds ins.CommentToRoot = true

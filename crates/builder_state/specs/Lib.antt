@@ -2,3 +2,4 @@ pub mod Push
 pub mod Kinds
 pub mod Adopted
 pub mod Texts
+pub mod ForeignEnds

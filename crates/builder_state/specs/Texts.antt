@@ -3,6 +3,7 @@ use Rattle.std.specs.Prelude.{◌≡◌, ℕ, Bool, true, false, ◌&&◌, ◌||
 use Rattle.html_types.specs.declared.open.Open.{Open}
 use Rattle.html_types.specs.declared.instruction.Mode.{Mode}
 use Rattle.html_types.specs.declared.instruction.Mode.TheVariants.{InBody, InCell, InText}
+use Rattle.standard.specs.Foreign.{is_foreign}
 use Rattle.standard.specs.Formatting.{lost, kept}
 use Rattle.standard.specs.Instructions.{all_space}
 
@@ -18,11 +19,12 @@ abbrev pub keeps_ok : Mode → Bool
 keeps_ok InText = true
 keeps_ok _ = false
 
--- A character is inserted: it reopens no formatting element, isn't left out and isn't foster parented.
+-- A character is inserted: it goes by the mode, reopens no formatting element, isn't left out and isn't foster parented.
 pub record TakesText (b : Open) : Type 0 where
   pub mode : takes_characters b.mode ≡ true
   pub skip : b.skip_line_feed ≡ false
   pub foster : b.foster ≡ false
+  pub in_html : is_foreign b ≡ false
   pub none_lost : lost b.stack b.formats ≡ []
   pub all_kept : kept b.stack b.formats ≡ b.formats
 

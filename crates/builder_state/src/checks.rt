@@ -3,13 +3,14 @@
 ghost use Rattle.std.specs.Prelude.{◌≡◌};
 ghost use Rattle.html_types.specs.Names.{name_of};
 ghost use Rattle.standard.specs.Elements.{is_word};
-ghost use Rattle.standard.specs.Instructions.{holds, in_form, is_quirky};
+ghost use Rattle.standard.specs.Instructions.{holds, in_form, is_quirky, closes_itself, is_breaking};
 
 use crate::formatting::is_listed;
 use crate::inputs::is_hidden_input;
 use crate::places::second_is_body;
 use crate::reset::is_table_mode;
 use crate::walks::{is_current, is_in_scope, is_on_stack, is_option_in_optgroup};
+use foreign_tables::breaks_out;
 use html_types::{Open, Test, Text, Token, Who, Word};
 
 /// Whether the text is the name "html".
@@ -39,6 +40,26 @@ fn is_in_form(state: &Open, token: &Token) -> bool
     state.form.is_some() && !is_on_stack(&state.stack, Who::The(Word::Template), token)
 }
 
+/// Whether the token is a start tag whose self-closing flag is set.
+fn closes_itself(token: &Token) -> bool
+    ensures { result ≡ closes_itself token.now }
+{
+    match token {
+        Token::StartTag(tag) => tag.self_closing,
+        _ => false,
+    }
+}
+
+/// Whether the token is a start tag at which foreign content is left (13.2.6.5).
+fn is_breaking(token: &Token) -> bool
+    ensures { result ≡ is_breaking token.now }
+{
+    match token {
+        Token::StartTag(tag) => breaks_out(tag),
+        _ => false,
+    }
+}
+
 /// Whether a test holds.
 pub fn test_holds(state: &Open, test: Test, token: &Token) -> bool
     ensures { result ≡ holds test token.now state.now }
@@ -57,5 +78,7 @@ pub fn test_holds(state: &Open, test: Test, token: &Token) -> bool
         Test::InTemplates => !state.template_modes.as_slice().is_empty(),
         Test::InTables => is_table_mode(state.mode),
         Test::OptionInOptgroup => is_option_in_optgroup(&state.stack),
+        Test::SelfClosing => closes_itself(token),
+        Test::BreaksOut => is_breaking(token),
     }
 }

@@ -4,14 +4,16 @@ ghost use Rattle.std.specs.Prelude.{◌≡◌, ◌≤◌, ◌++◌, ◌∷◌, [
 ghost use Rattle.html_types.specs.Operations.{later};
 ghost use Rattle.html_types.specs.declared.word.Word.TheVariants as word;
 ghost use Rattle.html_types.specs.declared.operation.Op.TheVariants as op;
+ghost use Rattle.standard.specs.Foreign.{adjusted as adjusted_of};
 ghost use Rattle.standard.specs.Stack.{first_open, second_open};
-ghost use Rattle.standard.specs.Instructions.{on, config, made, insert_at, insert, insert_root, void, void_as, tag_of, named, for_tag, here, reopen, reconstruct, insert_text, insert_comment, append_doctype, add_attributes, detach_second, push_head};
+ghost use Rattle.standard.specs.Instructions.{on, config, made, insert_at, insert, insert_root, void, void_as, tag_of, named, for_tag, here, reopen, reconstruct, insert_foreign, insert_in, space_or_html, insert_text, insert_replacement, insert_comment, append_doctype, add_attributes, detach_second, push_head};
 
+use crate::foreign::{adjusted, foreign_tag, opened, tag_in};
 use crate::formatting::take_lost;
 use crate::places::appropriate;
 use html_types::{
-    Attributes, Flow, Format, Name, Next, NoMemory, NodeId, Op, Open, OpenElement, Ops, Place, Tag,
-    Token, Word,
+    Attributes, Flow, Format, Name, Next, NoMemory, NodeId, Op, Open, OpenElement, Ops, Place,
+    Space, Tag, Token, Word,
 };
 use std::alloc::Global;
 
@@ -51,7 +53,7 @@ fn make(
     ensures ops { IfOk result (λ _. ops.new ≡ made place tag.now state.old ops.old) }
     ensures stack { state.new.stack ≡ state.old.stack }
 {
-    let name = tag.name.copy(alloc)?;
+    let name = tag.name.copy()?;
     let attributes = tag.attributes.copy(alloc)?;
     let id = take_id(&mut state.next)?;
     ops.push(Op::Make {
@@ -79,8 +81,7 @@ fn insert_element(
         return Ok(Flow::Leave(Next::Deep));
     }
     let id = make(alloc, state, place, tag, ops)?;
-    let name = tag.name.copy(alloc)?;
-    state.stack.push(OpenElement { id, name })?;
+    state.stack.push(opened(id, tag)?)?;
     Ok(Flow::On)
 }
 
@@ -237,6 +238,59 @@ pub fn insert_void_as(
     }
 }
 
+/// Inserts a foreign element (13.2.6.1) for the token's tag in a namespace, and pushes it.
+pub fn insert_in(
+    alloc: Global,
+    state: &mut Open,
+    space: Space,
+    token: &Token,
+    ops: &mut Ops,
+) -> Result<Flow, NoMemory>
+    requires { length state.old.stack ≤ 512 }
+    ensures done { IfOk result (λ flow. config state.new ops.new flow ≡ for_tag (insert_in space) token.now state.old ops.old) }
+    ensures bounded { length state.new.stack ≤ 512 }
+{
+    match token {
+        Token::StartTag(tag) | Token::EndTag(tag) => {
+            let tag = tag_in(alloc, space, tag)?;
+            let place = place_now(state);
+            insert_element(alloc, state, place, &tag, ops)
+        }
+        _ => Ok(Flow::On),
+    }
+}
+
+/// The namespace of the adjusted current node.
+fn adjusted_space(state: &Open) -> Space
+    ensures { result ≡ space_or_html (adjusted_of state.now) }
+{
+    match adjusted(state) {
+        None => Space::Html,
+        Some(element) => element.name.space(),
+    }
+}
+
+/// Inserts a foreign element for the token's tag in the namespace of the adjusted current node, and pushes it.
+pub fn insert_foreign(
+    alloc: Global,
+    state: &mut Open,
+    token: &Token,
+    ops: &mut Ops,
+) -> Result<Flow, NoMemory>
+    requires { length state.old.stack ≤ 512 }
+    ensures done { IfOk result (λ flow. config state.new ops.new flow ≡ for_tag insert_foreign token.now state.old ops.old) }
+    ensures bounded { length state.new.stack ≤ 512 }
+{
+    match token {
+        Token::StartTag(tag) | Token::EndTag(tag) => {
+            let tag = foreign_tag(alloc, adjusted_space(state), tag)?;
+            let place = place_now(state);
+            insert_element(alloc, state, place, &tag, ops)
+        }
+        _ => Ok(Flow::On),
+    }
+}
+
 /// Opens an entry of the list again that was lost from the stack.
 fn reopen_entry(alloc: Global, state: &mut Open, tag: Tag, ops: &mut Ops) -> Result<Flow, NoMemory>
     requires { length state.old.stack ≤ 512 }
@@ -248,8 +302,7 @@ fn reopen_entry(alloc: Global, state: &mut Open, tag: Tag, ops: &mut Ops) -> Res
     }
     let place = place_now(state);
     let id = make(alloc, state, place, &tag, ops)?;
-    let name = tag.name.copy(alloc)?;
-    state.stack.push(OpenElement { id, name })?;
+    state.stack.push(opened(id, &tag)?)?;
     state.formats.push(Format::Element { id, tag })?;
     Ok(Flow::On)
 }
@@ -286,6 +339,14 @@ pub fn insert_character(
         }
         _ => {}
     }
+    Ok(())
+}
+
+/// Inserts U+FFFD at the appropriate place.
+pub fn insert_replacement(alloc: Global, state: &Open, ops: &mut Ops) -> Result<(), NoMemory>
+    ensures { IfOk result (λ _. on state.now ops.new ≡ insert_replacement state.now ops.old) }
+{
+    ops.push_character(alloc, place_now(state), '\u{fffd}')?;
     Ok(())
 }
 
@@ -400,6 +461,10 @@ pub fn push_pointed_head(state: &mut Open, ops: &Ops) -> Result<Flow, NoMemory>
         return Ok(Flow::Leave(Next::Deep));
     }
     let name = Name::Known(Word::Head);
-    state.stack.push(OpenElement { id, name })?;
+    state.stack.push(OpenElement {
+        id,
+        name,
+        html_point: false,
+    })?;
     Ok(Flow::On)
 }

@@ -2,6 +2,8 @@
 #![tactic(auto)]
 
 mod checks;
+mod foreign;
+mod foreign_end;
 mod formatting;
 mod forms;
 mod inputs;
@@ -16,7 +18,9 @@ mod state;
 #[cfg(test)]
 mod tests;
 mod walks;
+mod weight;
 
+pub use foreign::opened;
 pub use formatting::{entry_of, take_entry_off};
 pub use insert::take_id;
 pub use places::place_for_last;

@@ -11,12 +11,14 @@ ghost use Rattle.standard.specs.Instructions.{config, on, original_or, stop_at_s
 ghost use Rattle.builder_state.specs.Kinds.{is_guard, goes_on, is_change};
 
 use crate::checks::test_holds;
+use crate::foreign_end::{break_out, end_foreign};
 use crate::formatting::{clear_back, entry_of, take_entry_off};
 use crate::forms::end_form_element;
 use crate::insert::{
     add_to_first, add_to_second, insert_bare, insert_bare_root, insert_bare_void, insert_character,
-    insert_doctype, insert_for, insert_note, insert_root_for, insert_void, insert_void_as,
-    place_now, push_pointed_head, reopen_lost, take_second_out,
+    insert_doctype, insert_for, insert_foreign, insert_in, insert_note, insert_replacement,
+    insert_root_for, insert_void, insert_void_as, place_now, push_pointed_head, reopen_lost,
+    take_second_out,
 };
 use crate::likes::enter;
 use crate::pending::{insert_pending_text, keep_character};
@@ -109,7 +111,7 @@ fn ask_adoption(state: &Open, token: &Token, ops: &Ops) -> Flow
     match token {
         Token::StartTag(tag) | Token::EndTag(tag) => match &tag.name {
             Name::Known(word) => adoption(*word, Then::Nothing),
-            Name::Other(_) => Flow::On,
+            Name::Other(_, _) => Flow::On,
         },
         _ => Flow::On,
     }
@@ -217,6 +219,7 @@ fn exec_on(
 {
     match instr {
         Instr::InsertText => insert_character(alloc, state, token, ops)?,
+        Instr::InsertReplacement => insert_replacement(alloc, state, ops)?,
         Instr::InsertComment => insert_note(alloc, state, place_now(state), token, ops)?,
         Instr::CommentToPage => insert_note(alloc, state, Place::Page, token, ops)?,
         Instr::CommentToRoot => { insert_note(alloc, state, root_place(&state.stack), token, ops)? }
@@ -256,9 +259,13 @@ fn exec(
         Instr::Void => insert_void(alloc, state, token, ops),
         Instr::VoidA(word) => insert_bare_void(alloc, state, word, ops),
         Instr::VoidAs(word) => insert_void_as(alloc, state, word, token, ops),
+        Instr::InsertForeign => insert_foreign(alloc, state, token, ops),
+        Instr::InsertIn(space) => insert_in(alloc, state, space, token, ops),
         Instr::Reconstruct => reopen_lost(alloc, state, ops),
         Instr::PushHead => push_pointed_head(state, ops),
         Instr::InsertPending => insert_pending_text(alloc, state, ops),
+        Instr::BreakOut => Ok(break_out(state, ops)),
+        Instr::ForeignEnd => Ok(end_foreign(state, token, ops)),
         Instr::Adopt => Ok(ask_adoption(state, token, ops)),
         Instr::AdoptAnchor => Ok(ask_anchor_adoption(state, ops)),
         Instr::AdoptNobr => Ok(adoption(Word::Nobr, Then::Nobr)),

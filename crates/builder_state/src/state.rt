@@ -3,15 +3,18 @@
 ghost use Rattle.std.specs.Prelude.{◌≡◌, ◌≤◌, ◌↔◌, ◌++◌, length, IsTrue, IfOk, false};
 ghost use Rattle.std.specs.Str.{chars};
 ghost use Rattle.standard.specs.Instructions.{config, on, here, reconstruct, run, texts, body_character};
-ghost use Rattle.standard.specs.Rules.{answer, answer_of, next_of};
+ghost use Rattle.standard.specs.Foreign as foreign;
+ghost use Rattle.standard.specs.Rules.{answer, answer_of, next_of, rules_for};
 ghost use Rattle.standard.specs.Parser.{opening};
 ghost use Rattle.builder_state.specs.Push.{opened};
 ghost use Rattle.builder_state.specs.Texts.{takes_characters as mode_takes_characters, TakesText, behind_text};
 
+use crate::foreign::{goes_foreign, is_foreign};
 use crate::formatting::none_lost;
 use crate::insert::{LIMIT, place_now, reopen_lost};
 use crate::machine::run_row;
 use crate::pending::{insert_body_character, insert_body_text};
+use crate::weight::is_light;
 use html_types::{
     Flow, Formats, Instr, Mode, Modes, Next, NoMemory, NodeId, Open, OpenElement, Ops, Place,
     Stack, Text, Token,
@@ -129,6 +132,7 @@ impl Builder {
         takes_characters(self.state.mode)
             && !self.state.skip_line_feed
             && !self.state.foster
+            && !self.is_foreign()
             && none_lost(&self.state.formats, &self.state.stack)
     }
 
@@ -177,6 +181,24 @@ impl Builder {
         self.state.mode
     }
 
+    /// The rules that a token goes by (13.2.6): those of the insertion mode, or those for foreign content.
+    pub fn rules_for(&self, token: &Token) -> Mode
+        ensures { result ≡ rules_for token.now self.now }
+    {
+        if goes_foreign(&self.state, token) {
+            Mode::InForeign
+        } else {
+            self.state.mode
+        }
+    }
+
+    /// Whether the adjusted current node (13.2.4.2) is an element of MathML or SVG.
+    pub fn is_foreign(&self) -> bool
+        ensures { result ≡ foreign.is_foreign self.now }
+    {
+        is_foreign(&self.state)
+    }
+
     /// Whether the next token is left out where it is a line feed; no later token is then.
     pub fn take_skip(&mut self) -> bool
         ensures was { result ≡ self.old.skip_line_feed }
@@ -206,6 +228,11 @@ impl Builder {
         ensures { self.new ≡ record self.old { next = record { realm = realm; n = 0 } } }
     {
         self.state.next = NodeId { realm, n: 0 };
+    }
+
+    /// Whether a copy takes little time. It is a hint: no contract speaks of it.
+    pub fn is_light(&self) -> bool {
+        is_light(&self.state)
     }
 
     /// A copy.

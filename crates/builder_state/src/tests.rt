@@ -56,7 +56,14 @@ fn copies_are_the_same(rt: HostRuntime) -> Result<(), Fail> {
     assert!(rt; copied.same(&builder));
     let id = copied.next_id();
     let name = Name::Known(Word::Html);
-    assert_eq!(rt; copied.push(OpenElement { id, name })?, Pushed::Done);
+    assert_eq!(rt;
+        copied.push(OpenElement {
+            id,
+            name,
+            html_point: false
+        })?,
+        Pushed::Done
+    );
     assert!(rt; !copied.same(&builder));
     Ok(())
 }

@@ -20,11 +20,11 @@ pub fn in_cell(token: &Token) -> &'static [Instr]
         Token::Character(_) => &[Using(Mode::InBody)],
         Token::StartTag(tag) => match &tag.name {
             Name::Known(word) => start(*word),
-            Name::Other(_) => &[Using(Mode::InBody)],
+            Name::Other(_, _) => &[Using(Mode::InBody)],
         },
         Token::EndTag(tag) => match &tag.name {
             Name::Known(word) => end(*word),
-            Name::Other(_) => &[Using(Mode::InBody)],
+            Name::Other(_, _) => &[Using(Mode::InBody)],
         },
         Token::Comment(_) => &[InsertComment],
         Token::Doctype {

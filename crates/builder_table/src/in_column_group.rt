@@ -32,11 +32,11 @@ pub fn in_column_group(token: &Token) -> &'static [Instr]
         }
         Token::StartTag(tag) => match &tag.name {
             Name::Known(word) => start(*word),
-            Name::Other(_) => OTHERWISE,
+            Name::Other(_, _) => OTHERWISE,
         },
         Token::EndTag(tag) => match &tag.name {
             Name::Known(word) => end(*word),
-            Name::Other(_) => OTHERWISE,
+            Name::Other(_, _) => OTHERWISE,
         },
         Token::Comment(_) => &[InsertComment],
         Token::Doctype {

@@ -32,11 +32,11 @@ pub fn in_row(token: &Token) -> &'static [Instr]
         Token::Character(_) => &[Using(Mode::InTable)],
         Token::StartTag(tag) => match &tag.name {
             Name::Known(word) => start(*word),
-            Name::Other(_) => &[Using(Mode::InTable)],
+            Name::Other(_, _) => &[Using(Mode::InTable)],
         },
         Token::EndTag(tag) => match &tag.name {
             Name::Known(word) => end(*word),
-            Name::Other(_) => &[Using(Mode::InTable)],
+            Name::Other(_, _) => &[Using(Mode::InTable)],
         },
         Token::Comment(_) => &[InsertComment],
         Token::Doctype {

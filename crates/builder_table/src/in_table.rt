@@ -30,11 +30,11 @@ pub fn in_table(token: &Token) -> &'static [Instr]
         ],
         Token::StartTag(tag) => match &tag.name {
             Name::Known(word) => start(*word),
-            Name::Other(_) => &[Foster],
+            Name::Other(_, _) => &[Foster],
         },
         Token::EndTag(tag) => match &tag.name {
             Name::Known(word) => end(*word),
-            Name::Other(_) => &[Foster],
+            Name::Other(_, _) => &[Foster],
         },
         Token::Comment(_) => &[InsertComment],
         Token::Doctype {

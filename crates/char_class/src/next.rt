@@ -34,7 +34,7 @@ pub fn again(state: TokState, out: &mut Tokens) -> Result<Transition, NoMemory>
     Ok(Transition { state, again: true })
 }
 
-/// Emits a token and switches to a state of text, where every row goes that emits one.
+/// Emits a token and switches to a state of text, where all rows go that emit one, but those of CDATA sections.
 pub fn emit(token: Token, state: TextState, out: &mut Tokens) -> Result<Transition, NoMemory>
     ensures { IfOk result (Follows (steps.emit (token ∷ []) (steps.in_text state)) out.old out.new) }
 {
@@ -91,7 +91,11 @@ pub fn new_tag(alloc: Global, kind: TagKind, name: Text) -> PartialTag
 }
 
 /// Emits the tag, its self-closing flag set or not, and switches to the data state.
-pub fn emit_tag_as(closing: bool, partial: PartialTag, out: &mut Tokens) -> Result<Transition, NoMemory>
+pub fn emit_tag_as(
+    closing: bool,
+    partial: PartialTag,
+    out: &mut Tokens,
+) -> Result<Transition, NoMemory>
     ensures { IfOk result (Follows (steps.emit_tag_as closing partial) out.old out.new) }
 {
     let PartialTag {
@@ -100,7 +104,7 @@ pub fn emit_tag_as(closing: bool, partial: PartialTag, out: &mut Tokens) -> Resu
         attributes,
     } = partial;
     let tag = Tag {
-        name: Name::from_text(name),
+        name: Name::from_text(name)?,
         attributes,
         self_closing: closing,
     };

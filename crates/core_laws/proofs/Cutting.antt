@@ -49,11 +49,11 @@ all-used n t =
     let e : length (take n t) ≡ min n (length t) = length-take n t in
     drop_all n (take n t) (grind (arith, e))
 
-shorter : (es : Entities) (p : Parser) (c : ℕ) (cs : List ℕ) (n : ℕ) → length cs ≤ n → length (drop (parse es p (c ∷ cs)).used (c ∷ cs)) ≤ n
+pub shorter : (es : Entities) (p : Parser) (c : ℕ) (cs : List ℕ) (n : ℕ) → length cs ≤ n → length (drop (parse es p (c ∷ cs)).used (c ∷ cs)) ≤ n
 shorter es p c cs n h = rw (length-drop (parse es p (c ∷ cs)).used (c ∷ cs)) (omega (arith, h, uses es p c cs))
 
 -- more fuel than characters makes no difference
-cut-enough : (n k : ℕ) (es : Entities) (p : Parser) (t : List ℕ) → length t ≤ n → length t ≤ k → cut n es p t ≡ cut k es p t
+pub cut-enough : (n k : ℕ) (es : Entities) (p : Parser) (t : List ℕ) → length t ≤ n → length t ≤ k → cut n es p t ≡ cut k es p t
 unfolding cut
 cut-enough zero zero es p t h g = refl
 cut-enough zero (suc k) es p [] h g = refl

@@ -12,6 +12,7 @@ pub mod mark_state;
 pub mod memory;
 pub mod name;
 mod name_index;
+pub mod name_text;
 pub mod open;
 pub mod operation;
 pub mod reference_state;
@@ -31,6 +32,7 @@ pub use instruction::{
 pub use mark_state::{CdataState, CommentState, DoctypeState, MarkState};
 pub use memory::NoMemory;
 pub use name::{Name, Space};
+pub use name_text::NameText;
 pub use open::{Format, Formats, Modes, Open, OpenElement, Stack};
 pub use operation::{NodeId, Op, Ops, Place};
 pub use reference_state::{ReferenceState, ReturnState};

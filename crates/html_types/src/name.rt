@@ -2,9 +2,11 @@
 
 ghost use Rattle.std.specs.Prelude.{◌≡◌, ◌↔◌, IsTrue, IfOk};
 ghost use Rattle.std.specs.Str.{chars};
+ghost use Rattle.html_types.specs.declared.name.Name.TheVariants.{Other};
 ghost use Rattle.html_types.specs.Names.{name_of, name_text, space_of, same_name, NamesAreKnown};
 
 use crate::memory::NoMemory;
+use crate::name_text::NameText;
 use crate::text::Text;
 use crate::word::Word;
 use std::alloc::Global;
@@ -18,32 +20,40 @@ pub enum Space {
 }
 
 /// The name of an element, with its namespace: an HTML name that the rules speak of, or any other. The name of a tag is
-/// made from its text by `from_text` alone, and so is each HTML name; a name of MathML or SVG is always `Other`.
+/// made from its text by `from_text` or `of` alone, and so is each HTML name; a name of MathML or SVG is always `Other`.
 #[derive(Drop)]
 pub enum Name {
     Known(Word),
-    Other(Space, Text),
+    Other(Space, NameText),
 }
 
 impl Name {
-    /// The HTML name that is written so, in lower case.
-    pub fn from_text(text: Text) -> Name
-        ensures { result ≡ name_of text }
+    /// The HTML name that is written so, in lower case. It takes memory only where the rules don't speak of the name.
+    pub fn from_text(text: Text) -> Result<Name, NoMemory>
+        ensures { IfOk result (λ n. n ≡ name_of text) }
     {
         match Word::find(text.as_str()) {
-            Some(word) => Name::Known(word),
-            None => Name::Other(Space::Html, text),
+            Some(word) => Ok(Name::Known(word)),
+            None => Ok(Name::Other(Space::Html, NameText::of(text)?)),
         }
     }
 
-    /// The HTML name that is written so, in lower case. It takes memory only where the rules don't speak of the name.
+    /// The same of a text that is lent.
     pub fn of(alloc: Global, text: &str) -> Result<Name, NoMemory>
         ensures { IfOk result (λ n. n ≡ name_of (chars text.now)) }
     {
         match Word::find(text) {
             Some(word) => Ok(Name::Known(word)),
-            None => Ok(Name::Other(Space::Html, Text::from_str(alloc, text)?)),
+            None => Name::other(alloc, Space::Html, text),
         }
+    }
+
+    /// The name in that namespace that the rules don't speak of.
+    pub fn other(alloc: Global, space: Space, text: &str) -> Result<Name, NoMemory>
+        ensures { IfOk result (λ n. n ≡ Other space (chars text.now)) }
+    {
+        let text = Text::from_str(alloc, text)?;
+        Ok(Name::Other(space, NameText::of(text)?))
     }
 
     /// The namespace.
@@ -78,13 +88,13 @@ impl Name {
         }
     }
 
-    /// A copy. It takes memory only where the rules don't speak of the name.
-    pub fn copy(&self, alloc: Global) -> Result<Name, NoMemory>
+    /// A copy, which shares the name's text.
+    pub fn copy(&self) -> Result<Name, NoMemory>
         ensures { IfOk result (λ n. n ≡ self.now) }
     {
         match self {
             Name::Known(word) => Ok(Name::Known(*word)),
-            Name::Other(space, text) => Ok(Name::Other(*space, text.copy(alloc)?)),
+            Name::Other(space, text) => Ok(Name::Other(*space, text.copy()?)),
         }
     }
 }

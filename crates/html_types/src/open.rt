@@ -22,10 +22,10 @@ pub struct OpenElement {
 
 impl OpenElement {
     /// A copy.
-    pub fn copy(&self, alloc: Global) -> Result<OpenElement, NoMemory>
+    pub fn copy(&self) -> Result<OpenElement, NoMemory>
         ensures { IfOk result (λ e. e ≡ self.now) }
     {
-        let name = self.name.copy(alloc)?;
+        let name = self.name.copy()?;
         Ok(OpenElement {
             id: self.id,
             name,
@@ -112,7 +112,7 @@ impl Stack {
     {
         let mut items = Vec::new(alloc);
         for element in &self.items {
-            items.push(element.copy(alloc)?)?;
+            items.push(element.copy()?)?;
         }
         Ok(Stack { items })
     }

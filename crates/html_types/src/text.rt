@@ -75,6 +75,11 @@ impl Text {
         Ok(Text { string })
     }
 
+    // What it takes its memory from.
+    pub(crate) fn allocator(&self) -> Global {
+        *self.string.allocator()
+    }
+
     /// The text of those characters.
     pub fn from_str(alloc: Global, text: &str) -> Result<Text, NoMemory>
         ensures { IfOk result (λ t. t ≡ chars text.now) }

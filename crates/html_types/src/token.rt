@@ -38,7 +38,7 @@ impl Tag {
     pub fn copy(&self, alloc: Global) -> Result<Tag, NoMemory>
         ensures { IfOk result (λ t. t ≡ self.now) }
     {
-        let name = self.name.copy(alloc)?;
+        let name = self.name.copy()?;
         let attributes = self.attributes.copy(alloc)?;
         Ok(Tag {
             name,

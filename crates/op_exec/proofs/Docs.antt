@@ -1,5 +1,5 @@
 -- What keeps a document one.
-use Rattle.std.proofs.Common.{◌≡◌, ℕ, ◌<◌, List, [], ◌∷◌, ◌++◌, length, Option, Some, None, Result, Ok, Err, OnOk, OnErr, IsSome, Bool, true, false, if◌then◌else◌, refl, sym, ap, subst, ◌∙◌, arith, rules}
+use Rattle.std.proofs.Common.{◌≡◌, ◌≢◌, ℕ, ◌<◌, List, [], ◌∷◌, ◌++◌, length, Option, Some, None, Result, Ok, Err, OnOk, OnErr, IsSome, Bool, true, false, if◌then◌else◌, refl, sym, ap, subst, ◌∙◌, arith, rules}
 use Rattle.std.specs.Prelude.{unwrap_or, IfSome, IsTrue, is_some}
 use Rattle.std.specs.Map.{values_of, remove_entry}
 use Rattle.std.specs.BTreeMap.{insert_entry, is_at}
@@ -21,6 +21,7 @@ use Rattle.standard.specs.Act.{Bound, Doc, id_cmp, bound_to, node_of, is_bound, 
 use Rattle.doc_tree.proofs.Trees.{node_at-push}
 use Rattle.op_exec.specs.Docs.{IsPlain, IsDoc}
 use Rattle.act_laws.proofs.Renamed.{id_cmp-same}
+use Rattle.act_laws.proofs.Bindings.{IsOneToOne-insert}
 
 pub IsPlain-kept : (t s : Nodes) (n : ℕ) → Keeps t s → IsPlain t n → IsPlain s n
 IsPlain-kept t s n kept plain = (omega (arith, kept.nodes, plain.0), plain.1, kept.hosts n plain.0 ∙ plain.2)
@@ -29,12 +30,21 @@ pub IsDoc-kept : (t s : Nodes) (bound : Bound) → IsDoc t bound → Keeps t s �
 IsDoc-kept t s bound doc kept = record {
   document = omega (arith, kept.nodes, doc.document);
   plain = All-weaker (IsPlain t) (IsPlain s) (λ n plain. IsPlain-kept t s n kept plain) (values_of bound) doc.plain;
+  one_to_one = doc.one_to_one;
 }
 
-pub IsDoc-bound : (t s : Nodes) (bound : Bound) (id : NodeId) (n : ℕ) → IsDoc t bound → Keeps t s → IsPlain s n → IsDoc s (insert_entry id_cmp bound id n)
-IsDoc-bound t s bound id n doc kept plain = record {
+-- no id stands for the node that comes next
+next_is_free : (t : Nodes) (bound : Bound) → IsDoc t bound → (q : NodeId) → bound_to bound q ≢ Some (length t)
+next_is_free t bound doc q is =
+    let plain : IfSome (bound_to bound q) (IsPlain t) = IfSome-lookup_from_All (IsPlain t) (is_at (id_cmp q)) bound doc.plain in
+    let here : length t < length t = (subst (λ o. IfSome o (IsPlain t)) is plain).0 in
+    absurd (omega (arith, here))
+
+pub IsDoc-bound : (t s : Nodes) (bound : Bound) (id : NodeId) → IsDoc t bound → Keeps t s → IsPlain s (length t) → IsDoc s (insert_entry id_cmp bound id (length t))
+IsDoc-bound t s bound id doc kept plain = record {
   document = omega (arith, kept.nodes, doc.document);
-  plain = All-values-insert_entry id_cmp id n (IsPlain s) bound (IsDoc-kept t s bound doc kept).plain plain;
+  plain = All-values-insert_entry id_cmp id (length t) (IsPlain s) bound (IsDoc-kept t s bound doc kept).plain plain;
+  one_to_one = IsOneToOne-insert bound id (length t) doc.one_to_one (next_is_free t bound doc);
 }
 
 at_some : (o : Option ℕ) (P : ℕ → Type 0) → IsSome o → IfSome o P → P (unwrap_or o 0)
@@ -92,5 +102,5 @@ none_from_test (Some n) none = absurd (cc)
 pub IsDoc-made : {T E : Type 0} (r : Result T E) (t s : Nodes) (old new : Bound) (id : NodeId) (name : Name) (as' : List Attribute) → IsDoc t old
     → OnOk r (new ≡ insert_entry id_cmp old id (length t)) → OnOk r (s ≡ element_made t name as') → OnErr r (new ≡ old) → Keeps t s → IsDoc s new
 IsDoc-made (Ok x) t s old new id name as' doc bound made kept keeps =
-    subst (IsDoc s) (sym bound) (IsDoc-bound t s old id (length t) doc keeps (IsPlain-element_made t s name as' doc.document made))
+    subst (IsDoc s) (sym bound) (IsDoc-bound t s old id doc keeps (IsPlain-element_made t s name as' doc.document made))
 IsDoc-made (Err e) t s old new id name as' doc bound made kept keeps = subst (IsDoc s) (sym kept) (IsDoc-kept t s old doc keeps)

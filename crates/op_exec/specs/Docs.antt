@@ -5,15 +5,17 @@ use Rattle.html_types.specs.declared.operation.Op.{Op}
 use Rattle.html_types.specs.declared.operation.Op.TheVariants.{Text}
 use Rattle.standard.specs.Tree.{Nodes, host_of}
 use Rattle.standard.specs.Act.{Bound, Doc, acts}
+use Rattle.act_laws.specs.Bindings.{IsOneToOne}
 
 -- a node of the tree that is neither the Document nor a template's contents
 abbrev pub IsPlain : Nodes → ℕ → Type 0
 IsPlain t n = (n < length t) × (n ≢ 0) × (host_of t n ≡ None)
 
--- ids stand for such nodes
+-- ids stand for such nodes, no two of them for one
 pub record IsDoc (t : Nodes) (bound : Bound) : Type 0 where
   pub document : 0 < length t
   pub plain : All (IsPlain t) (values_of bound)
+  pub one_to_one : IsOneToOne bound
 
 -- whether the operation inserts an empty text
 abbrev pub inserts_nothing : Op → Bool

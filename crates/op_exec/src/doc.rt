@@ -96,6 +96,7 @@ impl Doc {
     ghost use Rattle.html_types.specs.Operations.{spelled_one};
     ghost use Rattle.standard.specs.Tree.{host_of};
     ghost use Rattle.standard.specs.Act.{new_doc, act, acts, bound_to, node_of, is_bound, spot_of, text_at, IsPlaceBound, IsOpBound, AreOpsBound};
+    ghost use Rattle.act_laws.specs.Bindings.{IsOneToOne};
     ghost use Rattle.op_exec.specs.Docs.{IsDoneInPart};
 
     /// The Document alone, with no id bound.
@@ -126,6 +127,14 @@ impl Doc {
         ensures no_contents { host_of self.now.tree result ≡ None }
     {
         self.bound.get(id)
+    }
+
+    /// No two ids stand for one node.
+    pub fn ids_are_one_to_one(&self)
+        ensures { IsOneToOne self.now.bound }
+    {
+        // A struct's invariant is known where a field is looked at.
+        let _bound = &self.bound;
     }
 
     // Where a place lies on the tree as it is now.

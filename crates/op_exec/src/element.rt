@@ -9,12 +9,13 @@ ghost use Rattle.standard.specs.Act.{element_made};
 use doc_tree::Tree;
 use html_types::{Attributes, Kind, Name, NoMemory, Word};
 
+// Whether it is HTML's template: an element of MathML or SVG of that name has no contents.
 fn is_template(name: &Name) -> bool
     ensures { result ≡ is_word Template name.now }
 {
     match name {
         Name::Known(word) => Word::Template.same(*word),
-        Name::Other(_) => false,
+        Name::Other(_, _) => false,
     }
 }
 

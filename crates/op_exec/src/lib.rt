@@ -12,7 +12,7 @@ pub use script::ScriptKind;
 #[cfg(test)]
 mod tests {
     use super::*;
-    use html_types::{Attributes, Name, NoMemory, NodeId, Op, Ops, Place, Text};
+    use html_types::{Attributes, Name, NoMemory, NodeId, Op, Ops, Place, Space};
 
     #[test]
     #[tactic(auto, unfolding(standard::specs::Act::act, standard::specs::Act::acts))]
@@ -20,7 +20,7 @@ mod tests {
         let alloc = rt.alloc();
         let id = NodeId { realm: 1, n: 0 };
         let mut doc = Doc::new(alloc)?;
-        let name = Name::from_text(Text::from_str(alloc, "script")?);
+        let name = Name::of(alloc, "script")?;
         let attributes = Attributes::new(alloc);
         doc.apply(Op::Make {
             id,
@@ -39,11 +39,25 @@ mod tests {
         let mut doc = Doc::new(alloc)?;
         doc.apply(Op::Make {
             id: NodeId { realm: 1, n: 0 },
-            name: Name::from_text(Text::from_str(alloc, "template")?),
+            name: Name::of(alloc, "template")?,
             attributes: Attributes::new(alloc),
         })?;
         assert!(rt; doc.tree().len() == 3);
         assert_eq!(rt; doc.tree().contents(1), Some(2));
+        Ok(())
+    }
+
+    #[test]
+    fn a_foreign_template_has_no_contents(rt: HostRuntime) -> Result<(), NoMemory> {
+        let alloc = rt.alloc();
+        let mut doc = Doc::new(alloc)?;
+        doc.apply(Op::Make {
+            id: NodeId { realm: 1, n: 0 },
+            name: Name::other(alloc, Space::Svg, "template")?,
+            attributes: Attributes::new(alloc),
+        })?;
+        assert!(rt; doc.tree().len() == 2);
+        assert_eq!(rt; doc.tree().contents(1), None);
         Ok(())
     }
 

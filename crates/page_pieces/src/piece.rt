@@ -1,6 +1,6 @@
 //! Pieces of the page.
 
-ghost use Rattle.std.specs.Prelude.{◌≡◌, ◌&&◌, [], ◌∷◌, ◌++◌, is_none, length, drop, IfOk, OnOk, OnErr, MatchOption};
+ghost use Rattle.std.specs.Prelude.{◌≡◌, ◌↔◌, ◌&&◌, [], ◌∷◌, ◌++◌, is_none, length, drop, IfOk, OnOk, OnErr, IsTrue, MatchOption};
 ghost use Rattle.std.specs.Str.{chars, encode_utf8_all, IsCharBoundary};
 ghost use Rattle.core_rules.specs.Desk.{blank as no_text};
 ghost use Rattle.core_rules.specs.Settling.{is_empty as has_none};
@@ -72,6 +72,13 @@ impl Piece {
         ensures { result ≡ (has_none self.now.text && is_none self.now.ending) }
     {
         self.text.is_empty() && self.ending.is_none()
+    }
+
+    /// Whether two pieces are the same.
+    pub fn same(&self, other: &Piece) -> bool
+        ensures { IsTrue result ↔ (self.now ≡ other.now) }
+    {
+        self.text.same(&other.text) && self.ending == other.ending
     }
 
     /// So many of its text's first bytes are left out.

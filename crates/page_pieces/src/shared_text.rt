@@ -75,6 +75,13 @@ impl SharedText {
         self.as_str().is_empty()
     }
 
+    /// Whether two texts are the same.
+    pub fn same(&self, other: &SharedText) -> bool
+        ensures { IsTrue result ↔ (self.now ≡ other.now) }
+    {
+        self.as_str() == other.as_str()
+    }
+
     /// Its first bytes, so many. None of them is copied.
     pub fn front(&self, bytes: usize) -> Result<SharedText, NoMemory>
         requires { IsCharBoundary (encode_utf8_all self.now) bytes }

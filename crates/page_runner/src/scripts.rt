@@ -5,7 +5,6 @@ ghost use Rattle.std.specs.Str.{chars};
 ghost use Rattle.std.specs.String.{string_bytes};
 ghost use Rattle.outside.specs.Outside.{KeepsOthers};
 ghost use Rattle.standard.specs.Scripts.{is_lawful, is_name_character, file_statements};
-ghost use Rattle.standard.specs.Page.{without_mark};
 ghost use Rattle.standard.specs.Statements.{statements};
 ghost use Rattle.page_runner.specs.Given.{NoFault};
 ghost use Rattle.page_runner.specs.Scripts.{met_of, IsScriptOf, Fetches};
@@ -16,6 +15,7 @@ use outside::{Outside, Port};
 use std::alloc::Global;
 use std::collections::BTreeMap;
 use std::str::from_utf8;
+use utf8_pieces::without_mark;
 
 /// The most bytes of a script's file.
 pub const SCRIPT_LIMIT: usize = 1_048_576;
@@ -62,16 +62,6 @@ fn is_lawful(name: &str) -> bool
         return false;
     }
     are_name_characters(name) && name.len() <= 100
-}
-
-fn without_mark(text: &str) -> &str
-    ensures { chars result.now ≡ without_mark (chars text.now) }
-{
-    let mut chars = text.chars();
-    match chars.next() {
-        Some('\u{FEFF}') => chars.as_str(),
-        _ => text,
-    }
 }
 
 // The text of a file that runs as a script, without a byte order mark at its front.

@@ -86,7 +86,7 @@ row-runs c b o h =
 -- one round is enough
 
 behind : ℕ → Token → Answer → Answer
-behind n t a = go_round (λ m'. process n m' t a.open_state a.ops) a.open_state a.ops (round_after a.open_state a.next)
+behind n t a = go_round (λ m'. process n m' t a.open_state a.ops) a.open_state a.ops (round_after t a.open_state a.next)
 
 over : (n : ℕ) (t : Token) (b : Open) (o : List Op) (f : Flow) → ends f ≡ true → behind n t (with_adoption t b o (next_of f)) ≡ answer b o (next_of f)
 unfolding ends behind

@@ -5,3 +5,4 @@ pub mod Marks
 pub mod Runs
 pub mod Tags
 pub mod References
+pub mod Dispatcher

@@ -18,6 +18,7 @@ use Rattle.html_types.specs.declared.instruction.Stop.{Stop}
 use Rattle.html_types.specs.declared.instruction.Stop.TheVariants as stop
 use Rattle.html_types.specs.declared.open.Open.{Open}
 use Rattle.standard.specs.Entities.{Entities}
+use Rattle.standard.specs.Foreign.{is_foreign}
 use Rattle.standard.specs.Rules.{Answer, answer, construct}
 use Rattle.html_types.specs.declared.token.Token.TheVariants.{Character}
 use Rattle.html_types.specs.declared.class.Class.{Class}
@@ -210,11 +211,11 @@ pub none-waited : (m r : Reached) (ts : List Token) → m ≡ after_tokens ts r 
 none-waited m r ts e none = e ∙ ap (λ (l : List Token). after_tokens l r) none
 
 -- a character that the tokenizer emits as it is
-pub plain_read : (es : Entities) (s s' : TokState) (k : Class) (c : ℕ) → s' ≡ s → k ≡ class_of c → row es s' k c ≡ emit (Character c ∷ []) s'
-    → read es s c ≡ record { tokens = Character c ∷ []; state = s }
-plain_read es s s' k c same class e =
-    reading-emit es s s (Character c ∷ []) (class_of c) c
-    (subst (λ v. row es v (class_of c) c ≡ emit (Character c ∷ []) v) same (subst (λ q. row es s' q c ≡ emit (Character c ∷ []) s') class e))
+pub plain_read : (es : Entities) (f : Bool) (s s' : TokState) (k : Class) (c : ℕ) → s' ≡ s → k ≡ class_of c → row es f s' k c ≡ emit (Character c ∷ []) s'
+    → read es f s c ≡ record { tokens = Character c ∷ []; state = s }
+plain_read es f s s' k c same class e =
+    reading-emit es f s s (Character c ∷ []) (class_of c) c
+    (subst (λ v. row es f v (class_of c) c ≡ emit (Character c ∷ []) v) same (subst (λ q. row es f s' q c ≡ emit (Character c ∷ []) s') class e))
 
 -- the only token that a character makes was processed, and the parser goes on
 pub went_alone : (t : Token) (cr : Bool) (m m' : Reached) (b b' : Open) (o o' : List Op) (w : Went) → m.tokens ≡ [] → m'.tokens ≡ m.tokens → w ≡ went.On
@@ -234,31 +235,31 @@ unfolding take_character
 taken-skipped es s cr b c o e = by (cr && (c == 10)) e
   where
     by : (v : Bool) → v ≡ true
-        → after_ops o (elim v [ true ↦ took [] (parser s false b) stop.InputEnd | false ↦ elim (c == 13) [ true ↦ built (parser s cr b) true (read es s 10) | false ↦ built (parser s cr b) false (read es s c) ] ])
+        → after_ops o (elim v [ true ↦ took [] (parser s false b) stop.InputEnd | false ↦ elim (c == 13) [ true ↦ built (parser s cr b) true (read es (is_foreign b) s 10) | false ↦ built (parser s cr b) false (read es (is_foreign b) s c) ] ])
         ≡ took o (parser s false b) stop.InputEnd
     by true e = ap (λ l. took l (parser s false b) stop.InputEnd) (append-nil o)
     by false e = cc
 
 -- any other
 pub taken-read : (es : Entities) (s : TokState) (cr : Bool) (b : Open) (c r : ℕ) (o : List Op) (t : Took) → (cr && (c == 10)) ≡ false → r ≡ (if c == 13 then 10 else c)
-    → after_ops o (build (read es s r).state (c == 13) (read es s r).tokens b) ≡ t
+    → after_ops o (build (read es (is_foreign b) s r).state (c == 13) (read es (is_foreign b) s r).tokens b) ≡ t
     → after_ops o (take_character es (parser s cr b) c) ≡ t
 unfolding take_character
 taken-read es s cr b c r o t e g is =
-    by (cr && (c == 10)) e (at_cr (c == 13) (subst (λ v. after_ops o (build (read es s v).state (c == 13) (read es s v).tokens b) ≡ t) g is))
+    by (cr && (c == 10)) e (at_cr (c == 13) (subst (λ v. after_ops o (build (read es (is_foreign b) s v).state (c == 13) (read es (is_foreign b) s v).tokens b) ≡ t) g is))
   where
-    at_cr : (v : Bool) → after_ops o (build (read es s (if v then 10 else c)).state v (read es s (if v then 10 else c)).tokens b) ≡ t
-        → after_ops o (elim v [ true ↦ built (parser s cr b) true (read es s 10) | false ↦ built (parser s cr b) false (read es s c) ]) ≡ t
+    at_cr : (v : Bool) → after_ops o (build (read es (is_foreign b) s (if v then 10 else c)).state v (read es (is_foreign b) s (if v then 10 else c)).tokens b) ≡ t
+        → after_ops o (elim v [ true ↦ built (parser s cr b) true (read es (is_foreign b) s 10) | false ↦ built (parser s cr b) false (read es (is_foreign b) s c) ]) ≡ t
     at_cr true is = is
     at_cr false is = is
 
-    by : (v : Bool) → v ≡ false → after_ops o (elim (c == 13) [ true ↦ built (parser s cr b) true (read es s 10) | false ↦ built (parser s cr b) false (read es s c) ]) ≡ t
-        → after_ops o (elim v [ true ↦ took [] (parser s false b) stop.InputEnd | false ↦ elim (c == 13) [ true ↦ built (parser s cr b) true (read es s 10) | false ↦ built (parser s cr b) false (read es s c) ] ]) ≡ t
+    by : (v : Bool) → v ≡ false → after_ops o (elim (c == 13) [ true ↦ built (parser s cr b) true (read es (is_foreign b) s 10) | false ↦ built (parser s cr b) false (read es (is_foreign b) s c) ]) ≡ t
+        → after_ops o (elim v [ true ↦ took [] (parser s false b) stop.InputEnd | false ↦ elim (c == 13) [ true ↦ built (parser s cr b) true (read es (is_foreign b) s 10) | false ↦ built (parser s cr b) false (read es (is_foreign b) s c) ] ]) ≡ t
     by true e is = cc
     by false e is = is
 
 pub finished-read : (es : Entities) (s : TokState) (cr : Bool) (b : Open) (o : List Op) (f : Finished)
-    → after_all o (build_end (read_end es s).state cr (read_end es s).tokens b) ≡ f → after_all o (finish es (parser s cr b)) ≡ f
+    → after_all o (build_end (read_end es (is_foreign b) s).state cr (read_end es (is_foreign b) s).tokens b) ≡ f → after_all o (finish es (parser s cr b)) ≡ f
 unfolding finish
 finished-read es s cr b o f is = is
 

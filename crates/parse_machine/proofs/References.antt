@@ -16,6 +16,7 @@ use Rattle.standard.specs.Entities.{Entities}
 use Rattle.standard.specs.Instructions.{here, texts, all_space}
 use Rattle.standard.specs.WhiteSpace.{is_space}
 use Rattle.standard.specs.Step.{data_state}
+use Rattle.standard.specs.Foreign.{is_foreign}
 use Rattle.standard.specs.Tokenizer.{Reached, after_tokens, read, feed}
 use Rattle.standard.specs.Parser.{Parser, parser, Took, took, after_ops, build, built, take_character, Parsed, and_rest, parse}
 use Rattle.standard_laws.specs.Laws.{joined, unless_stopped}
@@ -25,6 +26,7 @@ use Rattle.tokenizer.specs.Whole.{has_cr, piece}
 use Rattle.tokenizer.specs.Reference.{Refers}
 use Rattle.parse_machine.specs.Runs.{IsSomeText, InsertsText, Inserts, Ahead, ReadsTags, Takes}
 use Rattle.parse_machine.specs.declared.machine.Ran.{Ran}
+use Rattle.parse_machine.proofs.Dispatcher.{same_foreign}
 use Rattle.parse_machine.proofs.MachineLemmas.{after_ops-after, build_token}
 use Rattle.parse_machine.proofs.Runs.{behind, added, construct_text, ok-behind, still_takes, nothing_behind}
 use Rattle.parse_machine.proofs.Tags.{silent_parsed, none_before, piece-front}
@@ -59,18 +61,20 @@ built_characters s cr (u ∷ us) ts b h no_nul =
     ∙ ap (λ (ok : Bool). after_ops (texts (here b) (u ∷ us)) (build s cr ts (record b { frameset_ok = ok }))) (ok-behind (keeps_ok b.mode) (all_space us) (is_space u) b.frameset_ok)
 
 -- the character behind a reference
-taken_behind : (es : Entities) (s : TokState) (b : Open) (us : List ℕ) (c : ℕ) → ((d : ℕ) → read es s d ≡ after_tokens (map Character us) (read es data_state d)) → TakesText b → list_any (λ c. c == 0) us ≡ false
+taken_behind : (es : Entities) (s : TokState) (b : Open) (us : List ℕ) (c : ℕ) → ((d : ℕ) → read es (is_foreign b) s d ≡ after_tokens (map Character us) (read es (is_foreign b) data_state d)) → TakesText b → list_any (λ c. c == 0) us ≡ false
     → take_character es (parser s false b) c ≡ after_ops (texts (here b) us) (take_character es (parser data_state false (behind_text us b)) c)
 unfolding take_character
 taken_behind es s b us c reads h no_nul = by (c == 13)
   where
-    at : (cr : Bool) (d : ℕ) → built (parser s false b) cr (read es s d) ≡ after_ops (texts (here b) us) (built (parser data_state false (behind_text us b)) cr (read es data_state d))
+    at : (cr : Bool) (d : ℕ) → built (parser s false b) cr (read es (is_foreign b) s d) ≡ after_ops (texts (here b) us) (built (parser data_state false (behind_text us b)) cr (read es (is_foreign (behind_text us b)) data_state d))
     at cr d =
+        let m : Reached = read es (is_foreign b) data_state d in
         ap (λ (m : Reached). build m.state cr m.tokens b) (reads d)
-        ∙ built_characters (read es data_state d).state cr us (read es data_state d).tokens b h no_nul
+        ∙ built_characters m.state cr us m.tokens b h no_nul
+        ∙ ap (λ v. after_ops (texts (here b) us) (built (parser data_state false (behind_text us b)) cr (read es v data_state d))) (sym (same_foreign (behind_text us b) b refl))
 
-    by : (v : Bool) → elim v [ true ↦ built (parser s false b) true (read es s 10) | false ↦ built (parser s false b) false (read es s c) ]
-        ≡ after_ops (texts (here b) us) (elim v [ true ↦ built (parser data_state false (behind_text us b)) true (read es data_state 10) | false ↦ built (parser data_state false (behind_text us b)) false (read es data_state c) ])
+    by : (v : Bool) → elim v [ true ↦ built (parser s false b) true (read es (is_foreign b) s 10) | false ↦ built (parser s false b) false (read es (is_foreign b) s c) ]
+        ≡ after_ops (texts (here b) us) (elim v [ true ↦ built (parser data_state false (behind_text us b)) true (read es (is_foreign (behind_text us b)) data_state 10) | false ↦ built (parser data_state false (behind_text us b)) false (read es (is_foreign (behind_text us b)) data_state c) ])
     by true = at true 10
     by false = at false c
 
@@ -88,12 +92,12 @@ inserts_reference : (es : Entities) (b : Open) (cs us : List ℕ) → Refers es 
     → InsertsText es cs (parser data_state false b) (texts (here b) us) (parser data_state false (behind_text us b))
 unfolding parse before
 inserts_reference es b cs us refers no_cr h no_nul c rest =
-    let s = (feed es data_state cs).state in
+    let s = (feed es (is_foreign b) data_state cs).state in
     let p' = parser data_state false (behind_text us b) in
     let mid : Parsed = record { ops = []; parser = parser s false b; used = length cs; stop = stop.InputEnd } in
     parse-append es (parser data_state false b) cs (c ∷ rest)
-    ∙ ap (λ (r : Parsed). unless_stopped r.stop r (λ q. parse es q (c ∷ rest))) (silent_parsed es data_state b cs no_cr refers.silent)
-    ∙ ap (λ (k : Took). joined mid (and_rest k (λ q. parse es q rest))) (taken_behind es s b us c refers.behind h no_nul)
+    ∙ ap (λ (r : Parsed). unless_stopped r.stop r (λ q. parse es q (c ∷ rest))) (silent_parsed es data_state b cs no_cr (refers.silent (is_foreign b)))
+    ∙ ap (λ (k : Took). joined mid (and_rest k (λ q. parse es q rest))) (taken_behind es s b us c (refers.behind (is_foreign b)) h no_nul)
     ∙ ap (joined mid) (rest-after (texts (here b) us) (take_character es p' c) (λ q. parse es q rest))
 
 pub taken_reference : (es : Entities) (text us : List ℕ) (from end : ℕ) (p p' : Parser) (o o' : List Op) → IsUtf8 text → IsCharBoundary text from → from ≤ end

@@ -11,7 +11,7 @@ use Rattle.parse_machine.specs.declared.token.Round.{Round}
 use Rattle.parse_machine.specs.declared.token.Round.TheVariants.{Once}
 use Rattle.parse_machine.specs.Rounds.{rounded, asked, round_of, rounds_left}
 
-by_next : (n : ℕ) (t : Token) (b : Open) (o : List Op) (x : Next) → go_round (λ m'. process n m' t b o) b o (round_after b x) ≡ rounds_left n t (rounded b o (asked b x))
+by_next : (n : ℕ) (t : Token) (b : Open) (o : List Op) (x : Next) → go_round (λ m'. process n m' t b o) b o (round_after t b x) ≡ rounds_left n t (rounded b o (asked t b x))
 by_next n t b o Again = refl
 by_next n t b o (Using m) = refl
 by_next n t b o Foster = refl

@@ -13,6 +13,7 @@ use Rattle.html_types.specs.declared.instruction.Stop.TheVariants as stop
 use Rattle.html_types.specs.declared.open.Open.{Open}
 use Rattle.standard.specs.Entities.{Entities}
 use Rattle.standard.specs.Step.{data_state}
+use Rattle.standard.specs.Foreign.{is_foreign}
 use Rattle.standard.specs.Tokenizer.{Reached, after_tokens, read, feed}
 use Rattle.standard.specs.Parser.{Parser, parser, Took, took, after_ops, build, take_character, Parsed, after_character, and_rest, parse}
 use Rattle.standard_laws.specs.Laws.{joined, unless_stopped}
@@ -46,38 +47,38 @@ pub none_before : (k : Took) → after_ops [] k ≡ k
 none_before (took ops p s) = refl
 
 -- a character other than a CR, which leads to a state and makes tokens
-taken : (es : Entities) (s : TokState) (b : Open) (c : ℕ) (o : List Op) (m : Reached) (t : Took) → (c == 13) ≡ false → read es s c ≡ m
+taken : (es : Entities) (s : TokState) (b : Open) (c : ℕ) (o : List Op) (m : Reached) (t : Took) → (c == 13) ≡ false → read es (is_foreign b) s c ≡ m
     → after_ops o (build m.state false m.tokens b) ≡ t → after_ops o (take_character es (parser s false b) c) ≡ t
 taken es s b c o m t no_cr reached is =
     let itself : c ≡ (if c == 13 then 10 else c) = rw no_cr refl in
     taken-read es s false b c c o t refl itself
     (ap (λ (r : Reached). after_ops o (build r.state (c == 13) r.tokens b)) reached ∙ ap (λ v. after_ops o (build m.state v m.tokens b)) no_cr ∙ is)
 
-silent_taken : (es : Entities) (s : TokState) (b : Open) (c : ℕ) → (c == 13) ≡ false → (read es s c).tokens ≡ [] → take_character es (parser s false b) c ≡ took [] (parser (read es s c).state false b) stop.InputEnd
+silent_taken : (es : Entities) (s : TokState) (b : Open) (c : ℕ) → (c == 13) ≡ false → (read es (is_foreign b) s c).tokens ≡ [] → take_character es (parser s false b) c ≡ took [] (parser (read es (is_foreign b) s c).state false b) stop.InputEnd
 unfolding build
 silent_taken es s b c no_cr silent =
     sym (none_before (take_character es (parser s false b) c))
-    ∙ taken es s b c [] (read es s c) (took [] (parser (read es s c).state false b) stop.InputEnd) no_cr refl
-    (ap (λ (ts : List Token). after_ops [] (build (read es s c).state false ts b)) silent)
+    ∙ taken es s b c [] (read es (is_foreign b) s c) (took [] (parser (read es (is_foreign b) s c).state false b) stop.InputEnd) no_cr refl
+    (ap (λ (ts : List Token). after_ops [] (build (read es (is_foreign b) s c).state false ts b)) silent)
 
-pub silent_parsed : (es : Entities) (s : TokState) (b : Open) (cs : List ℕ) → has_cr cs ≡ false → (feed es s cs).tokens ≡ []
-    → parse es (parser s false b) cs ≡ record { ops = []; parser = parser (feed es s cs).state false b; used = length cs; stop = stop.InputEnd }
+pub silent_parsed : (es : Entities) (s : TokState) (b : Open) (cs : List ℕ) → has_cr cs ≡ false → (feed es (is_foreign b) s cs).tokens ≡ []
+    → parse es (parser s false b) cs ≡ record { ops = []; parser = parser (feed es (is_foreign b) s cs).state false b; used = length cs; stop = stop.InputEnd }
 unfolding parse feed
 silent_parsed es s b [] no_cr silent = refl
 silent_parsed es s b (c ∷ cs) no_cr silent =
-    let m = read es s c in
-    let rest = feed es m.state cs in
+    let m = read es (is_foreign b) s c in
+    let rest = feed es (is_foreign b) m.state cs in
     ap (λ k. and_rest k (λ p'. parse es p' cs)) (silent_taken es s b c (or-first (c == 13) _ no_cr) (none-first m.tokens rest.tokens silent))
     ∙ ap (after_character []) (silent_parsed es m.state b cs (or-second (c == 13) _ no_cr) (none-second m.tokens rest.tokens silent))
 
 -- ---- the tag
 
 -- what its last character comes to
-last_read : (es : Entities) (s : TokState) (front : List ℕ) (last : ℕ) (r : Reached) → (feed es s front).tokens ≡ [] → feed es s (front ++ last ∷ []) ≡ r → read es (feed es s front).state last ≡ r
-last_read es s front last r silent whole =
-    let m = feed es s front in
-    let now : r ≡ after_tokens m.tokens (read es m.state last) = sym whole ∙ feed-append es s front (last ∷ []) ∙ onward-one es m last in
-    sym (none-waited r (read es m.state last) m.tokens now silent)
+last_read : (es : Entities) (f : Bool) (s : TokState) (front : List ℕ) (last : ℕ) (r : Reached) → (feed es f s front).tokens ≡ [] → feed es f s (front ++ last ∷ []) ≡ r → read es f (feed es f s front).state last ≡ r
+last_read es f s front last r silent whole =
+    let m = feed es f s front in
+    let now : r ≡ after_tokens m.tokens (read es f m.state last) = sym whole ∙ feed-append es f s front (last ∷ []) ∙ onward-one es f m last in
+    sym (none-waited r (read es f m.state last) m.tokens now silent)
 
 cr-front : (front : List ℕ) (last : ℕ) → has_cr (front ++ last ∷ []) ≡ false → has_cr front ≡ false
 cr-front [] last e = refl
@@ -89,10 +90,10 @@ cr-last : (front : List ℕ) (last : ℕ) → has_cr (front ++ last ∷ []) ≡ 
 cr-last [] last e = or-first (last == 13) false e
 cr-last (c ∷ cs) last e = cr-last cs last (or-second (c == 13) (has_cr (cs ++ last ∷ [])) e)
 
-over-silent : (es : Entities) (s : TokState) (b : Open) (o : List Op) (cs : List ℕ) → has_cr cs ≡ false → (feed es s cs).tokens ≡ []
-    → IsOver (parse es (parser s false b) cs) o (length cs) (parser (feed es s cs).state false b) o stop.InputEnd
+over-silent : (es : Entities) (s : TokState) (b : Open) (o : List Op) (cs : List ℕ) → has_cr cs ≡ false → (feed es (is_foreign b) s cs).tokens ≡ []
+    → IsOver (parse es (parser s false b) cs) o (length cs) (parser (feed es (is_foreign b) s cs).state false b) o stop.InputEnd
 over-silent es s b o cs no_cr silent =
-    subst (λ (w : Parsed). IsOver w o (length cs) (parser (feed es s cs).state false b) o stop.InputEnd) (sym (silent_parsed es s b cs no_cr silent))
+    subst (λ (w : Parsed). IsOver w o (length cs) (parser (feed es (is_foreign b) s cs).state false b) o stop.InputEnd) (sym (silent_parsed es s b cs no_cr silent))
     (record { ops = sym (append-nil o); state = refl; used = refl; at_stop = refl })
 
 over-tag : (es : Entities) (b : Open) (cs : List ℕ) (t : Token) (o o' : List Op) (p' : Parser) (at : Stop) → MakesAlone cs t → has_cr cs ≡ false
@@ -101,12 +102,12 @@ over-tag es b cs t o o' p' at alone no_cr built =
     let front = alone.front in
     let last = alone.last in
     let split : has_cr (front ++ last ∷ []) ≡ false = ap has_cr (sym alone.split) ∙ no_cr in
-    let mid = (feed es data_state front).state in
-    let reached : read es mid last ≡ record { tokens = t ∷ []; state = data_state } =
-    last_read es data_state front last _ (alone.silent es) (ap (feed es data_state) (sym alone.split) ∙ alone.whole es) in
+    let mid = (feed es (is_foreign b) data_state front).state in
+    let reached : read es (is_foreign b) mid last ≡ record { tokens = t ∷ []; state = data_state } =
+    last_read es (is_foreign b) data_state front last _ (alone.silent es (is_foreign b)) (ap (feed es (is_foreign b) data_state) (sym alone.split) ∙ alone.whole es (is_foreign b)) in
     subst (λ (l : List ℕ). IsOver (parse es (parser data_state false b) l) o (length l) p' o' at) (sym alone.split)
     (over-more es (parser data_state false b) o front (parser mid false b) o last p' o' at
-    (over-silent es data_state b o front (cr-front front last split) (alone.silent es))
+    (over-silent es data_state b o front (cr-front front last split) (alone.silent es (is_foreign b)))
     (taken es mid b last o (record { tokens = t ∷ []; state = data_state }) (took o' p' at) (cr-last front last split) reached built))
 
 pub piece-front : (text : List ℕ) (from end : ℕ) → IsUtf8 text → IsCharBoundary text from → from ≤ end → chars (take end text) ≡ chars (take from text) ++ piece text from end

@@ -7,7 +7,7 @@ use Rattle.html_types.specs.declared.instruction.Mode.{Mode}
 use Rattle.html_types.specs.declared.instruction.Mode.TheVariants.{InBody}
 use Rattle.html_types.specs.declared.instruction.Next.{Next}
 use Rattle.html_types.specs.declared.instruction.Next.TheVariants.{Again, Using, Foster}
-use Rattle.standard.specs.Rules.{Answer, answer, by_rules, process}
+use Rattle.standard.specs.Rules.{Answer, answer, by_rules, rules_for, process}
 use Rattle.parse_machine.specs.declared.token.Round.{Round}
 use Rattle.parse_machine.specs.declared.token.Round.TheVariants.{Once, Over}
 
@@ -19,15 +19,15 @@ pub record Rounded : Type 0 where
 abbrev pub rounded : Open → List Op → Round → Rounded
 rounded b o r = record { open_state = b; ops = o; round = r }
 
-abbrev pub asked : Open → Next → Round
-asked b Again = Once b.mode
-asked b (Using m) = Once m
-asked b Foster = Once InBody
-asked b n = Over n
+abbrev pub asked : Token → Open → Next → Round
+asked t b Again = Once (rules_for t b)
+asked t b (Using m) = Once m
+asked t b Foster = Once InBody
+asked t b n = Over n
 
 -- what one round comes to
 abbrev pub round_of : Mode → Token → Open → List Op → Rounded
-round_of m t b o = let a : Answer = by_rules m t b o in rounded a.open_state a.ops (asked a.open_state a.next)
+round_of m t b o = let a : Answer = by_rules m t b o in rounded a.open_state a.ops (asked t a.open_state a.next)
 
 -- what the rest of the rounds come to
 abbrev pub rounds_left : ℕ → Token → Rounded → Answer

@@ -6,6 +6,7 @@ mod machine;
 #[cfg(test)]
 mod tests;
 mod token;
+mod weight;
 
 pub use html_types::{Finish, Stop};
 pub use machine::{Machine, Ran};

@@ -3,6 +3,7 @@
 ghost use Rattle.std.specs.Prelude.{◌≡◌, ◌↔◌, ◌==◌, ◌≢◌, ◌&&◌, ◌<◌, ◌≤◌, ◌+◌, ◌++◌, [], ◌∷◌, Bool, length, take, if◌then◌else◌, IfOk, IfSome, IsTrue};
 ghost use Rattle.std.specs.Str.{chars};
 ghost use Rattle.standard.specs.Entities.{Entities};
+ghost use Rattle.standard.specs.Foreign.{is_foreign};
 ghost use Rattle.standard.specs.Tokenizer.{Reached, read, read_end};
 ghost use Rattle.std.specs.Str.{IsCharBoundary};
 ghost use Rattle.standard.specs.Parser as definition;
@@ -15,6 +16,7 @@ ghost use Rattle.parse_machine.specs.Runs.{ArePlain, reads_runs as state_reads_r
 ghost use Rattle.parse_machine.specs.Machine.{WentTo, EndedTo, Builds, BuildsLast, RanAs, stops as stops_at};
 
 use crate::token::construct;
+use crate::weight::is_light_state;
 use builder_state::Builder;
 use char_class::{class_of, first_mark};
 use entity_table::{Characters, Table};
@@ -70,7 +72,7 @@ fn word_of_tag(token: &Token) -> Option<Word>
     match token {
         Token::StartTag(tag) => match &tag.name {
             Name::Known(word) => Some(*word),
-            Name::Other(_) => None,
+            Name::Other(_, _) => None,
         },
         _ => None,
     }
@@ -242,7 +244,7 @@ fn line_feed_for_cr(c: char) -> char
 
 // The token of a character that the tokenizer emits as it is, and then stays in its state.
 fn plain_token(tokenizer: &Tokenizer, c: char) -> Option<Token>
-    ensures { IfSome result (λ t. (es : Entities) → read es tokenizer.now.state c ≡ record { tokens = t ∷ []; state = tokenizer.now.state }) }
+    ensures { IfSome result (λ t. (es : Entities) (foreign : Bool) → read es foreign tokenizer.now.state c ≡ record { tokens = t ∷ []; state = tokenizer.now.state }) }
 {
     if is_plain(tokenizer.state(), class_of(c)) {
         Some(Token::Character(c))
@@ -280,13 +282,13 @@ fn read_and_build(
     ops: &mut Ops,
 ) -> Result<Stop, NoMemory>
     requires { tokenizer.old.tokens ≡ [] }
-    ensures built { IfOk result (λ stop. (cr : Bool) → Builds cr (read table.now tokenizer.old.state c) builder.old ops.old tokenizer.new builder.new ops.new stop) }
+    ensures built { IfOk result (λ stop. (cr : Bool) → Builds cr (read table.now (is_foreign builder.old) tokenizer.old.state c) builder.old ops.old tokenizer.new builder.new ops.new stop) }
     ensures none_waits { IfOk result (λ _. tokenizer.new.tokens ≡ []) }
 {
     match plain_token(tokenizer, c) {
         Some(token) => process_alone(alloc, tokenizer, builder, &token, ops),
         None => {
-            tokenizer.read_character(alloc, table, c)?;
+            tokenizer.read_character(alloc, table, builder.is_foreign(), c)?;
             build_waiting(alloc, tokenizer, builder, ops)
         }
     }
@@ -301,10 +303,10 @@ fn end_and_build(
     ops: &mut Ops,
 ) -> Result<Finish, NoMemory>
     requires { tokenizer.old.tokens ≡ [] }
-    ensures built { IfOk result (λ finish. (cr : Bool) → BuildsLast cr (read_end table.now tokenizer.old.state) builder.old ops.old tokenizer.new builder.new ops.new finish) }
+    ensures built { IfOk result (λ finish. (cr : Bool) → BuildsLast cr (read_end table.now (is_foreign builder.old) tokenizer.old.state) builder.old ops.old tokenizer.new builder.new ops.new finish) }
     ensures none_waits { IfOk result (λ _. tokenizer.new.tokens ≡ []) }
 {
-    tokenizer.finish(alloc, table)?;
+    tokenizer.finish(alloc, table, builder.is_foreign())?;
     build_last(alloc, tokenizer, builder, ops)
 }
 
@@ -625,6 +627,11 @@ impl Machine {
                 Err(error)
             }
         }
+    }
+
+    /// Whether a copy takes little time. It is a hint: no contract speaks of it.
+    pub fn is_light(&self) -> bool {
+        is_light_state(self.tokenizer.state()) && self.builder.is_light()
     }
 
     /// A copy.

@@ -3,11 +3,11 @@
 ghost use Rattle.std.specs.Prelude.{◌≡◌, ◌==◌, ◌&&◌, false, IfOk};
 ghost use Rattle.html_types.specs.declared.instruction.Mode.TheVariants as mode;
 ghost use Rattle.html_types.specs.declared.token.Token.TheVariants as token;
-ghost use Rattle.standard.specs.Rules.{answer, by_mode, adopting, by_rules, process, rounds, is_line_feed as is_line_feed_in, construct as constructed};
+ghost use Rattle.standard.specs.Rules.{rules_for, answer, by_mode, adopting, by_rules, process, rounds, is_line_feed as is_line_feed_in, construct as constructed};
 ghost use Rattle.parse_machine.specs.Rounds.{rounded, round_of};
 
 use builder_adoption::adopt;
-use builder_body::{after_adopt, body};
+use builder_body::{after_adopt, body, foreign};
 use builder_head::head;
 use builder_rest::rest;
 use builder_state::Builder;
@@ -38,6 +38,7 @@ fn by_mode(
         Mode::Initial | Mode::BeforeHtml | Mode::BeforeHead | Mode::InHead | Mode::AfterHead =>
             head(alloc, builder, mode, token, ops),
         Mode::InBody | Mode::InText => body(alloc, builder, mode, token, ops),
+        Mode::InForeign => foreign(alloc, builder, token, ops),
         Mode::InTable
         | Mode::InTableText
         | Mode::InCaption
@@ -106,7 +107,7 @@ fn one_round(
     ensures { IfOk result (λ round. rounded builder.new ops.new round ≡ round_of mode token.now builder.old ops.old) }
 {
     match by_rules(alloc, builder, mode, token, ops)? {
-        Next::Again => Ok(Round::Once(builder.mode())),
+        Next::Again => Ok(Round::Once(builder.rules_for(token))),
         Next::Using(other) => Ok(Round::Once(other)),
         Next::Foster => Ok(Round::Once(Mode::InBody)),
         next => Ok(Round::Over(next)),
@@ -154,18 +155,18 @@ fn by_body_row(
     Ok(next)
 }
 
-// By the rules of the insertion mode.
+// By the rules of the insertion mode, or those for foreign content.
 fn by_own_rules(
     alloc: Global,
     builder: &mut Builder,
     token: &Token,
     ops: &mut Ops,
 ) -> Result<Next, NoMemory>
-    ensures { IfOk result (λ n. answer builder.new ops.new n ≡ process rounds builder.old.mode token.now builder.old ops.old) }
+    ensures { IfOk result (λ n. answer builder.new ops.new n ≡ process rounds (rules_for token.now builder.old) token.now builder.old ops.old) }
 {
-    match (builder.mode(), token) {
+    match (builder.rules_for(token), token) {
         (Mode::InBody, Token::Character(c)) if *c != '\0' => by_body_row(alloc, builder, *c, ops),
-        (mode, _) => by_all_rules(alloc, builder, mode, token, ops),
+        (rules, _) => by_all_rules(alloc, builder, rules, token, ops),
     }
 }
 

@@ -17,6 +17,7 @@ use Rattle.html_types.specs.declared.operation.Op.{Op}
 use Rattle.html_types.specs.declared.open.OpenElement.{OpenElement}
 use Rattle.html_types.specs.declared.open.Open.{Open}
 use Rattle.standard.specs.Elements.{is_word, is_one_of}
+use Rattle.standard.specs.Foreign.{opened}
 use Rattle.standard.specs.Stack.{is_open, current_id, pop, without_open, open_in_scope, below, from_on, through, above, with_below, block_below}
 use Rattle.standard.specs.Formatting.{entry_named, tag_of_entry, without_entry}
 use Rattle.standard.specs.Adoption.{Climb, climb_at, climb_clone, climb_drop, climb_one, climb, Turned, turned, joined, turn_with, turn_at, turn, turns, adopted, adopted_by, is_plain, adopt}
@@ -112,7 +113,7 @@ block-above f block es h o = block-cases (is_open f (above block es) ≡ true) f
 clone-kept : (id : NodeId) (tag : Option Tag) (c : Climb) → length (climb_clone id tag c).kept ≤ suc (length c.kept)
 clone-kept id None c = omega arith
 clone-kept id (Some tag) c =
-    let g : length (c.kept ++ record { id = c.next; name = tag.name } ∷ []) ≡ length c.kept + 1 = length-append c.kept (record { id = c.next; name = tag.name } ∷ []) in
+    let g : length (c.kept ++ opened c.next tag ∷ []) ≡ length c.kept + 1 = length-append c.kept (opened c.next tag ∷ []) in
     omega (arith, g)
 
 climb-kept : (left : ℕ) (es : List OpenElement) (c : Climb) → length (climb left es c).kept ≤ length c.kept + length es
@@ -139,7 +140,7 @@ turn_with_depth f (Some tag) (Some block) b o h p =
     let es : List OpenElement = below f (above block b.stack) in
     let c : Climb = climb 3 es (climb_at b.formats b.next o [] block None) in
     let st : List OpenElement = joined f block b.stack c.kept in
-    let clone : OpenElement = record { id = c.next; name = tag.name } in
+    let clone : OpenElement = opened c.next tag in
     let from_none : length c.kept ≤ 0 + length es = climb-kept 3 es (climb_at b.formats b.next o [] block None) in
     let kept : length c.kept ≤ length es = omega (arith, from_none) in
     let fewer : length st ≤ length b.stack = joined-depth f block b.stack c.kept kept in

@@ -13,6 +13,7 @@ use Rattle.html_types.specs.declared.operation.Op.{Op}
 use Rattle.html_types.specs.declared.open.OpenElement.{OpenElement}
 use Rattle.html_types.specs.declared.open.Open.{Open}
 use Rattle.standard.specs.Elements.{is_word}
+use Rattle.standard.specs.Foreign.{opened}
 use Rattle.standard.specs.Stack.{is_open, current_id, pop, open_in_scope, below, above, block_below}
 use Rattle.standard.specs.Formatting.{entry_named, tag_of_entry, without_entry, with_id}
 use Rattle.standard.specs.Adoption.{Climb, climb_at, bookmark_or, climb_clone, climb_drop, climb_one, climb, Turned, turned, joined, rebuilt, turn_with, turn_at, turn, turns, Adopted, adopted, adopted_by, is_plain, adopt}
@@ -33,7 +34,7 @@ by_test g false x y x' y' e h = h
 climb_clone-framed : (p : List Op) (id : NodeId) (tag : Option Tag) (c : Climb) → climb_clone id tag (climb_behind p c) ≡ climb_behind p (climb_clone id tag c)
 climb_clone-framed p id None c = refl
 climb_clone-framed p id (Some tag) c =
-    ap (λ o. climb_at (with_id id c.next c.formats) (later 1 c.next) o (c.kept ++ record { id = c.next; name = tag.name } ∷ []) c.next (bookmark_or c.bookmark c.next)) (simp append_assoc)
+    ap (λ o. climb_at (with_id id c.next c.formats) (later 1 c.next) o (c.kept ++ opened c.next tag ∷ []) c.next (bookmark_or c.bookmark c.next)) (simp append_assoc)
 
 climb-framed : (p : List Op) (left : ℕ) (es : List OpenElement) (c : Climb) → climb left es (climb_behind p c) ≡ climb_behind p (climb left es c)
 climb-framed p left [] c = refl

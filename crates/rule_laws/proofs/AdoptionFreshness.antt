@@ -18,6 +18,7 @@ use Rattle.html_types.specs.declared.open.Format.{Format}
 use Rattle.html_types.specs.declared.open.Format.TheVariants.{Element}
 use Rattle.html_types.specs.declared.open.Open.{Open}
 use Rattle.standard.specs.Elements.{is_word}
+use Rattle.standard.specs.Foreign.{opened}
 use Rattle.standard.specs.Stack.{is_open, current_id, pop, without_open, open_in_scope, below, from_on, through, above, block_below, place_for}
 use Rattle.standard.specs.Formatting.{entry_named, tag_of_entry, without_entry, with_behind}
 use Rattle.standard.specs.Adoption.{Climb, climb_at, climb_clone, climb_drop, climb_one, climb, Turned, turned, put_at_bookmark, joined, rebuilt, turn_with, turn_at, turn, turns, Adopted, adopted, adopted_by, is_plain, adopt}
@@ -98,7 +99,7 @@ module _ (Coming : (NodeId → Bool) → NodeId → Type 0) (law : Follows Comin
         bound = put-bound o1 (later 1 c.next) c.last (Inside c.next) (made-bound c.ops c.next tag f.bound) (more-known c.ops _ c.last f.last_bound) here;
         more = λ i h. on i (f.more i h);
         formats_bound = with_id-bound (after o2) id c.next c.formats there (formats-more (after c.ops) (after o2) on c.formats f.formats_bound);
-        kept_bound = open-append (after o2) c.kept (record { id = c.next; name = tag.name } ∷ []) (open-more (after c.ops) (after o2) on c.kept f.kept_bound) (there, tt);
+        kept_bound = open-append (after o2) c.kept (opened c.next tag ∷ []) (open-more (after c.ops) (after o2) on c.kept f.kept_bound) (there, tt);
         last_bound = there;
       }
 
@@ -156,7 +157,7 @@ module _ (Coming : (NodeId → Bool) → NodeId → Type 0) (law : Follows Comin
       let done : Bound o4 (later 1 c.next) = put-bound o3 (later 1 c.next) c.next (Inside block) moved clone3 (third block (g.more block i)) in (
         done.ops_bound,
         record {
-          stack_bound = with_below-bound (after o4) block (record { id = c.next; name = tag.name }) (without_open (Some f) st) clone4
+          stack_bound = with_below-bound (after o4) block (opened c.next tag) (without_open (Some f) st) clone4
               (without_open-bound (after o4) (Some f) st (open-more (after c.ops) (after o4) on st a));
           formats_bound = bookmark-bound (after o4) f c.next tag c.bookmark c.formats clone4 (formats-more (after c.ops) (after o4) on c.formats g.formats_bound);
           head_bound = pointer-more (after o) (after o4) all b.head s.head_bound;

@@ -18,6 +18,7 @@ use Rattle.html_types.specs.declared.open.Format.{Format}
 use Rattle.html_types.specs.declared.open.Format.TheVariants.{Element}
 use Rattle.html_types.specs.declared.open.Open.{Open}
 use Rattle.standard.specs.Elements.{is_word}
+use Rattle.standard.specs.Foreign.{opened}
 use Rattle.standard.specs.Stack.{is_open, current_is, current_id, pop, without_open, open_in_scope, below, from_on, through, above, with_below, block_below, place_for}
 use Rattle.standard.specs.Formatting.{entry_named, has_entry, tag_of_entry, without_entry, with_behind}
 use Rattle.standard.specs.Adoption.{Climb, climb_at, bookmark_or, climb_clone, climb_drop, climb_one, climb, Turned, turned, put_at_bookmark, joined, rebuilt, turn_with, turn_at, turn, turns, Adopted, adopted, adopted_by, is_plain, adopt}
@@ -91,7 +92,7 @@ module _ (r : NodeId → NodeId) where
     rebuilt-renamed : (f : NodeId) (tag : Tag) (block : NodeId) (b : Open) (c : Climb) (st : List OpenElement) → Renames r c.next
         → rebuilt (r f) tag (r block) (rename_open r b) (rename_climb c) (stack_of st) ≡ rename_turned (rebuilt f tag block b c st)
     rebuilt-renamed f tag block b c st n =
-        let clone : OpenElement = record { id = c.next; name = tag.name } in
+        let clone : OpenElement = opened c.next tag in
         same_turned (rename_open r b)
         (ap (with_below (r block) (rename_element r clone)) (without_open-renamed r n.apart (Some f) st) ∙ with_below-renamed r n.apart block clone (without_open (Some f) st))
         (put_at_bookmark-renamed n.apart f c.next tag c.bookmark c.formats)

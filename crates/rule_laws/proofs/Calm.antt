@@ -82,7 +82,7 @@ stop_at_script-calm a (e ∷ es) b o = refl
 
 adopt_name-calm : (n : Name) (b : Open) (o : List Op) → calm true (adopt_name n b o).flow ≡ true
 adopt_name-calm (Known w) b o = refl
-adopt_name-calm (Other text) b o = refl
+adopt_name-calm (Other s text) b o = refl
 
 adopt_anchor-calm : (i : Option NodeId) (b : Open) (o : List Op) → calm true (adopt_anchor i b o).flow ≡ true
 adopt_anchor-calm None b o = refl
@@ -123,6 +123,8 @@ step-calm a ins.Foster t b o s = absurd (true≢false (sym s))
 step-calm a ins.Again t b o s = absurd (true≢false (sym s))
 step-calm a ins.StopAtScript t b o s = stop_at_script-calm a b.stack b o
 step-calm a ins.Finish t b o s = refl
+step-calm a ins.BreakOut t b o s = absurd (true≢false (sym s))
+step-calm a ins.ForeignEnd t b o s = absurd (true≢false (sym s))
 step-calm a i t b o s = straight-calm a (step i t b o).flow (went-straight (step i t b o).flow (step-went Any any i t b o refl).1)
 
 -- ---- a row

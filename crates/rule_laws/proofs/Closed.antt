@@ -3,6 +3,7 @@
 use Rattle.std.proofs.Common.{◌≡◌, refl, sym, true≢false, ℕ, Bool, true, false, ◌&&◌, List, [], ◌∷◌, Option, Some, None, reverse, zero, suc, ◌++◌}
 use Rattle.std.specs.Prelude.{if◌then◌else◌}
 use Rattle.html_types.specs.Operations.{later}
+use Rattle.html_types.specs.Names.{name_text}
 use Rattle.html_types.specs.declared.word.Word.{Word}
 use Rattle.html_types.specs.declared.word.Word.TheVariants as word
 use Rattle.html_types.specs.declared.name.Name.{Name}
@@ -30,13 +31,14 @@ use Rattle.html_types.specs.declared.open.Format.{Format}
 use Rattle.html_types.specs.declared.open.Format.TheVariants.{Element}
 use Rattle.standard.specs.WhiteSpace.{is_space}
 use Rattle.standard.specs.Elements.{is_word, is_meant, is_one_of}
+use Rattle.standard.specs.Foreign.{opened, adjusted, tag_in, foreign_tag}
 use Rattle.standard.specs.Stack.{on_stack, pop, until, pop_to, pop_to_root, implied, implied_thoroughly, close, close_item, other_end, first_open, second_open, without_open}
 use Rattle.standard.specs.Formatting.{lost, kept, entry_named}
-use Rattle.standard.specs.Instructions.{Config, config, on, room, here, made, pushed, insert_at, insert, insert_root, void, void_as, named, tag_of, for_tag, enlist, reopen, reopen_all, reconstruct, insert_text, insert_comment, append_doctype, end_of, add_attributes, detach_second, body_text, body_character, body_characters, push_head, form_closed, form_closed_in_template, end_form, append_pending, all_space, texts, none_pending, insert_pending, pop_mode, adopt_name, adopt_own, adopt_anchor, stop_at_script, step, turn, run}
+use Rattle.standard.specs.Instructions.{Config, config, on, room, here, made, pushed, insert_at, insert, insert_root, space_or_html, insert_foreign, insert_in, pop_foreign, foreign_end, end_foreign_with, end_foreign, void, void_as, named, tag_of, for_tag, enlist, reopen, reopen_all, reconstruct, insert_text, insert_comment, append_doctype, end_of, add_attributes, detach_second, body_text, body_character, body_characters, push_head, form_closed, form_closed_in_template, end_form, append_pending, all_space, texts, none_pending, insert_pending, pop_mode, adopt_name, adopt_own, adopt_anchor, stop_at_script, step, turn, run}
 use Rattle.standard.specs.Adoption.{Adopted, adopt}
 use Rattle.standard.specs.RulesBody.{after_adopt}
-use Rattle.standard.specs.Rules.{Answer, answer, row, by_mode, adopting, with_adoption, by_rules, round_after, go_round, process, rounds, is_line_feed, settled_answer, construct}
-use Rattle.rule_laws.proofs.Thinned.{Thinned, thin-same, thin-trans, thin-pop, thin-until, thin-pop_to, thin-pop_to_root, thin-implied, thin-implied_thoroughly, thin-close, thin-close_item, thin-other_end, thin-without_open, thin-form_closed, thin-form_closed_in_template}
+use Rattle.standard.specs.Rules.{Answer, answer, row, by_mode, adopting, with_adoption, by_rules, rules_for, round_after, go_round, process, rounds, is_line_feed, settled_answer, construct}
+use Rattle.rule_laws.proofs.Thinned.{Thinned, thin-same, thin-trans, thin-pop, thin-until, thin-pop_to, thin-pop_to_root, thin-implied, thin-implied_thoroughly, thin-close, thin-close_item, thin-other_end, thin-without_open, thin-form_closed, thin-form_closed_in_template, thin-pop_foreign, IsThinnedIfAny, thin-foreign_end}
 
 -- All parts of the open state but the modes and the pending table text may change so.
 pub record IsClosed (R : Open → Open → Type 0) : Type 0 where
@@ -83,6 +85,8 @@ is_plain ins.Foster = false
 is_plain ins.Again = false
 is_plain ins.StopAtScript = false
 is_plain ins.Finish = false
+is_plain ins.BreakOut = false
+is_plain ins.ForeignEnd = false
 is_plain _ = true
 
 module _ (R : Open → Open → Type 0) (c : IsClosed R) where
@@ -112,7 +116,7 @@ module _ (R : Open → Open → Type 0) (c : IsClosed R) where
 
   pushed-in : (tag : Tag) (b : Open) → room b ≡ true → R b (pushed tag b)
   pushed-in tag b e =
-      let top : OpenElement = record { id = b.next; name = tag.name } in
+      let top : OpenElement = opened b.next tag in
       c.onward b (record b { stack = top ∷ b.stack }) (pushed tag b) (c.opens b top e) (c.gives (record b { stack = top ∷ b.stack }))
 
   insert_at-went : (p : Place) (tag : Tag) (b : Open) (o : List Op) → WentOn R b (insert_at p tag b o)
@@ -146,7 +150,7 @@ module _ (R : Open → Open → Type 0) (c : IsClosed R) where
 
   push_head-went : (i : Option NodeId) (b : Open) (o : List Op) → WentOn R b (push_head i b o)
   push_head-went None b o = went b o
-  push_head-went (Some i) b o = roomy b _ o o (c.opens b (record { id = i; name = Known word.Head }))
+  push_head-went (Some i) b o = roomy b _ o o (c.opens b (record { id = i; name = Known word.Head; html_point = false }))
 
   end_form-went : (nobody : Name → Bool) (b : Open) (o : List Op) → WentOn R b (end_form nobody b o)
   end_form-went nobody b o = by (on_stack (is_word word.Template) b.stack)
@@ -204,6 +208,9 @@ module _ (R : Open → Open → Type 0) (c : IsClosed R) where
   step-went ins.Void t b o p = for_tag-went void void-went t b o
   step-went (ins.VoidA w) t b o p = void-went (tag_of w) b o
   step-went (ins.VoidAs w) t b o p = for_tag-went (void_as w) (λ tag. void-went (named w tag)) t b o
+  step-went ins.InsertForeign t b o p = for_tag-went insert_foreign (λ tag b' o'. insert-went (foreign_tag (space_or_html (adjusted b')) tag) b' o') t b o
+  step-went (ins.InsertIn s) t b o p = for_tag-went (insert_in s) (λ tag. insert-went (tag_in s tag)) t b o
+  step-went ins.InsertReplacement t b o p = (c.same b, refl)
   step-went ins.InsertText t b o p = insert_text-went t b o
   step-went ins.InsertComment t b o p = insert_comment-went (here b) t b o
   step-went ins.CommentToPage t b o p = insert_comment-went Page t b o
@@ -279,7 +286,7 @@ module _ (R : Open → Open → Type 0) (c : IsClosedWhole R) where
 
   adopt_name-in : (n : Name) (b : Open) (o : List Op) → R b (adopt_name n b o).open_state
   adopt_name-in (Known w) b o = same b
-  adopt_name-in (Other text) b o = same b
+  adopt_name-in (Other s text) b o = same b
 
   adopt-in : (t : Token) (b : Open) (o : List Op) → R b (for_tag adopt_own t b o).open_state
   adopt-in (StartTag tag) b o = adopt_name-in tag.name b o
@@ -289,6 +296,15 @@ module _ (R : Open → Open → Type 0) (c : IsClosedWhole R) where
   anchor-in : (i : Option NodeId) (b : Open) (o : List Op) → R b (adopt_anchor i b o).open_state
   anchor-in None b o = same b
   anchor-in (Some i) b o = same b
+
+  foreign-in : (es : Option (List OpenElement)) (b : Open) (o : List Op) → IsThinnedIfAny b.stack es → R b (end_foreign_with es b o).open_state
+  foreign-in None b o h = same b
+  foreign-in (Some es) b o h = c.parts.thins b es h
+
+  foreign_end-in : (t : Token) (b : Open) (o : List Op) → R b (for_tag end_foreign t b o).open_state
+  foreign_end-in (StartTag tag) b o = foreign-in (foreign_end (name_text tag.name) b.stack b.stack) b o (thin-foreign_end (name_text tag.name) b.stack b.stack (thin-same b.stack))
+  foreign_end-in (EndTag tag) b o = foreign-in (foreign_end (name_text tag.name) b.stack b.stack) b o (thin-foreign_end (name_text tag.name) b.stack b.stack (thin-same b.stack))
+  foreign_end-in _ b o = same b
 
   script-in : (es : List OpenElement) (b : Open) (o : List Op) → Thinned b.stack es → R b (stop_at_script es b o).open_state
   script-in [] b o h = same b
@@ -316,6 +332,8 @@ module _ (R : Open → Open → Type 0) (c : IsClosedWhole R) where
   step-in ins.Again t b o = same b
   step-in ins.StopAtScript t b o = script-in b.stack b o (thin-same b.stack)
   step-in ins.Finish t b o = same b
+  step-in ins.BreakOut t b o = c.parts.thins b (pop_foreign b.stack) (thin-pop_foreign b.stack)
+  step-in ins.ForeignEnd t b o = foreign_end-in t b o
   step-in i t b o = (step-went R c.parts i t b o refl).0
 
   -- ---- rows and rounds
@@ -353,11 +371,11 @@ module _ (R : Open → Open → Type 0) (c : IsClosedWhole R) where
       let a : Answer = by_mode m t b o in
       c.parts.onward b a.open_state (with_adoption t a.open_state a.ops a.next).open_state (by_mode-in m t b o) (with_adoption-in t a.open_state a.ops a.next)
 
-  round-in : (more : Mode → Answer) (b : Open) (o : List Op) (n : Next) → ((m : Mode) → R b (more m).open_state) → R b (go_round more b o (round_after b n)).open_state
-  round-in more b o next.Again each = each b.mode
-  round-in more b o (next.Using m) each = each m
-  round-in more b o next.Foster each = each InBody
-  round-in more b o _ each = same b
+  round-in : (t : Token) (more : Mode → Answer) (b : Open) (o : List Op) (n : Next) → ((m : Mode) → R b (more m).open_state) → R b (go_round more b o (round_after t b n)).open_state
+  round-in t more b o next.Again each = each (rules_for t b)
+  round-in t more b o (next.Using m) each = each m
+  round-in t more b o next.Foster each = each InBody
+  round-in t more b o _ each = same b
 
   pub process-in : (n : ℕ) (m : Mode) (t : Token) (b : Open) (o : List Op) → R b (process n m t b o).open_state
   unfolding process
@@ -365,7 +383,7 @@ module _ (R : Open → Open → Type 0) (c : IsClosedWhole R) where
   process-in (suc n) m t b o =
       let a : Answer = by_rules m t b o in
       c.parts.onward b a.open_state _ (by_rules-in m t b o)
-      (round-in (λ m'. process n m' t a.open_state a.ops) a.open_state a.ops a.next (λ m'. process-in n m' t a.open_state a.ops))
+      (round-in t (λ m'. process n m' t a.open_state a.ops) a.open_state a.ops a.next (λ m'. process-in n m' t a.open_state a.ops))
 
   pub construct-in : (t : Token) (b : Open) (o : List Op) → R b (construct t b o).open_state
   unfolding construct
@@ -379,6 +397,6 @@ module _ (R : Open → Open → Type 0) (c : IsClosedWhole R) where
           c.parts.onward b b' _ (c.parts.marks b b.frameset_ok b.quirks false b.foster)
           (c.parts.onward b' x _ r (c.parts.marks x x.frameset_ok x.quirks x.skip_line_feed false))
 
-      by : (v : Bool) → R b (settled_answer (if v then answer b' o next.Done else process rounds b.mode t b' o)).open_state
+      by : (v : Bool) → R b (settled_answer (if v then answer b' o next.Done else process rounds (rules_for t b) t b' o)).open_state
       by true = settled b' (same b')
-      by false = settled (process rounds b.mode t b' o).open_state (process-in rounds b.mode t b' o)
+      by false = settled (process rounds (rules_for t b) t b' o).open_state (process-in rounds (rules_for t b) t b' o)

@@ -10,6 +10,8 @@ use Rattle.html_types.specs.declared.name.Name.TheVariants.{Known, Other}
 use Rattle.html_types.specs.declared.instruction.Group.TheVariants as group
 use Rattle.html_types.specs.declared.open.OpenElement.{OpenElement}
 use Rattle.standard.specs.Elements.{is_word, is_one_of}
+use Rattle.standard.specs.Foreign.{is_html_or_point}
+use Rattle.standard.specs.Instructions.{pop_foreign}
 use Rattle.standard.specs.Stack.{on_stack, pop, until, pop_to, implied}
 
 abbrev pub add : Bool → ℕ → ℕ
@@ -59,6 +61,14 @@ pop_to-fewer p is (e ∷ es) = by (is e.name) (pop_to-fewer p is es)
     by true h = omega arith
     by false h = add-less (p e.name) (count p (pop_to is es)) (count p es) h
 
+pub pop_foreign-fewer : (p : Name → Bool) (es : List OpenElement) → count p (pop_foreign es) ≤ count p es
+pop_foreign-fewer p [] = omega arith
+pop_foreign-fewer p (e ∷ es) = by (is_html_or_point e) (pop_foreign-fewer p es)
+  where
+    by : (v : Bool) → count p (pop_foreign es) ≤ count p es → count p (if v then e ∷ es else pop_foreign es) ≤ add (p e.name) (count p es)
+    by true h = omega arith
+    by false h = add-less (p e.name) (count p (pop_foreign es)) (count p es) h
+
 pub implied-fewer : (p but : Name → Bool) (es : List OpenElement) → count p (implied but es) ≤ count p es
 implied-fewer p but [] = omega arith
 implied-fewer p but (e ∷ es) = by (is_one_of group.ClosedImplicitly e.name && not (but e.name)) (implied-fewer p but es)
@@ -101,4 +111,4 @@ is_weighty n = is_word word.Select n || (is_word word.Table n || is_word word.Te
 
 pub weighty-word : (w : Word) → is_weighty (Known w) ≡ true → (n : Name) → is_word w n ≡ true → is_weighty n ≡ true
 weighty-word w h (Known v) e = let P : Word → Type 0 = λ u. is_weighty (Known u) ≡ true in subst P (sym ((word_decides v w).0 e)) h
-weighty-word w h (Other t) e = absurd (true≢false (sym e))
+weighty-word w h (Other s t) e = absurd (true≢false (sym e))

@@ -3,6 +3,7 @@ use Rattle.std.proofs.Common.{◌≡◌, refl, sym, ap, ◌∙◌, ℕ, zero, su
 use Rattle.std.proofs.lemmas.List.{append-nil}
 use Rattle.std.specs.Prelude.{if◌then◌else◌, Option, Some, None}
 use Rattle.html_types.specs.Operations.{later}
+use Rattle.html_types.specs.Names.{name_text}
 use Rattle.html_types.specs.declared.word.Word.{Word}
 use Rattle.html_types.specs.declared.word.Word.TheVariants as word
 use Rattle.html_types.specs.declared.name.Name.{Name}
@@ -27,12 +28,13 @@ use Rattle.html_types.specs.declared.open.OpenElement.{OpenElement}
 use Rattle.html_types.specs.declared.open.Format.TheVariants.{Element}
 use Rattle.html_types.specs.declared.open.Open.{Open}
 use Rattle.standard.specs.Elements.{is_word, is_meant}
+use Rattle.standard.specs.Foreign.{adjusted, tag_in, foreign_tag}
 use Rattle.standard.specs.Stack.{on_stack, first_open, second_open}
 use Rattle.standard.specs.Formatting.{kept, lost, entry_named}
 use Rattle.standard.specs.WhiteSpace.{is_space}
-use Rattle.standard.specs.Instructions.{Config, config, on, room, made, pushed, insert_at, here, insert, insert_root, void, tag_of, named, void_as, for_tag, enlist, reopen, reopen_all, reconstruct, insert_text, insert_comment, append_doctype, end_of, add_attributes, detach_second, append_pending, all_space, texts, body_text, body_character, body_characters, none_pending, insert_pending, push_head, form_closed, form_closed_in_template, end_form, stop_at_script, adopt_name, adopt_own, adopt_anchor, step, turn, run}
+use Rattle.standard.specs.Instructions.{Config, config, on, room, made, pushed, insert_at, here, insert, insert_root, space_or_html, insert_foreign, insert_in, foreign_end, end_foreign_with, end_foreign, void, tag_of, named, void_as, for_tag, enlist, reopen, reopen_all, reconstruct, insert_text, insert_comment, append_doctype, end_of, add_attributes, detach_second, append_pending, all_space, texts, body_text, body_character, body_characters, none_pending, insert_pending, push_head, form_closed, form_closed_in_template, end_form, stop_at_script, adopt_name, adopt_own, adopt_anchor, step, turn, run}
 use Rattle.standard.specs.Adoption.{Adopted, adopt}
-use Rattle.standard.specs.Rules.{Answer, answer, answer_of, row, by_mode, adopting, with_adoption, by_rules, Round, once, stop, round_after, go_round, process, rounds, is_line_feed, settled_answer, construct}
+use Rattle.standard.specs.Rules.{Answer, answer, answer_of, row, by_mode, adopting, with_adoption, by_rules, rules_for, Round, once, stop, round_after, go_round, process, rounds, is_line_feed, settled_answer, construct}
 use Rattle.standard.specs.RulesBody.{after_adopt}
 use Rattle.rule_laws.specs.Naming.{config_behind, answer_behind}
 use Rattle.rule_laws.specs.NamingLaws.{FosteringEnds}
@@ -158,11 +160,15 @@ form-framed p nobody b o =
 
 adopt_name-framed : (p : List Op) (name : Name) (b : Open) (o : List Op) → adopt_name name b (p ++ o) ≡ config_behind p (adopt_name name b o)
 adopt_name-framed p (Known w) b o = refl
-adopt_name-framed p (Other text) b o = refl
+adopt_name-framed p (Other s text) b o = refl
 
 anchor-framed : (p : List Op) (i : Option NodeId) (b : Open) (o : List Op) → adopt_anchor i b (p ++ o) ≡ config_behind p (adopt_anchor i b o)
 anchor-framed p None b o = refl
 anchor-framed p (Some i) b o = refl
+
+foreign-framed : (p : List Op) (es : Option (List OpenElement)) (b : Open) (o : List Op) → end_foreign_with es b (p ++ o) ≡ config_behind p (end_foreign_with es b o)
+foreign-framed p None b o = refl
+foreign-framed p (Some es) b o = refl
 
 script-framed : (p : List Op) (es : List OpenElement) (b : Open) (o : List Op) → stop_at_script es b (p ++ o) ≡ config_behind p (stop_at_script es b o)
 script-framed p [] b o = refl
@@ -176,6 +182,10 @@ step-framed p ins.InsertRootA t b o = insert-framed p Page (tag_of word.Html) b 
 step-framed p ins.Void t b o = by_tag p void t b o (λ tag. void-framed p tag b o)
 step-framed p (ins.VoidA w) t b o = void-framed p (tag_of w) b o
 step-framed p (ins.VoidAs w) t b o = by_tag p (void_as w) t b o (λ tag. void-framed p (named w tag) b o)
+step-framed p ins.InsertForeign t b o = by_tag p insert_foreign t b o (λ tag. insert-framed p (here b) (foreign_tag (space_or_html (adjusted b)) tag) b o)
+step-framed p (ins.InsertIn s) t b o = by_tag p (insert_in s) t b o (λ tag. insert-framed p (here b) (tag_in s tag) b o)
+step-framed p ins.InsertReplacement t b o = one_more p b o _
+step-framed p ins.ForeignEnd t b o = by_tag p end_foreign t b o (λ tag. foreign-framed p (foreign_end (name_text tag.name) b.stack b.stack) b o)
 step-framed p ins.InsertText t b o = text-framed p t b o
 step-framed p ins.InsertComment t b o = comment-framed p (here b) t b o
 step-framed p ins.CommentToPage t b o = comment-framed p Page t b o
@@ -244,8 +254,8 @@ unfolding process
 process-behind p zero m t b o = refl
 process-behind p (suc n) m t b o =
     let a : Answer = by_rules m t b o in
-    ap (λ (x : Answer). go_round (λ m'. process n m' t x.open_state x.ops) x.open_state x.ops (round_after x.open_state x.next)) (by_rules-behind p m t b o)
-    ∙ go_round-behind p (λ o' m'. process n m' t a.open_state o') a.open_state a.ops (round_after a.open_state a.next) (λ m'. process-behind p n m' t a.open_state a.ops)
+    ap (λ (x : Answer). go_round (λ m'. process n m' t x.open_state x.ops) x.open_state x.ops (round_after t x.open_state x.next)) (by_rules-behind p m t b o)
+    ∙ go_round-behind p (λ o' m'. process n m' t a.open_state o') a.open_state a.ops (round_after t a.open_state a.next) (λ m'. process-behind p n m' t a.open_state a.ops)
 
 pub construct-behind : (p : List Op) (t : Token) (b : Open) (o : List Op) → construct t b (p ++ o) ≡ answer_behind p (construct t b o)
 unfolding construct
@@ -254,9 +264,9 @@ construct-behind p t b o = ap settled_answer (either (b.skip_line_feed && is_lin
     b' : Open
     b' = record b { skip_line_feed = false }
 
-    either : (v : Bool) → (if v then answer b' (p ++ o) next.Done else process rounds b.mode t b' (p ++ o)) ≡ answer_behind p (if v then answer b' o next.Done else process rounds b.mode t b' o)
+    either : (v : Bool) → (if v then answer b' (p ++ o) next.Done else process rounds (rules_for t b) t b' (p ++ o)) ≡ answer_behind p (if v then answer b' o next.Done else process rounds (rules_for t b) t b' o)
     either true = refl
-    either false = process-behind p rounds b.mode t b' o
+    either false = process-behind p rounds (rules_for t b) t b' o
 
 pub fostering-ends : FosteringEnds
 unfolding construct

@@ -2,6 +2,7 @@
 use Rattle.std.proofs.Common.{◌≡◌, refl, sym, ap, ◌∙◌, subst, ℕ, zero, suc, Bool, true, false, ◌||◌, ◌&&◌, List, [], ◌∷◌, ◌++◌, reverse, Option, Some, None}
 use Rattle.std.specs.Prelude.{if◌then◌else◌, IsTrue}
 use Rattle.html_types.specs.Operations.{same_id, later}
+use Rattle.html_types.specs.Names.{name_text}
 use Rattle.html_types.specs.declared.word.Word.{Word}
 use Rattle.html_types.specs.declared.word.Word.TheVariants as word
 use Rattle.html_types.specs.declared.name.Name.{Name}
@@ -29,17 +30,18 @@ use Rattle.html_types.specs.declared.open.OpenElement.{OpenElement}
 use Rattle.html_types.specs.declared.open.Format.TheVariants.{Element}
 use Rattle.html_types.specs.declared.open.Open.{Open}
 use Rattle.standard.specs.Elements.{is_word, is_meant, is_one_of}
+use Rattle.standard.specs.Foreign.{adjusted, tag_in, foreign_tag}
 use Rattle.standard.specs.Stack.{in_scope, on_stack, until, implied, first_open, second_open, without_open, open_in_scope}
 use Rattle.standard.specs.Formatting.{kept, lost, entry_named}
-use Rattle.standard.specs.Instructions.{Config, config, on, holds, room, made, pushed, insert_at, here, insert, insert_root, void, tag_of, named, void_as, for_tag, enlist, reopen, reopen_all, reconstruct, insert_text, insert_comment, append_doctype, end_of, add_attributes, detach_second, append_pending, all_space, texts, body_text, body_character, body_characters, none_pending, insert_pending, push_head, form_closed, form_closed_in_template, end_form, stop_at_script, adopt_name, adopt_own, adopt_anchor, step, turn, run}
+use Rattle.standard.specs.Instructions.{Config, config, on, holds, room, made, pushed, insert_at, here, insert, insert_root, space_or_html, insert_foreign, insert_in, foreign_end, end_foreign_with, end_foreign, void, tag_of, named, void_as, for_tag, enlist, reopen, reopen_all, reconstruct, insert_text, insert_comment, append_doctype, end_of, add_attributes, detach_second, append_pending, all_space, texts, body_text, body_character, body_characters, none_pending, insert_pending, push_head, form_closed, form_closed_in_template, end_form, stop_at_script, adopt_name, adopt_own, adopt_anchor, step, turn, run}
 use Rattle.standard.specs.Adoption.{Adopted, adopt}
 use Rattle.standard.specs.RulesBody.{after_adopt}
-use Rattle.standard.specs.Rules.{Answer, answer, next_of, row, by_mode, adopting, with_adoption, by_rules, round_after, go_round, process, rounds, is_line_feed, construct}
+use Rattle.standard.specs.Rules.{Answer, answer, next_of, row, by_mode, adopting, with_adoption, by_rules, rules_for, round_after, go_round, process, rounds, is_line_feed, construct}
 use Rattle.standard.specs.Act.{IsPlaceBound, IsOpBound, AreOpsBound, known_after}
 use Rattle.rule_laws.specs.Naming.{AreOpenBound, IsBoundIfAny, Holds, known_after_all, IsNextBound}
 use Rattle.rule_laws.proofs.FreshnessOps.{known-append, bound-append, same-itself, Follows}
 use Rattle.rule_laws.proofs.AdoptionFreshness.{AdoptedFits, adopt-fits}
-use Rattle.rule_laws.proofs.FreshnessWalks.{IsElementBound, pop-bound, until-bound, pop_to-bound, pop_to_root-bound, implied-bound, thoroughly-bound, close-bound, close_item-bound, other_end-bound, without_open-bound, current_id-bound, list_current-bound, without_entry-bound, first_open-bound, second_open-bound, place-bound, clear_to_marker-bound, kept-bound, open-more, formats-more, pointer-more, place-more}
+use Rattle.rule_laws.proofs.FreshnessWalks.{IsElementBound, pop-bound, until-bound, pop_to-bound, pop_to_root-bound, AreBoundIfAny, pop_foreign-bound, foreign_end-bound, implied-bound, thoroughly-bound, close-bound, close_item-bound, other_end-bound, without_open-bound, current_id-bound, list_current-bound, without_entry-bound, first_open-bound, second_open-bound, place-bound, clear_to_marker-bound, kept-bound, open-more, formats-more, pointer-more, place-more}
 
 abbrev IsFlowBound : (NodeId → Bool) → Flow → Type 0
 IsFlowBound known On = Unit {0}
@@ -302,11 +304,15 @@ module _ (Coming : (NodeId → Bool) → NodeId → Type 0) (law : Follows Comin
 
   adopt_name-fits : (name : Name) (b : Open) (o : List Op) → Fits b o On → ConfigFits (adopt_name name b o)
   adopt_name-fits (Known w) b o f = (f.0, f.1, tt)
-  adopt_name-fits (Other text) b o f = f
+  adopt_name-fits (Other s text) b o f = f
 
   anchor-fits : (i : Option NodeId) (b : Open) (o : List Op) → Fits b o On → ConfigFits (adopt_anchor i b o)
   anchor-fits None b o f = f
   anchor-fits (Some i) b o f = (f.0, f.1, tt)
+
+  foreign-fits : (es : Option (List OpenElement)) (b : Open) (o : List Op) → Fits b o On → AreBoundIfAny (after o) es → ConfigFits (end_foreign_with es b o)
+  foreign-fits None b o f a = (f.0, f.1, tt)
+  foreign-fits (Some es) b o f a = with_stack b o es On f a tt
 
   script-fits : (es : List OpenElement) (b : Open) (o : List Op) → Fits b o On → AreOpenBound (after o) es → ConfigFits (stop_at_script es b o)
   script-fits [] b o f a = (f.0, f.1, tt)
@@ -324,6 +330,12 @@ module _ (Coming : (NodeId → Bool) → NodeId → Type 0) (law : Follows Comin
   step-fits ins.Void t b o f = by_tag void t b o f (λ tag. void-fits tag b o f)
   step-fits (ins.VoidA w) t b o f = void-fits (tag_of w) b o f
   step-fits (ins.VoidAs w) t b o f = by_tag (void_as w) t b o f (λ tag. void-fits (named w tag) b o f)
+  step-fits ins.InsertForeign t b o f = by_tag insert_foreign t b o f (λ tag. insert-fits (here b) (foreign_tag (space_or_html (adjusted b)) tag) b o f (here-bound b o f))
+  step-fits (ins.InsertIn s) t b o f = by_tag (insert_in s) t b o f (λ tag. insert-fits (here b) (tag_in s tag) b o f (here-bound b o f))
+  step-fits ins.InsertReplacement t b o f = one_more b o (op.Text (here b) (0xFFFD ∷ [])) refl f (here-bound b o f)
+  step-fits ins.BreakOut t b o f = with_stack b o _ (Leave (next.Using b.mode)) f (pop_foreign-bound (after o) b.stack f.1.stack_bound) tt
+  step-fits ins.ForeignEnd t b o f =
+      by_tag end_foreign t b o f (λ tag. foreign-fits (foreign_end (name_text tag.name) b.stack b.stack) b o f (foreign_end-bound (after o) (name_text tag.name) b.stack b.stack f.1.stack_bound f.1.stack_bound))
   step-fits ins.InsertText t b o f = text-fits t b o f
   step-fits ins.InsertComment t b o f = comment-fits (here b) t b o f (here-bound b o f)
   step-fits ins.CommentToPage t b o f = comment-fits Page t b o f tt
@@ -420,17 +432,17 @@ module _ (Coming : (NodeId → Bool) → NodeId → Type 0) (law : Follows Comin
       let a : Answer = by_mode m t b o in
       adoption-fits t a.open_state a.ops a.next (by_mode-fits m t b o f)
 
-  round-fits : (more : Mode → Answer) (b : Open) (o : List Op) (n : Next) → AreOpsBound known o × State o b × IsNextBound (after o) n
-      → ((m : Mode) → AnswerFits (more m)) → AnswerFits (go_round more b o (round_after b n))
-  round-fits more b o next.Again f h = h b.mode
-  round-fits more b o (next.Using m) f h = h m
-  round-fits more b o next.Foster f h = h InBody
-  round-fits more b o (next.Adopt w i) f h = f
-  round-fits more b o next.Done f h = f
-  round-fits more b o (next.Switch r) f h = f
-  round-fits more b o (next.Script i) f h = f
-  round-fits more b o next.Deep f h = f
-  round-fits more b o next.Finished f h = f
+  round-fits : (t : Token) (more : Mode → Answer) (b : Open) (o : List Op) (n : Next) → AreOpsBound known o × State o b × IsNextBound (after o) n
+      → ((m : Mode) → AnswerFits (more m)) → AnswerFits (go_round more b o (round_after t b n))
+  round-fits t more b o next.Again f h = h (rules_for t b)
+  round-fits t more b o (next.Using m) f h = h m
+  round-fits t more b o next.Foster f h = h InBody
+  round-fits t more b o (next.Adopt w i) f h = f
+  round-fits t more b o next.Done f h = f
+  round-fits t more b o (next.Switch r) f h = f
+  round-fits t more b o (next.Script i) f h = f
+  round-fits t more b o next.Deep f h = f
+  round-fits t more b o next.Finished f h = f
 
   process-fits : (n : ℕ) (m : Mode) (t : Token) (b : Open) (o : List Op) → Fits b o On → AnswerFits (process n m t b o)
   unfolding process
@@ -438,7 +450,7 @@ module _ (Coming : (NodeId → Bool) → NodeId → Type 0) (law : Follows Comin
   process-fits (suc n) m t b o f =
       let a : Answer = by_rules m t b o in
       let g : AnswerFits a = by_rules-fits m t b o f in
-      round-fits (λ m'. process n m' t a.open_state a.ops) a.open_state a.ops a.next g (λ m'. process-fits n m' t a.open_state a.ops (g.0, g.1, tt))
+      round-fits t (λ m'. process n m' t a.open_state a.ops) a.open_state a.ops a.next g (λ m'. process-fits n m' t a.open_state a.ops (g.0, g.1, tt))
 
   pub construct-fits : (t : Token) (b : Open) (o : List Op) → AreOpsBound known o → Holds Coming (known_after_all known o) b.stack b.formats b.head b.form b.next → AnswerFits (construct t b o)
   unfolding construct
@@ -447,6 +459,6 @@ module _ (Coming : (NodeId → Bool) → NodeId → Type 0) (law : Follows Comin
       b' : Open
       b' = record b { skip_line_feed = false }
 
-      either : (v : Bool) → AnswerFits (if v then answer b' o next.Done else process rounds b.mode t b' o)
+      either : (v : Bool) → AnswerFits (if v then answer b' o next.Done else process rounds (rules_for t b) t b' o)
       either true = (a, s, tt)
-      either false = process-fits rounds b.mode t b' o (a, s, tt)
+      either false = process-fits rounds (rules_for t b) t b' o (a, s, tt)

@@ -12,6 +12,7 @@ use Rattle.html_types.specs.declared.operation.NodeId.{NodeId}
 use Rattle.html_types.specs.declared.operation.Op.{Op}
 use Rattle.html_types.specs.declared.open.Open.{Open}
 use Rattle.standard.specs.Entities.{Entities}
+use Rattle.standard.specs.Foreign.{is_foreign}
 use Rattle.standard.specs.Tokenizer.{read, read_end}
 use Rattle.standard.specs.Rules.{Answer, construct}
 use Rattle.standard.specs.Parser.{Parser, read_as, Took, took, after_ops, build_on, build, built, take_character, Finished, build_end_on, build_end, finish, Parsed, and_rest, parse}
@@ -72,11 +73,11 @@ module _ (Coming : (NodeId → Bool) → NodeId → Type 0) (law : Follows Comin
     where
       by : (skips cr : Bool) → TookBound Coming known (elim skips as (λ _. Took) [
         | true ↦ took [] (record p { after_cr = false }) stop.InputEnd
-        | false ↦ elim cr as (λ _. Took) [ true ↦ built p true (read es p.tokenizer 10) | false ↦ built p false (read es p.tokenizer c) ]
+        | false ↦ elim cr as (λ _. Took) [ true ↦ built p true (read es (is_foreign p.open_state) p.tokenizer 10) | false ↦ built p false (read es (is_foreign p.open_state) p.tokenizer c) ]
       ])
       by true cr = (none-bound known p.open_state h, tt)
-      by false true = build-bound known (read es p.tokenizer 10).state true (read es p.tokenizer 10).tokens p.open_state h
-      by false false = build-bound known (read es p.tokenizer c).state false (read es p.tokenizer c).tokens p.open_state h
+      by false true = build-bound known (read es (is_foreign p.open_state) p.tokenizer 10).state true (read es (is_foreign p.open_state) p.tokenizer 10).tokens p.open_state h
+      by false false = build-bound known (read es (is_foreign p.open_state) p.tokenizer c).state false (read es (is_foreign p.open_state) p.tokenizer c).tokens p.open_state h
 
   -- ---- the end of the input
 
@@ -107,7 +108,7 @@ module _ (Coming : (NodeId → Bool) → NodeId → Type 0) (law : Follows Comin
 
   pub ends-bound : EndsStayBound Coming
   unfolding finish
-  ends-bound known es p h = build_end-bound known (read_end es p.tokenizer).state p.after_cr (read_end es p.tokenizer).tokens p.open_state h
+  ends-bound known es p h = build_end-bound known (read_end es (is_foreign p.open_state) p.tokenizer).state p.after_cr (read_end es (is_foreign p.open_state) p.tokenizer).tokens p.open_state h
 
   -- ---- a text
 

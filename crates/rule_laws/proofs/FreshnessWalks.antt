@@ -1,7 +1,8 @@
 -- What is taken of the stack and of the list of formatting elements is bound where they are.
-use Rattle.std.proofs.Common.{◌==◌, nat_le, Bool, true, false, not, ◌&&◌, List, [], ◌∷◌, ◌++◌, Option, Some, None}
+use Rattle.std.proofs.Common.{ℕ, ◌==◌, nat_le, Bool, true, false, not, ◌&&◌, List, [], ◌∷◌, ◌++◌, Option, Some, None}
 use Rattle.std.specs.Prelude.{if◌then◌else◌, IsTrue}
 use Rattle.html_types.specs.Operations.{same_id}
+use Rattle.html_types.specs.Names.{name_text}
 use Rattle.html_types.specs.declared.word.Word.TheVariants as word
 use Rattle.html_types.specs.declared.instruction.Group.TheVariants as group
 use Rattle.html_types.specs.declared.instruction.Scope.{Scope}
@@ -16,7 +17,9 @@ use Rattle.html_types.specs.declared.open.Format.TheVariants.{Marker, Element}
 use Rattle.standard.specs.Elements.{is_word, is_one_of}
 use Rattle.standard.specs.Stack.{in_scope, is_open, current_id, is_empty, pop, until, pop_to, pop_to_root, implied, implied_thoroughly, close, item_found, close_item, end_found, other_end, id_or, foster_place, place_in, place, first_open, second_open, without_open, below, from_on, through, above, with_below, block_below, place_for}
 use Rattle.standard.specs.Formatting.{clear_to_marker, kept, is_like, likes, without_earliest, later_than, entry_on, before_first, renewed, without_entry, with_id, with_behind}
-use Rattle.standard.specs.Instructions.{list_current}
+use Rattle.standard.specs.ForeignNames.{is_lower_of}
+use Rattle.standard.specs.Foreign.{is_html, is_html_or_point}
+use Rattle.standard.specs.Instructions.{list_current, pop_foreign, foreign_end}
 use Rattle.standard.specs.Act.{IsPlaceBound}
 use Rattle.rule_laws.specs.Naming.{AreOpenBound, AreFormatsBound, IsBoundIfAny}
 
@@ -25,6 +28,10 @@ IsElementBound known None = Unit {0}
 IsElementBound known (Some e) = IsTrue (known e.id)
 
 module _ (known : NodeId → Bool) where
+  abbrev pub AreBoundIfAny : Option (List OpenElement) → Type 0
+  AreBoundIfAny None = Unit {0}
+  AreBoundIfAny (Some es) = AreOpenBound known es
+
   of_two : (v : Bool) (x y : List OpenElement) → AreOpenBound known x → AreOpenBound known y → AreOpenBound known (if v then x else y)
   of_two true x y a b = a
   of_two false x y a b = b
@@ -40,6 +47,20 @@ module _ (known : NodeId → Bool) where
   pub pop_to-bound : (is : Name → Bool) (es : List OpenElement) → AreOpenBound known es → AreOpenBound known (pop_to is es)
   pop_to-bound is [] a = tt
   pop_to-bound is (e ∷ es) a = of_two (is e.name) (e ∷ es) (pop_to is es) a (pop_to-bound is es a.1)
+
+  pub pop_foreign-bound : (es : List OpenElement) → AreOpenBound known es → AreOpenBound known (pop_foreign es)
+  pop_foreign-bound [] a = tt
+  pop_foreign-bound (e ∷ es) a = of_two (is_html_or_point e) (e ∷ es) (pop_foreign es) a (pop_foreign-bound es a.1)
+
+  pub foreign_end-bound : (name : List ℕ) (all es : List OpenElement) → AreOpenBound known all → AreOpenBound known es → AreBoundIfAny (foreign_end name all es)
+  foreign_end-bound name all [] h a = h
+  foreign_end-bound name all (e ∷ []) h a = h
+  foreign_end-bound name all (e ∷ d ∷ es) h a = by (is_lower_of (name_text e.name) name) (is_html d.name) (foreign_end-bound name all (d ∷ es) h a.1)
+    where
+      by : (v w : Bool) → AreBoundIfAny (foreign_end name all (d ∷ es)) → AreBoundIfAny (if v then Some (d ∷ es) else (if w then None else foreign_end name all (d ∷ es)))
+      by true w rest = a.1
+      by false true rest = tt
+      by false false rest = rest
 
   pub implied-bound : (but : Name → Bool) (es : List OpenElement) → AreOpenBound known es → AreOpenBound known (implied but es)
   implied-bound but [] a = tt

@@ -18,6 +18,7 @@ mod Counts
 mod Readings
 mod Calm
 mod Pending
+mod Resets
 mod Depth
 mod Takes
 mod Walk
@@ -26,3 +27,4 @@ mod Rounds
 mod Thinned
 mod Closed
 mod Proper
+mod ProperModes

@@ -1,7 +1,6 @@
--- The pending characters open no more elements than there is room for, and leave the original mode as it was.
-use Rattle.std.proofs.Common.{◌≡◌, refl, inl, inr, ℕ, suc, ◌≤◌, ◌<◌, true, List, [], ◌∷◌, length, Option, arith}
+-- The pending characters open no more elements than there is room for, and leave the modes as they were.
+use Rattle.std.proofs.Common.{◌≡◌, refl, inl, inr, ℕ, suc, ◌≤◌, ◌<◌, true, List, [], ◌∷◌, length, arith}
 use Rattle.std.proofs.lemmas.Bool.{ltb-true}
-use Rattle.html_types.specs.declared.instruction.Mode.{Mode}
 use Rattle.html_types.specs.declared.instruction.Flow.TheVariants.{On}
 use Rattle.html_types.specs.declared.operation.Op.{Op}
 use Rattle.html_types.specs.declared.open.Open.{Open}
@@ -12,9 +11,9 @@ use Rattle.rule_laws.proofs.Readings.{Small}
 use Rattle.rule_laws.proofs.Thinned.{Thinned}
 use Rattle.rule_laws.proofs.Closed.{IsClosed, body_characters-went}
 
--- no more than 512 elements are open, and the original mode is that one
-abbrev pub Kept : Option Mode → Open → Type 0
-Kept original b = Small b × (b.original ≡ original)
+-- no more than 512 elements are open, and the modes are those
+abbrev pub Kept : Open → Open → Type 0
+Kept a b = Small b × (b.mode ≡ a.mode) × (b.original ≡ a.original) × (b.template_modes ≡ a.template_modes)
 
 -- where there is room another one may be opened
 pub room-small : (b : Open) → room b ≡ true → suc (count all b.stack) ≤ 512
@@ -29,20 +28,20 @@ thin-fewer [] ds h = rw h (omega arith)
 thin-fewer (e ∷ es) ds (inl h) = let l = thin-fewer es ds h in omega (arith, l)
 thin-fewer (e ∷ es) ds (inr (rest, is, h)) = let l = thin-fewer es rest h in rw is (omega (arith, l))
 
-abbrev StaysKept : Option Mode → Open → Open → Type 0
-StaysKept m b c = Kept m b → Kept m c
+abbrev StaysKept : Open → Open → Open → Type 0
+StaysKept a b c = Kept a b → Kept a c
 
-stays-kept : (m : Option Mode) → IsClosed (StaysKept m)
-stays-kept m = record {
+stays-kept : (a : Open) → IsClosed (StaysKept a)
+stays-kept a = record {
   same = λ b k. k;
-  onward = λ a b c f g k. g (f k);
-  opens = λ b e r k. (room-small b r, k.1);
-  thins = λ b es h k. let l = thin-fewer b.stack es h in (omega (arith, l, k.0), k.1);
+  onward = λ b c d f g k. g (f k);
+  opens = λ b e r k. (room-small b r, k.1, k.2, k.3);
+  thins = λ b es h k. let l = thin-fewer b.stack es h in (omega (arith, l, k.0), k.1, k.2, k.3);
   gives = λ b k. k;
   lists = λ b fs k. k;
   points = λ b head form k. k;
   marks = λ b ok quirks skip foster k. k;
 }
 
-pub body_characters-kept : (m : Option Mode) (cs : List ℕ) (b : Open) (o : List Op) → Kept m b → Kept m (body_characters cs (on b o)).open_state
-body_characters-kept m cs b o = (body_characters-went (StaysKept m) (stays-kept m) cs b b o On (λ k. k) refl).0
+pub body_characters-kept : (a : Open) (cs : List ℕ) (b : Open) (o : List Op) → Kept a b → Kept a (body_characters cs (on b o)).open_state
+body_characters-kept a cs b o = (body_characters-went (StaysKept a) (stays-kept a) cs b b o On (λ k. k) refl).0

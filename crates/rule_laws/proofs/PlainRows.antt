@@ -7,7 +7,7 @@ use Rattle.html_types.specs.declared.name.Name.{Name}
 use Rattle.html_types.specs.declared.instruction.Instr.{Instr}
 use Rattle.html_types.specs.declared.instruction.Instr.TheVariants as ins
 use Rattle.html_types.specs.declared.instruction.Mode.{Mode}
-use Rattle.html_types.specs.declared.instruction.Mode.TheVariants.{Initial, BeforeHtml, BeforeHead, InHead, AfterHead, InBody, InText, InTable, InTableText, InCaption, InColumnGroup, InTableBody, InRow, InCell, InSelect, InSelectInTable, InTemplate, AfterBody, InFrameset, AfterFrameset, AfterAfterBody, AfterAfterFrameset}
+use Rattle.html_types.specs.declared.instruction.Mode.TheVariants.{Initial, BeforeHtml, BeforeHead, InHead, AfterHead, InBody, InText, InTable, InTableText, InCaption, InColumnGroup, InTableBody, InRow, InCell, InSelect, InSelectInTable, InTemplate, AfterBody, InFrameset, AfterFrameset, AfterAfterBody, AfterAfterFrameset, InForeign}
 use Rattle.html_types.specs.declared.token.Token.{Token}
 use Rattle.html_types.specs.declared.token.Token.TheVariants.{StartTag, EndTag, Character, Comment, Doctype, EndOfFile}
 use Rattle.html_types.specs.declared.operation.NodeId.{NodeId}
@@ -18,6 +18,7 @@ use Rattle.standard.specs.RulesHead.{initial_anything, before_html_start, before
 use Rattle.standard.specs.RulesBody.{in_body_space, in_body_character, in_body_start, in_body_any_start, in_body_end, in_body_any_end, in_text_end, in_text_any_end, after_body_start, after_body_end, after_body_anything, after_after_body_start, after_after_body_anything}
 use Rattle.standard.specs.RulesTable.{in_table_start, in_table_any_start, in_table_end, in_table_any_end, in_caption_start, in_caption_end, in_caption_anything, in_column_group_start, in_column_group_end, in_column_group_anything, in_table_body_start, in_table_body_end, in_table_body_anything, in_row_start, in_row_end, in_row_anything, in_cell_start, in_cell_end, in_cell_anything}
 use Rattle.standard.specs.RulesRest.{in_select_start, in_select_any_start, in_select_end, in_select_any_end, in_select_in_table_start, in_select_in_table_end, in_select_in_table_anything, in_template_start, in_template_any_start, in_template_end, in_template_any_end, in_frameset_start, in_frameset_end, in_frameset_anything, after_frameset_start, after_frameset_end, after_frameset_anything, after_after_frameset_start, after_after_frameset_anything}
+use Rattle.standard.specs.RulesForeign.{in_foreign_end, in_foreign_any_end}
 use Rattle.rule_laws.specs.Naming.{rename_instr, rename_row}
 
 names_none : Instr → Bool
@@ -67,6 +68,7 @@ plain-character AfterBody c = of_two (is_space c) (ins.Using InBody ∷ []) afte
 plain-character InFrameset c = of_two (is_space c) (ins.InsertText ∷ []) in_frameset_anything refl refl
 plain-character AfterFrameset c = of_two (is_space c) (ins.InsertText ∷ []) after_frameset_anything refl refl
 plain-character AfterAfterBody c = of_two (is_space c) (ins.Using InBody ∷ []) after_after_body_anything refl refl
+plain-character InForeign c = of_two (c == 0) (ins.InsertReplacement ∷ []) _ refl (of_two (is_space c) (ins.InsertText ∷ []) (ins.InsertText ∷ ins.NotOk ∷ []) refl refl)
 plain-character AfterAfterFrameset c = of_two (is_space c) (ins.Using InBody ∷ []) after_after_frameset_anything refl refl
 
 plain-start : (m : Mode) (n : Name) → plain (start_row m n) ≡ true
@@ -92,6 +94,7 @@ plain-start AfterBody n = found after_body_start after_body_anything n refl refl
 plain-start InFrameset n = found in_frameset_start in_frameset_anything n refl refl
 plain-start AfterFrameset n = found after_frameset_start after_frameset_anything n refl refl
 plain-start AfterAfterBody n = found after_after_body_start after_after_body_anything n refl refl
+plain-start InForeign n = refl
 plain-start AfterAfterFrameset n = found after_after_frameset_start after_after_frameset_anything n refl refl
 
 plain-end : (m : Mode) (n : Name) → plain (end_row m n) ≡ true
@@ -117,6 +120,7 @@ plain-end AfterBody n = found after_body_end after_body_anything n refl refl
 plain-end InFrameset n = found in_frameset_end in_frameset_anything n refl refl
 plain-end AfterFrameset n = found after_frameset_end after_frameset_anything n refl refl
 plain-end AfterAfterBody n = refl
+plain-end InForeign n = found in_foreign_end in_foreign_any_end n refl refl
 plain-end AfterAfterFrameset n = refl
 
 plain-comment : (m : Mode) → plain (comment_row m) ≡ true

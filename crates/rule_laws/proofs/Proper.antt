@@ -1,17 +1,17 @@
 -- Each row leads from a proper open state to a proper one: how far it has come is a stage, of which its instructions tell the next.
 use Rattle.std.proofs.Common.{◌≡◌, refl, sym, subst, ◌∙◌, true≢false, ℕ, zero, suc, ◌==◌, Bool, true, false, not, ◌&&◌, List, [], ◌∷◌, ◌++◌, Option, Some, None}
-use Rattle.std.specs.Prelude.{if◌then◌else◌, IsSomeAnd, IsTrue, IsFalse}
+use Rattle.std.specs.Prelude.{if◌then◌else◌, IsSomeAnd, IsTrue}
 use Rattle.std.specs.List.{list_all}
+use Rattle.html_types.specs.Names.{name_text}
+use Rattle.html_types.specs.declared.name.Space.{Space}
 use Rattle.html_types.specs.declared.word.Word.{Word}
 use Rattle.html_types.specs.declared.word.Word.TheVariants as word
 use Rattle.html_types.specs.declared.name.Name.{Name}
 use Rattle.html_types.specs.declared.name.Name.TheVariants.{Known, Other}
 use Rattle.html_types.specs.declared.instruction.Instr.{Instr}
 use Rattle.html_types.specs.declared.instruction.Instr.TheVariants as ins
-use Rattle.html_types.specs.declared.instruction.Group.TheVariants as group
 use Rattle.html_types.specs.declared.instruction.Mode.{Mode}
-use Rattle.html_types.specs.declared.instruction.Mode.TheVariants.{Initial, InBody, InText, InTableText}
-use Rattle.html_types.specs.declared.instruction.Mode.TheVariants as mode
+use Rattle.html_types.specs.declared.instruction.Mode.TheVariants.{InBody, InText, InTableText, InForeign}
 use Rattle.html_types.specs.declared.instruction.Flow.{Flow}
 use Rattle.html_types.specs.declared.instruction.Flow.TheVariants.{On, Skip, Leave}
 use Rattle.html_types.specs.declared.instruction.Next.{Next}
@@ -29,15 +29,20 @@ use Rattle.html_types.specs.declared.operation.Op.{Op}
 use Rattle.html_types.specs.declared.open.Open.{Open}
 use Rattle.html_types.specs.declared.open.OpenElement.{OpenElement}
 use Rattle.standard.specs.WhiteSpace.{is_space}
-use Rattle.standard.specs.Elements.{is_word, is_one_of}
-use Rattle.standard.specs.Reset.{select_mode, template_mode, root_mode, reset_mode}
+use Rattle.standard.specs.Elements.{is_word}
+use Rattle.standard.specs.Rows.{is_among}
+use Rattle.standard.specs.Foreign.{adjusted, goes_foreign}
+use Rattle.standard.specs.Reset.{reset_mode}
 use Rattle.standard.specs.Stack.{is_open, current_id, pop, open_in_scope, block_below}
 use Rattle.standard.specs.Formatting.{entry_named, tag_of_entry, without_entry}
 use Rattle.standard.specs.Adoption.{Turned, turned, turn_with, turn_at, turn, turns, Adopted, adopted, adopted_by, is_plain as is_plain_end, adopt}
 use Rattle.standard.specs.RulesBody.{after_adopt}
-use Rattle.standard.specs.Rules.{Answer, answer, answer_of, next_of, start_row, end_row, comment_row, doctype_row, end_of_file_row, row, by_mode, adopting, with_adoption, round_after, go_round, process, rounds, is_line_feed, settled_answer, construct}
-use Rattle.standard.specs.Instructions.{Config, config, on, here, holds, original_or, pop_mode, append_pending, all_space, texts, body_characters, none_pending, insert_pending, stop_at_script, adopt_name, adopt_own, adopt_anchor, for_tag, step, run}
-use Rattle.rule_laws.specs.Proper.{is_text_mode, HasOriginal, HasPending, IsProper, OpeningIsProper, ProperUnlessDeep, TokensStayProper}
+use Rattle.standard.specs.RulesForeign.{in_foreign_any_start, in_foreign_any_end}
+use Rattle.standard.specs.Rules.{Answer, answer, answer_of, next_of, start_row, end_row, comment_row, doctype_row, end_of_file_row, row, by_mode, adopting, with_adoption, rules_for, round_after, go_round, process, rounds, is_line_feed, settled_answer, construct}
+use Rattle.standard.specs.Instructions.{Config, config, on, here, holds, original_or, append_pending, all_space, texts, body_characters, none_pending, insert_pending, stop_at_script, pop_foreign, foreign_end, end_foreign_with, end_foreign, adopt_name, adopt_own, adopt_anchor, for_tag, step, run}
+use Rattle.rule_laws.specs.Proper.{is_main_mode, HasOriginal, HasPending, IsProper, OpeningIsProper, ProperUnlessDeep, TokensStayProper}
+use Rattle.rule_laws.specs.Rounds.{is_insertion_mode}
+use Rattle.rule_laws.proofs.Resets.{popped-hold, reset-holds}
 use Rattle.rule_laws.proofs.Calm.{split, run-left}
 use Rattle.rule_laws.proofs.Closed.{IsClosed, goes_on, step-went, body_characters-went}
 use Rattle.rule_laws.proofs.Rows.{modes, every, each, character_rows, character-rows}
@@ -55,7 +60,7 @@ data Stage : Type 0 where
   inserted : Stage
 
 abbrev IsOther : Mode → Type 0
-IsOther m = IsFalse (is_text_mode m)
+IsOther m = IsTrue (is_main_mode m)
 
 abbrev At : Stage → Mode → Option Mode → List ℕ → Type 0
 At outside m original text = IsOther m × (original ≡ None) × (text ≡ [])
@@ -65,7 +70,7 @@ At in_table_text m original text = (m ≡ InTableText) × IsSomeAnd original IsO
 At inserted m original text = (m ≡ InTableText) × IsSomeAnd original IsOther × (text ≡ [])
 
 abbrev are_other : List Mode → Bool
-are_other = list_all (λ m. not (is_text_mode m))
+are_other = list_all is_main_mode
 
 abbrev Reaches : Stage → Open → Type 0
 Reaches s b = At s b.mode b.original b.pending_text × IsTrue (are_other b.template_modes)
@@ -109,6 +114,7 @@ behind _ s = s
 abbrev may_enter : Mode → Stage → Bool
 may_enter InText s = is_keeping s
 may_enter InTableText s = is_keeping s
+may_enter InForeign s = false
 may_enter _ s = is_outside s
 
 -- at which stages it may stand
@@ -117,7 +123,7 @@ allows (ins.Enter m) s = may_enter m s
 allows ins.KeepMode s = is_outside s
 allows ins.Restore s = is_in_text s
 allows ins.Reset s = is_outside s
-allows (ins.PushTemplateMode m) s = not (is_text_mode m)
+allows (ins.PushTemplateMode m) s = is_main_mode m
 allows ins.AppendPending s = is_in_table_text s
 allows ins.InsertPending s = is_in_table_text s
 allows (ins.Need t) s = is_rest s
@@ -126,7 +132,9 @@ allows (ins.Switch r) s = is_rest s
 allows ins.Again s = is_rest s
 allows ins.StopAtScript s = is_rest s
 allows ins.Finish s = is_rest s
-allows (ins.Using m) s = is_outside s && not (is_text_mode m)
+allows (ins.Using m) s = is_outside s && is_main_mode m
+allows ins.BreakOut s = is_rest s
+allows ins.ForeignEnd s = is_rest s
 allows ins.Foster s = is_outside s
 allows ins.Adopt s = is_outside s
 allows ins.AdoptAnchor s = is_outside s
@@ -147,9 +155,14 @@ walk s false (i ∷ is) = allows i s && (walk (behind i s) false is && (if may_s
 
 -- ---- what a row comes to
 
+-- the rules of that mode may be gone by, or those for foreign content
+abbrev Begins : Mode → Open → Type 0
+Begins InForeign b = IsProper b
+Begins m b = Reaches (entered m) b
+
 abbrev Fine : Open → Next → Type 0
 Fine b next.Deep = Unit {0}
-Fine b (next.Using m) = Reaches outside b × IsOther m
+Fine b (next.Using m) = Begins m b
 Fine b next.Foster = Reaches outside b
 Fine b (next.Adopt w h) = Reaches outside b
 Fine b _ = IsProper b
@@ -166,8 +179,9 @@ Stepped s skips b Skip = Reaches s b × (skips ≡ true)
 Stepped s skips b (Leave n) = Fine b n
 
 other-original : (m : Mode) (o : Option Mode) → IsOther m → o ≡ None → HasOriginal m o
-other-original InText o h e = absurd (true≢false h)
-other-original InTableText o h e = absurd (true≢false h)
+other-original InText o h e = absurd (true≢false (sym h))
+other-original InTableText o h e = absurd (true≢false (sym h))
+other-original InForeign o h e = absurd (true≢false (sym h))
 other-original _ o h e = e
 
 other-pending : (m : Mode) (t : List ℕ) → t ≡ [] → HasPending m t
@@ -197,6 +211,29 @@ proper inserted b e r = record {
 is_out : (s : Stage) (b : Open) → is_outside s ≡ true → Reaches s b → Reaches outside b
 is_out outside b e r = r
 is_out _ b e r = absurd (true≢false (sym e))
+
+-- the mode is that of a proper state
+reaches-own : (m : Mode) (b : Open) → HasOriginal m b.original → HasPending m b.pending_text → IsTrue (are_other b.template_modes) → Begins m (record b { mode = m })
+reaches-own InText b h p q = ((refl, h, p), q)
+reaches-own InTableText b h p q = ((refl, h), q)
+reaches-own InForeign b h p q = absurd h
+reaches-own _ b h p q = ((refl, h, p), q)
+
+reaches-entered : (m : Mode) (b : Open) → HasOriginal m b.original → Begins m b → Reaches (entered m) b
+reaches-entered InForeign b h r = absurd h
+reaches-entered m b h r = r
+
+own : (b : Open) → IsProper b → Begins b.mode b
+own b p = reaches-own b.mode b p.original p.pending p.templates
+
+own-reaches : (b : Open) → IsProper b → Reaches (entered b.mode) b
+own-reaches b p = reaches-entered b.mode b p.original (own b p)
+
+reaches-other : (m : Mode) (b : Open) → IsOther m → Reaches outside b → Begins m b
+reaches-other InText b h r = absurd (true≢false (sym h))
+reaches-other InTableText b h r = absurd (true≢false (sym h))
+reaches-other InForeign b h r = absurd (true≢false (sym h))
+reaches-other _ b h r = r
 
 -- ---- instructions that touch neither
 
@@ -236,6 +273,7 @@ enter-reaches InText keeping b a r = ((refl, subst (λ o. IsSomeAnd o IsOther) (
 enter-reaches InText _ b a r = absurd (true≢false (sym a))
 enter-reaches InTableText keeping b a r = ((refl, subst (λ o. IsSomeAnd o IsOther) (sym r.0.1) r.0.0), r.1)
 enter-reaches InTableText _ b a r = absurd (true≢false (sym a))
+enter-reaches InForeign s b a r = absurd (true≢false (sym a))
 enter-reaches m outside b a r = ((refl, r.0.1, r.0.2), r.1)
 enter-reaches m _ b a r = absurd (true≢false (sym a))
 
@@ -248,37 +286,12 @@ restored in_text b a r = ((original-other b.original r.0.1, refl, r.0.2), r.1)
 restored inserted b a r = ((original-other b.original r.0.1, refl, r.0.2), r.1)
 restored _ b a r = absurd (true≢false (sym a))
 
-not-true : (v : Bool) → not v ≡ true → v ≡ false
-not-true true e = sym e
-not-true false e = refl
-
 both : (x y : Bool) → x ≡ true → y ≡ true → (x && y) ≡ true
 both true y e f = f
 both false y e f = e
 
-other-if : (v : Bool) (m n : Mode) → IsOther m → IsOther n → IsOther (if v then m else n)
-other-if true m n h k = h
-other-if false m n h k = k
-
-select-other : (es : List OpenElement) → IsOther (select_mode es)
-select-other [] = refl
-select-other (e ∷ es) = other-if (is_word word.Template e.name) mode.InSelect _ refl (other-if (is_word word.Table e.name) mode.InSelectInTable (select_mode es) refl (select-other es))
-
-template-other : (ms : List Mode) → are_other ms ≡ true → IsOther (template_mode ms)
-template-other [] h = refl
-template-other (m ∷ ms) h = not-true (is_text_mode m) (split (not (is_text_mode m)) (are_other ms) h).0
-
-root-other : (head : Option NodeId) → IsOther (root_mode head)
-root-other None = refl
-root-other (Some i) = refl
-
-popped-other : (ms : List Mode) → are_other ms ≡ true → are_other (pop_mode ms) ≡ true
-popped-other [] h = refl
-popped-other (m ∷ ms) h = (split (not (is_text_mode m)) (are_other ms) h).1
-
 reset-other : (es : List OpenElement) (head : Option NodeId) (ms : List Mode) → are_other ms ≡ true → IsOther (reset_mode es head ms)
-reset-other [] head ms h = refl
-reset-other (e ∷ es) head ms h = other-if (is_word word.Select e.name) _ _ (select-other es) (other-if (is_one_of group.Cells e.name) _ _ (refl) (other-if (is_word word.Tr e.name) _ _ (refl) (other-if (is_one_of group.TableSections e.name) _ _ (refl) (other-if (is_word word.Caption e.name) _ _ (refl) (other-if (is_word word.Colgroup e.name) _ _ (refl) (other-if (is_word word.Table e.name) _ _ (refl) (other-if (is_word word.Template e.name) _ _ (template-other ms h) (other-if (is_word word.Head e.name) _ _ (refl) (other-if (is_word word.Body e.name) _ _ (refl) (other-if (is_word word.Frameset e.name) _ _ (refl) (other-if (is_word word.Html e.name) _ _ (root-other head) (reset-other es head ms h))))))))))))
+reset-other = reset-holds is_main_mode (λ m e. e)
 
 -- ---- instructions that leave a row, or leave out the next one
 
@@ -304,7 +317,7 @@ script-stepped (e ∷ es) s b o a r = proper s (record b { stack = es }) a r
 
 adopt_name-stepped : (n : Name) (s : Stage) (b : Open) (o : List Op) → is_outside s ≡ true → Reaches s b → (let c : Config = adopt_name n b o in Stepped s false c.open_state c.flow)
 adopt_name-stepped (Known w) s b o a r = is_out s b a r
-adopt_name-stepped (Other text) s b o a r = r
+adopt_name-stepped (Other sp text) s b o a r = r
 
 adopt-stepped : (t : Token) (s : Stage) (b : Open) (o : List Op) → is_outside s ≡ true → Reaches s b → (let c : Config = for_tag adopt_own t b o in Stepped s false c.open_state c.flow)
 adopt-stepped (StartTag tag) s b o a r = adopt_name-stepped tag.name s b o a r
@@ -314,6 +327,15 @@ adopt-stepped _ s b o a r = r
 anchor-stepped : (i : Option NodeId) (s : Stage) (b : Open) (o : List Op) → is_outside s ≡ true → Reaches s b → (let c : Config = adopt_anchor i b o in Stepped s false c.open_state c.flow)
 anchor-stepped None s b o a r = r
 anchor-stepped (Some i) s b o a r = is_out s b a r
+
+foreign-stepped : (es : Option (List OpenElement)) (s : Stage) (b : Open) (o : List Op) → is_rest s ≡ true → Reaches s b → (let c : Config = end_foreign_with es b o in Stepped s false c.open_state c.flow)
+foreign-stepped None s b o a r = own b (proper s b a r)
+foreign-stepped (Some es) s b o a r = r
+
+foreign_end-stepped : (t : Token) (s : Stage) (b : Open) (o : List Op) → is_rest s ≡ true → Reaches s b → (let c : Config = for_tag end_foreign t b o in Stepped s false c.open_state c.flow)
+foreign_end-stepped (StartTag tag) s b o a r = foreign-stepped (foreign_end (name_text tag.name) b.stack b.stack) s b o a r
+foreign_end-stepped (EndTag tag) s b o a r = foreign-stepped (foreign_end (name_text tag.name) b.stack b.stack) s b o a r
+foreign_end-stepped _ s b o a r = r
 
 -- ---- the pending table text
 
@@ -348,8 +370,8 @@ stepped ins.KeepMode s t b o a r = let q = is_out s b a r in ((q.0.0, refl, q.0.
 stepped ins.Restore s t b o a r = restored s b a r
 stepped ins.Reset outside t b o a r = ((reset-other b.stack b.head b.template_modes r.1, r.0.1, r.0.2), r.1)
 stepped ins.Reset _ t b o a r = absurd (true≢false (sym a))
-stepped (ins.PushTemplateMode m) s t b o a r = (r.0, both (not (is_text_mode m)) (are_other b.template_modes) a r.1)
-stepped ins.PopTemplateMode s t b o a r = (r.0, popped-other b.template_modes r.1)
+stepped (ins.PushTemplateMode m) s t b o a r = (r.0, both (is_main_mode m) (are_other b.template_modes) a r.1)
+stepped ins.PopTemplateMode s t b o a r = (r.0, popped-hold is_main_mode b.template_modes r.1)
 stepped ins.AppendPending in_table_text t b o a r = append-stepped t b o r
 stepped ins.AppendPending _ t b o a r = absurd (true≢false (sym a))
 stepped ins.InsertPending in_table_text t b o a r = insert-stepped b o r
@@ -358,11 +380,13 @@ stepped ins.Adopt s t b o a r = adopt-stepped t s b o a r
 stepped ins.AdoptAnchor s t b o a r = anchor-stepped (entry_named (is_word word.A) b.formats) s b o a r
 stepped ins.AdoptNobr s t b o a r = is_out s b a r
 stepped (ins.Switch k) s t b o a r = proper s b a r
-stepped (ins.Using m) s t b o a r = let p = split (is_outside s) (not (is_text_mode m)) a in (is_out s b p.0 r, not-true (is_text_mode m) p.1)
+stepped (ins.Using m) s t b o a r = let p = split (is_outside s) (is_main_mode m) a in reaches-other m b p.1 (is_out s b p.0 r)
 stepped ins.Foster s t b o a r = is_out s b a r
 stepped ins.Again s t b o a r = proper s b a r
 stepped ins.StopAtScript s t b o a r = script-stepped b.stack s b o a r
 stepped ins.Finish s t b o a r = proper s b a r
+stepped ins.BreakOut s t b o a r = own (record b { stack = pop_foreign b.stack }) (proper s (record b { stack = pop_foreign b.stack }) a r)
+stepped ins.ForeignEnd s t b o a r = foreign_end-stepped t s b o a r
 stepped i s t b o a r = let c : Config = step i t b o in plain-stepped s b c.open_state c.flow (step-went Framed framed i t b o refl) r
 
 -- ---- a row
@@ -397,15 +421,15 @@ words-start : (w : Word) → every (λ m. walk (entered m) false (start_row m (K
 words-start word.A = refl
 words-start _ = refl
 
-others-start : (t : List ℕ) → every (λ m. walk (entered m) false (start_row m (Other t))) modes ≡ true
-others-start t = refl
+others-start : (s : Space) (t : List ℕ) → every (λ m. walk (entered m) false (start_row m (Other s t))) modes ≡ true
+others-start s t = refl
 
 words-end : (w : Word) → every (λ m. walk (entered m) false (end_row m (Known w))) modes ≡ true
 words-end word.A = refl
 words-end _ = refl
 
-others-end : (t : List ℕ) → every (λ m. walk (entered m) false (end_row m (Other t))) modes ≡ true
-others-end t = refl
+others-end : (s : Space) (t : List ℕ) → every (λ m. walk (entered m) false (end_row m (Other s t))) modes ≡ true
+others-end s t = refl
 
 characters : (nul space : Bool) → every (λ m. walk (entered m) false (character_rows nul space m)) modes ≡ true
 characters true true = refl
@@ -413,24 +437,49 @@ characters true false = refl
 characters false true = refl
 characters false false = refl
 
-row-walks : (t : Token) (m : Mode) → walk (entered m) false (row m t) ≡ true
+row-walks : (t : Token) (m : Mode) → is_insertion_mode m ≡ true → walk (entered m) false (row m t) ≡ true
 unfolding row
-row-walks (StartTag tag) m = by tag.name
+row-walks (StartTag tag) m h = by tag.name
   where
     by : (n : Name) → walk (entered m) false (start_row m n) ≡ true
-    by (Known w) = each (λ m'. walk (entered m') false (start_row m' (Known w))) (words-start w) m
-    by (Other t) = each (λ m'. walk (entered m') false (start_row m' (Other t))) (others-start t) m
-row-walks (EndTag tag) m = by tag.name
+    by (Known w) = each (λ m'. walk (entered m') false (start_row m' (Known w))) (words-start w) m h
+    by (Other s t) = each (λ m'. walk (entered m') false (start_row m' (Other s t))) (others-start s t) m h
+row-walks (EndTag tag) m h = by tag.name
   where
     by : (n : Name) → walk (entered m) false (end_row m n) ≡ true
-    by (Known w) = each (λ m'. walk (entered m') false (end_row m' (Known w))) (words-end w) m
-    by (Other t) = each (λ m'. walk (entered m') false (end_row m' (Other t))) (others-end t) m
-row-walks (Character c) m =
+    by (Known w) = each (λ m'. walk (entered m') false (end_row m' (Known w))) (words-end w) m h
+    by (Other s t) = each (λ m'. walk (entered m') false (end_row m' (Other s t))) (others-end s t) m h
+row-walks (Character c) m h =
     subst (λ r. walk (entered m) false r ≡ true) (sym (character-rows c m))
-    (each (λ m'. walk (entered m') false (character_rows (c == 0) (is_space c) m')) (characters (c == 0) (is_space c)) m)
-row-walks (Comment text) m = each (λ m'. walk (entered m') false (comment_row m')) refl m
-row-walks (Doctype name force) m = each (λ m'. walk (entered m') false (doctype_row m')) refl m
-row-walks EndOfFile m = each (λ m'. walk (entered m') false (end_of_file_row m')) refl m
+    (each (λ m'. walk (entered m') false (character_rows (c == 0) (is_space c) m')) (characters (c == 0) (is_space c)) m h)
+row-walks (Comment text) m h = each (λ m'. walk (entered m') false (comment_row m')) refl m h
+row-walks (Doctype name force) m h = each (λ m'. walk (entered m') false (doctype_row m')) refl m h
+row-walks EndOfFile m h = each (λ m'. walk (entered m') false (end_of_file_row m')) refl m h
+
+-- the rules for foreign content, at whatever stage
+foreign-characters : (s : Stage) (nul space : Bool) → is_rest s ≡ true → walk s false (character_rows nul space InForeign) ≡ true
+foreign-characters keeping nul space h = absurd (true≢false (sym h))
+foreign-characters s true true h = refl
+foreign-characters s true false h = refl
+foreign-characters s false true h = refl
+foreign-characters s false false h = refl
+
+foreign-start : (s : Stage) → is_rest s ≡ true → walk s false in_foreign_any_start ≡ true
+foreign-start keeping h = absurd (true≢false (sym h))
+foreign-start _ h = refl
+
+foreign-walks : (t : Token) (s : Stage) → is_rest s ≡ true → walk s false (row InForeign t) ≡ true
+unfolding row
+foreign-walks (StartTag tag) s h = foreign-start s h
+foreign-walks (EndTag tag) s h = by (is_among (word.Br ∷ word.P ∷ []) tag.name)
+  where
+    by : (v : Bool) → walk s false (if v then ins.BreakOut ∷ [] else in_foreign_any_end) ≡ true
+    by true = both (is_rest s) (is_rest s && true) h (both (is_rest s) true h refl)
+    by false = both (is_rest s) (is_rest s && true) h (both (is_rest s) true h refl)
+foreign-walks (Character c) s h = subst (λ r. walk s false r ≡ true) (sym (character-rows c InForeign)) (foreign-characters s (c == 0) (is_space c) h)
+foreign-walks (Comment text) s h = both (is_rest s) true h refl
+foreign-walks (Doctype name force) s h = h
+foreign-walks EndOfFile s h = h
 
 -- ---- the adoption agency algorithm
 
@@ -495,51 +544,56 @@ adopting-fine w h t b o r =
 abbrev End : Answer → Type 0
 End a = ProperUnlessDeep a.next a.open_state
 
--- the mode is that of a proper state
-reaches-own : (m : Mode) (b : Open) → HasOriginal m b.original → HasPending m b.pending_text → IsTrue (are_other b.template_modes) → Reaches (entered m) (record b { mode = m })
-reaches-own InText b h p q = ((refl, h, p), q)
-reaches-own InTableText b h p q = ((refl, h), q)
-reaches-own _ b h p q = ((refl, h, p), q)
-
-own : (b : Open) → IsProper b → Reaches (entered b.mode) b
-own b p = reaches-own b.mode b p.original p.pending p.templates
-
-reaches-other : (m : Mode) (b : Open) → IsOther m → Reaches outside b → Reaches (entered m) b
-reaches-other InText b h r = absurd (true≢false h)
-reaches-other InTableText b h r = absurd (true≢false h)
-reaches-other _ b h r = r
-
 entered-rests : (m : Mode) → is_rest (entered m) ≡ true
 entered-rests InText = refl
 entered-rests _ = refl
+
+begins-proper : (m : Mode) (b : Open) → Begins m b → IsProper b
+begins-proper InForeign b r = r
+begins-proper m b r = proper (entered m) b (entered-rests m) r
+
+-- the rules that a token goes by
+begins-for : (t : Token) (b : Open) → IsProper b → Begins (rules_for t b) b
+begins-for t b p = by (goes_foreign t (adjusted b))
+  where
+    by : (v : Bool) → Begins (if v then InForeign else b.mode) b
+    by true = p
+    by false = own b p
 
 -- where each round is done by f
 abbrev Rounds : Type 0
 Rounds = Open → List Op → Mode → Answer
 
-abbrev goes_round : Rounds → Answer → Answer
-goes_round f a = go_round (f a.open_state a.ops) a.open_state a.ops (round_after a.open_state a.next)
+abbrev goes_round : Rounds → Token → Answer → Answer
+goes_round f t a = go_round (f a.open_state a.ops) a.open_state a.ops (round_after t a.open_state a.next)
 
-over-fine : (f : Rounds) → ((b : Open) (o : List Op) (m : Mode) → Reaches (entered m) b → End (f b o m)) → (b : Open) (o : List Op) (n : Next) → Fine b n → End (goes_round f (answer b o n))
-over-fine f h b o next.Again r = h b o b.mode (own b r)
-over-fine f h b o (next.Using m) r = h b o m (reaches-other m b r.1 r.0)
-over-fine f h b o next.Foster r = h b o InBody r
-over-fine f h b o (next.Adopt w k) r = proper outside b refl r
-over-fine f h b o _ r = r
+abbrev EndsWell : Rounds → Type 0
+EndsWell f = (b : Open) (o : List Op) (m : Mode) → Begins m b → End (f b o m)
 
-round-fine : (f : Rounds) → ((b : Open) (o : List Op) (m : Mode) → Reaches (entered m) b → End (f b o m)) → (t : Token) (b : Open) (o : List Op) (n : Next) → Fine b n → End (goes_round f (with_adoption t b o n))
-round-fine f h t b o (next.Adopt w k) r = let a : Answer = adopting w k t b o in over-fine f h a.open_state a.ops a.next (adopting-fine w k t b o r)
-round-fine f h t b o next.Again r = over-fine f h b o next.Again r
-round-fine f h t b o (next.Using m) r = over-fine f h b o (next.Using m) r
-round-fine f h t b o next.Foster r = over-fine f h b o next.Foster r
+over-fine : (f : Rounds) → EndsWell f → (t : Token) (b : Open) (o : List Op) (n : Next) → Fine b n → End (goes_round f t (answer b o n))
+over-fine f h t b o next.Again r = h b o (rules_for t b) (begins-for t b r)
+over-fine f h t b o (next.Using m) r = h b o m r
+over-fine f h t b o next.Foster r = h b o InBody r
+over-fine f h t b o (next.Adopt w k) r = proper outside b refl r
+over-fine f h t b o _ r = r
+
+round-fine : (f : Rounds) → EndsWell f → (t : Token) (b : Open) (o : List Op) (n : Next) → Fine b n → End (goes_round f t (with_adoption t b o n))
+round-fine f h t b o (next.Adopt w k) r = let a : Answer = adopting w k t b o in over-fine f h t a.open_state a.ops a.next (adopting-fine w k t b o r)
+round-fine f h t b o next.Again r = over-fine f h t b o next.Again r
+round-fine f h t b o (next.Using m) r = over-fine f h t b o (next.Using m) r
+round-fine f h t b o next.Foster r = over-fine f h t b o next.Foster r
 round-fine f h t b o _ r = r
 
-process-fine : (n : ℕ) (m : Mode) (t : Token) (b : Open) (o : List Op) → Reaches (entered m) b → End (process n m t b o)
+ran-by : (m : Mode) (t : Token) (b : Open) (o : List Op) → Begins m b → FineAnswer (answer_of (run t (on b o) (row m t)))
+ran-by InForeign t b o r = ran (entered b.mode) (row InForeign t) t b o (own-reaches b r) (foreign-walks t (entered b.mode) (entered-rests b.mode))
+ran-by m t b o r = ran (entered m) (row m t) t b o r (row-walks t m refl)
+
+process-fine : (n : ℕ) (m : Mode) (t : Token) (b : Open) (o : List Op) → Begins m b → End (process n m t b o)
 unfolding process by_mode
-process-fine zero m t b o r = proper (entered m) b (entered-rests m) r
+process-fine zero m t b o r = begins-proper m b r
 process-fine (suc n) m t b o r =
     let c : Config = run t (on b o) (row m t) in
-    round-fine (λ b' o' m'. process n m' t b' o') (λ b' o' m'. process-fine n m' t b' o') t c.open_state c.ops (next_of c.flow) (ran (entered m) (row m t) t b o r (row-walks t m))
+    round-fine (λ b' o' m'. process n m' t b' o') (λ b' o' m'. process-fine n m' t b' o') t c.open_state c.ops (next_of c.flow) (ran-by m t b o r)
 
 -- ---- a token
 
@@ -557,11 +611,11 @@ tokens-proper t b o p = by (b.skip_line_feed && is_line_feed t)
     b' : Open
     b' = record b { skip_line_feed = false }
 
-    by : (v : Bool) → End (settled_answer (if v then answer b' o next.Done else process rounds b.mode t b' o))
+    by : (v : Bool) → End (settled_answer (if v then answer b' o next.Done else process rounds (rules_for t b) t b' o))
     by true = rewrapped b false false p
     by false =
-        let a : Answer = process rounds b.mode t b' o in
-        settled a.next a.open_state (process-fine rounds b.mode t b' o (own b' (rewrapped b false b.foster p)))
+        let a : Answer = process rounds (rules_for t b) t b' o in
+        settled a.next a.open_state (process-fine rounds (rules_for t b) t b' o (begins-for t b' (rewrapped b false b.foster p)))
 
 pub opening-proper : OpeningIsProper
 opening-proper realm = record { original = refl; pending = refl; templates = refl }

@@ -15,6 +15,7 @@ use Rattle.html_types.specs.declared.name.Name.TheVariants.{Known}
 use Rattle.html_types.specs.declared.open.Open.{Open}
 use Rattle.html_types.specs.declared.open.OpenElement.{OpenElement}
 use Rattle.standard.specs.Instructions.{Config}
+use Rattle.rule_laws.specs.Rounds.{is_insertion_mode, HasModes}
 use Rattle.rule_laws.proofs.Counts.{count, all, is_weighty}
 
 -- ---- instructions that ask for no other round
@@ -36,6 +37,8 @@ abbrev pub is_quiet : Bool → Instr → Bool
 is_quiet adoption ins.Again = false
 is_quiet adoption (ins.Using m) = false
 is_quiet adoption ins.Foster = false
+is_quiet adoption ins.BreakOut = false
+is_quiet adoption ins.ForeignEnd = false
 is_quiet adoption ins.Adopt = adoption
 is_quiet adoption ins.AdoptAnchor = adoption
 is_quiet adoption ins.AdoptNobr = adoption
@@ -67,17 +70,23 @@ weight_of x b = weight x b.stack b.original b.pending_text
 abbrev pub Small : Open → Type 0
 Small b = count all b.stack ≤ 512
 
+-- and its modes are insertion modes
+abbrev pub Fit : Open → Type 0
+Fit b = Small b × HasModes b
+
 -- what is known of an open state in a row that began with a weight of at most v
 pub data Fact : Type 0 where
   no_more : Fact
   cut_off : Fact
   at : Mode → Fact
+  at_or_fallen : Mode → Fact
   fallen : Fact
 
 abbrev pub Knows : Fact → ℕ → List OpenElement → Mode → ℕ → Type 0
 Knows no_more v es m w = w ≤ v
 Knows cut_off v es m w = (w < v) ⊎ ((w ≤ v) × (es ≡ []))
-Knows (at n) v es m w = (w < v) ⊎ ((w ≤ v) × (m ≡ n))
+Knows (at n) v es m w = (w ≤ v) × (m ≡ n)
+Knows (at_or_fallen n) v es m w = (w < v) ⊎ ((w ≤ v) × (m ≡ n))
 Knows fallen v es m w = w < v
 
 abbrev pub KnowsOf : Bool → Fact → ℕ → Open → Type 0
@@ -94,8 +103,9 @@ pub data Move : Type 0 where
 
 abbrev pub reset_known : Fact → Fact
 reset_known no_more = no_more
-reset_known cut_off = at InBody
+reset_known cut_off = at_or_fallen InBody
 reset_known (at m) = no_more
+reset_known (at_or_fallen m) = no_more
 reset_known fallen = fallen
 
 abbrev pub or_fallen : Fact → Fact → Fact
@@ -103,6 +113,7 @@ or_fallen other fallen = fallen
 or_fallen other no_more = other
 or_fallen other cut_off = other
 or_fallen other (at m) = other
+or_fallen other (at_or_fallen m) = other
 
 abbrev pub behind : Move → Fact → Fact
 behind stays k = k
@@ -110,10 +121,10 @@ behind lowers k = or_fallen no_more k
 behind (enters m) k = or_fallen (at m) k
 behind cuts k = or_fallen cut_off k
 behind resets k = reset_known k
-behind restores k = or_fallen (at InBody) k
+behind restores k = or_fallen (at_or_fallen InBody) k
 
 abbrev pub Change : Move → Bool → Open → Open → Type 0
-Change move x b b' = (k : Fact) (v : ℕ) → Small b → KnowsOf x k v b → Small b' × KnowsOf x (behind move k) v b'
+Change move x b b' = (k : Fact) (v : ℕ) → Fit b → KnowsOf x k v b → Fit b' × KnowsOf x (behind move k) v b'
 
 -- ---- kinds of instructions
 
@@ -143,9 +154,9 @@ kind x (ins.Until w) = if x then loud else until_kind w
 kind x ins.ClearToMarker = tame stays
 kind x ins.BecomeQuirky = tame stays
 kind x ins.PointHead = tame stays
-kind x (ins.PushTemplateMode m) = tame stays
+kind x (ins.PushTemplateMode m) = if is_insertion_mode m then tame stays else loud
 kind x ins.PopTemplateMode = tame stays
-kind x (ins.Enter m) = tame (enters m)
+kind x (ins.Enter m) = if is_insertion_mode m then tame (enters m) else loud
 kind x ins.KeepMode = if x then tame lowers else loud
 kind x ins.Restore = if x then loud else tame restores
 kind x ins.Reset = tame resets
@@ -193,41 +204,52 @@ Obeys loud x b c = Unit {0}
 
 -- ---- a row
 
-abbrev pub allows : (Mode → Bool) → Fact → Bool
+-- the ways in which a token may go on
+pub data Way : Type 0 where
+  -- by the rules of that mode
+  onto : Mode → Way
+  -- once more in that mode, which may be by the rules for foreign content first
+  anew : Mode → Way
+  -- once more in some mode, where the weight is less
+  falls : Way
+
+abbrev pub allows : (Way → Bool) → Fact → Bool
 allows h no_more = false
 allows h cut_off = false
-allows h (at m) = h m
-allows h fallen = true
+allows h (at m) = h (anew m)
+allows h (at_or_fallen m) = h (anew m) && h falls
+allows h fallen = h falls
 
--- from an instruction on, or from the one behind it where `left_out`: the token is done, or the weight is less, or the
--- token goes on by a mode of which h says yes, with no more weight
-abbrev pub walk : Bool → (Mode → Bool) → Fact → Bool → List Instr → Bool
+-- from an instruction on, or from the one behind it where `left_out`: the token is done, or it goes on in a way of which h says yes, with no
+-- more weight
+abbrev pub walk : Bool → (Way → Bool) → Fact → Bool → List Instr → Bool
 walk x h k left_out [] = true
 walk x h k true (i ∷ is) = walk x h k false is
 walk x h k false (i ∷ is) =
     elim (kind x i) as (λ _. Bool) [
       | tame move ↦ walk x h (behind move k) false is
       | branch ↦ walk x h k false is && walk x h k true is
-      | goes m ↦ h m
+      | goes m ↦ h (onto m)
       | again ↦ allows h k
       | loud ↦ is_quiet true i && all_quiet true is
     ]
 
 -- ---- what it comes to
 
-abbrev pub Lower : Bool → (Mode → Bool) → ℕ → Open → Mode → Type 0
-Lower x h v b m = Small b × ((weight_of x b < v) ⊎ ((weight_of x b ≤ v) × (h m ≡ true)))
+-- with no more weight, in that way
+abbrev pub Goes : Bool → (Way → Bool) → ℕ → Open → Way → Type 0
+Goes x h v b w = (weight_of x b ≤ v) × (h w ≡ true)
 
-abbrev pub FineNext : Bool → (Mode → Bool) → ℕ → Open → Next → Type 0
-FineNext x h v b next.Again = Lower x h v b b.mode
-FineNext x h v b (next.Using m) = Lower x h v b m
-FineNext x h v b next.Foster = Lower x h v b InBody
+abbrev pub FineNext : Bool → (Way → Bool) → ℕ → Open → Next → Type 0
+FineNext x h v b next.Again = Fit b × (((weight_of x b < v) × (h falls ≡ true)) ⊎ Goes x h v b (anew b.mode))
+FineNext x h v b (next.Using m) = Fit b × Goes x h v b (onto m)
+FineNext x h v b next.Foster = Fit b × Goes x h v b (onto InBody)
 FineNext x h v b _ = Unit {0}
 
-abbrev pub FineFlow : Bool → (Mode → Bool) → ℕ → Open → Flow → Type 0
+abbrev pub FineFlow : Bool → (Way → Bool) → ℕ → Open → Flow → Type 0
 FineFlow x h v b On = Unit {0}
 FineFlow x h v b Skip = Unit {0}
 FineFlow x h v b (Leave n) = FineNext x h v b n
 
-abbrev pub Fine : Bool → (Mode → Bool) → ℕ → Config → Type 0
+abbrev pub Fine : Bool → (Way → Bool) → ℕ → Config → Type 0
 Fine x h v c = FineFlow x h v c.open_state c.flow

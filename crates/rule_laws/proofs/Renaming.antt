@@ -3,12 +3,13 @@ use Rattle.std.proofs.Common.{◌≡◌, refl, ap, ◌∙◌, sym, ℕ, zero, su
 use Rattle.std.proofs.lemmas.List.{map-append, length-map}
 use Rattle.std.specs.Prelude.{if◌then◌else◌, nat_lt, is_some, not, true, option_map}
 use Rattle.html_types.specs.Operations.{later}
+use Rattle.html_types.specs.Names.{name_text}
 use Rattle.html_types.specs.declared.word.Word.{Word}
 use Rattle.html_types.specs.declared.word.Word.TheVariants as word
 use Rattle.html_types.specs.declared.instruction.Instr.{Instr}
 use Rattle.html_types.specs.declared.instruction.Instr.TheVariants as ins
 use Rattle.html_types.specs.declared.instruction.Test.{Test}
-use Rattle.html_types.specs.declared.instruction.Test.TheVariants.{InScope, Current, OnStack, Listed, Quirks, SecondIsBody, FramesetOk, QuirkyDoctype, InForm, HiddenInput, InTemplates, InTables, OptionInOptgroup}
+use Rattle.html_types.specs.declared.instruction.Test.TheVariants.{InScope, Current, OnStack, Listed, Quirks, SecondIsBody, FramesetOk, QuirkyDoctype, InForm, HiddenInput, InTemplates, InTables, OptionInOptgroup, SelfClosing, BreaksOut}
 use Rattle.html_types.specs.declared.instruction.Scope.TheVariants as scope
 use Rattle.html_types.specs.declared.instruction.Then.{Then}
 use Rattle.html_types.specs.declared.instruction.Then.TheVariants.{Nothing, Link, Nobr}
@@ -34,16 +35,17 @@ use Rattle.html_types.specs.declared.open.Format.{Format}
 use Rattle.html_types.specs.declared.open.Format.TheVariants.{Element}
 use Rattle.html_types.specs.declared.open.Open.{Open}
 use Rattle.standard.specs.Elements.{is_word, is_meant, is_one_of}
+use Rattle.standard.specs.Foreign.{opened, adjusted, tag_in, foreign_tag}
 use Rattle.standard.specs.Stack.{in_scope, on_stack, until, implied, first_open, second_open, is_the, without_open, open_in_scope}
 use Rattle.standard.specs.Formatting.{kept, lost, entry_named, without_entry}
 use Rattle.standard.specs.WhiteSpace.{is_space}
-use Rattle.standard.specs.Instructions.{Config, config, on, holds, room, made, pushed, insert_at, here, insert, insert_root, void, tag_of, named, void_as, for_tag, list_current, enlist, reopen, reopen_all, reconstruct, insert_text, insert_comment, append_doctype, end_of, add_attributes, detach_second, append_pending, all_space, texts, body_text, body_character, body_characters, none_pending, insert_pending, push_head, form_closed, form_closed_in_template, end_form, stop_at_script, adopt_name, adopt_own, adopt_anchor, step, turn, run}
+use Rattle.standard.specs.Instructions.{Config, config, on, holds, room, made, pushed, insert_at, here, insert, insert_root, space_or_html, insert_foreign, insert_in, foreign_end, end_foreign_with, end_foreign, void, tag_of, named, void_as, for_tag, list_current, enlist, reopen, reopen_all, reconstruct, insert_text, insert_comment, append_doctype, end_of, add_attributes, detach_second, append_pending, all_space, texts, body_text, body_character, body_characters, none_pending, insert_pending, push_head, form_closed, form_closed_in_template, end_form, stop_at_script, adopt_name, adopt_own, adopt_anchor, step, turn, run}
 use Rattle.standard.specs.Adoption.{Adopted, adopt}
 use Rattle.standard.specs.RulesBody.{after_adopt}
-use Rattle.standard.specs.Rules.{Answer, answer, answer_of, row, by_mode, adopting, with_adoption, by_rules, round_after, go_round, process, rounds, is_line_feed, settled_answer, construct}
+use Rattle.standard.specs.Rules.{Answer, answer, answer_of, row, by_mode, adopting, with_adoption, by_rules, rules_for, round_after, go_round, process, rounds, is_line_feed, settled_answer, construct}
 use Rattle.standard.specs.Act.{rename_place, rename_op}
 use Rattle.rule_laws.specs.Naming.{Renames, rename_ops, rename_element, rename_format, rename_open, rename_then, rename_next, rename_flow, rename_instr, rename_row, rename_config, rename_answer}
-use Rattle.rule_laws.proofs.RenamingWalks.{of_two, in_scope-renamed, on_stack-renamed, current_is-renamed, option_in_optgroup-renamed, reset_mode-renamed, current_id-renamed, first_open-renamed, second_open-renamed, is_the-renamed, pop-renamed, until-renamed, pop_to-renamed, pop_to_root-renamed, implied-renamed, thoroughly-renamed, close-renamed, close_item-renamed, other_end-renamed, place-renamed, listed-renamed, clear_to_marker-renamed, without_open-renamed, kept-renamed, lost-renamed, open_in_scope-renamed, list_element-renamed, entry_named-renamed, without_entry-renamed}
+use Rattle.rule_laws.proofs.RenamingWalks.{of_two, in_scope-renamed, on_stack-renamed, current_is-renamed, option_in_optgroup-renamed, reset_mode-renamed, current_id-renamed, first_open-renamed, second_open-renamed, is_the-renamed, pop-renamed, until-renamed, pop_to-renamed, pop_to_root-renamed, pop_foreign-renamed, foreign_end-renamed, space-renamed, rules_for-renamed, implied-renamed, thoroughly-renamed, close-renamed, close_item-renamed, other_end-renamed, place-renamed, listed-renamed, clear_to_marker-renamed, without_open-renamed, kept-renamed, lost-renamed, open_in_scope-renamed, list_element-renamed, entry_named-renamed, without_entry-renamed}
 use Rattle.rule_laws.proofs.PlainRows.{row-renamed}
 use Rattle.rule_laws.proofs.AdoptionGrowth.{adopt-grows}
 use Rattle.rule_laws.proofs.AdoptionRenaming.{adopt-renamed}
@@ -84,6 +86,8 @@ module _ (r : NodeId → NodeId) where
   holds-renamed HiddenInput t b = refl
   holds-renamed InTemplates t b = refl
   holds-renamed InTables t b = refl
+  holds-renamed SelfClosing t b = refl
+  holds-renamed BreaksOut t b = refl
   holds-renamed OptionInOptgroup t b = option_in_optgroup-renamed r b.stack
 
   room-renamed : (b : Open) → room (rename_open r b) ≡ room b
@@ -105,7 +109,7 @@ module _ (r : NodeId → NodeId) where
 
   pushed-renamed : (tag : Tag) (b : Open) → Renames r b.next → pushed tag (rename_open r b) ≡ rename_open r (pushed tag b)
   pushed-renamed tag b n =
-      ap (λ i. record (rename_open r b) { stack = record { id = r b.next; name = tag.name } ∷ map (rename_element r) b.stack; next = i }) (sym (n.in_order 1))
+      ap (λ i. record (rename_open r b) { stack = opened (r b.next) tag ∷ map (rename_element r) b.stack; next = i }) (sym (n.in_order 1))
 
   insert-renamed : (at : Place) (tag : Tag) (b : Open) (o : List Op) → Renames r b.next → insert_at (rename_place r at) tag (rename_open r b) (rename_ops r o) ≡ rename_config r (insert_at at tag b o)
   insert-renamed at tag b o n =
@@ -240,7 +244,7 @@ module _ (r : NodeId → NodeId) where
   head-renamed : (h : Option NodeId) (b : Open) (o : List Op) → push_head (option_map r h) (rename_open r b) (rename_ops r o) ≡ rename_config r (push_head h b o)
   head-renamed None b o = refl
   head-renamed (Some i) b o =
-      of_two (rename_config r) (room b) (room (rename_open r b)) (on (record b { stack = record { id = i; name = Known word.Head } ∷ b.stack }) o) (config b o (Leave next.Deep)) _ _ (room-renamed b) refl refl
+      of_two (rename_config r) (room b) (room (rename_open r b)) (on (record b { stack = record { id = i; name = Known word.Head; html_point = false } ∷ b.stack }) o) (config b o (Leave next.Deep)) _ _ (room-renamed b) refl refl
 
   list_current-renamed : (tag : Tag) (es : List OpenElement) (fs : List Format)
       → list_current tag (map (rename_element r) es) (map (rename_format r) fs) ≡ map (rename_format r) (list_current tag es fs)
@@ -275,11 +279,15 @@ module _ (r : NodeId → NodeId) where
 
   adopt_name-renamed : (name : Name) (b : Open) (o : List Op) → adopt_name name (rename_open r b) (rename_ops r o) ≡ rename_config r (adopt_name name b o)
   adopt_name-renamed (Known w) b o = refl
-  adopt_name-renamed (Other text) b o = refl
+  adopt_name-renamed (Other s text) b o = refl
 
   anchor-renamed : (i : Option NodeId) (b : Open) (o : List Op) → adopt_anchor (option_map r i) (rename_open r b) (rename_ops r o) ≡ rename_config r (adopt_anchor i b o)
   anchor-renamed None b o = refl
   anchor-renamed (Some i) b o = refl
+
+  foreign-renamed : (es : Option (List OpenElement)) (b : Open) (o : List Op) → end_foreign_with (option_map (map (rename_element r)) es) (rename_open r b) (rename_ops r o) ≡ rename_config r (end_foreign_with es b o)
+  foreign-renamed None b o = refl
+  foreign-renamed (Some es) b o = refl
 
   script-renamed : (es : List OpenElement) (b : Open) (o : List Op) → stop_at_script (map (rename_element r) es) (rename_open r b) (rename_ops r o) ≡ rename_config r (stop_at_script es b o)
   script-renamed [] b o = refl
@@ -309,6 +317,15 @@ module _ (r : NodeId → NodeId) where
   step-renamed ins.Void t b o n = by_tag void void t b o (λ tag. void-renamed tag b o n)
   step-renamed (ins.VoidA w) t b o n = void-renamed (tag_of w) b o n
   step-renamed (ins.VoidAs w) t b o n = by_tag (void_as w) (void_as w) t b o (λ tag. void-renamed (named w tag) b o n)
+  step-renamed ins.InsertForeign t b o n =
+      by_tag insert_foreign insert_foreign t b o
+      (λ tag. ap (λ s. insert (foreign_tag s tag) (rename_open r b) (rename_ops r o)) (space-renamed r b.stack) ∙ insert-here (foreign_tag (space_or_html (adjusted b)) tag) b o n)
+  step-renamed (ins.InsertIn s) t b o n = by_tag (insert_in s) (insert_in s) t b o (λ tag. insert-here (tag_in s tag) b o n)
+  step-renamed ins.InsertReplacement t b o n = one_more b o (op.Text (here b) (0xFFFD ∷ [])) _ (ap (λ at. op.Text at (0xFFFD ∷ [])) (here-renamed b))
+  step-renamed ins.BreakOut t b o n = ap (λ x. config (record (rename_open r b) { stack = x }) (rename_ops r o) (Leave (next.Using b.mode))) (pop_foreign-renamed r b.stack)
+  step-renamed ins.ForeignEnd t b o n =
+      by_tag end_foreign end_foreign t b o
+      (λ tag. ap (λ e. end_foreign_with e (rename_open r b) (rename_ops r o)) (foreign_end-renamed r (name_text tag.name) b.stack b.stack) ∙ foreign-renamed (foreign_end (name_text tag.name) b.stack b.stack) b o)
   step-renamed ins.InsertText t b o n = text-renamed t b o
   step-renamed ins.InsertComment t b o n = comment-renamed (here b) _ t b o (here-renamed b)
   step-renamed ins.CommentToPage t b o n = comment-renamed Page Page t b o refl
@@ -408,17 +425,17 @@ module _ (r : NodeId → NodeId) where
       ap (λ (x : Answer). with_adoption t x.open_state x.ops x.next) (by_mode-renamed m t b o n)
       ∙ adoption-renamed t a.open_state a.ops a.next (by_mode-grows (Renames r) (renames-one r) m t b o n)
 
-  round-renamed : (more more' : Mode → Answer) (b : Open) (o : List Op) (x : Next) → ((m : Mode) → more' m ≡ rename_answer r (more m))
-      → go_round more' (rename_open r b) (rename_ops r o) (round_after (rename_open r b) (rename_next r x)) ≡ rename_answer r (go_round more b o (round_after b x))
-  round-renamed more more' b o next.Again h = h b.mode
-  round-renamed more more' b o (next.Using m) h = h m
-  round-renamed more more' b o next.Foster h = h InBody
-  round-renamed more more' b o (next.Adopt w x) h = refl
-  round-renamed more more' b o next.Done h = refl
-  round-renamed more more' b o (next.Switch reading) h = refl
-  round-renamed more more' b o (next.Script i) h = refl
-  round-renamed more more' b o next.Deep h = refl
-  round-renamed more more' b o next.Finished h = refl
+  round-renamed : (t : Token) (more more' : Mode → Answer) (b : Open) (o : List Op) (x : Next) → ((m : Mode) → more' m ≡ rename_answer r (more m))
+      → go_round more' (rename_open r b) (rename_ops r o) (round_after t (rename_open r b) (rename_next r x)) ≡ rename_answer r (go_round more b o (round_after t b x))
+  round-renamed t more more' b o next.Again h = ap more' (rules_for-renamed r t b) ∙ h (rules_for t b)
+  round-renamed t more more' b o (next.Using m) h = h m
+  round-renamed t more more' b o next.Foster h = h InBody
+  round-renamed t more more' b o (next.Adopt w x) h = refl
+  round-renamed t more more' b o next.Done h = refl
+  round-renamed t more more' b o (next.Switch reading) h = refl
+  round-renamed t more more' b o (next.Script i) h = refl
+  round-renamed t more more' b o next.Deep h = refl
+  round-renamed t more more' b o next.Finished h = refl
 
   process-renamed : (k : ℕ) (m : Mode) (t : Token) (b : Open) (o : List Op) → Renames r b.next → process k m t (rename_open r b) (rename_ops r o) ≡ rename_answer r (process k m t b o)
   unfolding process
@@ -426,8 +443,8 @@ module _ (r : NodeId → NodeId) where
   process-renamed (suc k) m t b o n =
       let a : Answer = by_rules m t b o in
       let a' : Answer = rename_answer r a in
-      ap (λ (x : Answer). go_round (λ m'. process k m' t x.open_state x.ops) x.open_state x.ops (round_after x.open_state x.next)) (by_rules-renamed m t b o n)
-      ∙ round-renamed (λ m'. process k m' t a.open_state a.ops) (λ m'. process k m' t a'.open_state a'.ops) a.open_state a.ops a.next
+      ap (λ (x : Answer). go_round (λ m'. process k m' t x.open_state x.ops) x.open_state x.ops (round_after t x.open_state x.next)) (by_rules-renamed m t b o n)
+      ∙ round-renamed t (λ m'. process k m' t a.open_state a.ops) (λ m'. process k m' t a'.open_state a'.ops) a.open_state a.ops a.next
       (λ m'. process-renamed k m' t a.open_state a.ops (by_rules-grows (Renames r) (renames-one r) m t b o n))
 
   construct-by : (t : Token) (b : Open) (o : List Op) → Renames r b.next → construct t (rename_open r b) (rename_ops r o) ≡ rename_answer r (construct t b o)
@@ -435,7 +452,8 @@ module _ (r : NodeId → NodeId) where
   construct-by t b o n =
       let v : Bool = b.skip_line_feed && is_line_feed t in
       let b' : Open = record b { skip_line_feed = false } in
-      ap settled_answer (of_two (rename_answer r) v v (answer b' o next.Done) (process rounds b.mode t b' o) _ _ refl refl (process-renamed rounds b.mode t b' o n))
+      ap settled_answer (of_two (rename_answer r) v v (answer b' o next.Done) (process rounds (rules_for t b) t b' o) _ _ refl refl
+      (ap (λ m. process rounds m t (rename_open r b') (rename_ops r o)) (rules_for-renamed r t b) ∙ process-renamed rounds (rules_for t b) t b' o n))
 
 pub rows-renamed : (r : NodeId → NodeId) (t : Token) (c : Config) (row : List Instr) → Renames r c.open_state.next → run t (rename_config r c) (rename_row r row) ≡ rename_config r (run t c row)
 rows-renamed r t c row n = run-renamed r t c row n

@@ -14,6 +14,7 @@ use Rattle.html_types.specs.declared.operation.NodeId.{NodeId}
 use Rattle.html_types.specs.declared.operation.Op.{Op}
 use Rattle.html_types.specs.declared.open.Open.{Open}
 use Rattle.standard.specs.Entities.{Entities}
+use Rattle.standard.specs.Foreign.{is_foreign}
 use Rattle.standard.specs.Tokenizer.{read, read_end}
 use Rattle.standard.specs.Instructions.{config, reopen, body_character, turn}
 use Rattle.standard.specs.Rules.{Answer, by_mode, by_rules, construct}
@@ -93,11 +94,11 @@ module _ (P : NodeId → Type 0) (one : (id : NodeId) → P id → P (later 1 id
     where
       by : (skips cr : Bool) → P (parser_of (elim skips as (λ _. Took) [
         | true ↦ took [] (record p { after_cr = false }) stop.InputEnd
-        | false ↦ elim cr as (λ _. Took) [ true ↦ built p true (read es p.tokenizer 10) | false ↦ built p false (read es p.tokenizer c) ]
+        | false ↦ elim cr as (λ _. Took) [ true ↦ built p true (read es (is_foreign p.open_state) p.tokenizer 10) | false ↦ built p false (read es (is_foreign p.open_state) p.tokenizer c) ]
       ])).open_state.next
       by true cr = h
-      by false true = build-grows (read es p.tokenizer 10).state true (read es p.tokenizer 10).tokens p.open_state h
-      by false false = build-grows (read es p.tokenizer c).state false (read es p.tokenizer c).tokens p.open_state h
+      by false true = build-grows (read es (is_foreign p.open_state) p.tokenizer 10).state true (read es (is_foreign p.open_state) p.tokenizer 10).tokens p.open_state h
+      by false false = build-grows (read es (is_foreign p.open_state) p.tokenizer c).state false (read es (is_foreign p.open_state) p.tokenizer c).tokens p.open_state h
 
   build_end_on-grows : (s : TokState) (cr : Bool) (b : Open) (rest : Finished) (n : Next) → P b.next → P rest.parser.open_state.next → P (build_end_on s cr b rest n).parser.open_state.next
   build_end_on-grows s cr b rest next.Done h g = g
@@ -120,7 +121,7 @@ module _ (P : NodeId → Type 0) (one : (id : NodeId) → P id → P (later 1 id
 
   pub end-grows : (es : Entities) (p : Parser) → P p.open_state.next → P (finish es p).parser.open_state.next
   unfolding finish
-  end-grows es p h = build_end-grows (read_end es p.tokenizer).state p.after_cr (read_end es p.tokenizer).tokens p.open_state h
+  end-grows es p h = build_end-grows (read_end es (is_foreign p.open_state) p.tokenizer).state p.after_cr (read_end es (is_foreign p.open_state) p.tokenizer).tokens p.open_state h
 
   rest-grows : (x : Took) (rest : Parser → Parsed) → P (parser_of x).open_state.next → ((p : Parser) → P p.open_state.next → P (rest p).parser.open_state.next) → P (and_rest x rest).parser.open_state.next
   rest-grows (took ops p stop.InputEnd) rest h each = each p h

@@ -11,12 +11,14 @@ use Rattle.html_types.specs.declared.operation.NodeId.{NodeId}
 use Rattle.html_types.specs.declared.operation.Op.{Op}
 use Rattle.html_types.specs.declared.open.Open.{Open}
 use Rattle.standard.specs.Entities.{Entities}
+use Rattle.standard.specs.Foreign.{is_foreign}
 use Rattle.standard.specs.Tokenizer.{read, read_end}
 use Rattle.standard.specs.Rules.{Answer, construct}
 use Rattle.standard.specs.Parser.{Parser, read_as, Took, took, after_ops, build_on, build, built, take_character, Finished, after_all, build_end_on, build_end, finish, Parsed, after_character, and_rest, parse}
 use Rattle.standard.specs.Act.{rename_op}
 use Rattle.rule_laws.specs.Naming.{Renames, IsLater, rename_ops, rename_open, rename_next, rename_answer, rename_parser, rename_stop, rename_took, rename_finished, rename_parsed}
 use Rattle.rule_laws.specs.NamingLaws.{parser_of, CharactersRename, EndsRename, TextsRename, LaterRenames, TokensGrow, CharactersGrow, EndsGrow, TextsGrow}
+use Rattle.rule_laws.proofs.RenamingWalks.{is_foreign-renamed}
 use Rattle.rule_laws.proofs.Renaming.{renames-one, construct-renamed}
 use Rattle.rule_laws.proofs.RenamingGrowth.{construct-grows, character-grows, end-grows, text-grows-by}
 
@@ -54,13 +56,17 @@ module _ (r : NodeId → NodeId) where
       taken : Bool → Bool → Parser → Took
       taken skips cr q = elim skips as (λ _. Took) [
         | true ↦ took [] (record q { after_cr = false }) stop.InputEnd
-        | false ↦ elim cr as (λ _. Took) [ true ↦ built q true (read es q.tokenizer 10) | false ↦ built q false (read es q.tokenizer c) ]
+        | false ↦ elim cr as (λ _. Took) [ true ↦ built q true (read es (is_foreign q.open_state) q.tokenizer 10) | false ↦ built q false (read es (is_foreign q.open_state) q.tokenizer c) ]
       ]
 
       by : (skips cr : Bool) → taken skips cr (rename_parser r p) ≡ rename_took r (taken skips cr p)
       by true cr = refl
-      by false true = build-renamed (read es p.tokenizer 10).state true (read es p.tokenizer 10).tokens p.open_state n
-      by false false = build-renamed (read es p.tokenizer c).state false (read es p.tokenizer c).tokens p.open_state n
+      by false true =
+          ap (λ (f : Bool). built (rename_parser r p) true (read es f p.tokenizer 10)) (is_foreign-renamed r p.open_state)
+          ∙ build-renamed (read es (is_foreign p.open_state) p.tokenizer 10).state true (read es (is_foreign p.open_state) p.tokenizer 10).tokens p.open_state n
+      by false false =
+          ap (λ (f : Bool). built (rename_parser r p) false (read es f p.tokenizer c)) (is_foreign-renamed r p.open_state)
+          ∙ build-renamed (read es (is_foreign p.open_state) p.tokenizer c).state false (read es (is_foreign p.open_state) p.tokenizer c).tokens p.open_state n
 
   -- ---- the end of the input
 
@@ -92,7 +98,9 @@ module _ (r : NodeId → NodeId) where
 
   end-renamed : (es : Entities) (p : Parser) → Renames r p.open_state.next → finish es (rename_parser r p) ≡ rename_finished r (finish es p)
   unfolding finish
-  end-renamed es p n = build_end-renamed (read_end es p.tokenizer).state p.after_cr (read_end es p.tokenizer).tokens p.open_state n
+  end-renamed es p n =
+      ap (λ (f : Bool). let x = read_end es f p.tokenizer in build_end x.state p.after_cr x.tokens (rename_open r p.open_state)) (is_foreign-renamed r p.open_state)
+      ∙ build_end-renamed (read_end es (is_foreign p.open_state) p.tokenizer).state p.after_cr (read_end es (is_foreign p.open_state) p.tokenizer).tokens p.open_state n
 
   -- ---- a text
 

@@ -1,13 +1,15 @@
 -- The walks over the stack and the list look at names alone, or at whether two ids are the same.
-use Rattle.std.proofs.Common.{◌≡◌, refl, sym, ap, ◌∙◌, ◌+◌, ◌==◌, nat_le, Bool, true, false, not, ◌&&◌, ◌||◌, List, [], ◌∷◌, ◌++◌, map, Option, Some, None}
+use Rattle.std.proofs.Common.{ℕ, ◌≡◌, refl, sym, ap, ◌∙◌, ◌+◌, ◌==◌, nat_le, Bool, true, false, not, ◌&&◌, ◌||◌, List, [], ◌∷◌, ◌++◌, map, Option, Some, None}
 use Rattle.std.proofs.lemmas.List.{map-append}
 use Rattle.std.specs.Prelude.{if◌then◌else◌, cond, option_map}
 use Rattle.html_types.specs.Operations.{same_id}
+use Rattle.html_types.specs.Names.{name_text}
 use Rattle.html_types.specs.declared.word.Word.{Word}
 use Rattle.html_types.specs.declared.word.Word.TheVariants as word
 use Rattle.html_types.specs.declared.instruction.Group.TheVariants as group
 use Rattle.html_types.specs.declared.instruction.Mode.{Mode}
 use Rattle.html_types.specs.declared.instruction.Mode.TheVariants as mode
+use Rattle.html_types.specs.declared.instruction.Mode.TheVariants.{InForeign}
 use Rattle.html_types.specs.declared.instruction.Scope.{Scope}
 use Rattle.html_types.specs.declared.name.Name.{Name}
 use Rattle.html_types.specs.declared.operation.NodeId.{NodeId}
@@ -15,13 +17,19 @@ use Rattle.html_types.specs.declared.operation.Place.TheVariants.{Inside, Conten
 use Rattle.html_types.specs.declared.open.OpenElement.{OpenElement}
 use Rattle.html_types.specs.declared.open.Format.{Format}
 use Rattle.html_types.specs.declared.open.Format.TheVariants.{Marker, Element}
+use Rattle.html_types.specs.declared.open.Open.{Open}
 use Rattle.html_types.specs.declared.token.Tag.{Tag}
+use Rattle.html_types.specs.declared.token.Token.{Token}
 use Rattle.standard.specs.Elements.{is_word, is_one_of, ends_scope}
 use Rattle.standard.specs.Stack.{in_scope, on_stack, is_open, current_is, option_in_optgroup, current_id, is_empty, pop, until, pop_to, pop_to_root, implied, implied_thoroughly, close, item_found, close_item, end_found, other_end, id_or, foster_place, place_in, place, first_open, second_open, is_the, without_open, open_in_scope, below, from_on, through, above, with_below, block_below, place_for}
 use Rattle.standard.specs.Reset.{select_mode, template_mode, root_mode, reset_mode}
 use Rattle.standard.specs.Formatting.{listed, clear_to_marker, kept, lost, is_like, likes, without_earliest, list_element, entry_named, has_entry, tag_of_entry, later_than, entry_on, before_first, renewed, without_entry, with_id, with_behind}
+use Rattle.standard.specs.ForeignNames.{is_lower_of}
+use Rattle.standard.specs.Foreign.{adjusted_of, is_html, is_html_or_point, is_foreign_element, is_foreign, goes_foreign}
+use Rattle.standard.specs.Instructions.{space_or_html, pop_foreign, foreign_end}
+use Rattle.standard.specs.Rules.{rules_for}
 use Rattle.standard.specs.Act.{rename_place}
-use Rattle.rule_laws.specs.Naming.{rename_element, rename_format}
+use Rattle.rule_laws.specs.Naming.{rename_element, rename_format, rename_open}
 
 -- a choice under a function
 pub of_two : {A B : Type 0} (g : A → B) (v w : Bool) (x y : A) (x' y' : B) → w ≡ v → x' ≡ g x → y' ≡ g y → (if w then x' else y') ≡ g (if v then x else y)
@@ -137,6 +145,46 @@ module _ (r : NodeId → NodeId) where
   pub pop_to-renamed : (is : Name → Bool) (es : List OpenElement) → pop_to is (map (rename_element r) es) ≡ map (rename_element r) (pop_to is es)
   pop_to-renamed is [] = refl
   pop_to-renamed is (e ∷ es) = of_two stack_of (is e.name) (is e.name) (e ∷ es) (pop_to is es) _ _ refl refl (pop_to-renamed is es)
+
+  point-renamed : (e : OpenElement) → is_html_or_point (rename_element r e) ≡ is_html_or_point e
+  unfolding is_html_or_point
+  point-renamed e = refl
+
+  pub pop_foreign-renamed : (es : List OpenElement) → pop_foreign (map (rename_element r) es) ≡ map (rename_element r) (pop_foreign es)
+  pop_foreign-renamed [] = refl
+  pop_foreign-renamed (e ∷ es) = of_two stack_of (is_html_or_point e) (is_html_or_point (rename_element r e)) (e ∷ es) (pop_foreign es) _ _ (point-renamed e) refl (pop_foreign-renamed es)
+
+  pub foreign_end-renamed : (name : List ℕ) (all es : List OpenElement) → foreign_end name (map (rename_element r) all) (map (rename_element r) es) ≡ option_map (map (rename_element r)) (foreign_end name all es)
+  foreign_end-renamed name all [] = refl
+  foreign_end-renamed name all (e ∷ []) = refl
+  foreign_end-renamed name all (e ∷ d ∷ es) = by (is_lower_of (name_text e.name) name) (is_html d.name) (foreign_end-renamed name all (d ∷ es))
+    where
+      by : (v w : Bool) → foreign_end name (map (rename_element r) all) (map (rename_element r) (d ∷ es)) ≡ option_map (map (rename_element r)) (foreign_end name all (d ∷ es)) → (if v then Some (map (rename_element r) (d ∷ es)) else (if w then None else foreign_end name (map (rename_element r) all) (map (rename_element r) (d ∷ es))))
+          ≡ option_map (map (rename_element r)) (if v then Some (d ∷ es) else (if w then None else foreign_end name all (d ∷ es)))
+      by true w rest = refl
+      by false true rest = refl
+      by false false rest = rest
+
+  -- what the adjusted current node says
+  pub space-renamed : (es : List OpenElement) → space_or_html (adjusted_of (map (rename_element r) es)) ≡ space_or_html (adjusted_of es)
+  space-renamed [] = refl
+  space-renamed (e ∷ es) = refl
+
+  pub is_foreign-renamed : (b : Open) → is_foreign (rename_open r b) ≡ is_foreign b
+  unfolding is_foreign
+  is_foreign-renamed b = by b.stack
+    where
+      by : (es : List OpenElement) → is_foreign_element (adjusted_of (map (rename_element r) es)) ≡ is_foreign_element (adjusted_of es)
+      by [] = refl
+      by (e ∷ es) = refl
+
+  pub rules_for-renamed : (t : Token) (b : Open) → rules_for t (rename_open r b) ≡ rules_for t b
+  unfolding goes_foreign
+  rules_for-renamed t b = ap (λ (v : Bool). if v then InForeign else b.mode) (by b.stack)
+    where
+      by : (es : List OpenElement) → goes_foreign t (adjusted_of (map (rename_element r) es)) ≡ goes_foreign t (adjusted_of es)
+      by [] = refl
+      by (e ∷ es) = refl
 
   pub implied-renamed : (but : Name → Bool) (es : List OpenElement) → implied but (map (rename_element r) es) ≡ map (rename_element r) (implied but es)
   implied-renamed but [] = refl

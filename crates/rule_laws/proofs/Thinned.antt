@@ -1,7 +1,8 @@
 -- What popping and taking off leave of the stack: its elements in order, some of them left out.
-use Rattle.std.proofs.Common.{◌≡◌, ◌⊎◌, inl, inr, refl, subst, Bool, true, false, List, [], ◌∷◌, Option, Some, None}
+use Rattle.std.proofs.Common.{ℕ, ◌≡◌, ◌⊎◌, inl, inr, refl, subst, Bool, true, false, List, [], ◌∷◌, Option, Some, None}
 use Rattle.std.specs.Prelude.{if◌then◌else◌, ◌&&◌, not}
 use Rattle.html_types.specs.Operations.{same_id}
+use Rattle.html_types.specs.Names.{name_text}
 use Rattle.html_types.specs.declared.name.Name.{Name}
 use Rattle.html_types.specs.declared.word.Word.TheVariants as word
 use Rattle.html_types.specs.declared.instruction.Group.TheVariants as group
@@ -11,7 +12,9 @@ use Rattle.html_types.specs.declared.operation.NodeId.{NodeId}
 use Rattle.html_types.specs.declared.open.OpenElement.{OpenElement}
 use Rattle.standard.specs.Elements.{is_word, is_one_of}
 use Rattle.standard.specs.Stack.{in_scope, pop, until, pop_to, pop_to_root, implied, implied_thoroughly, close, item_found, close_item, end_found, other_end, without_open, open_in_scope}
-use Rattle.standard.specs.Instructions.{form_closed, form_closed_in_template}
+use Rattle.standard.specs.ForeignNames.{is_lower_of}
+use Rattle.standard.specs.Foreign.{is_html, is_html_or_point}
+use Rattle.standard.specs.Instructions.{form_closed, form_closed_in_template, pop_foreign, foreign_end}
 
 abbrev pub Thinned : List OpenElement → List OpenElement → Type 0
 Thinned [] ds = ds ≡ []
@@ -86,3 +89,23 @@ thin-form_closed nobody (Some i) es =
 
 pub thin-form_closed_in_template : (nobody : Name → Bool) (es : List OpenElement) → Thinned es (form_closed_in_template nobody es)
 thin-form_closed_in_template nobody es = thin-popped (is_word word.Form) nobody (in_scope scope.Default (is_word word.Form) es) es
+
+pub thin-pop_foreign : (es : List OpenElement) → Thinned es (pop_foreign es)
+thin-pop_foreign [] = refl
+thin-pop_foreign (e ∷ es) = thin-if (is_html_or_point e) (e ∷ es) (e ∷ es) (pop_foreign es) (thin-same (e ∷ es)) (inl (thin-pop_foreign es))
+
+abbrev pub IsThinnedIfAny : List OpenElement → Option (List OpenElement) → Type 0
+IsThinnedIfAny es None = Unit {0}
+IsThinnedIfAny es (Some ds) = Thinned es ds
+
+pub thin-foreign_end : (name : List ℕ) (all es : List OpenElement) → Thinned all es → IsThinnedIfAny all (foreign_end name all es)
+thin-foreign_end name all [] h = thin-same all
+thin-foreign_end name all (e ∷ []) h = thin-same all
+thin-foreign_end name all (e ∷ d ∷ es) h =
+    let left : Thinned all (d ∷ es) = thin-trans all (e ∷ d ∷ es) (d ∷ es) h (inl (thin-same (d ∷ es))) in
+    by (is_lower_of (name_text e.name) name) (is_html d.name) left (thin-foreign_end name all (d ∷ es) left)
+  where
+    by : (v w : Bool) → Thinned all (d ∷ es) → IsThinnedIfAny all (foreign_end name all (d ∷ es)) → IsThinnedIfAny all (if v then Some (d ∷ es) else (if w then None else foreign_end name all (d ∷ es)))
+    by true w left rest = left
+    by false true left rest = tt
+    by false false left rest = rest

@@ -1,8 +1,8 @@
 -- The open state is proper: the original mode, the pending table text and the template insertion modes are there where the mode says so.
-use Rattle.std.specs.Prelude.{◌≡◌, ℕ, Bool, true, false, ⊤, List, [], Option, None, not, IsSomeAnd, IsTrue, IsFalse}
+use Rattle.std.specs.Prelude.{◌≡◌, ℕ, Bool, true, false, ⊤, List, [], Option, None, IsSomeAnd, IsTrue}
 use Rattle.std.specs.List.{list_all}
 use Rattle.html_types.specs.declared.instruction.Mode.{Mode}
-use Rattle.html_types.specs.declared.instruction.Mode.TheVariants.{InText, InTableText}
+use Rattle.html_types.specs.declared.instruction.Mode.TheVariants.{InText, InTableText, InForeign}
 use Rattle.html_types.specs.declared.instruction.Next.{Next}
 use Rattle.html_types.specs.declared.instruction.Next.TheVariants as next
 use Rattle.html_types.specs.declared.token.Token.{Token}
@@ -11,16 +11,20 @@ use Rattle.html_types.specs.declared.open.Open.{Open}
 use Rattle.standard.specs.Rules.{Answer, construct}
 use Rattle.standard.specs.Parser.{opening}
 
--- the modes from which the parser goes back to the original mode
-abbrev pub is_text_mode : Mode → Bool
-is_text_mode InText = true
-is_text_mode InTableText = true
-is_text_mode _ = false
+-- the modes from which the parser doesn't go back to the original mode: all but "text" and "in table text". The rules for foreign content are
+-- no mode
+abbrev pub is_main_mode : Mode → Bool
+is_main_mode InText = false
+is_main_mode InTableText = false
+is_main_mode InForeign = false
+is_main_mode _ = true
 
--- an original mode is there exactly in the modes "text" and "in table text", and it is neither of them
+-- an original mode is there exactly in the modes "text" and "in table text", and it is neither of them; the rules for foreign content are
+-- never the mode
 abbrev pub HasOriginal : Mode → Option Mode → Type 0
-HasOriginal InText original = IsSomeAnd original (λ m. IsFalse (is_text_mode m))
-HasOriginal InTableText original = IsSomeAnd original (λ m. IsFalse (is_text_mode m))
+HasOriginal InText original = IsSomeAnd original (λ m. IsTrue (is_main_mode m))
+HasOriginal InTableText original = IsSomeAnd original (λ m. IsTrue (is_main_mode m))
+HasOriginal InForeign original = ⊥
 HasOriginal _ original = original ≡ None
 
 -- table text is pending in the mode "in table text" alone
@@ -31,8 +35,8 @@ HasPending _ text = text ≡ []
 pub record IsProper (b : Open) : Type 0 where
   pub original : HasOriginal b.mode b.original
   pub pending : HasPending b.mode b.pending_text
-  -- no template's contents go by those two modes
-  pub templates : IsTrue (list_all (λ m. not (is_text_mode m)) b.template_modes)
+  -- no template's contents go by those two modes, nor by the rules for foreign content
+  pub templates : IsTrue (list_all is_main_mode b.template_modes)
 
 abbrev pub OpeningIsProper : Type 0
 OpeningIsProper = (realm : ℕ) → IsProper (opening realm)

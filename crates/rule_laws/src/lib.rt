@@ -10,19 +10,20 @@ ghost use Rattle.rule_laws.specs.NamingLaws.{RowsRename, TokensRename, Character
 ghost use Rattle.rule_laws.specs.NamingLaws.{TokensGrow, CharactersGrow, EndsGrow, TextsGrow};
 ghost use Rattle.rule_laws.specs.Depth.{TokensStayShallow, RoundsStayShallow, OpeningIsShallow};
 ghost use Rattle.rule_laws.specs.Proper.{OpeningIsProper, TokensStayProper};
-ghost use Rattle.rule_laws.specs.Rounds.{RoundsSuffice, RoundsAnswer};
+ghost use Rattle.rule_laws.specs.Rounds.{RoundsSuffice, RoundsAnswer, ProperHasModes};
 
-/// Processing a token again, or by the rules of another mode (13.2.6), comes to an end within the rounds that the definition
-/// allows, in every mode, for every token and open state of at most 512 open elements; and it then asks for no more of the
-/// rules.
+/// Processing a token again, or by the rules of another mode or of foreign content (13.2.6), comes to an end within the rounds
+/// that the definition allows, by whatever rules it begins, for every token and open state of at most 512 open elements that
+/// holds no mode but insertion modes; and it then asks for no more of the rules. A proper open state holds no other.
 pub fn rounds_suffice()
     ensures suffice { RoundsSuffice }
     ensures answer { RoundsAnswer }
+    ensures proper { ProperHasModes }
 {}
 
 /// The open state (13.2.4) is proper, at the beginning and behind every token that doesn't ask for one element too many: an
 /// original mode is there exactly in the modes "text" and "in table text", and is neither; table text is pending in "in table
-/// text" alone; and no template insertion mode is one of the two.
+/// text" alone; no template insertion mode is one of the two; and the rules for foreign content are never a mode.
 pub fn open_state_is_proper()
     ensures opening { OpeningIsProper }
     ensures tokens { TokensStayProper }

@@ -20,6 +20,7 @@ use Rattle.html_types.specs.declared.instruction.Scope.TheVariants as scope
 use Rattle.html_types.specs.declared.instruction.Turn.{Turn}
 use Rattle.html_types.specs.declared.instruction.Turn.TheVariants.{More, Over, Other}
 use Rattle.standard.specs.Elements.{is_word}
+use Rattle.standard.specs.Foreign.{opened}
 use Rattle.standard.specs.Stack.{is_open, current_is, current_id, pop, without_open, open_in_scope, below, from_on, through, above, with_below, block_below, place_for}
 use Rattle.standard.specs.Formatting.{entry_named, has_entry, tag_of_entry, without_entry, with_id, with_behind}
 
@@ -50,7 +51,7 @@ climb_clone id None c = c
 climb_clone id (Some tag) c =
     climb_at (with_id id c.next c.formats) (later 1 c.next)
     (c.ops ++ op.Make c.next tag.name tag.attributes ∷ [] ++ op.Put c.last (Inside c.next) ∷ [])
-    (c.kept ++ record { id = c.next; name = tag.name } ∷ []) c.next (bookmark_or c.bookmark c.next)
+    (c.kept ++ opened c.next tag ∷ []) c.next (bookmark_or c.bookmark c.next)
 
 -- 4.13.4: from the fourth node on (the inner loop counter is above 3) the entries are dropped; `left` is 3 less the counter so far
 abbrev pub climb_drop : ℕ → NodeId → List Format → List Format
@@ -94,7 +95,7 @@ abbrev pub rebuilt : NodeId → Tag → NodeId → Open → Climb → List OpenE
 rebuilt f tag block b c st =
     turned
     (record b {
-      stack = with_below block (record { id = c.next; name = tag.name }) (without_open (Some f) st);
+      stack = with_below block (opened c.next tag) (without_open (Some f) st);
       formats = put_at_bookmark f c.next tag c.bookmark c.formats;
       next = later 1 c.next;
     })

@@ -8,7 +8,7 @@ use Rattle.html_types.specs.declared.word.Word.TheVariants as word
 use Rattle.html_types.specs.declared.instruction.Instr.{Instr}
 use Rattle.html_types.specs.declared.instruction.Instr.TheVariants as ins
 use Rattle.html_types.specs.declared.instruction.Test.{Test}
-use Rattle.html_types.specs.declared.instruction.Test.TheVariants.{InScope, Current, OnStack, Listed, Quirks, SecondIsBody, FramesetOk, QuirkyDoctype, InForm, HiddenInput, InTemplates, InTables, OptionInOptgroup}
+use Rattle.html_types.specs.declared.instruction.Test.TheVariants.{InScope, Current, OnStack, Listed, Quirks, SecondIsBody, FramesetOk, QuirkyDoctype, InForm, HiddenInput, InTemplates, InTables, OptionInOptgroup, SelfClosing, BreaksOut}
 use Rattle.html_types.specs.declared.instruction.Scope.TheVariants as scope
 use Rattle.html_types.specs.declared.instruction.Mode.{Mode}
 use Rattle.html_types.specs.declared.instruction.Mode.TheVariants as mode
@@ -17,7 +17,9 @@ use Rattle.html_types.specs.declared.instruction.Flow.{Flow}
 use Rattle.html_types.specs.declared.instruction.Flow.TheVariants.{On, Skip, Leave}
 use Rattle.html_types.specs.declared.instruction.Next.TheVariants as next
 use Rattle.html_types.specs.declared.instruction.Then.TheVariants.{Nothing, Link, Nobr}
-use Rattle.html_types.specs.Names.{name_of}
+use Rattle.html_types.specs.Names.{name_of, name_text, space_of}
+use Rattle.html_types.specs.declared.name.Space.{Space}
+use Rattle.html_types.specs.declared.name.Space.TheVariants.{Html}
 use Rattle.html_types.specs.declared.name.Name.{Name}
 use Rattle.html_types.specs.declared.name.Name.TheVariants.{Known, Other}
 use Rattle.html_types.specs.declared.token.Tag.{Tag}
@@ -34,7 +36,9 @@ use Rattle.html_types.specs.declared.open.Format.TheVariants.{Marker, Element}
 use Rattle.html_types.specs.declared.open.Open.{Open}
 use Rattle.standard.specs.Tree.{attribute}
 use Rattle.standard.specs.WhiteSpace.{is_space}
+use Rattle.standard.specs.ForeignNames.{is_lower_of}
 use Rattle.standard.specs.Elements.{is_word, is_meant, is_one_of}
+use Rattle.standard.specs.Foreign.{adjusted, opened, is_html, is_html_or_point, breaks_out, tag_in, foreign_tag}
 use Rattle.standard.specs.Stack.{in_scope, on_stack, current_is, option_in_optgroup, current_id, pop, until, pop_to, pop_to_root, implied, implied_thoroughly, close, close_item, other_end, place, first_open, second_open, is_the, without_open, open_in_scope}
 use Rattle.standard.specs.Reset.{reset_mode}
 use Rattle.standard.specs.Formatting.{listed, clear_to_marker, kept, lost, list_element, entry_named, without_entry}
@@ -83,6 +87,14 @@ is_table_mode mode.InRow = true
 is_table_mode mode.InCell = true
 is_table_mode _ = false
 
+abbrev pub closes_itself : Token → Bool
+closes_itself (StartTag tag) = tag.self_closing
+closes_itself _ = false
+
+abbrev pub is_breaking : Token → Bool
+is_breaking (StartTag tag) = breaks_out tag
+is_breaking _ = false
+
 abbrev pub holds : Test → Token → Open → Bool
 holds (InScope s w) t b = in_scope s (is_meant w t) b.stack
 holds (Current w) t b = current_is (is_meant w t) b.stack
@@ -97,6 +109,8 @@ holds HiddenInput t b = is_hidden_input t
 holds InTemplates t b = has_modes b.template_modes
 holds InTables t b = is_table_mode b.mode
 holds OptionInOptgroup t b = option_in_optgroup b.stack
+holds SelfClosing t b = closes_itself t
+holds BreaksOut t b = is_breaking t
 
 -- ---- elements
 
@@ -109,7 +123,7 @@ abbrev pub made : Place → Tag → Open → List Op → List Op
 made p tag b o = o ++ op.Make b.next tag.name tag.attributes ∷ [] ++ op.Put b.next p ∷ []
 
 abbrev pub pushed : Tag → Open → Open
-pushed tag b = record b { stack = record { id = b.next; name = tag.name } ∷ b.stack; next = later 1 b.next }
+pushed tag b = record b { stack = opened b.next tag ∷ b.stack; next = later 1 b.next }
 
 -- insert an element: made, put there and pushed
 abbrev pub insert_at : Place → Tag → Open → List Op → Config
@@ -128,6 +142,18 @@ insert_root tag b o = insert_at Page tag b o
 -- inserted, and popped at once
 abbrev pub void : Tag → Open → List Op → Config
 void tag b o = if room b then on (record b { next = later 1 b.next }) (made (here b) tag b o) else config b o (Leave next.Deep)
+
+-- the namespace of an element, where there is one
+abbrev pub space_or_html : Option OpenElement → Space
+space_or_html None = Html
+space_or_html (Some e) = space_of e.name
+
+-- insert a foreign element, in the namespace of the adjusted current node
+abbrev pub insert_foreign : Tag → Open → List Op → Config
+insert_foreign tag b o = insert (foreign_tag (space_or_html (adjusted b)) tag) b o
+
+abbrev pub insert_in : Space → Tag → Open → List Op → Config
+insert_in s tag b o = insert (tag_in s tag) b o
 
 -- a start tag of that name without attributes
 abbrev pub tag_of : Word → Tag
@@ -180,6 +206,9 @@ reconstruct b o = reopen_all (reverse (lost b.stack b.formats)) (on (record b { 
 abbrev pub insert_text : Token → Open → List Op → Config
 insert_text (Character c) b o = on b (o ++ op.Text (here b) (c ∷ []) ∷ [])
 insert_text _ b o = on b o
+
+abbrev pub insert_replacement : Open → List Op → Config
+insert_replacement b o = on b (o ++ op.Text (here b) (0xFFFD ∷ []) ∷ [])
 
 abbrev pub insert_comment : Place → Token → Open → List Op → Config
 insert_comment p (Comment text) b o = on b (o ++ op.Note p text ∷ [])
@@ -254,7 +283,7 @@ pop_mode (m ∷ ms) = ms
 abbrev pub push_head : Option NodeId → Open → List Op → Config
 push_head None b o = on b o
 push_head (Some i) b o =
-    if room b then on (record b { stack = record { id = i; name = Known word.Head } ∷ b.stack }) o else config b o (Leave next.Deep)
+    if room b then on (record b { stack = record { id = i; name = Known word.Head; html_point = false } ∷ b.stack }) o else config b o (Leave next.Deep)
 
 -- the end tag `form` (13.2.6.4.7) where no template is open: the form element pointer's element, in scope, is taken off the
 -- stack wherever it stands
@@ -281,11 +310,36 @@ abbrev pub stop_at_script : List OpenElement → Open → List Op → Config
 stop_at_script [] b o = config b o (Leave next.Done)
 stop_at_script (e ∷ es) b o = config (record b { stack = es }) o (Leave (next.Script e.id))
 
+-- ---- foreign content is left (13.2.6.5)
+
+-- popped while the current node is neither an HTML element nor an integration point
+abbrev pub pop_foreign : List OpenElement → List OpenElement
+pop_foreign [] = []
+pop_foreign (e ∷ es) = if is_html_or_point e then e ∷ es else pop_foreign es
+
+abbrev pub break_out : Open → List Op → Config
+break_out b o = config (record b { stack = pop_foreign b.stack }) o (Leave (next.Using b.mode))
+
+-- "Any other end tag", from the current node up: the stack `all` with the element of that name popped, or as it is where the first element is
+-- met; none where an HTML element comes before
+abbrev pub foreign_end : List ℕ → List OpenElement → List OpenElement → Option (List OpenElement)
+foreign_end name all [] = Some all
+foreign_end name all (e ∷ []) = Some all
+foreign_end name all (e ∷ d ∷ es) =
+    if is_lower_of (name_text e.name) name then Some (d ∷ es) else (if is_html d.name then None else foreign_end name all (d ∷ es))
+
+abbrev pub end_foreign_with : Option (List OpenElement) → Open → List Op → Config
+end_foreign_with None b o = config b o (Leave (next.Using b.mode))
+end_foreign_with (Some es) b o = on (record b { stack = es }) o
+
+abbrev pub end_foreign : Tag → Open → List Op → Config
+end_foreign tag b o = end_foreign_with (foreign_end (name_text tag.name) b.stack b.stack) b o
+
 -- ---- the adoption agency algorithm (13.2.6.4.7) is asked for
 
 abbrev pub adopt_name : Name → Open → List Op → Config
 adopt_name (Known w) b o = config b o (Leave (next.Adopt w Nothing))
-adopt_name (Other text) b o = on b o
+adopt_name (Other s text) b o = on b o
 
 abbrev pub adopt_own : Tag → Open → List Op → Config
 adopt_own tag b o = adopt_name tag.name b o
@@ -308,7 +362,10 @@ step ins.InsertRootA t b o = insert_root (tag_of word.Html) b o
 step ins.Void t b o = for_tag void t b o
 step (ins.VoidA w) t b o = void (tag_of w) b o
 step (ins.VoidAs w) t b o = for_tag (void_as w) t b o
+step ins.InsertForeign t b o = for_tag insert_foreign t b o
+step (ins.InsertIn s) t b o = for_tag (insert_in s) t b o
 step ins.InsertText t b o = insert_text t b o
+step ins.InsertReplacement t b o = insert_replacement b o
 step ins.InsertComment t b o = insert_comment (here b) t b o
 step ins.CommentToPage t b o = insert_comment Page t b o
 step ins.CommentToRoot t b o = insert_comment (end_of (first_open b.stack)) t b o
@@ -323,6 +380,8 @@ step (ins.ImpliedBut w) t b o = on (record b { stack = implied (is_meant w t) b.
 step (ins.Close s w) t b o = on (record b { stack = close s (is_meant w t) b.stack }) o
 step (ins.CloseItem w) t b o = on (record b { stack = close_item (is_meant w t) b.stack }) o
 step ins.AnyOtherEnd t b o = on (record b { stack = other_end (is_meant who.Own t) b.stack }) o
+step ins.BreakOut t b o = break_out b o
+step ins.ForeignEnd t b o = for_tag end_foreign t b o
 step ins.Reconstruct t b o = reconstruct b o
 step ins.List t b o = for_tag enlist t b o
 step ins.Marker t b o = on (record b { formats = Marker ∷ b.formats }) o

@@ -5,18 +5,16 @@ use Rattle.html_types.specs.Names.{name_text}
 use Rattle.html_types.specs.declared.attributes.Attribute.{Attribute}
 use Rattle.html_types.specs.declared.word.Word.{Word}
 use Rattle.html_types.specs.declared.word.Word.TheVariants.{Area, Base, Basefont, Bgsound, Br, Col, Embed, Frame, Hr, Img, Input, Keygen, Link, Meta, Param, Source, Track, Wbr, Style, Script, Xmp, Iframe, Noembed, Noframes, Plaintext, Noscript}
-use Rattle.html_types.specs.declared.name.Name.{Name}
-use Rattle.html_types.specs.declared.name.Name.TheVariants.{Known, Other}
 use Rattle.html_types.specs.declared.tree.Kind.{Kind}
 use Rattle.html_types.specs.declared.tree.Kind.TheVariants as kind
 use Rattle.standard.specs.Rows.{is_among}
 use Rattle.standard.specs.Tree.{Nodes, kind_of, parent_of, shown_of, fold_nodes}
 
--- elements without an end tag; their children are not shown
+-- HTML elements without an end tag; their children are not shown
 abbrev pub void_words : List Word
 void_words = Area ∷ Base ∷ Basefont ∷ Bgsound ∷ Br ∷ Col ∷ Embed ∷ Frame ∷ Hr ∷ Img ∷ Input ∷ Keygen ∷ Link ∷ Meta ∷ Param ∷ Source ∷ Track ∷ Wbr ∷ []
 
--- elements under which text stands as it is
+-- HTML elements under which text stands as it is
 abbrev pub literal_words : List Word
 literal_words = Style ∷ Script ∷ Xmp ∷ Iframe ∷ Noembed ∷ Noframes ∷ Plaintext ∷ Noscript ∷ []
 

@@ -22,6 +22,7 @@ use Rattle.html_types.specs.declared.operation.Op.{Op}
 use Rattle.html_types.specs.declared.open.Open.{Open}
 use Rattle.standard.specs.Entities.{Entities}
 use Rattle.standard.specs.Step.{in_text}
+use Rattle.standard.specs.Foreign.{is_foreign}
 use Rattle.standard.specs.Tokenizer.{Reached, read, read_end}
 use Rattle.standard.specs.Rules.{Answer, construct}
 
@@ -65,7 +66,7 @@ AreSame p q = record p { open_state = record p.open_state { next = q.open_state.
 
 abbrev pub word_of : Name → Option Word
 word_of (Known w) = Some w
-word_of (Other t) = None
+word_of (Other s t) = None
 
 abbrev pub word_of_tag : Token → Option Word
 word_of_tag (StartTag tag) = word_of tag.name
@@ -108,8 +109,8 @@ unfoldable pub take_character : Entities → Parser → ℕ → Took
 take_character es p c = elim (p.after_cr && (c == 10)) [
   | true ↦ took [] (record p { after_cr = false }) stop.InputEnd
   | false ↦ elim (c == 13) [
-    | true ↦ built p true (read es p.tokenizer 10)
-    | false ↦ built p false (read es p.tokenizer c)
+    | true ↦ built p true (read es (is_foreign p.open_state) p.tokenizer 10)
+    | false ↦ built p false (read es (is_foreign p.open_state) p.tokenizer c)
   ]
 ]
 
@@ -139,7 +140,7 @@ build_end s cr (t ∷ ts) b =
     after_all a.ops (build_end_on s cr a.open_state (build_end s cr ts a.open_state) a.next)
 
 unfoldable pub finish : Entities → Parser → Finished
-finish es p = let r = read_end es p.tokenizer in build_end r.state p.after_cr r.tokens p.open_state
+finish es p = let r = read_end es (is_foreign p.open_state) p.tokenizer in build_end r.state p.after_cr r.tokens p.open_state
 
 -- ---- a text, up to the first stop
 

@@ -19,7 +19,7 @@ has_word (x ∷ xs) w = sameb the_type w x || has_word xs w
 -- the name is one of these words
 abbrev pub is_among : List Word → Name → Bool
 is_among ws (Known w) = has_word ws w
-is_among ws (Other t) = false
+is_among ws (Other s t) = false
 
 -- the first row that has the name; where none has it, the last instructions
 abbrev pub row_for : List (List Word × List Instr) → List Instr → Name → List Instr

@@ -3,11 +3,10 @@ use Rattle.std.specs.Prelude.{ℕ, Bool, false, ◌==◌, ◌&&◌, if◌then◌
 use Rattle.std.proofs.Common.{zero, suc}
 use Rattle.html_types.specs.declared.word.Word.{Word}
 use Rattle.html_types.specs.declared.name.Name.{Name}
-use Rattle.html_types.specs.declared.name.Name.TheVariants.{Known, Other}
 use Rattle.html_types.specs.declared.instruction.Instr.{Instr}
 use Rattle.html_types.specs.declared.instruction.Instr.TheVariants as ins
 use Rattle.html_types.specs.declared.instruction.Mode.{Mode}
-use Rattle.html_types.specs.declared.instruction.Mode.TheVariants.{Initial, BeforeHtml, BeforeHead, InHead, AfterHead, InBody, InText, InTable, InTableText, InCaption, InColumnGroup, InTableBody, InRow, InCell, InSelect, InSelectInTable, InTemplate, AfterBody, InFrameset, AfterFrameset, AfterAfterBody, AfterAfterFrameset}
+use Rattle.html_types.specs.declared.instruction.Mode.TheVariants.{Initial, BeforeHtml, BeforeHead, InHead, AfterHead, InBody, InText, InTable, InTableText, InCaption, InColumnGroup, InTableBody, InRow, InCell, InSelect, InSelectInTable, InTemplate, AfterBody, InFrameset, AfterFrameset, AfterAfterBody, AfterAfterFrameset, InForeign}
 use Rattle.html_types.specs.declared.instruction.Flow.{Flow}
 use Rattle.html_types.specs.declared.instruction.Flow.TheVariants.{On, Skip, Leave}
 use Rattle.html_types.specs.declared.instruction.Next.{Next}
@@ -19,12 +18,14 @@ use Rattle.html_types.specs.declared.operation.Op.{Op}
 use Rattle.html_types.specs.declared.open.Open.{Open}
 use Rattle.standard.specs.WhiteSpace.{is_space}
 use Rattle.standard.specs.Rows.{row_for}
+use Rattle.standard.specs.Foreign.{adjusted, goes_foreign}
 use Rattle.standard.specs.Instructions.{Config, on, run}
 use Rattle.standard.specs.Adoption.{Adopted, adopt}
 use Rattle.standard.specs.RulesHead.{initial_doctype, initial_anything, before_html_start, before_html_end, before_html_anything, before_head_start, before_head_end, before_head_anything, in_head_start, in_head_end, in_head_anything, after_head_start, after_head_end, after_head_anything}
 use Rattle.standard.specs.RulesBody.{in_body_space, in_body_character, in_body_start, in_body_any_start, in_body_end, in_body_any_end, in_body_end_of_file, after_adopt, in_text_end_of_file, in_text_end, in_text_any_end, after_body_start, after_body_end, after_body_anything, after_after_body_start, after_after_body_anything}
 use Rattle.standard.specs.RulesTable.{in_table_character, in_table_start, in_table_any_start, in_table_end, in_table_any_end, in_table_text_anything, in_caption_start, in_caption_end, in_caption_anything, in_column_group_start, in_column_group_end, in_column_group_anything, in_table_body_start, in_table_body_end, in_table_body_anything, in_row_start, in_row_end, in_row_anything, in_cell_start, in_cell_end, in_cell_anything}
 use Rattle.standard.specs.RulesRest.{in_select_start, in_select_any_start, in_select_end, in_select_any_end, in_select_in_table_start, in_select_in_table_end, in_select_in_table_anything, in_template_start, in_template_any_start, in_template_end, in_template_any_end, in_template_end_of_file, in_frameset_start, in_frameset_end, in_frameset_anything, after_frameset_start, after_frameset_end, after_frameset_anything, after_after_frameset_start, after_after_frameset_anything}
+use Rattle.standard.specs.RulesForeign.{in_foreign_character, in_foreign_any_start, in_foreign_end, in_foreign_any_end}
 
 -- ---- the table
 
@@ -52,6 +53,7 @@ character_row InFrameset c = if is_space c then ins.InsertText ∷ [] else in_fr
 character_row AfterFrameset c = if is_space c then ins.InsertText ∷ [] else after_frameset_anything
 character_row AfterAfterBody c = if is_space c then ins.Using InBody ∷ [] else after_after_body_anything
 character_row AfterAfterFrameset c = if is_space c then ins.Using InBody ∷ [] else after_after_frameset_anything
+character_row InForeign c = in_foreign_character c
 
 -- a start tag
 abbrev pub start_row : Mode → Name → List Instr
@@ -77,6 +79,7 @@ start_row InFrameset n = row_for in_frameset_start in_frameset_anything n
 start_row AfterFrameset n = row_for after_frameset_start after_frameset_anything n
 start_row AfterAfterBody n = row_for after_after_body_start after_after_body_anything n
 start_row AfterAfterFrameset n = row_for after_after_frameset_start after_after_frameset_anything n
+start_row InForeign n = in_foreign_any_start
 
 -- an end tag
 abbrev pub end_row : Mode → Name → List Instr
@@ -102,6 +105,7 @@ end_row InFrameset n = row_for in_frameset_end in_frameset_anything n
 end_row AfterFrameset n = row_for after_frameset_end after_frameset_anything n
 end_row AfterAfterBody n = after_after_body_anything
 end_row AfterAfterFrameset n = after_after_frameset_anything
+end_row InForeign n = row_for in_foreign_end in_foreign_any_end n
 
 -- where a mode says nothing of comments they go to the appropriate place
 abbrev pub comment_row : Mode → List Instr
@@ -144,8 +148,9 @@ end_of_file_row InFrameset = ins.Finish ∷ []
 end_of_file_row AfterFrameset = ins.Finish ∷ []
 end_of_file_row AfterAfterBody = ins.Finish ∷ []
 end_of_file_row AfterAfterFrameset = ins.Finish ∷ []
+end_of_file_row InForeign = []
 
--- the row of a mode for a token
+-- the row of a mode for a token, or of the rules for foreign content
 unfoldable pub row : Mode → Token → List Instr
 row m (StartTag tag) = start_row m tag.name
 row m (EndTag tag) = end_row m tag.name
@@ -195,16 +200,20 @@ by_rules m t b o =
     let a : Answer = by_mode m t b o in
     with_adoption t a.open_state a.ops a.next
 
+-- the tree construction dispatcher (13.2.6): the rules that a token goes by
+abbrev pub rules_for : Token → Open → Mode
+rules_for t b = if goes_foreign t (adjusted b) then InForeign else b.mode
+
 -- the rules that the token is to go by once more, or what comes next
 pub data Round : Type 0 where
   once : Mode → Round
   stop : Next → Round
 
-abbrev pub round_after : Open → Next → Round
-round_after b next.Again = once b.mode
-round_after b (next.Using m) = once m
-round_after b next.Foster = once InBody
-round_after b n = stop n
+abbrev pub round_after : Token → Open → Next → Round
+round_after t b next.Again = once (rules_for t b)
+round_after t b (next.Using m) = once m
+round_after t b next.Foster = once InBody
+round_after t b n = stop n
 
 -- what the round comes to; `more` is processing the token by the rules of a mode
 abbrev pub go_round : (Mode → Answer) → Open → List Op → Round → Answer
@@ -217,7 +226,7 @@ unfoldable pub process : ℕ → Mode → Token → Open → List Op → Answer
 process zero m t b o = answer b o next.Again
 process (suc n) m t b o =
     let a : Answer = by_rules m t b o in
-    go_round (λ m'. process n m' t a.open_state a.ops) a.open_state a.ops (round_after a.open_state a.next)
+    go_round (λ m'. process n m' t a.open_state a.ops) a.open_state a.ops (round_after t a.open_state a.next)
 
 -- no token goes by more rules than this
 abbrev pub rounds : ℕ
@@ -235,4 +244,4 @@ settled_answer a = record a { open_state = record a.open_state { foster = false 
 unfoldable pub construct : Token → Open → List Op → Answer
 construct t b o =
     let b' : Open = record b { skip_line_feed = false } in
-    settled_answer (if b.skip_line_feed && is_line_feed t then answer b' o next.Done else process rounds b.mode t b' o)
+    settled_answer (if b.skip_line_feed && is_line_feed t then answer b' o next.Done else process rounds (rules_for t b) t b' o)

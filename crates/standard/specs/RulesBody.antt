@@ -2,13 +2,14 @@
 -- body" (13.2.6.4.22): what is done at each token.
 use Rattle.std.specs.Prelude.{Bool, true, false, List, [], ◌∷◌}
 use Rattle.html_types.specs.declared.word.Word.{Word}
-use Rattle.html_types.specs.declared.word.Word.TheVariants.{A, Address, Applet, Area, Article, Aside, B, Base, Basefont, Bgsound, Big, Blockquote, Body, Br, Button, Caption, Center, Code, Col, Colgroup, Dd, Details, Dialog, Dir, Div, Dl, Dt, Em, Embed, Fieldset, Figcaption, Figure, Font, Footer, Form, Frame, Frameset, H1, H2, H3, H4, H5, H6, Head, Header, Hgroup, Hr, Html, I, Iframe, Image, Img, Input, Keygen, Li, Link, Listing, Main, Marquee, Menu, Meta, Nav, Nobr, Noembed, Noframes, Noscript, Object, Ol, Optgroup, Option, P, Param, Plaintext, Pre, Rb, Rp, Rt, Rtc, Ruby, S, Script, Search, Section, Select, Small, Source, Strike, Strong, Style, Summary, Table, Tbody, Td, Template, Textarea, Tfoot, Th, Thead, Title, Tr, Track, Tt, U, Ul, Wbr, Xmp}
+use Rattle.html_types.specs.declared.word.Word.TheVariants.{A, Address, Applet, Area, Article, Aside, B, Base, Basefont, Bgsound, Big, Blockquote, Body, Br, Button, Caption, Center, Code, Col, Colgroup, Dd, Details, Dialog, Dir, Div, Dl, Dt, Em, Embed, Fieldset, Figcaption, Figure, Font, Footer, Form, Frame, Frameset, H1, H2, H3, H4, H5, H6, Head, Header, Hgroup, Hr, Html, I, Iframe, Image, Img, Input, Keygen, Li, Link, Listing, Main, Marquee, Math, Menu, Meta, Nav, Nobr, Noembed, Noframes, Noscript, Object, Ol, Optgroup, Option, P, Param, Plaintext, Pre, Rb, Rp, Rt, Rtc, Ruby, S, Script, Search, Section, Select, Small, Source, Strike, Strong, Style, Summary, Svg, Table, Tbody, Td, Template, Textarea, Tfoot, Th, Thead, Title, Tr, Track, Tt, U, Ul, Wbr, Xmp}
+use Rattle.html_types.specs.declared.name.Space.TheVariants as space
 use Rattle.html_types.specs.declared.instruction.Instr.{Instr}
-use Rattle.html_types.specs.declared.instruction.Instr.TheVariants.{Need, Forbid, When, Unless, Insert, InsertA, Void, VoidA, VoidAs, InsertText, Pop, Until, PopToRoot, Implied, ImpliedBut, Close, CloseItem, AnyOtherEnd, Reconstruct, Marker, ClearToMarker, TakeOff, NotOk, SkipLineFeed, PointForm, EndForm, AddToFirst, AddToSecond, DetachSecond, Enter, KeepMode, Restore, Adopt, AdoptAnchor, AdoptNobr, Switch, Using, Again, StopAtScript, Finish}
+use Rattle.html_types.specs.declared.instruction.Instr.TheVariants.{Need, Forbid, When, Unless, Insert, InsertA, InsertIn, Void, VoidA, VoidAs, InsertText, Pop, Until, PopToRoot, Implied, ImpliedBut, Close, CloseItem, AnyOtherEnd, Reconstruct, Marker, ClearToMarker, TakeOff, NotOk, SkipLineFeed, PointForm, EndForm, AddToFirst, AddToSecond, DetachSecond, Enter, KeepMode, Restore, Adopt, AdoptAnchor, AdoptNobr, Switch, Using, Again, StopAtScript, Finish}
 use Rattle.html_types.specs.declared.instruction.Instr.TheVariants as ins
 use Rattle.html_types.specs.declared.instruction.Then.{Then}
 use Rattle.html_types.specs.declared.instruction.Then.TheVariants as behind
-use Rattle.html_types.specs.declared.instruction.Test.TheVariants.{InScope, Current, OnStack, Listed, Quirks, SecondIsBody, FramesetOk, InForm, HiddenInput, InTemplates, InTables}
+use Rattle.html_types.specs.declared.instruction.Test.TheVariants.{InScope, Current, OnStack, Listed, Quirks, SecondIsBody, FramesetOk, InForm, HiddenInput, InTemplates, InTables, SelfClosing}
 use Rattle.html_types.specs.declared.instruction.Who.TheVariants.{Own, The, Any}
 use Rattle.html_types.specs.declared.instruction.Group.TheVariants.{Headings, DefinitionItems}
 use Rattle.html_types.specs.declared.instruction.Scope.TheVariants as scope
@@ -114,6 +115,12 @@ in_body_start = (
 ) ∷ (
   Rp ∷ Rt ∷ [],
   When (InScope scope.Default (The Ruby)) ∷ ImpliedBut (The Rtc) ∷ Insert ∷ [],
+) ∷ (
+  Math ∷ [],
+  Reconstruct ∷ InsertIn space.MathMl ∷ When SelfClosing ∷ Pop ∷ [],
+) ∷ (
+  Svg ∷ [],
+  Reconstruct ∷ InsertIn space.Svg ∷ When SelfClosing ∷ Pop ∷ [],
 ) ∷ (
   Caption ∷ Col ∷ Colgroup ∷ Frame ∷ Head ∷ Tbody ∷ Td ∷ Tfoot ∷ Th ∷ Thead ∷ Tr ∷ [],
   [],

@@ -1,5 +1,5 @@
 -- The tokenizer (13.2.5): its rows, closed under reconsuming, and folded over a text.
-use Rattle.std.specs.Prelude.{ℕ, List, [], ◌∷◌, ◌++◌, if◌then◌else◌}
+use Rattle.std.specs.Prelude.{ℕ, Bool, List, [], ◌∷◌, ◌++◌, if◌then◌else◌}
 use Rattle.std.proofs.Common.{zero, suc}
 use Rattle.html_types.specs.declared.token.Token.{Token}
 use Rattle.html_types.specs.declared.state.TokState.{TokState}
@@ -14,12 +14,13 @@ use Rattle.standard.specs.TagStates.{tag_row}
 use Rattle.standard.specs.MarkStates.{mark_row}
 use Rattle.standard.specs.ReferenceStates.{reference_row}
 
--- the table: the row of a state for a class of characters, or for the end of the input
-abbrev pub row : Entities → TokState → Class → ℕ → Step
-row es (group.Text s) k c = text_row s k c
-row es (group.Tag s) k c = tag_row s k c
-row es (group.Mark s) k c = mark_row s k c
-row es (group.Reference s) k c = reference_row es s k c
+-- The table: the row of a state for a class of characters, or for the end of the input. The flag says that there is an adjusted current
+-- node (13.2.4.2) that isn't an HTML element.
+abbrev pub row : Entities → Bool → TokState → Class → ℕ → Step
+row es f (group.Text s) k c = text_row s k c
+row es f (group.Tag s) k c = tag_row s k c
+row es f (group.Mark s) k c = mark_row f s k c
+row es f (group.Reference s) k c = reference_row es s k c
 
 -- the tokens that were made, and the state
 pub record Reached : Type 0 where
@@ -31,33 +32,33 @@ abbrev pub after_tokens : List Token → Reached → Reached
 after_tokens ts m = record { tokens = ts ++ m.tokens; state = m.state }
 
 -- a character, or the end, read at most so many times
-unfoldable pub settle : Entities → ℕ → TokState → Class → ℕ → Reached
-settle es zero s k c = record { tokens = []; state = s }
-settle es (suc n) s k c =
-    let r = row es s k c in
-    if r.again then after_tokens r.tokens (settle es n r.state k c) else record { tokens = r.tokens; state = r.state }
+unfoldable pub settle : Entities → Bool → ℕ → TokState → Class → ℕ → Reached
+settle es f zero s k c = record { tokens = []; state = s }
+settle es f (suc n) s k c =
+    let r = row es f s k c in
+    if r.again then after_tokens r.tokens (settle es f n r.state k c) else record { tokens = r.tokens; state = r.state }
 
 -- no row asks for more readings of one character than this
 abbrev pub readings : ℕ
 readings = 5
 
 -- a character of a class, or the end
-abbrev pub reading : Entities → TokState → Class → ℕ → Reached
-reading es s k c = settle es readings s k c
+abbrev pub reading : Entities → Bool → TokState → Class → ℕ → Reached
+reading es f s k c = settle es f readings s k c
 
 -- one character
-abbrev pub read : Entities → TokState → ℕ → Reached
-read es s c = reading es s (class_of c) c
+abbrev pub read : Entities → Bool → TokState → ℕ → Reached
+read es f s c = reading es f s (class_of c) c
 
 -- the end of the input
-abbrev pub read_end : Entities → TokState → Reached
-read_end es s = reading es s InputEnd 0
+abbrev pub read_end : Entities → Bool → TokState → Reached
+read_end es f s = reading es f s InputEnd 0
 
--- a text
-unfoldable pub feed : Entities → TokState → List ℕ → Reached
-feed es s [] = record { tokens = []; state = s }
-feed es s (c ∷ cs) = after_tokens (read es s c).tokens (feed es (read es s c).state cs)
+-- a text, with one flag for all of it
+unfoldable pub feed : Entities → Bool → TokState → List ℕ → Reached
+feed es f s [] = record { tokens = []; state = s }
+feed es f s (c ∷ cs) = after_tokens (read es f s c).tokens (feed es f (read es f s c).state cs)
 
 -- on from where the tokenizer is, over a text
-abbrev pub onward : Entities → Reached → List ℕ → Reached
-onward es m cs = after_tokens m.tokens (feed es m.state cs)
+abbrev pub onward : Entities → Bool → Reached → List ℕ → Reached
+onward es f m cs = after_tokens m.tokens (feed es f m.state cs)

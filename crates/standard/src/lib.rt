@@ -1,8 +1,9 @@
 //! The definitions of the parser, in the terms of the WHATWG HTML Standard. Their laws stand in `tokenizer_laws`, `rule_laws` and
 //! `standard_laws`, worked pages in `standard_examples`.
 //!
-//! Reading order of `specs/`: Class, Step, TextStates, EscapeStates, TagStates, CommentStates, DoctypeStates, MarkStates,
-//! Entities, ReferenceStates, Tokenizer (13.2.5); WhiteSpace, Groups, Elements, Stack, Reset, Formatting, Instructions
-//! (13.2.4); Rows, RulesHead, RulesBody, RulesTable, RulesRest, Adoption, Rules (13.2.6); Tree, Act, Outer, Dump (the tree
-//! and its texts); Page, Statements, Prepare, Scripts (scripts and their files); Parser, Serial (the serial parse); Output.
+//! Reading order of `specs/`: Class, Step, TextStates, EscapeStates, TagStates, CommentStates, DoctypeStates,
+//! CdataStates, MarkStates, Entities, ReferenceStates, Tokenizer (13.2.5); WhiteSpace, Groups, ForeignNames, Elements,
+//! Stack, Reset, Formatting, Foreign, Instructions (13.2.4); Rows, RulesHead, RulesBody, RulesTable, RulesRest,
+//! RulesForeign, Adoption, Rules (13.2.6); Tree, Act, Outer, Dump (the tree and its texts); Page, Statements, Prepare,
+//! Scripts (scripts and their files); Parser, Serial (the serial parse); Output.
 #![tactic(auto)]

@@ -77,3 +77,15 @@ a_refused_page : option_map (output_with true) (serial_with 10000 (record { text
     ≡ Some (codes "syntax 1\nrefused bad-utf8\n")
 unfolding serial_on_literals dump_lines output_with
 a_refused_page = refl
+
+-- a foreign element's name has its namespace before it, and attributes have their names as they are respelt; in svg a `math` is of SVG
+foreign_elements : option_map (output_with true) (serial_with 10000 (record { text = codes "<svg viewbox=0><lineargradient/><math></svg><math definitionurl=u viewbox=v><mi xlink:href=h>x"; ending = ending.End }) (without_files []))
+    ≡ Some (codes "node 0 element \"html\"\nnode 1 element \"head\"\nnode 1 element \"body\"\nnode 2 element \"svg svg\" \"viewBox\" \"0\"\nnode 3 element \"svg linearGradient\"\nnode 3 element \"svg math\"\nnode 2 element \"math math\" \"definitionURL\" \"u\" \"viewbox\" \"v\"\nnode 3 element \"math mi\" \"xlink:href\" \"h\"\nnode 4 text \"x\"\nend\n")
+unfolding serial_on_literals dump_lines output_with
+foreign_elements = refl
+
+-- a template of SVG has no contents
+foreign_template : option_map (output_with true) (serial_with 10000 (record { text = codes "<svg><template>a"; ending = ending.End }) (without_files []))
+    ≡ Some (codes "node 0 element \"html\"\nnode 1 element \"head\"\nnode 1 element \"body\"\nnode 2 element \"svg svg\"\nnode 3 element \"svg template\"\nnode 4 text \"a\"\nend\n")
+unfolding serial_on_literals dump_lines output_with
+foreign_template = refl

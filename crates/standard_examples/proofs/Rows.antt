@@ -1,5 +1,5 @@
 -- Worked pages: what is written for each, by computation.
-use Rattle.std.proofs.Common.{◌≡◌, ℕ, zero, suc, ◌++◌, true, false, List, [], Option, Some, option_map, refl, codes}
+use Rattle.std.proofs.Common.{◌≡◌, ℕ, zero, suc, ◌++◌, true, false, List, [], ◌∷◌, Option, Some, option_map, refl, codes}
 use Prim.Native.String.{String}
 use Rattle.std.specs.Prelude.{encode_utf8_all}
 use Rattle.html_types.specs.declared.script.Ending.{Ending}
@@ -97,3 +97,19 @@ comment_begun_by_a_write : written_for (codes "<script>document.write(\"<!--\");
     ≡ Some (encode_utf8_all (codes "tree \"<html><head><script>document.write(\\\"<!--\\\");</script><!--" ++ times 600 (codes "<div>") ++ codes "--></head><body></body></html>\"\n"))
 unfolding serial_on_literals
 comment_begun_by_a_write = refl
+
+-- ---- NUL in foreign content
+
+nul_in_svg : written_for (codes "<svg>a" ++ 0 ∷ codes "<![CDATA[" ++ 0 ∷ codes "]]>") ending.End ≡ wants "tree \"<html><head></head><body><svg>a��</svg></body></html>\"\n"
+unfolding serial_on_literals
+nul_in_svg = refl
+
+-- at an integration point it is left out
+nul_in_desc : written_for (codes "<svg><desc>a" ++ 0 ∷ codes "<![CDATA[" ++ 0 ∷ codes "]]>b") ending.End ≡ wants "tree \"<html><head></head><body><svg><desc>ab</desc></svg></body></html>\"\n"
+unfolding serial_on_literals
+nul_in_desc = refl
+
+-- it and white space leave a frameset possible
+nul_before_a_frameset : written_for (codes "<svg> " ++ 0 ∷ codes "</svg><frameset>") ending.End ≡ wants "tree \"<html><head></head><frameset></frameset></html>\"\n"
+unfolding serial_on_literals
+nul_before_a_frameset = refl

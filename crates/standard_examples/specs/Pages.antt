@@ -463,3 +463,126 @@ framesets =
     -- comments beside framesets
     record { page = "<frameset><!--a--></frameset><!--b--></html><!--c-->"; text = "tree \"<html><head></head><frameset><!--a--></frameset><!--b--></html><!--c-->\"\n" } ∷
     []
+
+-- svg and math
+abbrev pub foreign_content : List Example
+foreign_content =
+    -- attributes and an element respelled; a foreignObject stays open at the end of its svg
+    record { page = "<svg viewbox=\"0\"><foreignobject><p>a</svg>b"; text = "tree \"<html><head></head><body><svg viewBox=\\\"0\\\"><foreignObject><p>ab</p></foreignObject></svg></body></html>\"\n" } ∷
+    -- a CDATA section in svg, and none outside
+    record { page = "<svg><![CDATA[a<b]]></svg><![CDATA[c]]>"; text = "tree \"<html><head></head><body><svg>a&lt;b</svg><!--[CDATA[c]]--></body></html>\"\n" } ∷
+    -- brackets in a CDATA section
+    record { page = "<svg><![CDATA[a]b]]c]]]></svg>"; text = "tree \"<html><head></head><body><svg>a]b]]c]</svg></body></html>\"\n" } ∷
+    -- a CDATA section cut by the end
+    record { page = "<svg><![CDATA[x]]"; text = "tree \"<html><head></head><body><svg>x]]</svg></body></html>\"\n" } ∷
+    -- in small letters it is a comment
+    record { page = "<svg><![cdata[x]]></svg>"; text = "tree \"<html><head></head><body><svg><!--[cdata[x]]--></svg></body></html>\"\n" } ∷
+    -- a CDATA section at an integration point
+    record { page = "<math><mi><![CDATA[<]]></mi>"; text = "tree \"<html><head></head><body><math><mi>&lt;</mi></math></body></html>\"\n" } ∷
+    -- foreign content is left at p
+    record { page = "<svg><g><p>y"; text = "tree \"<html><head></head><body><svg><g></g></svg><p>y</p></body></html>\"\n" } ∷
+    -- a script of svg never runs
+    record { page = "<svg><script>document.write(\"n\");</script></svg>m"; text = "tree \"<html><head></head><body><svg><script>document.write(\\\"n\\\");</script></svg>m</body></html>\"\n" } ∷
+    -- a script that closes itself
+    record { page = "<svg><script/>x"; text = "tree \"<html><head></head><body><svg><script></script>x</svg></body></html>\"\n" } ∷
+    -- mglyph is of MathML at a text integration point
+    record { page = "<math><mi>a<mglyph></mi>b"; text = "tree \"<html><head></head><body><math><mi>a<mglyph></mglyph></mi>b</math></body></html>\"\n" } ∷
+    -- other start tags there are of HTML
+    record { page = "<math><mo><p>a</mo>b"; text = "tree \"<html><head></head><body><math><mo><p>ab</p></mo></math></body></html>\"\n" } ∷
+    -- a title of svg is no RCDATA
+    record { page = "<svg><title><p>x</title>"; text = "tree \"<html><head></head><body><svg><title><p>x</p></title></svg></body></html>\"\n" } ∷
+    -- annotation-xml of an encoding of HTML
+    record { page = "<math><annotation-xml encoding=\"Text/HTML\"><p>a"; text = "tree \"<html><head></head><body><math><annotation-xml encoding=\\\"Text/HTML\\\"><p>a</p></annotation-xml></math></body></html>\"\n" } ∷
+    -- annotation-xml of none
+    record { page = "<math><annotation-xml><p>a"; text = "tree \"<html><head></head><body><math><annotation-xml></annotation-xml></math><p>a</p></body></html>\"\n" } ∷
+    -- svg in annotation-xml
+    record { page = "<math><annotation-xml><svg>a"; text = "tree \"<html><head></head><body><math><annotation-xml><svg>a</svg></annotation-xml></math></body></html>\"\n" } ∷
+    -- font with a color leaves svg
+    record { page = "<svg><font color=x>a"; text = "tree \"<html><head></head><body><svg></svg><font color=\\\"x\\\">a</font></body></html>\"\n" } ∷
+    -- font without is of svg
+    record { page = "<svg><font>a"; text = "tree \"<html><head></head><body><svg><font>a</font></svg></body></html>\"\n" } ∷
+    -- the end of p leaves svg
+    record { page = "<svg></p>a"; text = "tree \"<html><head></head><body><svg></svg><p></p>a</body></html>\"\n" } ∷
+    -- svg in a table is foster parented
+    record { page = "<table><svg>x"; text = "tree \"<html><head></head><body><svg>x</svg><table></table></body></html>\"\n" } ∷
+    -- a cell in desc is left out
+    record { page = "<svg><desc><td>x"; text = "tree \"<html><head></head><body><svg><desc>x</desc></svg></body></html>\"\n" } ∷
+    -- an attribute of MathML
+    record { page = "<math definitionurl=x viewbox=y>"; text = "tree \"<html><head></head><body><math definitionURL=\\\"x\\\" viewbox=\\\"y\\\"></math></body></html>\"\n" } ∷
+    -- attributes and elements of svg
+    record { page = "<svg clippathunits=1><clippath/><g definitionurl=x />"; text = "tree \"<html><head></head><body><svg clipPathUnits=\\\"1\\\"><clipPath></clipPath><g definitionurl=\\\"x\\\"></g></svg></body></html>\"\n" } ∷
+    -- an end tag is compared in lower case
+    record { page = "<svg><foreignobject></foreignobject>a"; text = "tree \"<html><head></head><body><svg><foreignObject></foreignObject>a</svg></body></html>\"\n" } ∷
+    -- a template of svg has no contents
+    record { page = "<svg><template>a"; text = "tree \"<html><head></head><body><svg><template>a</template></svg></body></html>\"\n" } ∷
+    -- an end tag of HTML is for HTML elements alone
+    record { page = "<math><mn><s></mn>x"; text = "tree \"<html><head></head><body><math><mn><s>x</s></mn></math></body></html>\"\n" } ∷
+    -- an end tag reaches an HTML element
+    record { page = "<div><svg><g></div>a"; text = "tree \"<html><head></head><body><div><svg><g></g></svg></div>a</body></html>\"\n" } ∷
+    -- mi ends a scope
+    record { page = "<p><math><mi></p>a"; text = "tree \"<html><head></head><body><p><math><mi><p></p>a</mi></math></p></body></html>\"\n" } ∷
+    -- svg that closes itself
+    record { page = "<svg/>a"; text = "tree \"<html><head></head><body><svg></svg>a</body></html>\"\n" } ∷
+    -- an element of svg is void by no name
+    record { page = "<svg><input>a"; text = "tree \"<html><head></head><body><svg><input>a</input></svg></body></html>\"\n" } ∷
+    -- svg begun by a script: then a CDATA section is one
+    record { page = "<div><script>document.write(\"<svg>\");</script><![CDATA[x]]>"; text = "tree \"<html><head></head><body><div><script>document.write(\\\"<svg>\\\");</script><svg>x</svg></div></body></html>\"\n" } ∷
+    -- a CDATA section begun by a script
+    record { page = "<body><script>document.write(\"<svg><![CDA\");</script>TA[<]]>b"; text = "tree \"<html><head></head><body><script>document.write(\\\"<svg><![CDA\\\");</script><svg>&lt;b</svg></body></html>\"\n" } ∷
+    -- svg ended by a script: then it is a comment
+    record { page = "<svg><desc><script>document.write(\"</svg>\");</script><![CDATA[x]]>"; text = "tree \"<html><head></head><body><svg><desc><script>document.write(\\\"</svg>\\\");</script></desc></svg><!--[CDATA[x]]--></body></html>\"\n" } ∷
+    -- a script at an integration point runs
+    record { page = "<svg><desc><script>document.write(\"n\");</script></svg>m"; text = "tree \"<html><head></head><body><svg><desc><script>document.write(\\\"n\\\");</script>n</desc></svg>m</body></html>\"\n" } ∷
+    -- an element of svg is read
+    record { page = "<svg id=s viewbox=0 /><script>console.log(document.getElementById(\"s\").outerHTML);</script>"; text = "log 1 \"<svg id=\\\"s\\\" viewBox=\\\"0\\\"></svg>\"\ntree \"<html><head></head><body><svg id=\\\"s\\\" viewBox=\\\"0\\\"></svg><script>console.log(document.getElementById(\\\"s\\\").outerHTML);</script></body></html>\"\n" } ∷
+    -- comments and doctypes
+    record { page = "<svg><!--a--><!DOCTYPE html>b"; text = "tree \"<html><head></head><body><svg><!--a-->b</svg></body></html>\"\n" } ∷
+    -- style of svg is no RAWTEXT, and its text is escaped
+    record { page = "<svg><style>a>b<g>c"; text = "tree \"<html><head></head><body><svg><style>a&gt;b<g>c</g></style></svg></body></html>\"\n" } ∷
+    -- image keeps its name in foreign content
+    record { page = "<math><image>\na"; text = "tree \"<html><head></head><body><math><image>\\na</image></math></body></html>\"\n" } ∷
+    -- a and other formatting elements of svg are no formatting elements
+    record { page = "<a><svg><a>x</svg>y"; text = "tree \"<html><head></head><body><a><svg><a>x</a></svg>y</a></body></html>\"\n" } ∷
+    -- desc ends a scope: the b outside stays open
+    record { page = "<b><svg><desc><i>x</b>y"; text = "tree \"<html><head></head><body><b><svg><desc><i>xy</i></desc></svg></b></body></html>\"\n" } ∷
+    -- a list item at an integration point: desc is special, and so is li at the end of svg
+    record { page = "<li><svg><desc><li>x</svg>y"; text = "tree \"<html><head></head><body><li><svg><desc><li>xy</li></desc></svg></li></body></html>\"\n" } ∷
+    -- svg at an integration point of svg
+    record { page = "<svg><title><svg></title>x"; text = "tree \"<html><head></head><body><svg><title><svg></svg></title>x</svg></body></html>\"\n" } ∷
+    -- the end of svg ends all that stand in it
+    record { page = "<svg><g><desc></svg>x"; text = "tree \"<html><head></head><body><svg><g><desc></desc></g></svg>x</body></html>\"\n" } ∷
+    -- the end of a paragraph at an element of svg
+    record { page = "<p><svg><g></p>x"; text = "tree \"<html><head></head><body><p><svg><g></g></svg></p>x</body></html>\"\n" } ∷
+    -- the end of br
+    record { page = "<svg></br>x"; text = "tree \"<html><head></head><body><svg></svg><br>x</body></html>\"\n" } ∷
+    -- font with a face, and one with another attribute
+    record { page = "<svg><font x=y></font><font face=z>a"; text = "tree \"<html><head></head><body><svg><font x=\\\"y\\\"></font></svg><font face=\\\"z\\\">a</font></body></html>\"\n" } ∷
+    -- in a cell an element of svg
+    record { page = "<table><tr><td><svg><td></td></svg>x<td>y"; text = "tree \"<html><head></head><body><table><tbody><tr><td><svg><td></td></svg>x</td><td>y</td></tr></tbody></table></body></html>\"\n" } ∷
+    -- a cell at an integration point is another cell
+    record { page = "<table><tr><td><svg><desc><td>x"; text = "tree \"<html><head></head><body><table><tbody><tr><td><svg><desc></desc></svg></td><td>x</td></tr></tbody></table></body></html>\"\n" } ∷
+    -- select has no svg
+    record { page = "<select><svg><option>x"; text = "tree \"<html><head></head><body><select><option>x</option></select></body></html>\"\n" } ∷
+    -- svg in a template
+    record { page = "<template><svg><p>x"; text = "tree \"<html><head><template><svg></svg><p>x</p></template></head><body></body></html>\"\n" } ∷
+    -- text in svg leaves no frameset possible
+    record { page = "<svg>x</svg><frameset>"; text = "tree \"<html><head></head><body><svg>x</svg></body></html>\"\n" } ∷
+    -- svg alone leaves one possible
+    record { page = "<svg><g></svg><frameset>"; text = "tree \"<html><head></head><frameset></frameset></html>\"\n" } ∷
+    -- the end tag of body at an element of svg, and text behind it
+    record { page = "<svg></body>x</svg>y"; text = "tree \"<html><head></head><body><svg>x</svg>y</body></html>\"\n" } ∷
+    -- the end tag of html leaves svg open
+    record { page = "<svg></html><g>"; text = "tree \"<html><head></head><body><svg><g></g></svg></body></html>\"\n" } ∷
+    -- annotation-xml of XHTML, and svg in it
+    record { page = "<math><annotation-xml encoding=\"application/xhtml+XML\"><svg><g></annotation-xml>x"; text = "tree \"<html><head></head><body><math><annotation-xml encoding=\\\"application/xhtml+XML\\\"><svg><g></g></svg></annotation-xml>x</math></body></html>\"\n" } ∷
+    -- annotation-xml of another encoding
+    record { page = "<math><annotation-xml encoding=\"text/html \"><div>a"; text = "tree \"<html><head></head><body><math><annotation-xml encoding=\\\"text/html \\\"></annotation-xml></math><div>a</div></body></html>\"\n" } ∷
+    -- in svg an annotation-xml is no integration point
+    record { page = "<svg><annotation-xml encoding=\"text/html\"><div>a"; text = "tree \"<html><head></head><body><svg><annotation-xml encoding=\\\"text/html\\\"></annotation-xml></svg><div>a</div></body></html>\"\n" } ∷
+    -- a foreignobject of MathML is none
+    record { page = "<math><foreignobject><div>a"; text = "tree \"<html><head></head><body><math><foreignobject></foreignobject></math><div>a</div></body></html>\"\n" } ∷
+    -- attributes with a colon keep their names
+    record { page = "<svg xlink:href=a xml:lang=b xmlns:xlink=c><g XLINK:TITLE=d>"; text = "tree \"<html><head></head><body><svg xlink:href=\\\"a\\\" xml:lang=\\\"b\\\" xmlns:xlink=\\\"c\\\"><g xlink:title=\\\"d\\\"></g></svg></body></html>\"\n" } ∷
+    -- malignmark is of MathML at a text integration point, and math there begins anew
+    record { page = "<math><mtext><malignmark></malignmark><math><mi>x"; text = "tree \"<html><head></head><body><math><mtext><malignmark></malignmark><math><mi>x</mi></math></mtext></math></body></html>\"\n" } ∷
+    []

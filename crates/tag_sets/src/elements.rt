@@ -3,6 +3,7 @@
 ghost use Rattle.std.specs.Prelude.{◌≡◌};
 ghost use Rattle.standard.specs.Elements.{is_word, is_one_of, ends_scope, is_own, is_meant};
 
+use crate::foreign::is_foreign_stop;
 use crate::sets::{is_in, stops_at};
 use html_types::{Group, Name, Scope, Token, Who, Word};
 
@@ -12,7 +13,7 @@ pub fn is_the(word: Word, name: &Name) -> bool
 {
     match name {
         Name::Known(known) => known.same(word),
-        Name::Other(_) => false,
+        Name::Other(_, _) => false,
     }
 }
 
@@ -22,7 +23,10 @@ pub fn is_any(group: Group, name: &Name) -> bool
 {
     match name {
         Name::Known(known) => is_in(group, *known),
-        Name::Other(_) => false,
+        Name::Other(space, text) => match group {
+            Group::Special => is_foreign_stop(*space, text),
+            _ => false,
+        },
     }
 }
 
@@ -32,9 +36,10 @@ pub fn ends(scope: Scope, name: &Name) -> bool
 {
     match name {
         Name::Known(known) => stops_at(scope, *known),
-        Name::Other(_) => match scope {
+        Name::Other(space, text) => match scope {
+            Scope::Default | Scope::ListItem | Scope::Button => is_foreign_stop(*space, text),
+            Scope::Table => false,
             Scope::Select => true,
-            Scope::Default | Scope::ListItem | Scope::Button | Scope::Table => false,
         },
     }
 }

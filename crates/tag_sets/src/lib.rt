@@ -3,7 +3,9 @@
 #![tactic(auto)]
 
 pub mod elements;
+mod foreign;
 pub mod sets;
 
 pub use elements::{ends, is_any, is_the, meant, own};
+pub use foreign::{is_annotation_text, is_foreign_stop, is_math_text, is_svg_point};
 pub use sets::{is_in, stops_at};

@@ -44,6 +44,10 @@ pub chars_doctype : chars (codes "doctype") ≡ codes "doctype"
 unfolding chars
 chars_doctype = refl
 
+pub chars_cdata : chars (codes "[CDATA[") ≡ codes "[CDATA["
+unfolding chars
+chars_cdata = refl
+
 pub chars_public : chars (codes "public") ≡ codes "public"
 unfolding chars
 chars_public = refl

@@ -159,7 +159,12 @@ fn comment_less_than_row(
 }
 
 /// 13.2.5.47 Comment less-than sign bang state
-fn comment_bang_row(text: Text, class: Class, c: char, out: &mut Tokens) -> Result<Transition, NoMemory>
+fn comment_bang_row(
+    text: Text,
+    class: Class,
+    c: char,
+    out: &mut Tokens,
+) -> Result<Transition, NoMemory>
     ensures { IfOk result (Follows (rows.comment_bang_row text class c) out.old out.new) }
 {
     match class {

@@ -83,7 +83,12 @@ fn finish_doctype(name: Text, force_quirks: bool, out: &mut Tokens) -> Result<Tr
 }
 
 /// 13.2.5.53 DOCTYPE state
-fn doctype_row(alloc: Global, class: Class, c: char, out: &mut Tokens) -> Result<Transition, NoMemory>
+fn doctype_row(
+    alloc: Global,
+    class: Class,
+    c: char,
+    out: &mut Tokens,
+) -> Result<Transition, NoMemory>
     ensures { IfOk result (Follows (rows.doctype_row class c) out.old out.new) }
 {
     match class {

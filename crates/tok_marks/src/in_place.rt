@@ -1,6 +1,6 @@
 //! The rows that only add a character to what the state holds, or drop it, done in place.
 
-ghost use Rattle.std.specs.Prelude.{◌≡◌, IfOk, MatchBool};
+ghost use Rattle.std.specs.Prelude.{◌≡◌, Bool, IfOk, MatchBool};
 ghost use Rattle.standard.specs.Step as steps;
 ghost use Rattle.standard.specs.MarkStates as rows;
 ghost use Rattle.standard.specs.DoctypeStates as doctypes;
@@ -13,7 +13,7 @@ use html_types::{Class, CommentState, DoctypeState, MarkState, NoMemory, Quote};
 pub fn add_in_place(state: &mut MarkState, class: Class, c: char) -> Result<bool, NoMemory>
     ensures { IfOk result
         (λ done. MatchBool done
-        (rows.mark_row state.old class c ≡ steps.to (steps.in_mark state.new))
+        ((foreign : Bool) → rows.mark_row foreign state.old class c ≡ steps.to (steps.in_mark state.new))
         (state.new ≡ state.old)) }
 {
     match state {

@@ -1,10 +1,13 @@
-//! The tokenizer's states of markup declarations, comments and doctypes (13.2.5.41 to 13.2.5.68).
+//! The tokenizer's states of markup declarations, comments, doctypes and CDATA sections (13.2.5.41 to 13.2.5.71).
 #![tactic(auto)]
 
+pub mod cdata;
 pub mod comment;
 pub mod declaration;
 pub mod doctype;
 pub mod in_place;
+pub mod plain;
 
 pub use declaration::step;
 pub use in_place::add_in_place;
+pub use plain::is_plain;

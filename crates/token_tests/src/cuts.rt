@@ -18,10 +18,12 @@ pub enum Start {
     Script,
 }
 
-/// Where the tokenizer begins, a text, and its tokens as `spelling` writes them.
+/// Where the tokenizer begins, whether the adjusted current node isn't an HTML element, a text, and its tokens as `spelling`
+/// writes them.
 #[derive(Clone, Copy)]
 pub struct Row {
     pub start: Start,
+    pub foreign: bool,
     pub text: &'static str,
     pub tokens: &'static str,
 }
@@ -61,6 +63,7 @@ fn begin(alloc: Global, start: Start) -> Tokenizer {
 fn read(
     alloc: Global,
     table: &Table,
+    foreign: bool,
     tokenizer: &mut Tokenizer,
     piece: &str,
     tokens: &mut Tokens,
@@ -70,7 +73,7 @@ fn read(
         let Some((_, rest)) = piece.split_at_checked(place) else {
             break;
         };
-        let Paused { pause, used } = tokenizer.run(alloc, table, rest)?;
+        let Paused { pause, used } = tokenizer.run(alloc, table, foreign, rest)?;
         place = place.saturating_add(used);
         match pause {
             Pause::Token(token) => tokens.push(token)?,
@@ -83,17 +86,24 @@ fn read(
 fn read_pieces(
     alloc: Global,
     table: &Table,
-    start: Start,
+    row: &Row,
     pieces: &[&str],
 ) -> Result<Given, NoMemory> {
     let mut tokens = Tokens::new(alloc);
-    let mut tokenizer = begin(alloc, start);
+    let mut tokenizer = begin(alloc, row.start);
     for piece in pieces {
-        read(alloc, table, &mut tokenizer, piece, &mut tokens)?;
+        read(
+            alloc,
+            table,
+            row.foreign,
+            &mut tokenizer,
+            piece,
+            &mut tokens,
+        )?;
     }
     let before = tokenizer.copy(alloc)?;
-    tokenizer.finish(alloc, table)?;
-    read(alloc, table, &mut tokenizer, "", &mut tokens)?;
+    tokenizer.finish(alloc, table, row.foreign)?;
+    read(alloc, table, row.foreign, &mut tokenizer, "", &mut tokens)?;
     Ok(Given {
         tokens,
         before,
@@ -103,7 +113,7 @@ fn read_pieces(
 
 /// Whether the whole text gives the row's tokens.
 pub fn gives(alloc: Global, table: &Table, row: &Row) -> Result<bool, NoMemory> {
-    let mut whole = read_pieces(alloc, table, row.start, &[row.text])?;
+    let mut whole = read_pieces(alloc, table, row, &[row.text])?;
     let spelled = spelling(alloc, &mut whole.tokens)?;
     Ok(spelled.as_str() == row.tokens)
 }
@@ -112,20 +122,20 @@ pub fn gives(alloc: Global, table: &Table, row: &Row) -> Result<bool, NoMemory> 
 fn agrees(
     alloc: Global,
     table: &Table,
-    start: Start,
+    row: &Row,
     whole: &Given,
     pieces: &[&str],
 ) -> Result<bool, NoMemory> {
-    let parts = read_pieces(alloc, table, start, pieces)?;
+    let parts = read_pieces(alloc, table, row, pieces)?;
     Ok(parts.same(whole))
 }
 
 /// Whether the text gives the same in two pieces, wherever it is cut.
 pub fn gives_in_two(alloc: Global, table: &Table, row: &Row) -> Result<bool, NoMemory> {
-    let whole = read_pieces(alloc, table, row.start, &[row.text])?;
+    let whole = read_pieces(alloc, table, row, &[row.text])?;
     for place in 0..=row.text.len() {
         if let Some((front, back)) = row.text.split_at_checked(place) {
-            if !agrees(alloc, table, row.start, &whole, &[front, back])? {
+            if !agrees(alloc, table, row, &whole, &[front, back])? {
                 return Ok(false);
             }
         }
@@ -137,14 +147,14 @@ pub fn gives_in_two(alloc: Global, table: &Table, row: &Row) -> Result<bool, NoM
 fn agrees_behind(
     alloc: Global,
     table: &Table,
-    start: Start,
+    row: &Row,
     whole: &Given,
     front: &str,
     rest: &str,
 ) -> Result<bool, NoMemory> {
     for place in 0..=rest.len() {
         if let Some((middle, back)) = rest.split_at_checked(place) {
-            if !agrees(alloc, table, start, whole, &[front, middle, back])? {
+            if !agrees(alloc, table, row, whole, &[front, middle, back])? {
                 return Ok(false);
             }
         }
@@ -154,10 +164,10 @@ fn agrees_behind(
 
 /// Whether the text gives the same in three pieces, wherever it is cut.
 pub fn gives_in_three(alloc: Global, table: &Table, row: &Row) -> Result<bool, NoMemory> {
-    let whole = read_pieces(alloc, table, row.start, &[row.text])?;
+    let whole = read_pieces(alloc, table, row, &[row.text])?;
     for place in 0..=row.text.len() {
         if let Some((front, rest)) = row.text.split_at_checked(place) {
-            if !agrees_behind(alloc, table, row.start, &whole, front, rest)? {
+            if !agrees_behind(alloc, table, row, &whole, front, rest)? {
                 return Ok(false);
             }
         }

@@ -11,6 +11,7 @@ const ENTITIES: &[u8] =
 fn data(text: &'static str, tokens: &'static str) -> Row {
     Row {
         start: Start::Data,
+        foreign: false,
         text,
         tokens,
     }
@@ -19,6 +20,16 @@ fn data(text: &'static str, tokens: &'static str) -> Row {
 fn inside(start: Start, text: &'static str, tokens: &'static str) -> Row {
     Row {
         start,
+        foreign: false,
+        text,
+        tokens,
+    }
+}
+
+fn foreign(text: &'static str, tokens: &'static str) -> Row {
+    Row {
+        start: Start::Data,
+        foreign: true,
         text,
         tokens,
     }
@@ -142,11 +153,37 @@ fn texts() -> [Row; 11] {
     ]
 }
 
+// CDATA sections.
+fn sections() -> [Row; 13] {
+    [
+        foreign("<![CDATA[a<b]]>c", "a&lt;bc$"),
+        foreign("<![CDATA[]]>", "$"),
+        foreign("<![CDATA[]]]>", "]$"),
+        foreign("<![CDATA[a]b]]c>]]]]>", "a]b]]c>]]$"),
+        foreign("<![CDATA[\0&lt;]]>\0", "\0&amp;lt;\0$"),
+        foreign("<![CDATA[x", "x$"),
+        foreign("<![CDATA[x]", "x]$"),
+        foreign("<![CDATA[x]]", "x]]$"),
+        foreign("<![cdata[x]]>", "<!--[cdata[x]]-->$"),
+        foreign("<![CDAT>", "<!--[CDAT-->$"),
+        foreign("<![CDATA", "<!--[CDATA-->$"),
+        foreign("<!--x--><!doctype y>", "<!--x--><!y!>$"),
+        foreign("]]>", "]]>$"),
+    ]
+}
+
 #[test]
 fn texts_give_their_tokens(rt: HostRuntime) -> Result<(), Fail> {
     let table = Table::read(rt.alloc(), ENTITIES)?;
     let (tags, references, marks, texts) = (tags(), references(), marks(), texts());
-    for rows in [&tags[..], &references[..], &marks[..], &texts[..]] {
+    let sections = sections();
+    for rows in [
+        &tags[..],
+        &references[..],
+        &marks[..],
+        &texts[..],
+        &sections[..],
+    ] {
         for row in rows {
             assert!(rt; gives(rt.alloc(), &table, row)?, "{}", row.text);
         }
@@ -158,7 +195,14 @@ fn texts_give_their_tokens(rt: HostRuntime) -> Result<(), Fail> {
 fn texts_give_the_same_in_two(rt: HostRuntime) -> Result<(), Fail> {
     let table = Table::read(rt.alloc(), ENTITIES)?;
     let (tags, references, marks, texts) = (tags(), references(), marks(), texts());
-    for rows in [&tags[..], &references[..], &marks[..], &texts[..]] {
+    let sections = sections();
+    for rows in [
+        &tags[..],
+        &references[..],
+        &marks[..],
+        &texts[..],
+        &sections[..],
+    ] {
         for row in rows {
             assert!(rt; gives_in_two(rt.alloc(), &table, row)?, "{}", row.text);
         }
@@ -170,7 +214,14 @@ fn texts_give_the_same_in_two(rt: HostRuntime) -> Result<(), Fail> {
 fn texts_give_the_same_in_three(rt: HostRuntime) -> Result<(), Fail> {
     let table = Table::read(rt.alloc(), ENTITIES)?;
     let (tags, references, marks, texts) = (tags(), references(), marks(), texts());
-    for rows in [&tags[..], &references[..], &marks[..], &texts[..]] {
+    let sections = sections();
+    for rows in [
+        &tags[..],
+        &references[..],
+        &marks[..],
+        &texts[..],
+        &sections[..],
+    ] {
         for row in rows {
             assert!(rt; gives_in_three(rt.alloc(), &table, row)?, "{}", row.text);
         }

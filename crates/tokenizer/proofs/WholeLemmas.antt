@@ -90,32 +90,32 @@ name_row _ tag c h e = ap (λ (n : ℕ). to (in_tag (TagName (record tag { name 
 -- ---- rows in a row
 
 -- a row that goes to a state and makes nothing
-pub feed-to : (es : Entities) (s t : TokState) (c : ℕ) (cs : List ℕ) → row es s (class_of c) c ≡ to t → feed es s (c ∷ cs) ≡ feed es t cs
+pub feed-to : (es : Entities) (foreign : Bool) (s t : TokState) (c : ℕ) (cs : List ℕ) → row es foreign s (class_of c) c ≡ to t → feed es foreign s (c ∷ cs) ≡ feed es foreign t cs
 unfolding feed
-feed-to es s t c cs e = ap (λ (m : Reached). after_tokens m.tokens (feed es m.state cs)) (reading-emit es s t [] (class_of c) c e)
+feed-to es foreign s t c cs e = ap (λ (m : Reached). after_tokens m.tokens (feed es foreign m.state cs)) (reading-emit es foreign s t [] (class_of c) c e)
 
 -- a row that reads the character again in a state that is done with it
-pub feed-again : (es : Entities) (s t : TokState) (c : ℕ) (cs : List ℕ) → row es s (class_of c) c ≡ again t → (row es t (class_of c) c).again ≡ false → feed es s (c ∷ cs) ≡ feed es t (c ∷ cs)
+pub feed-again : (es : Entities) (foreign : Bool) (s t : TokState) (c : ℕ) (cs : List ℕ) → row es foreign s (class_of c) c ≡ again t → (row es foreign t (class_of c) c).again ≡ false → feed es foreign s (c ∷ cs) ≡ feed es foreign t (c ∷ cs)
 unfolding feed
-feed-again es s t c cs e d =
+feed-again es foreign s t c cs e d =
     let k = class_of c in
-    let same : reading es s k c ≡ reading es t k c =
-    settle-again es readings s k c (omega arith) (ap (λ (r : Step). r.again) e)
-    ∙ ap (λ (r : Step). after_tokens r.tokens (settle es 4 r.state k c)) e
-    ∙ settle-done es 4 t k c (omega arith) d
-    ∙ sym (settle-done es readings t k c (omega arith) d) in
-    ap (λ (m : Reached). after_tokens m.tokens (feed es m.state cs)) same
+    let same : reading es foreign s k c ≡ reading es foreign t k c =
+    settle-again es foreign readings s k c (omega arith) (ap (λ (r : Step). r.again) e)
+    ∙ ap (λ (r : Step). after_tokens r.tokens (settle es foreign 4 r.state k c)) e
+    ∙ settle-done es foreign 4 t k c (omega arith) d
+    ∙ sym (settle-done es foreign readings t k c (omega arith) d) in
+    ap (λ (m : Reached). after_tokens m.tokens (feed es foreign m.state cs)) same
 
 -- a name
-pub feed-name : (es : Entities) (cs rest : List ℕ) (tag : PartialTag) → all_of part.TagName cs ≡ true → feed es (in_tag (TagName tag)) (cs ++ rest) ≡ feed es (in_tag (TagName (record tag { name = tag.name ++ cs }))) rest
-feed-name es [] rest tag h = ap (λ (n : List ℕ). feed es (in_tag (TagName (record tag { name = n }))) rest) (sym (append-nil tag.name))
-feed-name es (c ∷ cs) rest tag h =
+pub feed-name : (es : Entities) (foreign : Bool) (cs rest : List ℕ) (tag : PartialTag) → all_of part.TagName cs ≡ true → feed es foreign (in_tag (TagName tag)) (cs ++ rest) ≡ feed es foreign (in_tag (TagName (record tag { name = tag.name ++ cs }))) rest
+feed-name es foreign [] rest tag h = ap (λ (n : List ℕ). feed es foreign (in_tag (TagName (record tag { name = n }))) rest) (sym (append-nil tag.name))
+feed-name es foreign (c ∷ cs) rest tag h =
     let p = and_parts (is_of part.TagName c) (all_of part.TagName cs) h in
     let q = and_parts (in_name (class_of c)) (name_char c == c) p.0 in
     let longer = record tag { name = tag.name ++ c ∷ [] } in
-    feed-to es (in_tag (TagName tag)) (in_tag (TagName longer)) c (cs ++ rest) (name_row (class_of c) tag c q.0 ((Decides-eqb (name_char c) c).0 q.1))
-    ∙ feed-name es cs rest longer p.1
-    ∙ ap (λ (n : List ℕ). feed es (in_tag (TagName (record tag { name = n }))) rest) (append_assoc tag.name (c ∷ []) cs)
+    feed-to es foreign (in_tag (TagName tag)) (in_tag (TagName longer)) c (cs ++ rest) (name_row (class_of c) tag c q.0 ((Decides-eqb (name_char c) c).0 q.1))
+    ∙ feed-name es foreign cs rest longer p.1
+    ∙ ap (λ (n : List ℕ). feed es foreign (in_tag (TagName (record tag { name = n }))) rest) (append_assoc tag.name (c ∷ []) cs)
 
 -- ---- what stands before the name
 
@@ -123,29 +123,29 @@ alpha : (k : Class) → is_alpha k ≡ true → k ≡ Alpha
 alpha Alpha h = refl
 alpha _ h = absurd (true≢false (sym h))
 
-start-begins : (es : Entities) (rest : List ℕ) → begins_name rest ≡ true → feed es (in_tag TagOpen) rest ≡ feed es (in_tag (TagName (new_tag kind.Start []))) rest
-start-begins es [] h = absurd (true≢false (sym h))
-start-begins es (c ∷ cs) h =
+start-begins : (es : Entities) (foreign : Bool) (rest : List ℕ) → begins_name rest ≡ true → feed es foreign (in_tag TagOpen) rest ≡ feed es foreign (in_tag (TagName (new_tag kind.Start []))) rest
+start-begins es foreign [] h = absurd (true≢false (sym h))
+start-begins es foreign (c ∷ cs) h =
     let a = alpha (class_of c) h in
-    feed-again es (in_tag TagOpen) (in_tag (TagName (new_tag kind.Start []))) c cs (ap (λ (k : Class). tag_open_row k c) a) (ap (λ (k : Class). (tag_name_row (new_tag kind.Start []) k c).again) a)
+    feed-again es foreign (in_tag TagOpen) (in_tag (TagName (new_tag kind.Start []))) c cs (ap (λ (k : Class). tag_open_row k c) a) (ap (λ (k : Class). (tag_name_row (new_tag kind.Start []) k c).again) a)
 
-end-begins : (es : Entities) (rest : List ℕ) → begins_name rest ≡ true → feed es (in_tag EndTagOpen) rest ≡ feed es (in_tag (TagName (new_tag kind.End []))) rest
-end-begins es [] h = absurd (true≢false (sym h))
-end-begins es (c ∷ cs) h =
+end-begins : (es : Entities) (foreign : Bool) (rest : List ℕ) → begins_name rest ≡ true → feed es foreign (in_tag EndTagOpen) rest ≡ feed es foreign (in_tag (TagName (new_tag kind.End []))) rest
+end-begins es foreign [] h = absurd (true≢false (sym h))
+end-begins es foreign (c ∷ cs) h =
     let a = alpha (class_of c) h in
-    feed-again es (in_tag EndTagOpen) (in_tag (TagName (new_tag kind.End []))) c cs (ap (λ (k : Class). end_tag_open_row k c) a) (ap (λ (k : Class). (tag_name_row (new_tag kind.End []) k c).again) a)
+    feed-again es foreign (in_tag EndTagOpen) (in_tag (TagName (new_tag kind.End []))) c cs (ap (λ (k : Class). end_tag_open_row k c) a) (ap (λ (k : Class). (tag_name_row (new_tag kind.End []) k c).again) a)
 
 pub opens-start : Opens (60 ∷ []) kind.Start
-opens-start es rest h = feed-to es data_state (in_tag TagOpen) 60 rest refl ∙ start-begins es rest h
+opens-start es foreign rest h = feed-to es foreign data_state (in_tag TagOpen) 60 rest refl ∙ start-begins es foreign rest h
 
 pub opens-end : Opens (60 ∷ 47 ∷ []) kind.End
-opens-end es rest h =
-    feed-to es data_state (in_tag TagOpen) 60 (47 ∷ rest) refl
-    ∙ feed-to es (in_tag TagOpen) (in_tag EndTagOpen) 47 rest refl
-    ∙ end-begins es rest h
+opens-end es foreign rest h =
+    feed-to es foreign data_state (in_tag TagOpen) 60 (47 ∷ rest) refl
+    ∙ feed-to es foreign (in_tag TagOpen) (in_tag EndTagOpen) 47 rest refl
+    ∙ end-begins es foreign rest h
 
 pub Opens-same : {xs ys : List ℕ} (k : TagKind) → xs ≡ ys → Opens ys k → Opens xs k
-Opens-same k e o es rest h = ap (λ (l : List ℕ). feed es data_state (l ++ rest)) e ∙ o es rest h
+Opens-same k e o es foreign rest h = ap (λ (l : List ℕ). feed es foreign data_state (l ++ rest)) e ∙ o es foreign rest h
 
 -- ---- attributes
 
@@ -205,124 +205,124 @@ space : (k : Class) → is_space k ≡ true → k ≡ Space
 space Space h = refl
 space _ h = absurd (true≢false (sym h))
 
-name_at_once : (es : Entities) (tag : PartialTag) (k : Class) (c : ℕ) → goes_on behind.Nothing k ≡ true → reading es (in_tag (TagName tag)) k c ≡ reading es (in_tag (BeforeAttributeName tag)) k c
+name_at_once : (es : Entities) (foreign : Bool) (tag : PartialTag) (k : Class) (c : ℕ) → goes_on behind.Nothing k ≡ true → reading es foreign (in_tag (TagName tag)) k c ≡ reading es foreign (in_tag (BeforeAttributeName tag)) k c
 unfolding settle
-name_at_once es tag Slash c h = refl
-name_at_once es tag Greater c h = refl
-name_at_once es tag _ c h = absurd (true≢false (sym h))
+name_at_once es foreign tag Slash c h = refl
+name_at_once es foreign tag Greater c h = refl
+name_at_once es foreign tag _ c h = absurd (true≢false (sym h))
 
-quoted_at_once : (es : Entities) (tag : PartialTag) (k : Class) (c : ℕ) → goes_on behind.Nothing k ≡ true → reading es (in_tag (AfterAttributeValueQuoted tag)) k c ≡ reading es (in_tag (BeforeAttributeName tag)) k c
+quoted_at_once : (es : Entities) (foreign : Bool) (tag : PartialTag) (k : Class) (c : ℕ) → goes_on behind.Nothing k ≡ true → reading es foreign (in_tag (AfterAttributeValueQuoted tag)) k c ≡ reading es foreign (in_tag (BeforeAttributeName tag)) k c
 unfolding settle
-quoted_at_once es tag Slash c h = refl
-quoted_at_once es tag Greater c h = refl
-quoted_at_once es tag _ c h = absurd (true≢false (sym h))
+quoted_at_once es foreign tag Slash c h = refl
+quoted_at_once es foreign tag Greater c h = refl
+quoted_at_once es foreign tag _ c h = absurd (true≢false (sym h))
 
-unquoted_at_once : (es : Entities) (tag : PartialTag) (a : Attribute) (k : Class) (c : ℕ) → goes_on behind.Value k ≡ true → reading es (in_tag (AttributeValueUnquoted tag (Some a))) k c ≡ reading es (in_tag (BeforeAttributeName (record tag { attributes = tag.attributes ++ a ∷ [] }))) k c
+unquoted_at_once : (es : Entities) (foreign : Bool) (tag : PartialTag) (a : Attribute) (k : Class) (c : ℕ) → goes_on behind.Value k ≡ true → reading es foreign (in_tag (AttributeValueUnquoted tag (Some a))) k c ≡ reading es foreign (in_tag (BeforeAttributeName (record tag { attributes = tag.attributes ++ a ∷ [] }))) k c
 unfolding settle
-unquoted_at_once es tag a Greater c h = refl
-unquoted_at_once es tag a Space c h = refl
-unquoted_at_once es tag a _ c h = absurd (true≢false (sym h))
+unquoted_at_once es foreign tag a Greater c h = refl
+unquoted_at_once es foreign tag a Space c h = refl
+unquoted_at_once es foreign tag a _ c h = absurd (true≢false (sym h))
 
-feed-gap : (es : Entities) (cs rest : List ℕ) (tag : PartialTag) → all_of part.Gap cs ≡ true → feed es (in_tag (BeforeAttributeName tag)) (cs ++ rest) ≡ feed es (in_tag (BeforeAttributeName tag)) rest
-feed-gap es [] rest tag h = refl
-feed-gap es (c ∷ cs) rest tag h =
+feed-gap : (es : Entities) (foreign : Bool) (cs rest : List ℕ) (tag : PartialTag) → all_of part.Gap cs ≡ true → feed es foreign (in_tag (BeforeAttributeName tag)) (cs ++ rest) ≡ feed es foreign (in_tag (BeforeAttributeName tag)) rest
+feed-gap es foreign [] rest tag h = refl
+feed-gap es foreign (c ∷ cs) rest tag h =
     let p = and_parts (is_of part.Gap c) (all_of part.Gap cs) h in
     let b = in_tag (BeforeAttributeName tag) in
-    feed-to es b b c (cs ++ rest) (ap (λ (k : Class). before_attribute_name_row tag k c) (space (class_of c) p.0)) ∙ feed-gap es cs rest tag p.1
+    feed-to es foreign b b c (cs ++ rest) (ap (λ (k : Class). before_attribute_name_row tag k c) (space (class_of c) p.0)) ∙ feed-gap es foreign cs rest tag p.1
 
 -- a state in which white space, the end and a slash do what they do before an attribute
-feed-gap_ends : (es : Entities) (s : TokState) (tag : PartialTag) (unquoted : Bool) (b : Behind) (gap rest : List ℕ) →
-    ((c : ℕ) (x : List ℕ) → class_of c ≡ Space → feed es s (c ∷ x) ≡ feed es (in_tag (BeforeAttributeName tag)) x) →
-    ((c : ℕ) (x : List ℕ) → goes_on (bare unquoted) (class_of c) ≡ true → feed es s (c ∷ x) ≡ feed es (in_tag (BeforeAttributeName tag)) (c ∷ x)) →
-    is_gap unquoted b gap ≡ true → begins_part b rest ≡ true → feed es s (gap ++ rest) ≡ feed es (in_tag (BeforeAttributeName tag)) rest
-feed-gap_ends es s tag unquoted behind.Space [] rest f g h e = absurd (true≢false (sym h))
-feed-gap_ends es s tag unquoted behind.Space (c ∷ cs) rest f g h e =
+feed-gap_ends : (es : Entities) (foreign : Bool) (s : TokState) (tag : PartialTag) (unquoted : Bool) (b : Behind) (gap rest : List ℕ) →
+    ((c : ℕ) (x : List ℕ) → class_of c ≡ Space → feed es foreign s (c ∷ x) ≡ feed es foreign (in_tag (BeforeAttributeName tag)) x) →
+    ((c : ℕ) (x : List ℕ) → goes_on (bare unquoted) (class_of c) ≡ true → feed es foreign s (c ∷ x) ≡ feed es foreign (in_tag (BeforeAttributeName tag)) (c ∷ x)) →
+    is_gap unquoted b gap ≡ true → begins_part b rest ≡ true → feed es foreign s (gap ++ rest) ≡ feed es foreign (in_tag (BeforeAttributeName tag)) rest
+feed-gap_ends es foreign s tag unquoted behind.Space [] rest f g h e = absurd (true≢false (sym h))
+feed-gap_ends es foreign s tag unquoted behind.Space (c ∷ cs) rest f g h e =
     let p = and_parts (is_of part.Gap c) (all_of part.Gap cs) h in
-    f c (cs ++ rest) (space (class_of c) p.0) ∙ feed-gap es cs rest tag p.1
-feed-gap_ends es s tag unquoted b [] [] f g h e = absurd (true≢false (sym e))
-feed-gap_ends es s tag false behind.Nothing [] (c ∷ x) f g h e = g c x e
-feed-gap_ends es s tag true behind.Value [] (c ∷ x) f g h e = g c x e
-feed-gap_ends es s tag _ _ _ _ f g h e = absurd (true≢false (sym h))
+    f c (cs ++ rest) (space (class_of c) p.0) ∙ feed-gap es foreign cs rest tag p.1
+feed-gap_ends es foreign s tag unquoted b [] [] f g h e = absurd (true≢false (sym e))
+feed-gap_ends es foreign s tag false behind.Nothing [] (c ∷ x) f g h e = g c x e
+feed-gap_ends es foreign s tag true behind.Value [] (c ∷ x) f g h e = g c x e
+feed-gap_ends es foreign s tag _ _ _ _ f g h e = absurd (true≢false (sym h))
 
-feed-same : (es : Entities) (s t : TokState) (c : ℕ) (x : List ℕ) → read es s c ≡ read es t c → feed es s (c ∷ x) ≡ feed es t (c ∷ x)
+feed-same : (es : Entities) (foreign : Bool) (s t : TokState) (c : ℕ) (x : List ℕ) → read es foreign s c ≡ read es foreign t c → feed es foreign s (c ∷ x) ≡ feed es foreign t (c ∷ x)
 unfolding feed
-feed-same es s t c x e = ap (λ (m : Reached). after_tokens m.tokens (feed es m.state x)) e
+feed-same es foreign s t c x e = ap (λ (m : Reached). after_tokens m.tokens (feed es foreign m.state x)) e
 
-feed-behind_name : (es : Entities) (tag : PartialTag) (b : Behind) (gap rest : List ℕ) → is_gap false b gap ≡ true → begins_part b rest ≡ true → feed es (in_tag (TagName tag)) (gap ++ rest) ≡ feed es (in_tag (BeforeAttributeName tag)) rest
-feed-behind_name es tag b gap rest =
+feed-behind_name : (es : Entities) (foreign : Bool) (tag : PartialTag) (b : Behind) (gap rest : List ℕ) → is_gap false b gap ≡ true → begins_part b rest ≡ true → feed es foreign (in_tag (TagName tag)) (gap ++ rest) ≡ feed es foreign (in_tag (BeforeAttributeName tag)) rest
+feed-behind_name es foreign tag b gap rest =
     let s = in_tag (TagName tag) in
     let t = in_tag (BeforeAttributeName tag) in
-    feed-gap_ends es s tag false b gap rest
-    (λ c x e. feed-to es s t c x (ap (λ (k : Class). tag_name_row tag k c) e))
-    (λ c x e. feed-same es s t c x (name_at_once es tag (class_of c) c e))
+    feed-gap_ends es foreign s tag false b gap rest
+    (λ c x e. feed-to es foreign s t c x (ap (λ (k : Class). tag_name_row tag k c) e))
+    (λ c x e. feed-same es foreign s t c x (name_at_once es foreign tag (class_of c) c e))
 
-feed-behind_quote : (es : Entities) (tag : PartialTag) (b : Behind) (gap rest : List ℕ) → is_gap false b gap ≡ true → begins_part b rest ≡ true → feed es (in_tag (AfterAttributeValueQuoted tag)) (gap ++ rest) ≡ feed es (in_tag (BeforeAttributeName tag)) rest
-feed-behind_quote es tag b gap rest =
+feed-behind_quote : (es : Entities) (foreign : Bool) (tag : PartialTag) (b : Behind) (gap rest : List ℕ) → is_gap false b gap ≡ true → begins_part b rest ≡ true → feed es foreign (in_tag (AfterAttributeValueQuoted tag)) (gap ++ rest) ≡ feed es foreign (in_tag (BeforeAttributeName tag)) rest
+feed-behind_quote es foreign tag b gap rest =
     let s = in_tag (AfterAttributeValueQuoted tag) in
     let t = in_tag (BeforeAttributeName tag) in
-    feed-gap_ends es s tag false b gap rest
-    (λ c x e. feed-to es s t c x (ap (λ (k : Class). after_quoted_row tag k c) e))
-    (λ c x e. feed-same es s t c x (quoted_at_once es tag (class_of c) c e))
+    feed-gap_ends es foreign s tag false b gap rest
+    (λ c x e. feed-to es foreign s t c x (ap (λ (k : Class). after_quoted_row tag k c) e))
+    (λ c x e. feed-same es foreign s t c x (quoted_at_once es foreign tag (class_of c) c e))
 
-feed-behind_value : (es : Entities) (tag : PartialTag) (a : Attribute) (b : Behind) (gap rest : List ℕ) → is_gap true b gap ≡ true → begins_part b rest ≡ true →
-    feed es (in_tag (AttributeValueUnquoted tag (Some a))) (gap ++ rest) ≡ feed es (in_tag (BeforeAttributeName (record tag { attributes = tag.attributes ++ a ∷ [] }))) rest
-feed-behind_value es tag a b gap rest =
+feed-behind_value : (es : Entities) (foreign : Bool) (tag : PartialTag) (a : Attribute) (b : Behind) (gap rest : List ℕ) → is_gap true b gap ≡ true → begins_part b rest ≡ true →
+    feed es foreign (in_tag (AttributeValueUnquoted tag (Some a))) (gap ++ rest) ≡ feed es foreign (in_tag (BeforeAttributeName (record tag { attributes = tag.attributes ++ a ∷ [] }))) rest
+feed-behind_value es foreign tag a b gap rest =
     let full : PartialTag = record tag { attributes = tag.attributes ++ a ∷ [] } in
     let s = in_tag (AttributeValueUnquoted tag (Some a)) in
     let t = in_tag (BeforeAttributeName full) in
-    feed-gap_ends es s full true b gap rest
-    (λ c x e. feed-to es s t c x (ap (λ (k : Class). unquoted_row tag (Some a) k c) e))
-    (λ c x e. feed-same es s t c x (unquoted_at_once es tag a (class_of c) c e))
+    feed-gap_ends es foreign s full true b gap rest
+    (λ c x e. feed-to es foreign s t c x (ap (λ (k : Class). unquoted_row tag (Some a) k c) e))
+    (λ c x e. feed-same es foreign s t c x (unquoted_at_once es foreign tag a (class_of c) c e))
 
-feed-attribute_name : (es : Entities) (cs rest n : List ℕ) (tag : PartialTag) → all_of part.AttributeName cs ≡ true → feed es (in_tag (AttributeName tag n)) (cs ++ rest) ≡ feed es (in_tag (AttributeName tag (n ++ cs))) rest
-feed-attribute_name es [] rest n tag h = ap (λ (x : List ℕ). feed es (in_tag (AttributeName tag x)) rest) (sym (append-nil n))
-feed-attribute_name es (c ∷ cs) rest n tag h =
+feed-attribute_name : (es : Entities) (foreign : Bool) (cs rest n : List ℕ) (tag : PartialTag) → all_of part.AttributeName cs ≡ true → feed es foreign (in_tag (AttributeName tag n)) (cs ++ rest) ≡ feed es foreign (in_tag (AttributeName tag (n ++ cs))) rest
+feed-attribute_name es foreign [] rest n tag h = ap (λ (x : List ℕ). feed es foreign (in_tag (AttributeName tag x)) rest) (sym (append-nil n))
+feed-attribute_name es foreign (c ∷ cs) rest n tag h =
     let p = and_parts (is_of part.AttributeName c) (all_of part.AttributeName cs) h in
     let q = and_parts (in_attribute_name (class_of c)) (name_char c == c) p.0 in
-    feed-to es (in_tag (AttributeName tag n)) (in_tag (AttributeName tag (n ++ c ∷ []))) c (cs ++ rest) (attribute_row (class_of c) tag n c q.0 ((Decides-eqb (name_char c) c).0 q.1))
-    ∙ feed-attribute_name es cs rest (n ++ c ∷ []) tag p.1
-    ∙ ap (λ (x : List ℕ). feed es (in_tag (AttributeName tag x)) rest) (append_assoc n (c ∷ []) cs)
+    feed-to es foreign (in_tag (AttributeName tag n)) (in_tag (AttributeName tag (n ++ c ∷ []))) c (cs ++ rest) (attribute_row (class_of c) tag n c q.0 ((Decides-eqb (name_char c) c).0 q.1))
+    ∙ feed-attribute_name es foreign cs rest (n ++ c ∷ []) tag p.1
+    ∙ ap (λ (x : List ℕ). feed es foreign (in_tag (AttributeName tag x)) rest) (append_assoc n (c ∷ []) cs)
 
-feed-named : (es : Entities) (name rest : List ℕ) (tag : PartialTag) → begins_with part.AttributeName name ≡ true → all_of part.AttributeName name ≡ true → feed es (in_tag (BeforeAttributeName tag)) (name ++ rest) ≡ feed es (in_tag (AttributeName tag name)) rest
-feed-named es [] rest tag b h = absurd (true≢false (sym b))
-feed-named es (c ∷ cs) rest tag b h =
+feed-named : (es : Entities) (foreign : Bool) (name rest : List ℕ) (tag : PartialTag) → begins_with part.AttributeName name ≡ true → all_of part.AttributeName name ≡ true → feed es foreign (in_tag (BeforeAttributeName tag)) (name ++ rest) ≡ feed es foreign (in_tag (AttributeName tag name)) rest
+feed-named es foreign [] rest tag b h = absurd (true≢false (sym b))
+feed-named es foreign (c ∷ cs) rest tag b h =
     let q = and_parts (in_attribute_name (class_of c)) (name_char c == c) b in
-    feed-again es (in_tag (BeforeAttributeName tag)) (in_tag (AttributeName tag [])) c (cs ++ rest) (before_row (class_of c) tag c q.0)
+    feed-again es foreign (in_tag (BeforeAttributeName tag)) (in_tag (AttributeName tag [])) c (cs ++ rest) (before_row (class_of c) tag c q.0)
     (ap (λ (r : Step). r.again) (attribute_row (class_of c) tag [] c q.0 ((Decides-eqb (name_char c) c).0 q.1)))
-    ∙ feed-attribute_name es (c ∷ cs) rest [] tag h
+    ∙ feed-attribute_name es foreign (c ∷ cs) rest [] tag h
 
-feed-value : (es : Entities) (q : Quote) (cs rest : List ℕ) (tag : PartialTag) (a : Attribute) → all_of (part.Quoted q) cs ≡ true →
-    feed es (in_tag (AttributeValueQuoted tag (Some a) q)) (cs ++ rest) ≡ feed es (in_tag (AttributeValueQuoted tag (Some (record a { value = a.value ++ cs })) q)) rest
-feed-value es q [] rest tag a h = ap (λ (x : List ℕ). feed es (in_tag (AttributeValueQuoted tag (Some (record a { value = x })) q)) rest) (sym (append-nil a.value))
-feed-value es q (c ∷ cs) rest tag a h =
+feed-value : (es : Entities) (foreign : Bool) (q : Quote) (cs rest : List ℕ) (tag : PartialTag) (a : Attribute) → all_of (part.Quoted q) cs ≡ true →
+    feed es foreign (in_tag (AttributeValueQuoted tag (Some a) q)) (cs ++ rest) ≡ feed es foreign (in_tag (AttributeValueQuoted tag (Some (record a { value = a.value ++ cs })) q)) rest
+feed-value es foreign q [] rest tag a h = ap (λ (x : List ℕ). feed es foreign (in_tag (AttributeValueQuoted tag (Some (record a { value = x })) q)) rest) (sym (append-nil a.value))
+feed-value es foreign q (c ∷ cs) rest tag a h =
     let p = and_parts (is_of (part.Quoted q) c) (all_of (part.Quoted q) cs) h in
     let r = and_parts (in_quoted q (class_of c)) (shown c == c) p.0 in
     let longer = record a { value = a.value ++ c ∷ [] } in
-    feed-to es (in_tag (AttributeValueQuoted tag (Some a) q)) (in_tag (AttributeValueQuoted tag (Some longer) q)) c (cs ++ rest) (value_row q (class_of c) tag a c r.0 ((Decides-eqb (shown c) c).0 r.1))
-    ∙ feed-value es q cs rest tag longer p.1
-    ∙ ap (λ (x : List ℕ). feed es (in_tag (AttributeValueQuoted tag (Some (record a { value = x })) q)) rest) (append_assoc a.value (c ∷ []) cs)
+    feed-to es foreign (in_tag (AttributeValueQuoted tag (Some a) q)) (in_tag (AttributeValueQuoted tag (Some longer) q)) c (cs ++ rest) (value_row q (class_of c) tag a c r.0 ((Decides-eqb (shown c) c).0 r.1))
+    ∙ feed-value es foreign q cs rest tag longer p.1
+    ∙ ap (λ (x : List ℕ). feed es foreign (in_tag (AttributeValueQuoted tag (Some (record a { value = x })) q)) rest) (append_assoc a.value (c ∷ []) cs)
 
-feed-unquoted : (es : Entities) (cs rest : List ℕ) (tag : PartialTag) (a : Attribute) → all_of part.Unquoted cs ≡ true →
-    feed es (in_tag (AttributeValueUnquoted tag (Some a))) (cs ++ rest) ≡ feed es (in_tag (AttributeValueUnquoted tag (Some (record a { value = a.value ++ cs })))) rest
-feed-unquoted es [] rest tag a h = ap (λ (x : List ℕ). feed es (in_tag (AttributeValueUnquoted tag (Some (record a { value = x })))) rest) (sym (append-nil a.value))
-feed-unquoted es (c ∷ cs) rest tag a h =
+feed-unquoted : (es : Entities) (foreign : Bool) (cs rest : List ℕ) (tag : PartialTag) (a : Attribute) → all_of part.Unquoted cs ≡ true →
+    feed es foreign (in_tag (AttributeValueUnquoted tag (Some a))) (cs ++ rest) ≡ feed es foreign (in_tag (AttributeValueUnquoted tag (Some (record a { value = a.value ++ cs })))) rest
+feed-unquoted es foreign [] rest tag a h = ap (λ (x : List ℕ). feed es foreign (in_tag (AttributeValueUnquoted tag (Some (record a { value = x })))) rest) (sym (append-nil a.value))
+feed-unquoted es foreign (c ∷ cs) rest tag a h =
     let p = and_parts (is_of part.Unquoted c) (all_of part.Unquoted cs) h in
     let r = and_parts (in_unquoted (class_of c)) (shown c == c) p.0 in
     let longer = record a { value = a.value ++ c ∷ [] } in
-    feed-to es (in_tag (AttributeValueUnquoted tag (Some a))) (in_tag (AttributeValueUnquoted tag (Some longer))) c (cs ++ rest) (unquoted_value_row (class_of c) tag a c r.0 ((Decides-eqb (shown c) c).0 r.1))
-    ∙ feed-unquoted es cs rest tag longer p.1
-    ∙ ap (λ (x : List ℕ). feed es (in_tag (AttributeValueUnquoted tag (Some (record a { value = x })))) rest) (append_assoc a.value (c ∷ []) cs)
+    feed-to es foreign (in_tag (AttributeValueUnquoted tag (Some a))) (in_tag (AttributeValueUnquoted tag (Some longer))) c (cs ++ rest) (unquoted_value_row (class_of c) tag a c r.0 ((Decides-eqb (shown c) c).0 r.1))
+    ∙ feed-unquoted es foreign cs rest tag longer p.1
+    ∙ ap (λ (x : List ℕ). feed es foreign (in_tag (AttributeValueUnquoted tag (Some (record a { value = x })))) rest) (append_assoc a.value (c ∷ []) cs)
 
 -- the first character of such a value is read again
-feed-before_unquoted : (es : Entities) (cs rest : List ℕ) (tag : PartialTag) (n : List ℕ) → begins_with part.Unquoted cs ≡ true → all_of part.Unquoted cs ≡ true →
-    feed es (in_tag (BeforeAttributeValue tag (Some n))) (cs ++ rest) ≡ feed es (in_tag (AttributeValueUnquoted tag (Some (record { name = n; value = cs })))) rest
-feed-before_unquoted es [] rest tag n b h = absurd (true≢false (sym b))
-feed-before_unquoted es (c ∷ cs) rest tag n b h =
+feed-before_unquoted : (es : Entities) (foreign : Bool) (cs rest : List ℕ) (tag : PartialTag) (n : List ℕ) → begins_with part.Unquoted cs ≡ true → all_of part.Unquoted cs ≡ true →
+    feed es foreign (in_tag (BeforeAttributeValue tag (Some n))) (cs ++ rest) ≡ feed es foreign (in_tag (AttributeValueUnquoted tag (Some (record { name = n; value = cs })))) rest
+feed-before_unquoted es foreign [] rest tag n b h = absurd (true≢false (sym b))
+feed-before_unquoted es foreign (c ∷ cs) rest tag n b h =
     let r = and_parts (in_unquoted (class_of c)) (shown c == c) b in
     let a : Attribute = record { name = n; value = [] } in
-    feed-again es (in_tag (BeforeAttributeValue tag (Some n))) (in_tag (AttributeValueUnquoted tag (Some a))) c (cs ++ rest) (before_unquoted_row (class_of c) tag n c r.0)
+    feed-again es foreign (in_tag (BeforeAttributeValue tag (Some n))) (in_tag (AttributeValueUnquoted tag (Some a))) c (cs ++ rest) (before_unquoted_row (class_of c) tag n c r.0)
     (ap (λ (r : Step). r.again) (unquoted_value_row (class_of c) tag a c r.0 ((Decides-eqb (shown c) c).0 r.1)))
-    ∙ feed-unquoted es (c ∷ cs) rest tag a h
+    ∙ feed-unquoted es foreign (c ∷ cs) rest tag a h
 
 quote_opens : (q : Quote) (tag : PartialTag) (n : List ℕ) → before_attribute_value_row tag (Some n) (class_of (quote_mark q)) (quote_mark q) ≡ to (in_tag (AttributeValueQuoted tag (Some (record { name = n; value = [] })) q))
 quote_opens quote.Double tag n = refl
@@ -333,73 +333,73 @@ quote_closes quote.Double tag a = refl
 quote_closes quote.Single tag a = refl
 
 -- `=` behind an attribute's name that is new
-feed-equals : (es : Entities) (tag : PartialTag) (name rest : List ℕ) → has_name name tag.attributes ≡ false → feed es (in_tag (AttributeName tag name)) (61 ∷ rest) ≡ feed es (in_tag (BeforeAttributeValue tag (Some name))) rest
-feed-equals es tag name rest fresh =
-    feed-to es (in_tag (AttributeName tag name)) (in_tag (BeforeAttributeValue tag (Some name))) 61 rest (ap (λ (h : Bool). to (in_tag (BeforeAttributeValue tag (if h then None else Some name)))) fresh)
+feed-equals : (es : Entities) (foreign : Bool) (tag : PartialTag) (name rest : List ℕ) → has_name name tag.attributes ≡ false → feed es foreign (in_tag (AttributeName tag name)) (61 ∷ rest) ≡ feed es foreign (in_tag (BeforeAttributeValue tag (Some name))) rest
+feed-equals es foreign tag name rest fresh =
+    feed-to es foreign (in_tag (AttributeName tag name)) (in_tag (BeforeAttributeValue tag (Some name))) 61 rest (ap (λ (h : Bool). to (in_tag (BeforeAttributeValue tag (if h then None else Some name)))) fresh)
 
 pub quoted-value : (q : Quote) (b : Behind) (value gap : List ℕ) → all_of (part.Quoted q) value ≡ true → is_gap false b gap ≡ true →
     HasValue b (61 ∷ (quote_mark q ∷ (value ++ (quote_mark q ∷ gap)))) value
-quoted-value q b value gap v g es tag name rest fresh ends =
+quoted-value q b value gap v g es foreign tag name rest fresh ends =
     let m = quote_mark q in
     let a : Attribute = record { name = name; value = value } in
     let full : PartialTag = record tag { attributes = tag.attributes ++ a ∷ [] } in
-    ap (λ (l : List ℕ). feed es (in_tag (AttributeName tag name)) (61 ∷ (m ∷ l))) (append_assoc value (m ∷ gap) rest)
-    ∙ feed-equals es tag name (m ∷ (value ++ (m ∷ (gap ++ rest)))) fresh
-    ∙ feed-to es (in_tag (BeforeAttributeValue tag (Some name))) (in_tag (AttributeValueQuoted tag (Some (record { name = name; value = [] })) q)) m (value ++ (m ∷ (gap ++ rest))) (quote_opens q tag name)
-    ∙ feed-value es q value (m ∷ (gap ++ rest)) tag (record { name = name; value = [] }) v
-    ∙ feed-to es (in_tag (AttributeValueQuoted tag (Some a) q)) (in_tag (AfterAttributeValueQuoted full)) m (gap ++ rest) (quote_closes q tag a)
-    ∙ feed-behind_quote es full b gap rest g ends
+    ap (λ (l : List ℕ). feed es foreign (in_tag (AttributeName tag name)) (61 ∷ (m ∷ l))) (append_assoc value (m ∷ gap) rest)
+    ∙ feed-equals es foreign tag name (m ∷ (value ++ (m ∷ (gap ++ rest)))) fresh
+    ∙ feed-to es foreign (in_tag (BeforeAttributeValue tag (Some name))) (in_tag (AttributeValueQuoted tag (Some (record { name = name; value = [] })) q)) m (value ++ (m ∷ (gap ++ rest))) (quote_opens q tag name)
+    ∙ feed-value es foreign q value (m ∷ (gap ++ rest)) tag (record { name = name; value = [] }) v
+    ∙ feed-to es foreign (in_tag (AttributeValueQuoted tag (Some a) q)) (in_tag (AfterAttributeValueQuoted full)) m (gap ++ rest) (quote_closes q tag a)
+    ∙ feed-behind_quote es foreign full b gap rest g ends
 
 pub unquoted-value : (b : Behind) (value gap : List ℕ) → begins_with part.Unquoted value ≡ true → all_of part.Unquoted value ≡ true → is_gap true b gap ≡ true →
     HasValue b (61 ∷ (value ++ gap)) value
-unquoted-value b value gap begins v g es tag name rest fresh ends =
-    ap (λ (l : List ℕ). feed es (in_tag (AttributeName tag name)) (61 ∷ l)) (append_assoc value gap rest)
-    ∙ feed-equals es tag name (value ++ (gap ++ rest)) fresh
-    ∙ feed-before_unquoted es value (gap ++ rest) tag name begins v
-    ∙ feed-behind_value es tag (record { name = name; value = value }) b gap rest g ends
+unquoted-value b value gap begins v g es foreign tag name rest fresh ends =
+    ap (λ (l : List ℕ). feed es foreign (in_tag (AttributeName tag name)) (61 ∷ l)) (append_assoc value gap rest)
+    ∙ feed-equals es foreign tag name (value ++ (gap ++ rest)) fresh
+    ∙ feed-before_unquoted es foreign value (gap ++ rest) tag name begins v
+    ∙ feed-behind_value es foreign tag (record { name = name; value = value }) b gap rest g ends
 
 -- an attribute with no value
 
-after_at_once : (es : Entities) (tag : PartialTag) (n : List ℕ) (k : Class) (c : ℕ) → goes_on behind.Space k ≡ true → reading es (in_tag (AfterAttributeName tag (Some n))) k c ≡ reading es (in_tag (BeforeAttributeName (record tag { attributes = tag.attributes ++ record { name = n; value = [] } ∷ [] }))) k c
+after_at_once : (es : Entities) (foreign : Bool) (tag : PartialTag) (n : List ℕ) (k : Class) (c : ℕ) → goes_on behind.Space k ≡ true → reading es foreign (in_tag (AfterAttributeName tag (Some n))) k c ≡ reading es foreign (in_tag (BeforeAttributeName (record tag { attributes = tag.attributes ++ record { name = n; value = [] } ∷ [] }))) k c
 unfolding settle
-after_at_once es tag n Space c h = absurd (true≢false (sym h))
-after_at_once es tag n Equals c h = absurd (true≢false (sym h))
-after_at_once es tag n InputEnd c h = absurd (true≢false (sym h))
-after_at_once es tag n _ c h = refl
+after_at_once es foreign tag n Space c h = absurd (true≢false (sym h))
+after_at_once es foreign tag n Equals c h = absurd (true≢false (sym h))
+after_at_once es foreign tag n InputEnd c h = absurd (true≢false (sym h))
+after_at_once es foreign tag n _ c h = refl
 
-bare_at_once : (es : Entities) (tag : PartialTag) (n : List ℕ) (k : Class) (c : ℕ) → has_name n tag.attributes ≡ false → goes_on behind.Nothing k ≡ true → reading es (in_tag (AttributeName tag n)) k c ≡ reading es (in_tag (BeforeAttributeName (record tag { attributes = tag.attributes ++ record { name = n; value = [] } ∷ [] }))) k c
+bare_at_once : (es : Entities) (foreign : Bool) (tag : PartialTag) (n : List ℕ) (k : Class) (c : ℕ) → has_name n tag.attributes ≡ false → goes_on behind.Nothing k ≡ true → reading es foreign (in_tag (AttributeName tag n)) k c ≡ reading es foreign (in_tag (BeforeAttributeName (record tag { attributes = tag.attributes ++ record { name = n; value = [] } ∷ [] }))) k c
 unfolding settle
-bare_at_once es tag n Slash c f h = rw f refl
-bare_at_once es tag n Greater c f h = rw f refl
-bare_at_once es tag n _ c f h = absurd (true≢false (sym h))
+bare_at_once es foreign tag n Slash c f h = rw f refl
+bare_at_once es foreign tag n Greater c f h = rw f refl
+bare_at_once es foreign tag n _ c f h = absurd (true≢false (sym h))
 
-bare_space : (es : Entities) (tag : PartialTag) (n : List ℕ) (c : ℕ) → has_name n tag.attributes ≡ false → reading es (in_tag (AttributeName tag n)) Space c ≡ reading es (in_tag (AfterAttributeName tag (Some n))) Space c
+bare_space : (es : Entities) (foreign : Bool) (tag : PartialTag) (n : List ℕ) (c : ℕ) → has_name n tag.attributes ≡ false → reading es foreign (in_tag (AttributeName tag n)) Space c ≡ reading es foreign (in_tag (AfterAttributeName tag (Some n))) Space c
 unfolding settle
-bare_space es tag n c f = rw f refl
+bare_space es foreign tag n c f = rw f refl
 
-feed-after_gap : (es : Entities) (tag : PartialTag) (n cs rest : List ℕ) → all_of part.Gap cs ≡ true → begins_part behind.Space rest ≡ true →
-    feed es (in_tag (AfterAttributeName tag (Some n))) (cs ++ rest) ≡ feed es (in_tag (BeforeAttributeName (record tag { attributes = tag.attributes ++ record { name = n; value = [] } ∷ [] }))) rest
-feed-after_gap es tag n [] [] h b = absurd (true≢false (sym b))
-feed-after_gap es tag n [] (c ∷ x) h b =
-    feed-same es (in_tag (AfterAttributeName tag (Some n))) (in_tag (BeforeAttributeName (record tag { attributes = tag.attributes ++ record { name = n; value = [] } ∷ [] }))) c x (after_at_once es tag n (class_of c) c b)
-feed-after_gap es tag n (c ∷ cs) rest h b =
+feed-after_gap : (es : Entities) (foreign : Bool) (tag : PartialTag) (n cs rest : List ℕ) → all_of part.Gap cs ≡ true → begins_part behind.Space rest ≡ true →
+    feed es foreign (in_tag (AfterAttributeName tag (Some n))) (cs ++ rest) ≡ feed es foreign (in_tag (BeforeAttributeName (record tag { attributes = tag.attributes ++ record { name = n; value = [] } ∷ [] }))) rest
+feed-after_gap es foreign tag n [] [] h b = absurd (true≢false (sym b))
+feed-after_gap es foreign tag n [] (c ∷ x) h b =
+    feed-same es foreign (in_tag (AfterAttributeName tag (Some n))) (in_tag (BeforeAttributeName (record tag { attributes = tag.attributes ++ record { name = n; value = [] } ∷ [] }))) c x (after_at_once es foreign tag n (class_of c) c b)
+feed-after_gap es foreign tag n (c ∷ cs) rest h b =
     let p = and_parts (is_of part.Gap c) (all_of part.Gap cs) h in
     let s = in_tag (AfterAttributeName tag (Some n)) in
-    feed-to es s s c (cs ++ rest) (ap (λ (k : Class). after_attribute_name_row tag (Some n) k c) (space (class_of c) p.0)) ∙ feed-after_gap es tag n cs rest p.1 b
+    feed-to es foreign s s c (cs ++ rest) (ap (λ (k : Class). after_attribute_name_row tag (Some n) k c) (space (class_of c) p.0)) ∙ feed-after_gap es foreign tag n cs rest p.1 b
 
 pub no-value : (b : Behind) (gap : List ℕ) → is_gap false b gap ≡ true → HasValue b gap []
-no-value behind.Space [] g es tag n rest f e = absurd (true≢false (sym g))
-no-value behind.Space (c ∷ cs) g es tag n rest f e =
+no-value behind.Space [] g es foreign tag n rest f e = absurd (true≢false (sym g))
+no-value behind.Space (c ∷ cs) g es foreign tag n rest f e =
     let p = and_parts (is_of part.Gap c) (all_of part.Gap cs) g in
     let is = space (class_of c) p.0 in
     let s = in_tag (AttributeName tag n) in
     let t = in_tag (AfterAttributeName tag (Some n)) in
-    feed-same es s t c (cs ++ rest) (ap (λ (k : Class). reading es s k c) is ∙ bare_space es tag n c f ∙ ap (λ (k : Class). reading es t k c) (sym is))
-    ∙ feed-after_gap es tag n (c ∷ cs) rest g e
-no-value b [] g es tag n [] f e = absurd (true≢false (sym e))
-no-value behind.Nothing [] g es tag n (c ∷ x) f e =
-    feed-same es (in_tag (AttributeName tag n)) (in_tag (BeforeAttributeName (record tag { attributes = tag.attributes ++ record { name = n; value = [] } ∷ [] }))) c x (bare_at_once es tag n (class_of c) c f e)
-no-value _ _ g es tag n _ f e = absurd (true≢false (sym g))
+    feed-same es foreign s t c (cs ++ rest) (ap (λ (k : Class). reading es foreign s k c) is ∙ bare_space es foreign tag n c f ∙ ap (λ (k : Class). reading es foreign t k c) (sym is))
+    ∙ feed-after_gap es foreign tag n (c ∷ cs) rest g e
+no-value b [] g es foreign tag n [] f e = absurd (true≢false (sym e))
+no-value behind.Nothing [] g es foreign tag n (c ∷ x) f e =
+    feed-same es foreign (in_tag (AttributeName tag n)) (in_tag (BeforeAttributeName (record tag { attributes = tag.attributes ++ record { name = n; value = [] } ∷ [] }))) c x (bare_at_once es foreign tag n (class_of c) c f e)
+no-value _ _ g es foreign tag n _ f e = absurd (true≢false (sym g))
 
 pub begins_with-append : (p : Part) (xs ys : List ℕ) → begins_with p xs ≡ true → begins_with p (xs ++ ys) ≡ true
 begins_with-append p [] ys h = absurd (true≢false (sym h))
@@ -407,10 +407,10 @@ begins_with-append p (x ∷ xs) ys h = h
 
 -- a name and then its value
 pub named-gives : (b : Behind) (name cs value : List ℕ) → begins_with part.AttributeName name ≡ true → all_of part.AttributeName name ≡ true → HasValue b cs value → Gives b (name ++ cs) (record { name = name; value = value })
-named-gives b name cs value begins n v es tag rest fresh ends =
-    ap (feed es (in_tag (BeforeAttributeName tag))) (append_assoc name cs rest)
-    ∙ feed-named es name (cs ++ rest) tag begins n
-    ∙ v es tag name rest fresh ends
+named-gives b name cs value begins n v es foreign tag rest fresh ends =
+    ap (feed es foreign (in_tag (BeforeAttributeName tag))) (append_assoc name cs rest)
+    ∙ feed-named es foreign name (cs ++ rest) tag begins n
+    ∙ v es foreign tag name rest fresh ends
 
 pub HasValue-same : {xs ys vs ws : List ℕ} (b : Behind) → xs ≡ ys → vs ≡ ws → HasValue b ys ws → HasValue b xs vs
 HasValue-same {xs} {ys} {vs} {ws} b e f g = subst (λ (l : List ℕ). HasValue b l vs) (sym e) (subst (λ (v : List ℕ). HasValue b ys v) (sym f) g)
@@ -421,36 +421,36 @@ Gives-same {xs} {ys} {m} {n} b e f g = subst (λ (l : List ℕ). Gives b l m) (s
 -- ---- the tag so far
 
 pub name-leads : (front name gap : List ℕ) (k : TagKind) (b : Behind) → Opens front k → begins_name name ≡ true → all_of part.TagName name ≡ true → is_gap false b gap ≡ true → Leads b (front ++ (name ++ gap)) (new_tag k name)
-name-leads front [] gap k b o begins n g es rest ends = absurd (true≢false (sym begins))
-name-leads front (c ∷ cs) gap k b o begins n g es rest ends =
+name-leads front [] gap k b o begins n g es foreign rest ends = absurd (true≢false (sym begins))
+name-leads front (c ∷ cs) gap k b o begins n g es foreign rest ends =
     let name = c ∷ cs in
-    ap (feed es data_state) (append_assoc front (name ++ gap) rest ∙ ap (λ (l : List ℕ). front ++ l) (append_assoc name gap rest))
-    ∙ o es (name ++ (gap ++ rest)) begins
-    ∙ feed-name es name (gap ++ rest) (new_tag k []) n
-    ∙ feed-behind_name es (new_tag k name) b gap rest g ends
+    ap (feed es foreign data_state) (append_assoc front (name ++ gap) rest ∙ ap (λ (l : List ℕ). front ++ l) (append_assoc name gap rest))
+    ∙ o es foreign (name ++ (gap ++ rest)) begins
+    ∙ feed-name es foreign name (gap ++ rest) (new_tag k []) n
+    ∙ feed-behind_name es foreign (new_tag k name) b gap rest g ends
 
 begins_part-named : (xs rest : List ℕ) → begins_with part.AttributeName xs ≡ true → begins_part behind.Space (xs ++ rest) ≡ true
 begins_part-named [] rest h = absurd (true≢false (sym h))
 begins_part-named (c ∷ cs) rest h = name_goes_on (class_of c) (and_parts (in_attribute_name (class_of c)) (name_char c == c) h).0
 
 pub Leads-more : (cs xs : List ℕ) (tag : PartialTag) (a : Attribute) (b : Behind) → Leads behind.Space cs tag → begins_with part.AttributeName xs ≡ true → has_name a.name tag.attributes ≡ false → Gives b xs a → Leads b (cs ++ xs) (record tag { attributes = tag.attributes ++ a ∷ [] })
-Leads-more cs xs tag a b l begins f g es rest ends =
-    ap (feed es data_state) (append_assoc cs xs rest) ∙ l es (xs ++ rest) (begins_part-named xs rest begins) ∙ g es tag rest f ends
+Leads-more cs xs tag a b l begins f g es foreign rest ends =
+    ap (feed es foreign data_state) (append_assoc cs xs rest) ∙ l es foreign (xs ++ rest) (begins_part-named xs rest begins) ∙ g es foreign tag rest f ends
 
 pub Leads-as : {xs ys : List ℕ} {olds news : List Attribute} (b : Behind) (k : TagKind) (name : List ℕ) → xs ≡ ys → olds ≡ news → Leads b ys (record { kind = k; name = name; attributes = news }) → Leads b xs (record { kind = k; name = name; attributes = olds })
-Leads-as b k name e f l es rest ends =
-    ap (λ (x : List ℕ). feed es data_state (x ++ rest)) e ∙ l es rest ends
-    ∙ ap (λ (x : List Attribute). feed es (in_tag (BeforeAttributeName (record { kind = k; name = name; attributes = x }))) rest) (sym f)
+Leads-as b k name e f l es foreign rest ends =
+    ap (λ (x : List ℕ). feed es foreign data_state (x ++ rest)) e ∙ l es foreign rest ends
+    ∙ ap (λ (x : List Attribute). feed es foreign (in_tag (BeforeAttributeName (record { kind = k; name = name; attributes = x }))) rest) (sym f)
 
 pub Leads-behind : (b now : Behind) (cs : List ℕ) (tag : PartialTag) → b ≡ now → Leads b cs tag → Leads now cs tag
 Leads-behind b now cs tag e l = subst (λ (v : Behind). Leads v cs tag) e l
 
 -- ---- its end
 
-feed-close : (es : Entities) (tag : PartialTag) (closing : Bool) → feed es (in_tag (BeforeAttributeName tag)) (close_text closing) ≡ record { tokens = tag_token tag.kind (finished closing tag) ∷ []; state = data_state }
+feed-close : (es : Entities) (foreign : Bool) (tag : PartialTag) (closing : Bool) → feed es foreign (in_tag (BeforeAttributeName tag)) (close_text closing) ≡ record { tokens = tag_token tag.kind (finished closing tag) ∷ []; state = data_state }
 unfolding feed settle
-feed-close es tag true = refl
-feed-close es tag false = refl
+feed-close es foreign tag true = refl
+feed-close es foreign tag false = refl
 
 close_begins : (b : Behind) (closing : Bool) → may_close b closing ≡ true → begins_part b (close_text closing) ≡ true
 close_begins behind.Value true h = absurd (true≢false (sym h))
@@ -468,38 +468,38 @@ quiet_begins behind.Space = refl
 quiet_begins behind.Nothing = refl
 quiet_begins behind.Value = refl
 
-quiet_feed : (es : Entities) (b : Behind) (tag : PartialTag) → (feed es (in_tag (BeforeAttributeName tag)) (quiet b ∷ [])).tokens ≡ []
+quiet_feed : (es : Entities) (foreign : Bool) (b : Behind) (tag : PartialTag) → (feed es foreign (in_tag (BeforeAttributeName tag)) (quiet b ∷ [])).tokens ≡ []
 unfolding feed settle
-quiet_feed es behind.Space tag = refl
-quiet_feed es behind.Nothing tag = refl
-quiet_feed es behind.Value tag = refl
+quiet_feed es foreign behind.Space tag = refl
+quiet_feed es foreign behind.Nothing tag = refl
+quiet_feed es foreign behind.Value tag = refl
 
 -- the tag so far makes no token
-leads-silent : (es : Entities) (b : Behind) (cs : List ℕ) (tag : PartialTag) → Leads b cs tag → (feed es data_state cs).tokens ≡ []
-leads-silent es b cs tag l =
-    onward-front es (record { tokens = []; state = data_state }) cs (quiet b ∷ [])
-    (ap (λ (m : Reached). m.tokens) (l es (quiet b ∷ []) (quiet_begins b)) ∙ quiet_feed es b tag)
+leads-silent : (es : Entities) (foreign : Bool) (b : Behind) (cs : List ℕ) (tag : PartialTag) → Leads b cs tag → (feed es foreign data_state cs).tokens ≡ []
+leads-silent es foreign b cs tag l =
+    onward-front es foreign (record { tokens = []; state = data_state }) cs (quiet b ∷ [])
+    (ap (λ (m : Reached). m.tokens) (l es foreign (quiet b ∷ []) (quiet_begins b)) ∙ quiet_feed es foreign b tag)
 
-slash-silent : (es : Entities) (b : Behind) (cs : List ℕ) (tag : PartialTag) → may_close b true ≡ true → Leads b cs tag → (feed es data_state (cs ++ 47 ∷ [])).tokens ≡ []
+slash-silent : (es : Entities) (foreign : Bool) (b : Behind) (cs : List ℕ) (tag : PartialTag) → may_close b true ≡ true → Leads b cs tag → (feed es foreign data_state (cs ++ 47 ∷ [])).tokens ≡ []
 unfolding feed settle
-slash-silent es behind.Value cs tag h l = absurd (true≢false (sym h))
-slash-silent es behind.Space cs tag h l = ap (λ (m : Reached). m.tokens) (l es (47 ∷ []) refl)
-slash-silent es behind.Nothing cs tag h l = ap (λ (m : Reached). m.tokens) (l es (47 ∷ []) refl)
+slash-silent es foreign behind.Value cs tag h l = absurd (true≢false (sym h))
+slash-silent es foreign behind.Space cs tag h l = ap (λ (m : Reached). m.tokens) (l es foreign (47 ∷ []) refl)
+slash-silent es foreign behind.Nothing cs tag h l = ap (λ (m : Reached). m.tokens) (l es foreign (47 ∷ []) refl)
 
 pub Leads-close : (cs : List ℕ) (tag : PartialTag) (b : Behind) (closing : Bool) → may_close b closing ≡ true → Leads b cs tag → MakesAlone (cs ++ close_text closing) (tag_token tag.kind (finished closing tag))
 Leads-close cs tag b false may l = record {
   front = cs;
   last = 62;
   split = refl;
-  silent = λ es. leads-silent es b cs tag l;
-  whole = λ es. l es (62 ∷ []) (close_begins b false may) ∙ feed-close es tag false;
+  silent = λ es foreign. leads-silent es foreign b cs tag l;
+  whole = λ es foreign. l es foreign (62 ∷ []) (close_begins b false may) ∙ feed-close es foreign tag false;
 }
 Leads-close cs tag b true may l = record {
   front = cs ++ 47 ∷ [];
   last = 62;
   split = sym (append_assoc cs (47 ∷ []) (62 ∷ []));
-  silent = λ es. slash-silent es b cs tag may l;
-  whole = λ es. l es (47 ∷ 62 ∷ []) (close_begins b true may) ∙ feed-close es tag true;
+  silent = λ es foreign. slash-silent es foreign b cs tag may l;
+  whole = λ es foreign. l es foreign (47 ∷ 62 ∷ []) (close_begins b true may) ∙ feed-close es foreign tag true;
 }
 
 pub MakesAlone-same : {xs ys : List ℕ} {t u : Token} → xs ≡ ys → t ≡ u → MakesAlone ys u → MakesAlone xs t
@@ -508,7 +508,7 @@ MakesAlone-same e f m = record {
   last = m.last;
   split = e ∙ m.split;
   silent = m.silent;
-  whole = λ es. ap (feed es data_state) e ∙ m.whole es ∙ ap (λ (v : Token). record { tokens = v ∷ []; state = data_state }) (sym f);
+  whole = λ es foreign. ap (feed es foreign data_state) e ∙ m.whole es foreign ∙ ap (λ (v : Token). record { tokens = v ∷ []; state = data_state }) (sym f);
 }
 
 -- ---- no CR

@@ -24,9 +24,9 @@ in_name _ = false
 
 -- these characters were read in the data state, and are held as a name
 abbrev pub InName : Entities → List ℕ → Type 0
-InName es cs = (rest : List ℕ) → feed es data_state (cs ++ rest) ≡ feed es (in_reference (Named Data cs)) rest
+InName es cs = (foreign : Bool) (rest : List ℕ) → feed es foreign data_state (cs ++ rest) ≡ feed es foreign (in_reference (Named Data cs)) rest
 
 -- Read one by one from the data state they make no token, and each character behind them makes first those for which they stand, and then its own of the data state.
 pub record Refers (es : Entities) (cs stands_for : List ℕ) : Type 0 where
-  pub silent : (feed es data_state cs).tokens ≡ []
-  pub behind : (c : ℕ) → read es (feed es data_state cs).state c ≡ after_tokens (map Character stands_for) (read es data_state c)
+  pub silent : (foreign : Bool) → (feed es foreign data_state cs).tokens ≡ []
+  pub behind : (foreign : Bool) (c : ℕ) → read es foreign (feed es foreign data_state cs).state c ≡ after_tokens (map Character stands_for) (read es foreign data_state c)

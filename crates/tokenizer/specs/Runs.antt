@@ -1,5 +1,5 @@
 -- What a run of the tokenizer answers.
-use Rattle.std.specs.Prelude.{◌≡◌, ℕ, List, [], ◌∷◌, ◌++◌, length}
+use Rattle.std.specs.Prelude.{◌≡◌, ℕ, Bool, List, [], ◌∷◌, ◌++◌, length}
 use Rattle.standard.specs.Entities.{Entities}
 use Rattle.standard.specs.Tokenizer.{Reached, onward}
 use Rattle.tokenizer.specs.declared.run.Pause.{Pause}
@@ -12,8 +12,8 @@ IsNext m (Token t) new = (m.tokens ≡ t ∷ new.tokens) × (m.state ≡ new.sta
 IsNext m InputEnd new = (m.tokens ≡ []) × (new ≡ m)
 
 -- what stands before the last character of the text makes no token
-abbrev pub IsQuietBefore : Entities → Reached → List ℕ → Type 0
-IsQuietBefore es m text = (x : List ℕ) (c : ℕ) → text ≡ x ++ c ∷ [] → (onward es m x).tokens ≡ []
+abbrev pub IsQuietBefore : Entities → Bool → Reached → List ℕ → Type 0
+IsQuietBefore es foreign m text = (x : List ℕ) (c : ℕ) → text ≡ x ++ c ∷ [] → (onward es foreign m x).tokens ≡ []
 
 -- a run that gives no token has used all
 abbrev pub UsesAllAt : Pause → ℕ → List ℕ → Type 0

@@ -136,26 +136,26 @@ may_close b slash = true
 
 -- behind these characters a name of a tag of this kind begins
 abbrev pub Opens : List ℕ → TagKind → Type 0
-Opens cs k = (es : Entities) (rest : List ℕ) → begins_name rest ≡ true → feed es data_state (cs ++ rest) ≡ feed es (in_tag (TagName (new_tag k []))) rest
+Opens cs k = (es : Entities) (foreign : Bool) (rest : List ℕ) → begins_name rest ≡ true → feed es foreign data_state (cs ++ rest) ≡ feed es foreign (in_tag (TagName (new_tag k []))) rest
 
 -- they are the tag so far, and a part or the end follows
 abbrev pub Leads : Behind → List ℕ → PartialTag → Type 0
-Leads b cs tag = (es : Entities) (rest : List ℕ) → begins_part b rest ≡ true → feed es data_state (cs ++ rest) ≡ feed es (in_tag (BeforeAttributeName tag)) rest
+Leads b cs tag = (es : Entities) (foreign : Bool) (rest : List ℕ) → begins_part b rest ≡ true → feed es foreign data_state (cs ++ rest) ≡ feed es foreign (in_tag (BeforeAttributeName tag)) rest
 
 -- behind an attribute's name, they give it this value, and a part or the end follows
 abbrev pub HasValue : Behind → List ℕ → List ℕ → Type 0
-HasValue b cs value = (es : Entities) (tag : PartialTag) (name rest : List ℕ) → has_name name tag.attributes ≡ false → begins_part b rest ≡ true →
-    feed es (in_tag (AttributeName tag name)) (cs ++ rest) ≡ feed es (in_tag (BeforeAttributeName (record tag { attributes = tag.attributes ++ record { name = name; value = value } ∷ [] }))) rest
+HasValue b cs value = (es : Entities) (foreign : Bool) (tag : PartialTag) (name rest : List ℕ) → has_name name tag.attributes ≡ false → begins_part b rest ≡ true →
+    feed es foreign (in_tag (AttributeName tag name)) (cs ++ rest) ≡ feed es foreign (in_tag (BeforeAttributeName (record tag { attributes = tag.attributes ++ record { name = name; value = value } ∷ [] }))) rest
 
 -- they are an attribute, and a part or the end follows
 abbrev pub Gives : Behind → List ℕ → Attribute → Type 0
-Gives b cs a = (es : Entities) (tag : PartialTag) (rest : List ℕ) → has_name a.name tag.attributes ≡ false → begins_part b rest ≡ true →
-    feed es (in_tag (BeforeAttributeName tag)) (cs ++ rest) ≡ feed es (in_tag (BeforeAttributeName (record tag { attributes = tag.attributes ++ a ∷ [] }))) rest
+Gives b cs a = (es : Entities) (foreign : Bool) (tag : PartialTag) (rest : List ℕ) → has_name a.name tag.attributes ≡ false → begins_part b rest ≡ true →
+    feed es foreign (in_tag (BeforeAttributeName tag)) (cs ++ rest) ≡ feed es foreign (in_tag (BeforeAttributeName (record tag { attributes = tag.attributes ++ a ∷ [] }))) rest
 
 -- Read one by one from the data state, the last of the characters makes this token, those before it none, and they lead to the data state again.
 pub record MakesAlone (cs : List ℕ) (t : Token) : Type 0 where
   pub front : List ℕ
   pub last : ℕ
   pub split : cs ≡ front ++ last ∷ []
-  pub silent : (es : Entities) → (feed es data_state front).tokens ≡ []
-  pub whole : (es : Entities) → feed es data_state cs ≡ record { tokens = t ∷ []; state = data_state }
+  pub silent : (es : Entities) (foreign : Bool) → (feed es foreign data_state front).tokens ≡ []
+  pub whole : (es : Entities) (foreign : Bool) → feed es foreign data_state cs ≡ record { tokens = t ∷ []; state = data_state }

@@ -104,12 +104,12 @@ impl Tokenizer {
         self.waiting.same(&other.waiting) && eq_state(&self.state, &other.state)
     }
 
-    /// Reads the end of the input, with the named character references of `table`. The tokens that it makes wait behind those
-    /// that wait already.
-    pub fn finish(&mut self, alloc: Global, table: &Table) -> Result<(), NoMemory>
-        ensures { OnOk result (self.new ≡ after_tokens self.old.tokens (read_end table.now self.old.state)) }
+    /// Reads the end of the input, with the named character references of `table`; `foreign` says that the adjusted current
+    /// node isn't an HTML element. The tokens that it makes wait behind those that wait already.
+    pub fn finish(&mut self, alloc: Global, table: &Table, foreign: bool) -> Result<(), NoMemory>
+        ensures { OnOk result (self.new ≡ after_tokens self.old.tokens (read_end table.now foreign self.old.state)) }
     {
-        self.settle_in(alloc, table, Class::InputEnd, '\0')
+        self.settle_in(alloc, table, foreign, Class::InputEnd, '\0')
     }
 
     /// Takes the first of the tokens that wait.
@@ -124,13 +124,19 @@ impl Tokenizer {
 
     /// Gives the next token: the first that waits, else the first that the text makes, of which no more is used than that
     /// needs. `InputEnd` comes where no token waits and all of the text makes none. Named character references are those of
-    /// `table`.
-    pub fn run(&mut self, alloc: Global, table: &Table, text: &str) -> Result<Paused, NoMemory>
+    /// `table`; `foreign` says that the adjusted current node isn't an HTML element, and holds up to that token.
+    pub fn run(
+        &mut self,
+        alloc: Global,
+        table: &Table,
+        foreign: bool,
+        text: &str,
+    ) -> Result<Paused, NoMemory>
         ensures boundary { IfOk result (λ r. IsCharBoundary text.now r.used) }
         ensures next { IfOk result
-            (λ r. IsNext (onward table.now self.old (chars (take r.used text.now))) r.pause self.new) }
+            (λ r. IsNext (onward table.now foreign self.old (chars (take r.used text.now))) r.pause self.new) }
         ensures first { IfOk result
-            (λ r. IsQuietBefore table.now self.old (chars (take r.used text.now))) }
+            (λ r. IsQuietBefore table.now foreign self.old (chars (take r.used text.now))) }
         ensures all { IfOk result (λ r. UsesAll r text.now) }
     {
         if let Some(token) = self.waiting.pop() {
@@ -149,7 +155,7 @@ impl Tokenizer {
                     used,
                 });
             }
-            self.read_class(alloc, table, class, c)?;
+            self.read_class(alloc, table, foreign, class, c)?;
             if let Some(token) = self.waiting.pop() {
                 return Ok(Paused {
                     pause: Pause::Token(token),
@@ -163,12 +169,18 @@ impl Tokenizer {
         })
     }
 
-    /// Reads a character, with the named character references of `table`. The tokens that it makes wait behind those that wait
-    /// already.
-    pub fn read_character(&mut self, alloc: Global, table: &Table, c: char) -> Result<(), NoMemory>
-        ensures { OnOk result (self.new ≡ after_tokens self.old.tokens (read table.now self.old.state c)) }
+    /// Reads a character, with the named character references of `table`; `foreign` says that the adjusted current node isn't
+    /// an HTML element. The tokens that it makes wait behind those that wait already.
+    pub fn read_character(
+        &mut self,
+        alloc: Global,
+        table: &Table,
+        foreign: bool,
+        c: char,
+    ) -> Result<(), NoMemory>
+        ensures { OnOk result (self.new ≡ after_tokens self.old.tokens (read table.now foreign self.old.state c)) }
     {
-        self.read_class(alloc, table, class_of(c), c)
+        self.read_class(alloc, table, foreign, class_of(c), c)
     }
 
     // Reads a character of this class.
@@ -176,15 +188,16 @@ impl Tokenizer {
         &mut self,
         alloc: Global,
         table: &Table,
+        foreign: bool,
         class: Class,
         c: char,
     ) -> Result<(), NoMemory>
-        ensures { OnOk result (self.new ≡ after_tokens self.old.tokens (reading table.now self.old.state class c)) }
+        ensures { OnOk result (self.new ≡ after_tokens self.old.tokens (reading table.now foreign self.old.state class c)) }
     {
         if add_in_place(&mut self.state, class, c)? {
             return Ok(());
         }
-        self.settle_in(alloc, table, class, c)
+        self.settle_in(alloc, table, foreign, class, c)
     }
 
     // Reads a character of this class, or the end, by the rows.
@@ -192,13 +205,23 @@ impl Tokenizer {
         &mut self,
         alloc: Global,
         table: &Table,
+        foreign: bool,
         class: Class,
         c: char,
     ) -> Result<(), NoMemory>
-        ensures { OnOk result (self.new ≡ after_tokens self.old.tokens (reading table.now self.old.state class c)) }
+        ensures { OnOk result (self.new ≡ after_tokens self.old.tokens (reading table.now foreign self.old.state class c)) }
     {
         let state = mem::replace(&mut self.state, TokState::Text(TextState::Data));
-        let now = settle(alloc, table, READINGS, state, class, c, &mut self.waiting)?;
+        let now = settle(
+            alloc,
+            table,
+            foreign,
+            READINGS,
+            state,
+            class,
+            c,
+            &mut self.waiting,
+        )?;
         discard(mem::replace(&mut self.state, now));
         Ok(())
     }
@@ -212,7 +235,7 @@ mod tests {
     // The bytes that a new tokenizer uses of a text until its first token.
     fn used(alloc: Global, table: &Table, text: &str) -> Result<usize, NoMemory> {
         let mut tokenizer = Tokenizer::new(alloc);
-        let ran = tokenizer.run(alloc, table, text)?;
+        let ran = tokenizer.run(alloc, table, false, text)?;
         Ok(ran.used)
     }
 

@@ -393,7 +393,7 @@ fn tag_of(
     ensures { IfOk result (λ t. t ≡ tag_token kind (finished self_closing (record { kind = kind; name = chars name.now; attributes = attributes }))) }
 {
     let tag = Tag {
-        name: Name::from_text(Text::from_str(alloc, name)?),
+        name: Name::of(alloc, name)?,
         attributes,
         self_closing,
     };

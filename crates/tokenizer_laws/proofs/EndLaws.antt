@@ -13,8 +13,9 @@ use Rattle.html_types.specs.declared.state.TokState.TheVariants as group
 use Rattle.html_types.specs.declared.mark_state.DoctypeState.{DoctypeState}
 use Rattle.html_types.specs.declared.mark_state.DoctypeState.TheVariants as doctype
 use Rattle.html_types.specs.declared.mark_state.CommentState.TheVariants as comment
+use Rattle.html_types.specs.declared.mark_state.CdataState.TheVariants as cdata
 use Rattle.html_types.specs.declared.mark_state.MarkState.{MarkState}
-use Rattle.html_types.specs.declared.mark_state.MarkState.TheVariants.{MarkupDeclarationOpen, BogusComment, Comment, Doctype}
+use Rattle.html_types.specs.declared.mark_state.MarkState.TheVariants.{MarkupDeclarationOpen, BogusComment, Comment, Doctype, Cdata}
 use Rattle.html_types.specs.declared.reference_state.ReturnState.{ReturnState}
 use Rattle.html_types.specs.declared.reference_state.ReturnState.TheVariants as back
 use Rattle.html_types.specs.declared.reference_state.ReferenceState.{ReferenceState}
@@ -60,20 +61,22 @@ tag-fine (AttributeValueQuoted t h Single) = refl
 tag-fine (AttributeValueQuoted t h Double) = refl
 tag-fine _ = refl
 
-doctype-fine : (s : DoctypeState) → is_fine (mark_row (Doctype s) InputEnd 0) ≡ true
-doctype-fine doctype.Doctype = refl
-doctype-fine (doctype.PublicIdentifier t Single) = refl
-doctype-fine (doctype.PublicIdentifier t Double) = refl
-doctype-fine (doctype.SystemIdentifier t Single) = refl
-doctype-fine (doctype.SystemIdentifier t Double) = refl
-doctype-fine _ = refl
+doctype-fine : (foreign : Bool) (s : DoctypeState) → is_fine (mark_row foreign (Doctype s) InputEnd 0) ≡ true
+doctype-fine foreign doctype.Doctype = refl
+doctype-fine foreign (doctype.PublicIdentifier t Single) = refl
+doctype-fine foreign (doctype.PublicIdentifier t Double) = refl
+doctype-fine foreign (doctype.SystemIdentifier t Single) = refl
+doctype-fine foreign (doctype.SystemIdentifier t Double) = refl
+doctype-fine foreign _ = refl
 
-mark-fine : (s : MarkState) → is_fine (mark_row s InputEnd 0) ≡ true
-mark-fine (MarkupDeclarationOpen h) = refl
-mark-fine (BogusComment t) = refl
-mark-fine (Comment comment.Start) = refl
-mark-fine (Comment _) = refl
-mark-fine (Doctype s) = doctype-fine s
+mark-fine : (foreign : Bool) (s : MarkState) → is_fine (mark_row foreign s InputEnd 0) ≡ true
+mark-fine foreign (MarkupDeclarationOpen h) = refl
+mark-fine foreign (BogusComment t) = refl
+mark-fine foreign (Comment comment.Start) = refl
+mark-fine foreign (Comment _) = refl
+mark-fine foreign (Doctype s) = doctype-fine foreign s
+mark-fine foreign (Cdata cdata.Section) = refl
+mark-fine foreign (Cdata _) = refl
 
 literally-fine : (r : ReturnState) (cs : List ℕ) → is_fine (literally r cs true) ≡ true
 literally-fine back.Data cs = refl
@@ -95,11 +98,11 @@ reference-fine es (HexadecimalStart r x) = literally-fine r (38 ∷ 35 ∷ x ∷
 reference-fine es (Hexadecimal r m) = literally-fine r (character_of m ∷ [])
 reference-fine es (Decimal r m) = literally-fine r (character_of m ∷ [])
 
-row-fine : (es : Entities) (s : TokState) → is_fine (row es s InputEnd 0) ≡ true
-row-fine es (group.Text s) = text-fine s
-row-fine es (group.Tag s) = tag-fine s
-row-fine es (group.Mark s) = mark-fine s
-row-fine es (group.Reference s) = reference-fine es s
+row-fine : (es : Entities) (foreign : Bool) (s : TokState) → is_fine (row es foreign s InputEnd 0) ≡ true
+row-fine es foreign (group.Text s) = text-fine s
+row-fine es foreign (group.Tag s) = tag-fine s
+row-fine es foreign (group.Mark s) = mark-fine foreign s
+row-fine es foreign (group.Reference s) = reference-fine es s
 
 end-ends : (t : Token) → is_end t ≡ true → EndsWith EndOfFile (t ∷ [])
 end-ends EndOfFile e = ([], refl)
@@ -116,12 +119,12 @@ one-reading : (ts : List Token) (s : TokState) (m : Reached) (again x : Bool) �
 one-reading ts s m true x fine e rest = let (front, is) = rest e in (ts ++ front, ap (λ l. ts ++ l) is ∙ sym (append_assoc ts front (EndOfFile ∷ [])))
 one-reading ts s m false x fine e rest = last-ends ts fine
 
-end-settles : (es : Entities) (n : ℕ) (s : TokState) → ends es n s InputEnd 0 ≡ true → EndsWith EndOfFile (settle es n s InputEnd 0).tokens
+end-settles : (es : Entities) (foreign : Bool) (n : ℕ) (s : TokState) → ends es foreign n s InputEnd 0 ≡ true → EndsWith EndOfFile (settle es foreign n s InputEnd 0).tokens
 unfolding ends settle
-end-settles es zero s e = absurd (true≢false (sym e))
-end-settles es (suc n) s e =
-    let r : Step = row es s InputEnd 0 in
-    one-reading r.tokens r.state (settle es n r.state InputEnd 0) r.again (ends es n r.state InputEnd 0) (row-fine es s) e (end-settles es n r.state)
+end-settles es foreign zero s e = absurd (true≢false (sym e))
+end-settles es foreign (suc n) s e =
+    let r : Step = row es foreign s InputEnd 0 in
+    one-reading r.tokens r.state (settle es foreign n r.state InputEnd 0) r.again (ends es foreign n r.state InputEnd 0) (row-fine es foreign s) e (end-settles es foreign n r.state)
 
 pub ends-in_end_of_file : EndsInEndOfFile
-ends-in_end_of_file es s = end-settles es readings s (ends-always es s InputEnd 0)
+ends-in_end_of_file es foreign s = end-settles es foreign readings s (ends-always es foreign s InputEnd 0)

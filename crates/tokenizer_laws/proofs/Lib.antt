@@ -3,6 +3,7 @@ pub mod FeedLemmas
 pub mod EndsLemmas
 pub mod EscapeLaws
 pub mod MarkLaws
+pub mod CdataLaws
 pub mod ReferenceLaws
 pub mod TokenizerLaws
 pub mod EndLaws

@@ -66,7 +66,8 @@ pub(crate) fn text_and_ending(seen: &[u8], counted: usize) -> (&str, Option<Endi
     }
 }
 
-fn without_mark(text: &str) -> &str
+/// A text without the byte order mark that it may begin with.
+pub fn without_mark(text: &str) -> &str
     ensures { chars result.now ≡ without_mark (chars text.now) }
 {
     let mut chars = text.chars();

@@ -6,5 +6,6 @@ mod decoder;
 #[cfg(test)]
 mod tests;
 
+pub use bytes::without_mark;
 pub use decoder::{Decoder, Fed};
 pub use html_types::Ending;

@@ -8,7 +8,7 @@ pub returns-then-branch : goal.returns-then-branch
 returns-then-branch c =
     let es = c.args.table.now in
     let now = c.add_in_place.new.state in
-    let done = reading-emit es c.self.inside.state now [] c.args.class c.args.c ((rw c.if-branch.true at c.in_ok-add_in_place.ensures) es) in
+    let done = reading-emit es c.args.foreign c.self.inside.state now [] c.args.class c.args.c ((rw c.if-branch.true at c.in_ok-add_in_place.ensures) es c.args.foreign) in
     rw (← c.self.view_is)
     (ap (λ (l : List Token). record { tokens = l; state = now }) (sym (append-nil c.self.inside.waiting))
     ∙ ap (λ (m : Reached). after_tokens c.self.inside.waiting m) (sym done))

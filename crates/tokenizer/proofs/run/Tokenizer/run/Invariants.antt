@@ -8,7 +8,7 @@ abbrev pub invariant-loop-c : goal.invariant-loop-c
 invariant-loop-c l = record {
   boundary : IsCharBoundary l.text l.used;
   none : l.self.tokens ≡ [];
-  fed : l.self ≡ onward l.table l.fn.self (chars (take l.used l.text));
+  fed : l.self ≡ onward l.table l.foreign l.fn.self (chars (take l.used l.text));
 }
 
 abbrev pub decreases-loop-c : goal.decreases-loop-c

@@ -1,0 +1,265 @@
+//! Foreign elements: the adjusted current node (13.2.4.2), the integration points (13.2.6), and the tags of foreign elements (13.2.6.1).
+
+ghost use Rattle.std.specs.Prelude.{◌≡◌, IfOk, Some, codes, unwrap_or, option_map};
+ghost use Rattle.std.specs.Str.{chars};
+ghost use Rattle.standard.specs.Tree.{attribute};
+ghost use Rattle.standard.specs.Foreign as definition;
+
+use crate::inputs::{is_spelled, value_of};
+use foreign_tables::{math_attribute, svg_attribute, svg_name};
+use html_types::{
+    Attribute, Attributes, Name, NoMemory, NodeId, Open, OpenElement, Space, Tag, Text, Token, Word,
+};
+use std::alloc::Global;
+use tag_sets::{is_annotation_text, is_math_text, is_svg_point, is_the};
+
+/// The adjusted current node (13.2.4.2).
+pub fn adjusted(state: &Open) -> Option<&OpenElement>
+    ensures { option_map (λ e. e.now) result ≡ definition.adjusted state.now }
+{
+    match state.stack.as_slice().split_last() {
+        None => None,
+        Some((last, _)) => Some(last),
+    }
+}
+
+/// Whether the name is one of HTML.
+pub fn is_html(name: &Name) -> bool
+    ensures { result ≡ definition.is_html name.now }
+{
+    match name {
+        Name::Known(_) => true,
+        Name::Other(Space::Html, _) => true,
+        Name::Other(_, _) => false,
+    }
+}
+
+/// Whether the element is a MathML text integration point (13.2.6).
+pub fn is_text_point(element: &OpenElement) -> bool
+    ensures { result ≡ definition.is_text_point element.now }
+{
+    match &element.name {
+        Name::Other(Space::MathMl, name) => is_math_text(name),
+        _ => false,
+    }
+}
+
+/// Whether the element is an HTML integration point (13.2.6).
+pub fn is_html_point(element: &OpenElement) -> bool
+    ensures { result ≡ definition.is_html_point element.now }
+{
+    match &element.name {
+        Name::Other(Space::Svg, name) => is_svg_point(name) || element.html_point,
+        _ => element.html_point,
+    }
+}
+
+/// Whether this is the name of an annotation-xml of MathML.
+fn is_annotation(name: &Name) -> bool
+    ensures { result ≡ definition.is_annotation name.now }
+{
+    match name {
+        Name::Other(Space::MathMl, text) => is_annotation_text(text),
+        _ => false,
+    }
+}
+
+/// Whether an element is of HTML or an integration point: leaving foreign content stops there (13.2.6.5).
+#[tactic(auto, unfolding(standard::specs::Foreign::is_html_or_point))]
+pub fn is_html_or_point(element: &OpenElement) -> bool
+    ensures { result ≡ definition.is_html_or_point element.now }
+{
+    is_html(&element.name) || is_text_point(element) || is_html_point(element)
+}
+
+/// Whether a MathML text integration point leaves the token to the insertion mode.
+fn is_for_text_point(token: &Token) -> bool
+    ensures { result ≡ definition.is_for_text_point token.now }
+{
+    match token {
+        Token::Character(_) => true,
+        Token::StartTag(tag) => !matches!(
+            &tag.name,
+            Name::Known(Word::Mglyph) | Name::Known(Word::Malignmark)
+        ),
+        _ => false,
+    }
+}
+
+/// Whether an HTML integration point leaves the token to the insertion mode.
+fn is_for_html_point(token: &Token) -> bool
+    ensures { result ≡ definition.is_for_html_point token.now }
+{
+    matches!(token, Token::Character(_) | Token::StartTag(_))
+}
+
+/// Whether the token is a start tag `svg`.
+fn is_svg_start(token: &Token) -> bool
+    ensures { result ≡ definition.is_svg_start token.now }
+{
+    match token {
+        Token::StartTag(tag) => is_the(Word::Svg, &tag.name),
+        _ => false,
+    }
+}
+
+/// Whether the token goes by the rules of the insertion mode, where the adjusted current node is this one.
+fn goes_by_mode(element: &OpenElement, token: &Token) -> bool
+    ensures { result ≡ definition.goes_by_mode token.now element.now }
+{
+    is_html(&element.name)
+        || is_text_point(element) && is_for_text_point(token)
+        || is_annotation(&element.name) && is_svg_start(token)
+        || is_html_point(element) && is_for_html_point(token)
+        || matches!(token, Token::EndOfFile)
+}
+
+/// Whether the token goes by the rules for foreign content (13.2.6).
+#[tactic(auto, unfolding(standard::specs::Foreign::goes_foreign))]
+pub fn goes_foreign(state: &Open, token: &Token) -> bool
+    ensures { result ≡ definition.goes_foreign token.now (definition.adjusted state.now) }
+{
+    match adjusted(state) {
+        None => false,
+        Some(element) => !goes_by_mode(element, token),
+    }
+}
+
+/// Whether the adjusted current node (13.2.4.2) is an element of MathML or SVG.
+#[tactic(auto, unfolding(standard::specs::Foreign::is_foreign))]
+pub fn is_foreign(state: &Open) -> bool
+    ensures { result ≡ definition.is_foreign state.now }
+{
+    match adjusted(state) {
+        None => false,
+        Some(element) => !is_html(&element.name),
+    }
+}
+
+/// Whether a text is one of the encodings of HTML, in any ASCII case.
+fn is_html_encoding(text: &Text) -> bool
+    ensures { result ≡ definition.is_html_encoding (Some text.now) }
+{
+    is_spelled(text, "text/html") || is_spelled(text, "application/xhtml+xml")
+}
+
+/// Whether the `encoding` is one of HTML.
+#[tactic(auto, using(std::proofs::lemmas::Grind::common_steps, crate::proofs::Literals::encoding_text))]
+fn has_html_encoding(attributes: &Attributes) -> bool
+    ensures { result ≡ definition.is_html_encoding (attribute (codes "encoding") attributes.now) }
+{
+    match value_of(attributes.as_slice(), "encoding") {
+        None => false,
+        Some(text) => is_html_encoding(text),
+    }
+}
+
+/// Whether the tag makes an annotation-xml that is an HTML integration point.
+#[tactic(auto, unfolding(standard::specs::Foreign::is_html_annotation))]
+fn is_html_annotation(tag: &Tag) -> bool
+    ensures { result ≡ definition.is_html_annotation tag.now }
+{
+    is_annotation(&tag.name) && has_html_encoding(&tag.attributes)
+}
+
+/// The open element that is made for a tag.
+pub fn opened(id: NodeId, tag: &Tag) -> Result<OpenElement, NoMemory>
+    ensures { IfOk result (λ e. e ≡ definition.opened id tag.now) }
+{
+    let name = tag.name.copy()?;
+    Ok(OpenElement {
+        id,
+        name,
+        html_point: is_html_annotation(tag),
+    })
+}
+
+/// The name in a namespace, as it is written.
+fn name_in(alloc: Global, space: Space, name: &Name) -> Result<Name, NoMemory>
+    ensures { IfOk result (λ n. n ≡ definition.name_in space name.now) }
+{
+    match space {
+        Space::Html => name.copy(),
+        Space::MathMl | Space::Svg => Name::other(alloc, space, name.as_str()),
+    }
+}
+
+/// The name that a namespace has for that of a tag.
+fn foreign_name(alloc: Global, space: Space, name: &Name) -> Result<Name, NoMemory>
+    ensures { IfOk result (λ n. n ≡ definition.foreign_name space name.now) }
+{
+    match space {
+        Space::Html | Space::MathMl => name_in(alloc, space, name),
+        Space::Svg => match svg_name(name.as_str()) {
+            None => name_in(alloc, space, name),
+            Some(written) => Name::other(alloc, space, written),
+        },
+    }
+}
+
+/// How a namespace spells the name of an attribute, where it isn't in lower case.
+fn respelled(space: Space, lower: &str) -> Option<&'static str>
+    ensures { unwrap_or (option_map (λ name. chars name.now) result) (chars lower.now) ≡ definition.attribute_name space (chars lower.now) }
+{
+    match space {
+        Space::Html => None,
+        Space::MathMl => math_attribute(lower),
+        Space::Svg => svg_attribute(lower),
+    }
+}
+
+/// The name of an attribute as a namespace has it.
+fn attribute_name(alloc: Global, space: Space, lower: &Text) -> Result<Text, NoMemory>
+    ensures { IfOk result (λ name. name ≡ definition.attribute_name space lower.now) }
+{
+    match respelled(space, lower.as_str()) {
+        None => lower.copy(alloc),
+        Some(written) => Text::from_str(alloc, written),
+    }
+}
+
+/// Attributes under the names that a namespace has for them (13.2.6.1).
+#[tactic(auto, unfolding(standard::specs::Foreign::foreign_attributes))]
+fn foreign_attributes(
+    alloc: Global,
+    space: Space,
+    attributes: &Attributes,
+) -> Result<Attributes, NoMemory>
+    ensures { IfOk result (λ a. a ≡ definition.foreign_attributes space attributes.now) }
+{
+    let mut adjusted = Attributes::new(alloc);
+    for attribute in attributes.as_slice() {
+        let name = attribute_name(alloc, space, &attribute.name)?;
+        let value = attribute.value.copy(alloc)?;
+        adjusted.push(Attribute { name, value })?;
+    }
+    Ok(adjusted)
+}
+
+/// The tag of a foreign element, by its own name.
+#[tactic(auto, unfolding(standard::specs::Foreign::tag_in))]
+pub fn tag_in(alloc: Global, space: Space, tag: &Tag) -> Result<Tag, NoMemory>
+    ensures { IfOk result (λ t. t ≡ definition.tag_in space tag.now) }
+{
+    let name = name_in(alloc, space, &tag.name)?;
+    let attributes = foreign_attributes(alloc, space, &tag.attributes)?;
+    Ok(Tag {
+        name,
+        attributes,
+        self_closing: tag.self_closing,
+    })
+}
+
+/// The tag of a foreign element, under the name that the namespace has for it.
+#[tactic(auto, unfolding(standard::specs::Foreign::foreign_tag))]
+pub fn foreign_tag(alloc: Global, space: Space, tag: &Tag) -> Result<Tag, NoMemory>
+    ensures { IfOk result (λ t. t ≡ definition.foreign_tag space tag.now) }
+{
+    let name = foreign_name(alloc, space, &tag.name)?;
+    let attributes = foreign_attributes(alloc, space, &tag.attributes)?;
+    Ok(Tag {
+        name,
+        attributes,
+        self_closing: tag.self_closing,
+    })
+}

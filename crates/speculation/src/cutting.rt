@@ -1,0 +1,147 @@
+//! How a piece is cut into batches.
+
+ghost use Rattle.std.specs.Prelude.{◌≡◌, ◌↔◌, ◌++◌, Some, None, length, drop, if◌then◌else◌, IfOk, OnOk, IsTrue};
+ghost use Rattle.html_types.specs.declared.instruction.Stop.TheVariants as stop;
+ghost use Rattle.standard.specs.Parser.{parse, finish};
+ghost use Rattle.core_rules.specs.Batches.{at, cut, end_batch, finish_batch, refusal_batch, answer};
+ghost use Rattle.speculation.specs.Halting.{first_batch};
+
+use crate::batch::{Batch, Batches, Halt};
+use crate::checkpoint::Checkpoint;
+use entity_table::Table;
+use html_types::{Ending, NoMemory, Ops, Stop, Why};
+use page_pieces::{Piece, SharedText};
+use parse_machine::Machine;
+use std::alloc::Global;
+use std::snapshot::Snapshot;
+
+// The batch up to the first stop in a text, which is taken off the text.
+fn next_batch(
+    alloc: Global,
+    table: &Table,
+    machine: &mut Machine,
+    text: &mut SharedText,
+) -> Result<Batch, NoMemory>
+    ensures batch { IfOk result (λ b. b ≡ first_batch table.now machine.old text.old) }
+    ensures machine { OnOk result (machine.new ≡ (parse table.now machine.old text.old).parser) }
+    ensures rest { OnOk result (text.new ≡ drop (parse table.now machine.old text.old).used text.old) }
+{
+    let start = Snapshot::of(machine);
+    let mut ops = Ops::new(alloc);
+    let ran = machine.run(alloc, table, text.as_str(), &mut ops)?;
+    let after = Checkpoint::of(alloc, machine)?;
+    let used = text.split_front(ran.used)?;
+    Ok(Batch {
+        start,
+        text: used,
+        ops,
+        after,
+        halt: Halt::At(ran.stop),
+    })
+}
+
+// Whether it ends at a refusal of its text.
+fn is_deep(batch: &Batch) -> bool
+    ensures { IsTrue result ↔ (batch.now.halt ≡ at stop.Deep) }
+{
+    batch.halt() == Halt::At(Stop::Deep)
+}
+
+// Cuts a text behind each end tag of a script and at a refusal, and says whether the parser goes on behind it.
+fn cut_text(
+    alloc: Global,
+    table: &Table,
+    machine: &mut Machine,
+    text: SharedText,
+    batches: &mut Batches,
+) -> Result<bool, NoMemory>
+    ensures batches { OnOk result (batches.new ≡ batches.old ++ (cut (length text) table.now machine.old text).batches) }
+    ensures machine { IfOk result (λ goes_on. (cut (length text) table.now machine.old text).parser ≡ (if goes_on then Some machine.new else None)) }
+{
+    let mut rest = text;
+    'cuts: while !rest.is_empty() {
+        let batch = next_batch(alloc, table, machine, &mut rest)?;
+        let deep = is_deep(&batch);
+        batches.push(batch)?;
+        if deep {
+            return Ok(false);
+        }
+    }
+    Ok(true)
+}
+
+// The batch that carries the page's ending.
+fn last_batch(
+    alloc: Global,
+    table: &Table,
+    machine: Machine,
+    ending: Ending,
+) -> Result<Batch, NoMemory>
+    ensures { IfOk result (λ b. b ≡ end_batch table.now machine ending) }
+{
+    match ending {
+        Ending::End => finish_page(alloc, table, machine),
+        Ending::Bad => refuse_page(alloc, machine, Why::BadUtf8),
+        Ending::Long => refuse_page(alloc, machine, Why::Page),
+        Ending::Fault => refuse_page(alloc, machine, Why::Fault),
+    }
+}
+
+// The page ends here (13.2.7).
+fn finish_page(alloc: Global, table: &Table, machine: Machine) -> Result<Batch, NoMemory>
+    ensures { IfOk result (λ b. b ≡ finish_batch machine (finish table.now machine)) }
+{
+    let mut machine = machine;
+    let start = Snapshot::of(&machine);
+    let text = SharedText::empty(alloc)?;
+    let mut ops = Ops::new(alloc);
+    let finish = machine.finish(alloc, table, &mut ops)?;
+    Ok(Batch {
+        start,
+        text,
+        ops,
+        after: Checkpoint::holding(machine),
+        halt: Halt::Finishing(finish),
+    })
+}
+
+// The page is refused here.
+fn refuse_page(alloc: Global, machine: Machine, why: Why) -> Result<Batch, NoMemory>
+    ensures { IfOk result (λ b. b ≡ refusal_batch machine why) }
+{
+    let start = Snapshot::of(&machine);
+    let text = SharedText::empty(alloc)?;
+    Ok(Batch {
+        start,
+        text,
+        ops: Ops::new(alloc),
+        after: Checkpoint::holding(machine),
+        halt: Halt::Refusing(why),
+    })
+}
+
+// What a machine makes of a piece, and the machine behind it.
+pub(crate) fn parse_piece(
+    alloc: Global,
+    table: &Table,
+    machine: Machine,
+    piece: &Piece,
+    batches: &mut Batches,
+) -> Result<Option<Machine>, NoMemory>
+    ensures batches { OnOk result (batches.new ≡ batches.old ++ (answer table.now (Some machine) piece.now).batches) }
+    ensures machine { IfOk result (λ m. m ≡ (answer table.now (Some machine) piece.now).parser) }
+{
+    let mut machine = machine;
+    let text = piece.text().copy()?;
+    if !cut_text(alloc, table, &mut machine, text, batches)? {
+        return Ok(None);
+    }
+    match piece.ending() {
+        None => Ok(Some(machine)),
+        Some(ending) => {
+            let batch = last_batch(alloc, table, machine, ending)?;
+            batches.push(batch)?;
+            Ok(None)
+        }
+    }
+}
