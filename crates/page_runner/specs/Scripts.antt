@@ -74,7 +74,7 @@ abbrev pub met_of : ScriptFiles → List ℕ → Option FetchedScript
 met_of files name = get_by_text files.met name
 
 -- What came of a script stands for what the parse is given of it: its text has the statements of the file.
-abbrev pub StandsFor : Script → Fetched → Type 0
+abbrev pub StandsFor : FetchedScript → Fetched → Type 0
 StandsFor (Text text) (got bytes) = statements (chars (string_bytes text)) ≡ file_statements bytes
 StandsFor Missing missing = Unit {0}
 StandsFor Faulted faulted = Unit {0}

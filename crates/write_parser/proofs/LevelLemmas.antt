@@ -195,10 +195,13 @@ feeds-script es old mid new p d left s id going continues parsed stops is ends =
     by ended = record {
       leads = record {
         leads = λ e w from before page world stands.
-            let there : Reaches e w (tag_ended id (serial_of (view_of (fed p d left old) false) before page)) new before page = tag-leads es id (fed p d left old) new continues.pending ended e w before page world in
-            (there.0, there.1, goes-on e w from _ there.0
-            (fed-leads es old p d left (stop.Script id) going continues.pending (subst (λ k. HasParsed es old.machine old.doc old.rest p d left k) stops parsed.parsed) e w from before page world stands)
-            there.2);
+            let there : Reaches e w (tag_ended id (serial_of (view_of (fed p d left old) false) before page)) new before page = tag-leads es id (fed p d left old) new continues.pending ended e w before page world in (
+              there.0,
+              there.1,
+              goes-on e w from _ there.0
+                  (fed-leads es old p d left (stop.Script id) going continues.pending (subst (λ k. HasParsed es old.machine old.doc old.rest p d left k) stops parsed.parsed) e w from before page world stands)
+                  there.2,
+            );
       };
       served = ended.served;
       weight = omega (arith, ended.weight, parsed.shorter (λ ends'. absurd (cc (sym stops ∙ ends'))));
