@@ -4,3 +4,4 @@ pub mod Literals
 pub mod Lowered
 pub mod Characters
 pub mod ForeignEnds
+pub mod Pairs

@@ -3,3 +3,4 @@ pub mod Kinds
 pub mod Adopted
 pub mod Texts
 pub mod ForeignEnds
+pub mod Pairs

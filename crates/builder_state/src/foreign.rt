@@ -1,6 +1,6 @@
 //! Foreign elements: the adjusted current node (13.2.4.2), the integration points (13.2.6), and the tags of foreign elements (13.2.6.1).
 
-ghost use Rattle.std.specs.Prelude.{◌≡◌, IfOk, Some, codes, unwrap_or, option_map};
+ghost use Rattle.std.specs.Prelude.{◌≡◌, false, IfOk, Some, codes, unwrap_or, option_map};
 ghost use Rattle.std.specs.Str.{chars};
 ghost use Rattle.standard.specs.Tree.{attribute};
 ghost use Rattle.standard.specs.Foreign as definition;
@@ -218,6 +218,19 @@ fn attribute_name(alloc: Global, space: Space, lower: &Text) -> Result<Text, NoM
     }
 }
 
+/// Whether a namespace spells the name of one of the attributes otherwise.
+#[tactic(auto, unfolding(standard::specs::Foreign::foreign_attributes))]
+fn has_respelled(space: Space, attributes: &[Attribute]) -> bool
+    ensures { result ≡ false → definition.foreign_attributes space attributes.now ≡ attributes.now }
+{
+    for attribute in attributes {
+        if respelled(space, attribute.name.as_str()).is_some() {
+            return true;
+        }
+    }
+    false
+}
+
 /// Attributes under the names that a namespace has for them (13.2.6.1).
 #[tactic(auto, unfolding(standard::specs::Foreign::foreign_attributes))]
 fn foreign_attributes(
@@ -227,6 +240,9 @@ fn foreign_attributes(
 ) -> Result<Attributes, NoMemory>
     ensures { IfOk result (λ a. a ≡ definition.foreign_attributes space attributes.now) }
 {
+    if !has_respelled(space, attributes.as_slice()) {
+        return attributes.copy(alloc);
+    }
     let mut adjusted = Attributes::new(alloc);
     for attribute in attributes.as_slice() {
         let name = attribute_name(alloc, space, &attribute.name)?;

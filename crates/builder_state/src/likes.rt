@@ -1,13 +1,17 @@
 //! An entry more in the list of active formatting elements: of four that are alike the earliest goes (13.2.4.3).
 
 ghost use Rattle.std.specs.Prelude.{◌≡◌, ◌<◌, length, reverse, remove, IfOk, MatchOption};
+ghost use Rattle.builder_state.specs.Pairs.{pair_text, pairs_of, all_found};
 ghost use Rattle.standard.specs.Formatting.{same_attribute, has_attribute, are_among, same_attributes, is_like, likes, without_earliest, list_element};
 
-use html_types::{Attribute, Attributes, Format, Formats, NoMemory, NodeId, Tag};
+use html_types::{Attribute, Attributes, Format, Formats, NoMemory, NodeId, Tag, Text};
 use std::alloc::Global;
 
 /// How many entries behind the last marker may be alike.
 const ALIKE: usize = 3;
+
+/// So many attributes are looked through one after another.
+const FEW: usize = 16;
 
 /// Whether two attributes are the same.
 fn is_same(a: &Attribute, b: &Attribute) -> bool
@@ -40,73 +44,135 @@ fn all_among(attributes: &[Attribute], others: &[Attribute]) -> bool
     true
 }
 
-/// Whether two lists have the same attributes, whatever their order.
-fn are_same(a: &Attributes, b: &Attributes) -> bool
-    ensures { result ≡ same_attributes a.now b.now }
+/// A text of an attribute's name and value, which no other attribute has.
+fn pair_text(alloc: Global, attribute: &Attribute) -> Result<Text, NoMemory>
+    ensures { IfOk result (λ text. text ≡ pair_text attribute.now) }
 {
-    all_among(a.as_slice(), b.as_slice()) && all_among(b.as_slice(), a.as_slice())
+    let mut text = Text::new(alloc);
+    for c in attribute.name.as_str().chars() {
+        text.push('\0')?;
+        text.push(c)?;
+    }
+    text.push('\u{1}')?;
+    text.push_str(attribute.value.as_str())?;
+    Ok(text)
+}
+
+/// Those texts as names of attributes, so that each is found in the logarithm of their number.
+fn pairs_of(alloc: Global, attributes: &[Attribute]) -> Result<Attributes, NoMemory>
+    ensures { IfOk result (λ pairs. pairs ≡ pairs_of attributes.now) }
+{
+    let mut pairs = Attributes::new(alloc);
+    for attribute in attributes {
+        pairs.push(Attribute {
+            name: pair_text(alloc, attribute)?,
+            value: Text::new(alloc),
+        })?;
+    }
+    Ok(pairs)
+}
+
+/// Whether each of some attributes is among those whose texts are names.
+fn all_found(alloc: Global, attributes: &[Attribute], pairs: &Attributes) -> Result<bool, NoMemory>
+    ensures { IfOk result (λ found. found ≡ all_found pairs.now attributes.now) }
+{
+    for attribute in attributes {
+        if !pairs.has(&pair_text(alloc, attribute)?) {
+            return Ok(false);
+        }
+    }
+    Ok(true)
+}
+
+/// Whether two lists have the same attributes, whatever their order, where one may have many.
+#[tactic(auto, using(std::proofs::lemmas::Grind::common_steps, crate::proofs::Pairs::found_among))]
+fn are_same_of_many(alloc: Global, a: &[Attribute], b: &[Attribute]) -> Result<bool, NoMemory>
+    ensures { IfOk result (λ same. same ≡ same_attributes a.now b.now) }
+{
+    if !all_found(alloc, a, &pairs_of(alloc, b)?)? {
+        return Ok(false);
+    }
+    all_found(alloc, b, &pairs_of(alloc, a)?)
+}
+
+/// Whether two lists have the same attributes, whatever their order.
+fn are_same(alloc: Global, a: &[Attribute], b: &[Attribute]) -> Result<bool, NoMemory>
+    ensures { IfOk result (λ same. same ≡ same_attributes a.now b.now) }
+{
+    if a.len() > FEW || b.len() > FEW {
+        return are_same_of_many(alloc, a, b);
+    }
+    Ok(all_among(a, b) && all_among(b, a))
 }
 
 /// Whether two tags have the same name and the same attributes.
-fn are_alike(a: &Tag, b: &Tag) -> bool
-    ensures { result ≡ is_like a.now b.now }
+fn are_alike(alloc: Global, a: &Tag, b: &Tag) -> Result<bool, NoMemory>
+    ensures { IfOk result (λ alike. alike ≡ is_like a.now b.now) }
 {
-    a.name.same(&b.name) && are_same(&a.attributes, &b.attributes)
+    if !a.name.same(&b.name) {
+        return Ok(false);
+    }
+    are_same(alloc, a.attributes.as_slice(), b.attributes.as_slice())
 }
 
 /// How many entries behind the last marker are like the tag.
-fn count_alike(all: &[Format], tag: &Tag) -> usize
-    ensures { result ≡ likes tag.now (reverse all.now) }
+fn count_alike(alloc: Global, all: &[Format], tag: &Tag) -> Result<usize, NoMemory>
+    ensures { IfOk result (λ count. count ≡ likes tag.now (reverse all.now)) }
 {
     let mut count = 0;
     let mut items = all;
     while let Some((last, rest)) = items.split_last() {
         match last {
-            Format::Marker => return count,
+            Format::Marker => return Ok(count),
             Format::Element { id: _, tag: other } => {
-                if are_alike(tag, other) {
+                if are_alike(alloc, tag, other)? {
                     count += 1;
                 }
             }
         }
         items = rest;
     }
-    count
+    Ok(count)
 }
 
 /// Where the earliest of so many entries stands that are like the tag, counted from the first entry.
-fn place_of_earliest(all: &[Format], tag: &Tag, count: usize) -> Option<usize>
+fn place_of_earliest(
+    alloc: Global,
+    all: &[Format],
+    tag: &Tag,
+    count: usize,
+) -> Result<Option<usize>, NoMemory>
     requires { count ≡ likes tag.now (reverse all.now) }
-    ensures { MatchOption result
+    ensures { IfOk result (λ place. MatchOption place
         (without_earliest tag.now (reverse all.now) ≡ reverse all.now)
-        (λ i. (i < length all.now) × (without_earliest tag.now (reverse all.now) ≡ reverse (remove all.now i))) }
+        (λ i. (i < length all.now) × (without_earliest tag.now (reverse all.now) ≡ reverse (remove all.now i)))) }
 {
     let mut left = count;
     let mut items = all;
     while let Some((last, rest)) = items.split_last() {
         match last {
-            Format::Marker => return None,
+            Format::Marker => return Ok(None),
             Format::Element { id: _, tag: other } => {
-                if are_alike(tag, other) {
+                if are_alike(alloc, tag, other)? {
                     left -= 1;
                     if left == 0 {
-                        return Some(rest.len());
+                        return Ok(Some(rest.len()));
                     }
                 }
             }
         }
         items = rest;
     }
-    None
+    Ok(None)
 }
 
 /// Makes an element the latest entry. Where three entries behind the last marker are like it, the earliest of them goes.
-pub fn enter(formats: &mut Formats, id: NodeId, tag: Tag) -> Result<(), NoMemory>
+pub fn enter(alloc: Global, formats: &mut Formats, id: NodeId, tag: Tag) -> Result<(), NoMemory>
     ensures { IfOk result (λ _. formats.new ≡ list_element id tag formats.old) }
 {
-    let count = count_alike(formats.as_slice(), &tag);
+    let count = count_alike(alloc, formats.as_slice(), &tag)?;
     if count >= ALIKE {
-        if let Some(place) = place_of_earliest(formats.as_slice(), &tag, count) {
+        if let Some(place) = place_of_earliest(alloc, formats.as_slice(), &tag, count)? {
             formats.take_out(place);
         }
     }

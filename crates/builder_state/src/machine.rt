@@ -87,7 +87,7 @@ fn list_current(alloc: Global, state: &mut Open, token: &Token, ops: &Ops) -> Re
     match token {
         Token::StartTag(tag) | Token::EndTag(tag) => {
             if let Some(id) = current_node(&state.stack) {
-                enter(&mut state.formats, id, tag.copy(alloc)?)?;
+                enter(alloc, &mut state.formats, id, tag.copy(alloc)?)?;
             }
         }
         _ => {}

@@ -124,8 +124,8 @@ module _ (es : Entities) (made : List Batch) (p : Parser) (t : List ℕ) (before
         behind ∙ behind-goes b r.stop (cut (length t') es p' t') (λ q. on (halts ∙ ap at q)) in
         record {
           batches = ap (λ l. l ++ (cut (length t') es p' t').batches) is
-            ∙ (append_assoc made (b ∷ []) (cut (length t') es p' t').batches
-            ∙ (ap (λ (a : Answered). made ++ a.batches) (sym goes) ∙ left.batches));
+              ∙ (append_assoc made (b ∷ []) (cut (length t') es p' t').batches
+              ∙ (ap (λ (a : Answered). made ++ a.batches) (sym goes) ∙ left.batches));
           parser = ap (λ (a : Answered). a.parser) (sym goes) ∙ left.parser;
         }
 
@@ -204,8 +204,10 @@ module _ (es : Entities) (p : Parser) (x : Piece) (t : List ℕ) (goes_on : Bool
         (made' ≡ before ++ (answer es (Some p) x).batches) × (None ≡ (answer es (Some p) x).parser)
     piece-ended e b made' some last added =
         let text : List Batch = (cut (length x.text) es p x.text).batches in
-        let a : answer es (Some p) x ≡ record { batches = text ++ end_batch es q e ∷ []; parser = None } = answer-ended es p x q e there (sym some) in
-        (added
-        ∙ (ap (λ (l : List Batch). l ++ b ∷ []) made-all
-        ∙ (append_assoc before text (b ∷ [])
-        ∙ (ap (λ (y : Batch). before ++ (text ++ y ∷ [])) last ∙ ap (λ (y : Answered). before ++ y.batches) (sym a)))), sym (ap (λ (y : Answered). y.parser) a))
+        let a : answer es (Some p) x ≡ record { batches = text ++ end_batch es q e ∷ []; parser = None } = answer-ended es p x q e there (sym some) in (
+          added
+              ∙ (ap (λ (l : List Batch). l ++ b ∷ []) made-all
+              ∙ (append_assoc before text (b ∷ [])
+              ∙ (ap (λ (y : Batch). before ++ (text ++ y ∷ [])) last ∙ ap (λ (y : Answered). before ++ y.batches) (sym a)))),
+          sym (ap (λ (y : Answered). y.parser) a),
+        )

@@ -57,7 +57,10 @@ impl Checkpoint {
     pub fn into_machine(self) -> Option<Machine>
         ensures { IfSome result (λ m. m ≡ self) }
     {
-        let Checkpoint { held, state: _state } = self;
+        let Checkpoint {
+            held,
+            state: _state,
+        } = self;
         held
     }
 

@@ -31,13 +31,7 @@ impl Model for Request {
 
 impl Request {
     /// A request under an epoch and a number, of a piece before which so many characters of the page stand.
-    pub fn new(
-        epoch: u64,
-        number: u64,
-        start: Option<Machine>,
-        piece: Piece,
-        from: u64,
-    ) -> Request
+    pub fn new(epoch: u64, number: u64, start: Option<Machine>, piece: Piece, from: u64) -> Request
         requires { from + length piece.text ≤ page_limit }
         ensures request { result.request ≡ record { epoch = epoch; number = number; start = start; piece = piece } }
         ensures from { result.from ≡ from }

@@ -47,7 +47,12 @@ fn a_page_is_cut_behind_its_script(rt: HostRuntime) -> Result<(), Fail> {
     let text = String::from_str(alloc, "<p>a<script>x</script>b")?;
     let piece = Piece::new(SharedText::of(alloc, text)?, Some(Ending::End));
     let mut worker = Worker::new(alloc);
-    let mut batches = batches_of(alloc, &table, &mut worker, Request::new(1, 1, None, piece, 0))?;
+    let mut batches = batches_of(
+        alloc,
+        &table,
+        &mut worker,
+        Request::new(1, 1, None, piece, 0),
+    )?;
     let mut seen = String::new(alloc);
     while let Some(batch) = batches.pop() {
         seen.push_str(batch.text().as_str())?;

@@ -58,7 +58,12 @@ pub fn hexadecimal_start_row(
 }
 
 // No digit stands behind `&#x`.
-fn no_digits(alloc: Global, back: ReturnState, x: char, out: &mut Tokens) -> Result<Transition, NoMemory>
+fn no_digits(
+    alloc: Global,
+    back: ReturnState,
+    x: char,
+    out: &mut Tokens,
+) -> Result<Transition, NoMemory>
     ensures { IfOk result (Follows (rows.literally back (38 ∷ 35 ∷ x ∷ []) true) out.old out.new) }
 {
     let mut text = Text::new(alloc);

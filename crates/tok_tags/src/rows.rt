@@ -7,7 +7,8 @@ ghost use Rattle.char_class.specs.Steps.{Follows};
 use crate::parts::{bare, fresh, longer_value, with_attribute, with_bare};
 use char_class::name_char;
 use char_class::next::{
-    Transition, again, data_state, emit_again, emit_tag, emit_tag_as, finish, finish_after, new_tag, to,
+    Transition, again, data_state, emit_again, emit_tag, emit_tag_as, finish, finish_after,
+    new_tag, to,
 };
 use html_types::{
     Attribute, Class, MarkState, NoMemory, PartialTag, Quote, ReferenceState, ReturnState, TagKind,
@@ -47,7 +48,12 @@ pub fn step(
 }
 
 /// 13.2.5.6 Tag open state
-fn tag_open_row(alloc: Global, class: Class, c: char, out: &mut Tokens) -> Result<Transition, NoMemory>
+fn tag_open_row(
+    alloc: Global,
+    class: Class,
+    c: char,
+    out: &mut Tokens,
+) -> Result<Transition, NoMemory>
     ensures { IfOk result (Follows (rows.tag_open_row class c) out.old out.new) }
 {
     match class {
