@@ -1,5 +1,5 @@
 -- Which ids are bound from moment to moment.
-use Rattle.std.proofs.Common.{IsTrue, ◌≡◌, ◌≢◌, refl, sym, ap, ◌∙◌, subst, ℕ, zero, suc, ◌+◌, ◌<◌, Bool, true, false, ◌||◌, List, [], ◌∷◌, ◌++◌, Option, Some, None, option_and_then, inl, inr, arith, true≢false}
+use Rattle.std.proofs.Common.{IsTrue, ◌≡◌, refl, sym, ◌∙◌, subst, ℕ, zero, suc, ◌<◌, Bool, true, false, ◌||◌, List, [], ◌∷◌, Option, Some, None, option_and_then, inl, inr, arith, true≢false}
 use Rattle.std.specs.Prelude.{◌⊎◌}
 use Rattle.std.proofs.lemmas.Option.{none-some, same_Some}
 use Rattle.html_types.specs.Operations.{same_id, later}
@@ -7,13 +7,11 @@ use Rattle.html_types.specs.declared.operation.NodeId.{NodeId}
 use Rattle.html_types.specs.declared.open.Open.{Open}
 use Rattle.html_types.specs.declared.script.Ending.{Ending}
 use Rattle.html_types.specs.declared.script.Ending.TheVariants as ending
-use Rattle.html_types.specs.declared.instruction.Stop.{Stop}
 use Rattle.html_types.specs.declared.instruction.Stop.TheVariants as stop
 use Rattle.html_types.specs.declared.instruction.Finish.{Finish}
 use Rattle.html_types.specs.declared.instruction.Finish.TheVariants as finale
 use Rattle.standard.specs.Act.{Doc, acts, is_bound}
-use Rattle.standard.specs.Entities.{Entities}
-use Rattle.standard.specs.Parser.{Parser, Took, took, take_character, Parsed, parse, Finished, finish}
+use Rattle.standard.specs.Parser.{Parser, Took, took, take_character, Finished, finish}
 use Rattle.standard.specs.Scripts.{Fetched, got, missing, faulted, file_statements}
 use Rattle.standard.specs.Serial.{World, Serial, Course, goes, refuses, starved, Advanced, advanced, advance, before_point, moved, run_text, end_of_script, Moment, reading, tag_ended, awaits, over, taken, at_end, read_next, unless_pending, behind_script, after_script, after_fetch, fetched, moment_after, moments_on, Leads}
 use Rattle.standard.specs.Serial as serial
@@ -21,13 +19,13 @@ use Rattle.standard_laws.specs.Laws.{outcome_at}
 use Rattle.standard_laws.proofs.Parse.{advance-parse}
 use Rattle.standard_laws.proofs.Passing.{finished-at}
 use Rattle.standard_laws.proofs.Kept as kept
-use Rattle.rule_laws.specs.Naming.{Serves, AreFresh, known_after_all}
+use Rattle.rule_laws.specs.Naming.{Serves, AreFresh}
 use Rattle.rule_laws.specs.NamingLaws.{TookBound}
 use Rattle.rule_laws.proofs.FreshnessOps.{Follows}
 use Rattle.rule_laws.proofs.FreshnessTexts.{characters-bound, fresh-follows}
 use Rattle.rule_laws.proofs.FreshnessDocs.{acts-bind, texts-served, ends-served, serves-more}
 use Rattle.core_rules.specs.Desk.{renewed}
-use Rattle.moment_laws.specs.Served.{AreBelow, HasRoom, IsRoomy, RoomServes, FirstHasRoom, TextsHaveRoom, EndsHaveRoom, RenewingHasRoom, state_at, IsServedAt, MomentsServe, MomentsHaveRoom, Binds, MomentsBind, HeldHaveRoom}
+use Rattle.moment_laws.specs.Served.{AreBelow, HasRoom, RoomServes, FirstHasRoom, TextsHaveRoom, EndsHaveRoom, RenewingHasRoom, state_at, IsServedAt, MomentsServe, MomentsHaveRoom, MomentsBind, HeldHaveRoom}
 
 -- ---- from moment to moment
 
