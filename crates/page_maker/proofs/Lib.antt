@@ -1,0 +1,4 @@
+pub mod Literals
+pub mod Steps
+pub mod Scripts
+mod WorkedPages

@@ -1,0 +1,10 @@
+//! A large page and its scripts, made from a number: what the parser is tried and measured on.
+#![tactic(auto)]
+
+mod items;
+mod numbers;
+mod page;
+#[cfg(test)]
+mod tests;
+
+pub use page::{Made, Script, make};
