@@ -4,10 +4,11 @@ use Rattle.page_maker.specs.declared.page.Script.{Script}
 
 -- ---- the numbers
 
+-- the number behind x, of 31 bits
 unfoldable pub next : ℕ → ℕ
 next x = (x * 1103515245 + 12345) % 2147483648
 
--- the number that chooses item i
+-- the number that chooses item i of the page that begins with `number`
 unfoldable pub number_at : ℕ → ℕ → ℕ
 number_at number zero = number
 number_at number (suc i) = next (number_at number i)
@@ -35,6 +36,7 @@ unfoldable pub items : ℕ → ℕ → List ℕ
 items number zero = []
 items number (suc i) = items number i ++ item (kind (number_at number (suc i))) (suc i)
 
+-- the page of so many items
 unfoldable pub made_page : ℕ → ℕ → List ℕ
 made_page number count = codes "<!DOCTYPE html><body>" ++ items number count
 
@@ -43,5 +45,6 @@ made_page number count = codes "<!DOCTYPE html><body>" ++ items number count
 abbrev pub named_script : List ℕ → List ℕ → Script
 named_script name text = record { name = name; text = text }
 
+-- those that the items of kinds 5 and 7 name
 abbrev pub made_scripts : List Script
 made_scripts = named_script (codes "e") (codes "document.write(\"<br>\");") ∷ named_script (codes "f") (codes "document.write(\"<!--\");") ∷ []

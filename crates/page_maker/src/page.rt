@@ -21,7 +21,9 @@ pub struct Script {
 /// A page, and the files of the scripts that it names.
 #[derive(Drop)]
 pub struct Made {
+    /// The page's text.
     pub page: Text,
+    /// The scripts, by name.
     pub scripts: Vec<Script>,
 }
 
@@ -58,7 +60,8 @@ fn make_scripts(alloc: Global) -> Result<Vec<Script>, NoMemory>
     Ok(scripts)
 }
 
-/// The page of `count` items that `number` chooses, and the two scripts that it names. The same number and count give the same page.
+/// The page of `count` items that `number` chooses, and the scripts that they may name. Equal arguments give equal pages. Time and memory are
+/// linear in `count`.
 pub fn make(alloc: Global, number: u32, count: u32) -> Result<Made, NoMemory>
     requires in_31_bits { number < 2 ^ 31 }
     requires at_most_50000 { count ≤ 50000 }
