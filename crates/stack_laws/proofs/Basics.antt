@@ -1,5 +1,5 @@
 -- Small lemmas: tests, lists of modes, parts of the stack, and the rows of characters.
-use Rattle.std.proofs.Common.{◌≡◌, ◌⊎◌, inl, inr, refl, sym, subst, true≢false, ℕ, zero, suc, ◌==◌, Bool, true, false, not, ◌&&◌, List, [], ◌∷◌, Option, Some, None}
+use Rattle.std.proofs.Common.{◌≡◌, ◌⊎◌, inl, inr, refl, sym, subst, true≢false, ℕ, zero, suc, ◌==◌, Bool, true, false, ◌&&◌, List, [], ◌∷◌, Option, Some, None}
 use Rattle.std.specs.Prelude.{if◌then◌else◌}
 use Rattle.std.specs.List.{list_all}
 use Rattle.html_types.specs.Operations.{same_id}
@@ -15,7 +15,7 @@ use Rattle.standard.specs.RulesHead.{initial_anything, before_html_anything, bef
 use Rattle.standard.specs.RulesBody.{in_body_space, in_body_character, after_body_anything, after_after_body_anything}
 use Rattle.standard.specs.RulesTable.{in_table_character, in_caption_anything, in_column_group_anything, in_table_body_anything, in_row_anything, in_cell_anything}
 use Rattle.standard.specs.RulesRest.{in_select_in_table_anything, in_frameset_anything, after_frameset_anything, after_after_frameset_anything}
-use Rattle.standard.specs.Rules.{row, start_row, end_row, comment_row, doctype_row, end_of_file_row}
+use Rattle.standard.specs.Rules.{row}
 use Rattle.html_types.specs.declared.instruction.Flow.TheVariants.{Leave}
 use Rattle.html_types.specs.declared.instruction.Next.{Next}
 use Rattle.html_types.specs.declared.token.Token.{Token}

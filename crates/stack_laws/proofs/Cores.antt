@@ -1,5 +1,5 @@
 -- What taking elements off the stack, and putting others on it, does to the names that count, and to what is said of ids.
-use Rattle.std.proofs.Common.{◌≡◌, ◌⊎◌, inl, inr, refl, sym, ap, subst, ◌∙◌, true≢false, ℕ, suc, Bool, true, false, not, ◌&&◌, ◌||◌, List, [], ◌∷◌, ◌++◌, Option, Some, None}
+use Rattle.std.proofs.Common.{◌≡◌, ◌⊎◌, inl, inr, refl, sym, ap, subst, ◌∙◌, true≢false, suc, Bool, true, false, not, ◌&&◌, ◌||◌, List, [], ◌∷◌, ◌++◌, Option, Some, None}
 use Rattle.std.specs.Prelude.{if◌then◌else◌}
 use Rattle.html_types.proofs.WordLemmas.{word_decides}
 use Rattle.html_types.specs.Operations.{same_id}
@@ -12,10 +12,9 @@ use Rattle.html_types.specs.declared.operation.NodeId.{NodeId}
 use Rattle.html_types.specs.declared.open.OpenElement.{OpenElement}
 use Rattle.html_types.specs.declared.open.Format.{Format}
 use Rattle.html_types.specs.declared.open.Format.TheVariants.{Marker, Element}
-use Rattle.standard.specs.Rows.{has_word}
 use Rattle.standard.specs.Elements.{is_word}
-use Rattle.standard.specs.Stack.{is_open, is_empty}
-use Rattle.stack_laws.specs.Grounded.{is_vital, is_guard, is_formatting, is_known, is_special, with_name, core, templates_among, no_words, has_no, is_placed, is_orderly, reaches, is_rooted, is_loose, is_loose_if_any, is_apart, are_apart, are_listed, Firm}
+use Rattle.standard.specs.Stack.{is_open}
+use Rattle.stack_laws.specs.Grounded.{is_vital, is_guard, is_formatting, is_known, is_special, with_name, templates_among, has_no, is_placed, is_orderly, reaches, is_rooted, is_loose, is_loose_if_any, is_apart, are_apart, are_listed}
 use Rattle.stack_laws.proofs.Basics.{split}
 use Rattle.stack_laws.proofs.Basics.{both}
 use Rattle.rule_laws.proofs.FreshnessDocs.{same-true}

@@ -1,6 +1,6 @@
 -- What the adoption agency algorithm leaves: the special elements in their order, and the formatting elements' entries.
 use Rattle.std.proofs.Common.{◌≡◌, ◌⊎◌, inl, inr, refl, sym, ap, subst, ◌∙◌, true≢false, ℕ, zero, suc, ◌+◌, ◌-◌, ◌==◌, Bool, true, false, not, ◌&&◌, ◌||◌, List, [], ◌∷◌, ◌++◌, append_assoc, Option, Some, None}
-use Rattle.std.specs.Prelude.{if◌then◌else◌, IsTrue}
+use Rattle.std.specs.Prelude.{if◌then◌else◌}
 use Rattle.std.proofs.lemmas.Option.{none-some, same_Some}
 use Rattle.html_types.proofs.WordLemmas.{word_decides}
 use Rattle.html_types.specs.Operations.{same_id, later}
@@ -21,12 +21,12 @@ use Rattle.html_types.specs.declared.open.Format.{Format}
 use Rattle.html_types.specs.declared.open.Format.TheVariants.{Marker, Element}
 use Rattle.standard.specs.Elements.{is_word}
 use Rattle.standard.specs.Foreign.{opened}
-use Rattle.standard.specs.Stack.{is_open, is_empty, current_is, current_id, pop, open_in_scope, without_open, below, from_on, through, above, with_below, block_below}
+use Rattle.standard.specs.Stack.{is_open, current_is, current_id, pop, open_in_scope, without_open, below, from_on, through, above, with_below, block_below}
 use Rattle.standard.specs.Formatting.{entry_named, has_entry, tag_of_entry, later_than, entry_on, before_first, renewed, without_entry, with_id, with_behind}
 use Rattle.standard.specs.Adoption.{Turned, turned, turn_with, turn_at, turn, turns, adopted, adopted_by, is_plain as is_plain_end, adopt, Climb, climb_at, climb_clone, climb_drop, climb_one, climb, joined, put_at_bookmark}
 use Rattle.standard.specs.Act.{AreOpsBound}
 use Rattle.rule_laws.specs.Naming.{AreOpenBound, AreFresh, Serves, known_after_all}
-use Rattle.stack_laws.specs.Grounded.{is_vital, is_guard, is_formatting, is_known, is_special, with_name, core, is_orderly, is_rooted, is_loose, is_loose_if_any, is_apart, are_apart, are_listed, Firm, FirmOf}
+use Rattle.stack_laws.specs.Grounded.{is_vital, is_guard, is_formatting, is_known, is_special, with_name, core, is_orderly, is_rooted, is_loose, is_apart, are_apart, are_listed, Firm, FirmOf}
 use Rattle.stack_laws.proofs.Basics.{split}
 use Rattle.stack_laws.proofs.Basics.{both}
 use Rattle.rule_laws.proofs.FreshnessDocs.{same-true}
@@ -35,7 +35,7 @@ use Rattle.stack_laws.proofs.Basics.{Thinned, thin-same}
 use Rattle.rule_laws.proofs.FreshnessTexts.{later-later, fresh-follows}
 use Rattle.rule_laws.proofs.AdoptionFreshness.{turn_at-fits}
 use Rattle.stack_laws.proofs.Popped.{drops-thinned, Spares, firm-dropped, vital-guard}
-use Rattle.stack_laws.proofs.Cores.{Drops, drops-none, loose-closed, not-true, not-false, either-false, neither, to-false, to-true, turned-ids, loose-thinned, loose-append, loose-parts, apart-all-thinned, listed-by, owner-by}
+use Rattle.stack_laws.proofs.Cores.{Drops, drops-none, loose-closed, not-true, not-false, either-false, neither, to-false, turned-ids, loose-thinned, apart-all-thinned, listed-by, owner-by}
 
 -- ---- elements that aren't special
 

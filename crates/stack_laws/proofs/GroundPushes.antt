@@ -1,6 +1,6 @@
 -- An element more on the stack: what was claimed of it still holds.
-use Rattle.std.proofs.Common.{◌≡◌, refl, sym, ap, subst, ◌∙◌, true≢false, ℕ, suc, Bool, true, false, not, ◌&&◌, ◌||◌, List, [], ◌∷◌, length, Option, Some, None}
-use Rattle.std.specs.Prelude.{if◌then◌else◌, IsTrue}
+use Rattle.std.proofs.Common.{◌≡◌, refl, sym, ap, subst, ◌∙◌, true≢false, suc, Bool, true, false, not, ◌&&◌, List, [], ◌∷◌, length, Option, Some, None}
+use Rattle.std.specs.Prelude.{if◌then◌else◌}
 use Rattle.html_types.proofs.WordLemmas.{word_decides}
 use Rattle.html_types.specs.Operations.{same_id}
 use Rattle.html_types.specs.Words.{same_word}
@@ -22,7 +22,7 @@ use Rattle.stack_laws.specs.Grounded.{is_vital, is_guard, is_formatting, is_know
 use Rattle.stack_laws.proofs.Basics.{split}
 use Rattle.stack_laws.proofs.Basics.{both}
 use Rattle.rule_laws.proofs.FreshnessDocs.{same-true}
-use Rattle.stack_laws.proofs.Cores.{not-true, not-false, neither, to-false, has_no-kept, templates-kept, reaches-more, loose-closed}
+use Rattle.stack_laws.proofs.Cores.{not-false, neither, to-false, has_no-kept, templates-kept, reaches-more, loose-closed}
 use Rattle.stack_laws.proofs.Popped.{template-vital}
 use Rattle.stack_laws.proofs.GroundAdoption.{entry-listed}
 use Rattle.stack_laws.proofs.Grounds.{At, Claim, the, fits, lost, even, owes_ok, Claimed, Owes, Sound}

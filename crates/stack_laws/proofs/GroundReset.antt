@@ -1,5 +1,5 @@
 -- The mode that resetting gives says of the stack what holds of it.
-use Rattle.std.proofs.Common.{◌≡◌, refl, sym, ap, subst, ◌∙◌, true≢false, Bool, true, false, not, ◌&&◌, ◌||◌, List, [], ◌∷◌, Option, Some, None}
+use Rattle.std.proofs.Common.{◌≡◌, refl, sym, ap, subst, true≢false, Bool, true, false, not, ◌&&◌, ◌||◌, List, [], ◌∷◌, Option, Some, None}
 use Rattle.std.specs.Prelude.{if◌then◌else◌}
 use Rattle.std.specs.List.{list_all}
 use Rattle.html_types.proofs.WordLemmas.{word_decides}
@@ -16,9 +16,8 @@ use Rattle.html_types.specs.declared.open.OpenElement.{OpenElement}
 use Rattle.standard.specs.Rows.{has_word}
 use Rattle.standard.specs.Elements.{is_word, is_one_of}
 use Rattle.standard.specs.Reset.{select_mode, template_mode, root_mode, reset_mode}
-use Rattle.rule_laws.specs.Proper.{is_main_mode}
-use Rattle.stack_laws.specs.Grounded.{is_vital, is_guard, is_known, with_name, core, no_words, has_no, is_placed, is_orderly, reaches, has_facts, is_template_mode}
-use Rattle.rule_laws.specs.Proper.{is_early, is_late}
+use Rattle.stack_laws.specs.Grounded.{is_vital, is_guard, is_known, with_name, core, no_words, has_no, is_orderly, reaches, has_facts, is_template_mode}
+use Rattle.rule_laws.specs.Proper.{is_late}
 use Rattle.stack_laws.proofs.Basics.{split}
 use Rattle.stack_laws.proofs.Basics.{both}
 use Rattle.stack_laws.proofs.Cores.{either-false, neither}

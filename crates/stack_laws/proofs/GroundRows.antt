@@ -1,7 +1,6 @@
 -- Which instructions may stand where, and how far the row has come behind them.
-use Rattle.std.proofs.Common.{Bool, true, false, not, ◌&&◌, ◌||◌, List, [], ◌∷◌, Option, Some, None}
+use Rattle.std.proofs.Common.{Bool, true, false, not, ◌&&◌, ◌||◌, List, [], ◌∷◌}
 use Rattle.std.specs.Prelude.{if◌then◌else◌}
-use Rattle.std.specs.List.{list_all}
 use Rattle.html_types.specs.Names.{same_space}
 use Rattle.html_types.specs.Words.{same_word}
 use Rattle.html_types.specs.declared.word.Word.{Word}
@@ -19,12 +18,11 @@ use Rattle.html_types.specs.declared.instruction.Scope.{Scope}
 use Rattle.html_types.specs.declared.instruction.Scope.TheVariants as scope
 use Rattle.html_types.specs.declared.instruction.Mode.{Mode}
 use Rattle.html_types.specs.declared.instruction.Mode.TheVariants as mode
-use Rattle.standard.specs.Groups.{words_of, in_group, stops}
+use Rattle.standard.specs.Groups.{in_group, stops}
 use Rattle.standard.specs.Rows.{has_word}
-use Rattle.rule_laws.specs.Proper.{is_main_mode}
 use Rattle.stack_laws.specs.Grounded.{is_vital, is_guard, is_formatting, is_template_mode}
 use Rattle.rule_laws.specs.Proper.{is_early}
-use Rattle.stack_laws.proofs.Grounds.{Own, no_tag, other_name, own_word, is_own_word, meant_word, spares_meant, spared, Claim, the, fits, lost, Know, nothing, scoped, topped, open_top, not_html, has_template, text_top, foreign_top, headed, headed_topped, Debt, even, owes_ok, owes_mode, owes_pop, At, is_even, is_plainly, is_text_top, is_claimed, rests, knowing, vitals, drop_claim, dropping}
+use Rattle.stack_laws.proofs.Grounds.{Own, no_tag, other_name, own_word, is_own_word, meant_word, spares_meant, spared, Claim, the, fits, lost, Know, nothing, scoped, topped, open_top, not_html, has_template, text_top, foreign_top, headed, headed_topped, Debt, even, owes_ok, owes_mode, owes_pop, At, is_even, is_plainly, is_text_top, is_claimed, rests, knowing, vitals, dropping}
 use Rattle.stack_laws.proofs.GroundPushes.{is_low, templated, rooted}
 
 -- ---- what a test tells

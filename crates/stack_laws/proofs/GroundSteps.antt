@@ -1,10 +1,10 @@
 -- Each instruction comes as far as is said of it.
-use Rattle.std.proofs.Common.{◌==◌, nat_le, ◌≡◌, inl, inr, refl, sym, ap, subst, ◌∙◌, true≢false, ℕ, zero, suc, ◌+◌, Bool, true, false, not, ◌&&◌, ◌||◌, List, [], ◌∷◌, ◌++◌, length, reverse, Option, Some, None, arith}
-use Rattle.std.specs.Prelude.{if◌then◌else◌, is_some, IsTrue}
+use Rattle.std.proofs.Common.{◌==◌, nat_le, ◌≡◌, inl, inr, refl, sym, ap, subst, ◌∙◌, true≢false, ℕ, suc, Bool, true, false, not, ◌&&◌, ◌||◌, List, [], ◌∷◌, length, Option, Some, None, arith}
+use Rattle.std.specs.Prelude.{if◌then◌else◌, is_some}
 use Rattle.std.specs.List.{list_all}
 use Rattle.html_types.proofs.WordLemmas.{word_decides}
-use Rattle.html_types.specs.Operations.{same_id, later}
-use Rattle.html_types.specs.Names.{name_text, same_name, same_space, space_of}
+use Rattle.html_types.specs.Operations.{same_id}
+use Rattle.html_types.specs.Names.{same_name, same_space}
 use Rattle.html_types.specs.Words.{same_word}
 use Rattle.html_types.specs.declared.word.Word.{Word}
 use Rattle.html_types.specs.declared.word.Word.TheVariants as word
@@ -12,8 +12,6 @@ use Rattle.html_types.specs.declared.name.Space.{Space}
 use Rattle.html_types.specs.declared.name.Space.TheVariants.{Html, MathMl, Svg}
 use Rattle.html_types.specs.declared.name.Name.{Name}
 use Rattle.html_types.specs.declared.name.Name.TheVariants.{Known, Other}
-use Rattle.html_types.specs.declared.instruction.Instr.{Instr}
-use Rattle.html_types.specs.declared.instruction.Instr.TheVariants as ins
 use Rattle.html_types.specs.declared.instruction.Test.{Test}
 use Rattle.html_types.specs.declared.instruction.Test.TheVariants.{InScope, Current, OnStack, FramesetOk, OptionInOptgroup}
 use Rattle.html_types.specs.declared.instruction.Who.{Who}
@@ -32,27 +30,24 @@ use Rattle.html_types.specs.declared.instruction.Then.{Then}
 use Rattle.html_types.specs.declared.instruction.Then.TheVariants.{Nothing, Link, Nobr}
 use Rattle.html_types.specs.declared.token.Tag.{Tag}
 use Rattle.html_types.specs.declared.token.Token.{Token}
-use Rattle.html_types.specs.declared.token.Token.TheVariants.{StartTag, EndTag, Character, Comment, Doctype}
+use Rattle.html_types.specs.declared.token.Token.TheVariants.{StartTag, EndTag}
 use Rattle.html_types.specs.declared.operation.NodeId.{NodeId}
-use Rattle.html_types.specs.declared.operation.Place.{Place}
-use Rattle.html_types.specs.declared.operation.Place.TheVariants.{Page}
 use Rattle.html_types.specs.declared.operation.Op.{Op}
 use Rattle.html_types.specs.declared.open.OpenElement.{OpenElement}
 use Rattle.html_types.specs.declared.open.Format.{Format}
 use Rattle.html_types.specs.declared.open.Format.TheVariants.{Marker, Element}
 use Rattle.html_types.specs.declared.open.Open.{Open}
-use Rattle.standard.specs.WhiteSpace.{is_space}
-use Rattle.standard.specs.Groups.{words_of, in_group, stops}
+use Rattle.standard.specs.Groups.{in_group, stops}
 use Rattle.standard.specs.Rows.{has_word}
 use Rattle.standard.specs.Elements.{is_word, is_meant, is_one_of, ends_scope}
 use Rattle.standard.specs.Foreign.{opened, tag_in, is_html}
-use Rattle.standard.specs.Stack.{is_open, is_empty, in_scope, on_stack, current_is, current_id, option_in_optgroup, pop, until, pop_to, pop_to_root, implied, implied_thoroughly, close, close_item, other_end, without_open, open_in_scope}
+use Rattle.standard.specs.Stack.{is_open, is_empty, in_scope, on_stack, current_is, current_id, option_in_optgroup, pop, until, pop_to, implied, implied_thoroughly, without_open, open_in_scope}
 use Rattle.standard.specs.Reset.{reset_mode}
-use Rattle.standard.specs.Formatting.{likes, without_earliest, list_element, clear_to_marker, entry_named, kept, lost as lost_tags, is_like}
-use Rattle.standard.specs.Instructions.{Config, config, on, holds, room, made, pushed, insert_at, insert, here, tag_of, for_tag, list_current, enlist, original_or, pop_mode, form_closed, form_closed_in_template, end_form, push_head, step}
-use Rattle.rule_laws.specs.Naming.{AreOpenBound, AreFormatsBound, IsBoundIfAny, AreFresh, Holds, known_after_all}
+use Rattle.standard.specs.Formatting.{likes, without_earliest, list_element, clear_to_marker, is_like}
+use Rattle.standard.specs.Instructions.{Config, config, on, holds, room, pushed, for_tag, list_current, enlist, original_or, pop_mode, form_closed, form_closed_in_template, end_form, push_head}
+use Rattle.rule_laws.specs.Naming.{AreOpenBound, IsBoundIfAny, AreFresh, Holds}
 use Rattle.rule_laws.specs.Proper.{is_main_mode}
-use Rattle.stack_laws.specs.Grounded.{is_vital, is_guard, is_formatting, is_known, is_special, with_name, core, templates_among, has_no, is_orderly, reaches, is_rooted, is_loose, is_loose_if_any, is_apart, are_apart, are_listed, Firm, FirmOf, has_facts, no_words, stands, main_mode, is_text_mode, is_text_like, has_kept, has_text_top, is_late_if_any, is_template_mode, Ground, GroundOf}
+use Rattle.stack_laws.specs.Grounded.{is_vital, is_guard, is_formatting, is_known, is_special, with_name, core, templates_among, has_no, is_orderly, reaches, is_rooted, is_loose, is_loose_if_any, is_apart, are_apart, are_listed, Firm, has_facts, no_words, stands, main_mode, is_text_mode, is_text_like, has_kept, has_text_top, is_template_mode, GroundOf}
 use Rattle.rule_laws.specs.Proper.{is_early, is_late}
 use Rattle.stack_laws.proofs.Basics.{split}
 use Rattle.stack_laws.proofs.Basics.{both}
@@ -61,14 +56,14 @@ use Rattle.rule_laws.proofs.FreshnessTexts.{fresh-follows}
 use Rattle.rule_laws.proofs.FreshnessOps.{same-itself}
 use Rattle.rule_laws.proofs.FreshnessWalks.{without_open-bound}
 use Rattle.stack_laws.proofs.Basics.{Thinned, thin-same, thin-without_open}
-use Rattle.stack_laws.proofs.Cores.{loose-closed, orderly-left, rooted-left, has_no-kept, not-true, not-false, neither, either-false, to-false, Drops, drops-none, drops-more, drops-trans, loose-thinned, apart-all-thinned, listed-by, owner-by, loose-push}
-use Rattle.stack_laws.proofs.Popped.{rooted-words, Spares, closes, passes, item_stop, until-drops, implied-drops, thoroughly-drops, close-drops, item-drops, other-drops, form-drops, pop_to-drops, root-drops, reach-drops, reach-top, vital-spares, scope-implied, is_foreign_top, foreign-spares}
+use Rattle.stack_laws.proofs.Cores.{loose-closed, orderly-left, rooted-left, has_no-kept, not-true, not-false, neither, to-false, Drops, drops-none, loose-thinned, apart-all-thinned, listed-by, owner-by, loose-push}
+use Rattle.stack_laws.proofs.Popped.{rooted-words, closes, passes, item_stop, until-drops, implied-drops, form-drops, reach-drops, reach-top, scope-implied, is_foreign_top, foreign-spares}
 use Rattle.stack_laws.proofs.GroundAdoption.{guardless, guard-special, formatting-special, entry-listed}
-use Rattle.stack_laws.proofs.Grounds.{Own, no_tag, other_name, own_word, own_named, own_of, is_own_word, meant_word, meant-same, spares_meant, spares-meant, spared, spared-spares, has-all, Claim, the, fits, lost, Know, nothing, scoped, topped, open_top, not_html, has_template, text_top, foreign_top, headed, headed_topped, Debt, even, owes_ok, owes_mode, owes_pop, At, is_even, is_plainly, is_text_top, is_claimed, rests, knowing, Claimed, Owes, Sound, seen, Knows, SoundOf, Stands, vitals, drop_claim, dropping, sound-dropped}
-use Rattle.stack_laws.proofs.GroundPushes.{Unseen, closed-unseen, is_low, templated, rooted, sound-pushed, sound-templated, sound-rooted}
+use Rattle.stack_laws.proofs.Grounds.{Own, own_named, own_of, meant_word, meant-same, spares_meant, spares-meant, spared, spared-spares, Claim, the, fits, lost, Know, nothing, scoped, topped, open_top, not_html, has_template, text_top, foreign_top, headed, headed_topped, Debt, even, owes_ok, owes_mode, owes_pop, At, is_even, is_plainly, is_text_top, is_claimed, rests, knowing, Claimed, Owes, Sound, seen, Knows, SoundOf, Stands, vitals, dropping, sound-dropped}
+use Rattle.stack_laws.proofs.GroundPushes.{Unseen, is_low, templated, rooted, sound-pushed, sound-templated, sound-rooted}
 use Rattle.stack_laws.proofs.GroundReset.{reset-facts, templates-late}
 use Rattle.stack_laws.proofs.Basics.{reset-holds}
-use Rattle.stack_laws.proofs.GroundRows.{learn, unlearn, is_pushable, may_push, pushing_know, pushing, is_early_claim, is_tag, is_formatting_tag, pop_words, may_pop, is_head_claim, same_who, Until, by_scope, by_template, by_claim, never, until_by, until_claim, is_the, passed_words, closed_words, item_words, other_words, may_until, until_at, only_words, context_know, implied_know, thorough_know, tops, is_all_of, owes_template, enters, may_enter, entering, is_owes_mode, may_pop_mode, popped_debt, paid_ok, using, is_headed, without_head, is_topped_own, may, onward, leaving_out, may_skip}
+use Rattle.stack_laws.proofs.GroundRows.{learn, unlearn, is_pushable, may_push, pushing_know, pushing, is_early_claim, is_formatting_tag, pop_words, may_pop, is_head_claim, same_who, Until, by_scope, by_template, by_claim, never, until_by, until_claim, is_the, passed_words, closed_words, item_words, may_until, until_at, only_words, context_know, implied_know, thorough_know, tops, is_all_of, owes_template, enters, may_enter, entering, is_owes_mode, may_pop_mode, popped_debt, paid_ok, is_headed, without_head, is_topped_own}
 
 -- ---- the stack that is seen
 

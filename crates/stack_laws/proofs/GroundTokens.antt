@@ -1,8 +1,7 @@
 -- Each token leaves a grounded open state.
-use Rattle.std.proofs.Common.{◌≡◌, refl, sym, ap, subst, ◌∙◌, true≢false, ℕ, zero, suc, ◌==◌, Bool, true, false, not, ◌&&◌, ◌||◌, List, [], ◌∷◌, ◌++◌, length, Option, Some, None}
-use Rattle.std.specs.Prelude.{if◌then◌else◌, is_some, IsTrue, IsSomeAnd}
-use Rattle.std.specs.List.{list_all}
-use Rattle.html_types.specs.Names.{name_text, space_of, same_space}
+use Rattle.std.proofs.Common.{◌≡◌, refl, sym, ap, subst, ◌∙◌, true≢false, ℕ, zero, suc, ◌==◌, Bool, true, false, not, ◌&&◌, ◌||◌, List, [], ◌∷◌, Option, Some, None}
+use Rattle.std.specs.Prelude.{if◌then◌else◌, is_some}
+use Rattle.html_types.specs.Names.{name_text, same_space}
 use Rattle.html_types.specs.declared.word.Word.{Word}
 use Rattle.html_types.specs.declared.word.Word.TheVariants as word
 use Rattle.html_types.specs.declared.name.Space.{Space}
@@ -38,32 +37,30 @@ use Rattle.html_types.specs.declared.instruction.Scope.TheVariants as scope
 use Rattle.html_types.specs.declared.instruction.Turn.{Turn}
 use Rattle.html_types.specs.declared.instruction.Turn.TheVariants.{More, Over, Other as OtherTag}
 use Rattle.standard.specs.Act.{AreOpsBound}
-use Rattle.standard.specs.Foreign.{adjusted, adjusted_of, is_html, is_text_point, is_annotation, is_html_point, goes_by_mode, goes_foreign, breaks_out, foreign_tag}
-use Rattle.standard.specs.Stack.{is_open, is_empty, current_id, pop, open_in_scope, block_below, other_end, first_open, without_open}
+use Rattle.standard.specs.Foreign.{adjusted, adjusted_of, is_html, goes_by_mode, goes_foreign, breaks_out, foreign_tag}
+use Rattle.standard.specs.Stack.{is_open, is_empty, current_id, pop, open_in_scope, block_below, other_end, without_open}
 use Rattle.standard.specs.Formatting.{entry_named, tag_of_entry, without_entry}
 use Rattle.standard.specs.RulesBody.{after_adopt}
 use Rattle.standard.specs.RulesForeign.{in_foreign_any_end}
 use Rattle.standard.specs.Adoption.{Turned, turned, turn_with, turn_at, turn as adoption_turn, turns, adopted, adopted_by, is_plain as is_plain_end, Adopted, adopt}
-use Rattle.standard.specs.Instructions.{Config, config, on, room, made, pushed, here, insert, space_or_html, insert_foreign, pop_foreign, foreign_end, end_foreign_with, take_off, turn, run}
-use Rattle.standard.specs.Rules.{Answer, answer, answer_of, next_of, row, by_mode, adopting, with_adoption, by_rules, rules_for, round_after, go_round, process, rounds, is_line_feed, settled_answer, construct}
-use Rattle.rule_laws.specs.Naming.{AreOpenBound, AreFresh, Holds, Serves, known_after_all, IsNextBound}
+use Rattle.standard.specs.Instructions.{Config, config, on, room, made, pushed, here, space_or_html, pop_foreign, foreign_end, end_foreign_with, run}
+use Rattle.standard.specs.Rules.{Answer, answer, next_of, row, by_mode, adopting, with_adoption, rules_for, round_after, go_round, process, rounds, is_line_feed, settled_answer, construct}
+use Rattle.rule_laws.specs.Naming.{AreFresh, Serves, known_after_all, IsNextBound}
 use Rattle.rule_laws.specs.Proper.{is_main_mode}
-use Rattle.rule_laws.specs.Rounds.{is_insertion_mode}
-use Rattle.stack_laws.specs.Grounded.{is_vital, is_guard, is_formatting, is_known, is_special, with_name, core, templates_among, has_no, is_rooted, is_loose, is_loose_if_any, are_listed, Firm, has_facts, stands, main_mode, is_text_mode, is_text_like, has_kept, no_words, has_text_top, is_late_if_any, is_template_mode, Ground, GroundOf, templates_in, HasRoot, IsGrounded, GroundedStand, OpeningIsGrounded, GroundedUnlessDeep, TokensStayGrounded}
+use Rattle.stack_laws.specs.Grounded.{is_vital, is_guard, is_formatting, is_known, is_special, with_name, core, templates_among, has_no, is_rooted, is_loose, Firm, has_facts, stands, main_mode, is_text_mode, is_text_like, has_kept, no_words, has_text_top, is_late_if_any, Ground, GroundOf, templates_in, HasRoot, GroundedStand, OpeningIsGrounded, GroundedUnlessDeep, TokensStayGrounded}
 use Rattle.rule_laws.specs.Proper.{is_early, is_late}
-use Rattle.stack_laws.proofs.Basics.{split, run-left}
-use Rattle.stack_laws.proofs.Basics.{both}
+use Rattle.stack_laws.proofs.Basics.{split}
 use Rattle.rule_laws.proofs.AdoptionFreshness.{AdoptedFits, adopt-fits}
 use Rattle.rule_laws.proofs.Framing.{construct-framed}
 use Rattle.rule_laws.proofs.Freshness.{Fits, turn-fits, by_mode-fits, adoption-fits, construct-fits}
 use Rattle.rule_laws.proofs.FreshnessTexts.{fresh-follows}
-use Rattle.stack_laws.proofs.Cores.{either-false, loose-thinned, not-true, not-false, to-false, Drops}
+use Rattle.stack_laws.proofs.Cores.{either-false, loose-thinned, not-true, not-false, Drops}
 use Rattle.stack_laws.proofs.Popped.{closes, other-drops, drops-thinned, rooted-words, firm-dropped, pop_foreign-drops, foreign-drops, DropsIfAny, foreign-spares, is_foreign_top}
-use Rattle.stack_laws.proofs.GroundAdoption.{guard-special, core-dropped, guard-vital, without-listed, Adopts, adopt-firm}
-use Rattle.stack_laws.proofs.Grounds.{Own, no_tag, other_name, own_word, own_named, own_of, Claim, the, fits, lost, Know, nothing, text_top, foreign_top, Debt, even, At, is_plainly, rests, knowing, Knows, Sound, Stands}
-use Rattle.stack_laws.proofs.GroundRows.{is_formatting_tag, may_skip, grounds, is_bare_mode, start}
-use Rattle.stack_laws.proofs.GroundTable.{keeps_ground, depth, main_ground, text_ground, table_text_ground, mode_ground, ground-table}
-use Rattle.stack_laws.proofs.GroundSteps.{IsMain, plain-seen, LinkOk, Leaves, foreign-pushed, not-early, core-without, empty-without, firm-without, sound-core, loose-sub}
+use Rattle.stack_laws.proofs.GroundAdoption.{guard-special, core-dropped, without-listed, Adopts, adopt-firm}
+use Rattle.stack_laws.proofs.Grounds.{Own, no_tag, other_name, own_word, own_named, own_of, fits, Know, nothing, text_top, foreign_top, even, At, is_plainly, Knows, Sound, Stands}
+use Rattle.stack_laws.proofs.GroundRows.{is_formatting_tag, grounds, is_bare_mode, start}
+use Rattle.stack_laws.proofs.GroundTable.{keeps_ground, depth, main_ground, text_ground, table_text_ground, ground-table}
+use Rattle.stack_laws.proofs.GroundSteps.{IsMain, plain-seen, LinkOk, foreign-pushed, not-early, core-without, empty-without, firm-without, loose-sub}
 use Rattle.stack_laws.proofs.GroundWalk.{Final, walked}
 use Rattle.stack_laws.proofs.Basics.{character_rows, character-rows}
 

@@ -1,12 +1,12 @@
 -- Each instruction, and each row, comes as far as is said of it.
-use Rattle.std.proofs.Common.{◌≡◌, refl, sym, ap, subst, ◌∙◌, true≢false, ℕ, zero, suc, Bool, true, false, not, ◌&&◌, ◌||◌, List, [], ◌∷◌, ◌++◌, length, reverse, Option, Some, None}
-use Rattle.std.specs.Prelude.{if◌then◌else◌, IsTrue}
+use Rattle.std.proofs.Common.{◌≡◌, refl, sym, ap, subst, ◌∙◌, true≢false, ℕ, Bool, true, false, not, ◌&&◌, List, [], ◌∷◌, ◌++◌, length, reverse, Option, Some, None}
+use Rattle.std.specs.Prelude.{if◌then◌else◌}
 use Rattle.std.specs.List.{list_all}
 use Rattle.std.proofs.lemmas.List.Folds.{list_all-append}
 use Rattle.std.proofs.lemmas.Grind.{reverse_onto}
 use Rattle.html_types.specs.Operations.{later}
 use Rattle.html_types.proofs.WordLemmas.{word_decides}
-use Rattle.html_types.specs.Names.{name_text, same_name, same_space}
+use Rattle.html_types.specs.Names.{same_name, same_space}
 use Rattle.html_types.specs.Words.{same_word}
 use Rattle.html_types.specs.declared.word.Word.{Word}
 use Rattle.html_types.specs.declared.word.Word.TheVariants as word
@@ -18,14 +18,11 @@ use Rattle.html_types.specs.declared.instruction.Instr.{Instr}
 use Rattle.html_types.specs.declared.instruction.Instr.TheVariants as ins
 use Rattle.html_types.specs.declared.instruction.Who.TheVariants as who
 use Rattle.html_types.specs.declared.instruction.Group.TheVariants as group
-use Rattle.html_types.specs.declared.instruction.Scope.TheVariants as scope
 use Rattle.html_types.specs.declared.instruction.Mode.{Mode}
 use Rattle.html_types.specs.declared.instruction.Mode.TheVariants as mode
 use Rattle.html_types.specs.declared.instruction.Flow.{Flow}
 use Rattle.html_types.specs.declared.instruction.Flow.TheVariants.{On, Skip, Leave}
-use Rattle.html_types.specs.declared.instruction.Next.{Next}
 use Rattle.html_types.specs.declared.instruction.Next.TheVariants as next
-use Rattle.html_types.specs.declared.instruction.Then.TheVariants.{Nothing, Link, Nobr}
 use Rattle.html_types.specs.declared.token.Tag.{Tag}
 use Rattle.html_types.specs.declared.token.Token.{Token}
 use Rattle.html_types.specs.declared.token.Token.TheVariants.{StartTag, EndTag, Character, Comment, Doctype, EndOfFile}
@@ -33,7 +30,6 @@ use Rattle.html_types.specs.declared.operation.NodeId.{NodeId}
 use Rattle.html_types.specs.declared.operation.Place.{Place}
 use Rattle.html_types.specs.declared.operation.Place.TheVariants.{Page}
 use Rattle.html_types.specs.declared.operation.Op.{Op}
-use Rattle.html_types.specs.declared.operation.Op.TheVariants as op
 use Rattle.html_types.specs.declared.open.OpenElement.{OpenElement}
 use Rattle.html_types.specs.declared.open.Format.{Format}
 use Rattle.html_types.specs.declared.open.Format.TheVariants.{Marker, Element}
@@ -44,22 +40,22 @@ use Rattle.standard.specs.Elements.{is_word, is_meant, is_one_of, ends_scope}
 use Rattle.standard.specs.Foreign.{opened, tag_in}
 use Rattle.standard.specs.Stack.{is_open, current_id, pop, pop_to, pop_to_root, implied, implied_thoroughly, close, close_item, other_end, first_open, second_open}
 use Rattle.standard.specs.Formatting.{clear_to_marker, entry_named, kept, lost as lost_tags}
-use Rattle.standard.specs.Instructions.{Config, config, on, holds, room, made, pushed, insert_at, insert, insert_root, insert_in, here, tag_of, void, void_as, named, for_tag, reopen, reopen_all, reconstruct, body_text, body_character, body_characters, none_pending, insert_pending, all_space, texts, append_pending, insert_text, insert_comment, append_doctype, end_of, add_attributes, detach_second, pop_mode, stop_at_script, adopt_name, adopt_own, adopt_anchor, step, turn, run}
-use Rattle.rule_laws.specs.Naming.{AreFresh, Holds, known_after_all}
+use Rattle.standard.specs.Instructions.{Config, config, on, holds, room, made, pushed, insert, insert_root, insert_in, here, tag_of, void, void_as, named, for_tag, reopen, reopen_all, reconstruct, body_text, body_character, body_characters, none_pending, insert_pending, all_space, texts, append_pending, insert_text, insert_comment, append_doctype, end_of, add_attributes, detach_second, pop_mode, stop_at_script, adopt_name, adopt_own, adopt_anchor, step, run}
+use Rattle.rule_laws.specs.Naming.{AreFresh, known_after_all}
 use Rattle.stack_laws.specs.Grounded.{is_vital, is_guard, is_formatting, is_known, is_special, core, templates_among, has_no, is_loose, are_listed, GroundOf, main_mode, is_template_mode}
 use Rattle.stack_laws.proofs.Basics.{split, run-left}
 use Rattle.stack_laws.proofs.Basics.{popped-hold}
 use Rattle.stack_laws.proofs.Basics.{both}
-use Rattle.rule_laws.proofs.Freshness.{Fits, ConfigFits, IsFlowBound, after, reopen-fits, reconstruct-fits, body_character-fits, turn-fits}
+use Rattle.rule_laws.proofs.Freshness.{Fits, reopen-fits, body_character-fits, turn-fits}
 use Rattle.rule_laws.proofs.FreshnessTexts.{fresh-follows}
 use Rattle.rule_laws.proofs.FreshnessWalks.{kept-bound}
-use Rattle.stack_laws.proofs.Cores.{not-true, to-false, drops-none, loose-closed, loose-push}
+use Rattle.stack_laws.proofs.Cores.{not-true, loose-closed, loose-push}
 use Rattle.stack_laws.proofs.Popped.{vital-guard, pop_to-drops, root-drops, implied-drops, thoroughly-drops, close-drops, item-drops, other-drops, closes, item_stop}
 use Rattle.stack_laws.proofs.GroundAdoption.{LooseIfAny, guard-special, formatting-special, entry-listed, entry-loose}
-use Rattle.stack_laws.proofs.Grounds.{is_claimed, Claimed, even, Own, no_tag, other_name, own_word, own_named, own_of, is_own_word, Claim, the, fits, lost, Know, nothing, text_top, foreign_top, headed, At, is_even, is_plainly, is_text_top, rests, knowing, seen, Knows, Sound, SoundOf, Stands, spared, vitals, dropping}
+use Rattle.stack_laws.proofs.Grounds.{is_claimed, Claimed, even, own_word, own_named, own_of, is_own_word, Claim, the, fits, lost, Know, nothing, text_top, foreign_top, headed, At, is_even, is_plainly, is_text_top, rests, knowing, seen, Knows, Sound, Stands, spared, vitals, dropping}
 use Rattle.stack_laws.proofs.GroundPushes.{is_low, rooted, sound-pushed, closed-unseen}
-use Rattle.stack_laws.proofs.GroundRows.{is_pushable, may_push, pushing, is_early_claim, is_tag, is_formatting_tag, pop_words, may_pop, popped_debt, paid_ok, may_until, until_by, until_at, closed_words, item_words, other_words, context_know, implied_know, thorough_know, only_words, using, is_headed, without_head, may, onward, leaving_out, may_skip, leaves, grounds}
-use Rattle.stack_laws.proofs.GroundSteps.{plain-seen, plain-sound, plain-knows, knowing-sound, rests-ground, IsMain, LinkOk, Leaves, Stepped, popped, popped-knowing, need-stepped, forbid-stepped, when-stepped, unless-stepped, not-vital, closes-words, item-words, until-stepped, until-ok, pop-stepped, context-knows, context-plain, implied-knows, implied-plain, thorough-knows, thorough-plain, sound-core, form-stepped, Fresh, unseen, push-stands, roomed, root-stands, in-name, foreign-pushed, push_head-stepped, head_off-by, with-entries, cleared-listed, list-stepped, point-stands, enter-stands, keep-stands, restore-stands, with-owed, mode-owes, popped-owes, ok-owes, reset-stands}
+use Rattle.stack_laws.proofs.GroundRows.{is_pushable, may_push, pushing, is_early_claim, is_tag, is_formatting_tag, pop_words, may_pop, popped_debt, paid_ok, until_by, closed_words, item_words, other_words, context_know, implied_know, thorough_know, using, may, onward, leaving_out, may_skip, grounds}
+use Rattle.stack_laws.proofs.GroundSteps.{plain-seen, plain-sound, plain-knows, knowing-sound, rests-ground, IsMain, Leaves, Stepped, popped, popped-knowing, need-stepped, forbid-stepped, when-stepped, unless-stepped, not-vital, closes-words, item-words, until-stepped, until-ok, pop-stepped, context-knows, context-plain, implied-knows, implied-plain, thorough-knows, thorough-plain, sound-core, form-stepped, Fresh, unseen, push-stands, roomed, root-stands, in-name, foreign-pushed, push_head-stepped, head_off-by, with-entries, cleared-listed, list-stepped, point-stands, enter-stands, keep-stands, restore-stands, with-owed, mode-owes, popped-owes, ok-owes, reset-stands}
 
 -- ---- formatting elements opened again, and characters
 

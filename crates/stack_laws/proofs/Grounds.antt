@@ -1,9 +1,8 @@
 -- How far a row has come, as its instructions tell it: what is known of the stack, and what is owed.
-use Rattle.std.proofs.Common.{◌≡◌, ◌⊎◌, inl, inr, refl, sym, ap, subst, ◌∙◌, true≢false, ℕ, zero, suc, Bool, true, false, not, ◌&&◌, ◌||◌, List, [], ◌∷◌, ◌++◌, length, Option, Some, None, arith}
-use Rattle.std.specs.Prelude.{if◌then◌else◌, is_some, IsTrue}
+use Rattle.std.proofs.Common.{◌≡◌, refl, sym, ap, subst, ◌∙◌, true≢false, ℕ, suc, Bool, true, false, not, ◌&&◌, ◌||◌, List, [], ◌∷◌, length, Option, None}
+use Rattle.std.specs.Prelude.{if◌then◌else◌, is_some}
 use Rattle.std.specs.List.{list_all}
 use Rattle.html_types.proofs.WordLemmas.{word_decides}
-use Rattle.html_types.specs.Operations.{same_id}
 use Rattle.html_types.specs.Words.{same_word}
 use Rattle.html_types.specs.Names.{same_name}
 use Rattle.html_types.specs.declared.word.Word.{Word}
@@ -13,7 +12,6 @@ use Rattle.html_types.specs.declared.name.Name.TheVariants.{Known, Other}
 use Rattle.html_types.specs.declared.instruction.Who.{Who}
 use Rattle.html_types.specs.declared.instruction.Who.TheVariants as who
 use Rattle.html_types.specs.declared.instruction.Scope.{Scope}
-use Rattle.html_types.specs.declared.instruction.Group.TheVariants as group
 use Rattle.html_types.specs.declared.instruction.Mode.{Mode}
 use Rattle.html_types.specs.declared.instruction.Mode.TheVariants as mode
 use Rattle.html_types.specs.declared.token.Token.{Token}
@@ -21,22 +19,18 @@ use Rattle.html_types.specs.declared.token.Token.TheVariants.{StartTag, EndTag}
 use Rattle.html_types.specs.declared.operation.NodeId.{NodeId}
 use Rattle.html_types.specs.declared.open.OpenElement.{OpenElement}
 use Rattle.html_types.specs.declared.open.Format.{Format}
-use Rattle.html_types.specs.declared.open.Format.TheVariants.{Marker, Element}
 use Rattle.html_types.specs.declared.open.Open.{Open}
 use Rattle.standard.specs.Groups.{words_of, in_group}
 use Rattle.standard.specs.Rows.{has_word}
-use Rattle.standard.specs.Elements.{is_word, is_meant, is_one_of}
-use Rattle.standard.specs.Stack.{is_open, is_empty, in_scope, on_stack, current_is, without_open}
-use Rattle.rule_laws.specs.Naming.{AreOpenBound, AreFormatsBound, IsBoundIfAny}
+use Rattle.standard.specs.Elements.{is_word, is_meant}
+use Rattle.standard.specs.Stack.{is_empty, in_scope, on_stack, current_is, without_open}
 use Rattle.rule_laws.specs.Proper.{is_main_mode}
-use Rattle.stack_laws.specs.Grounded.{is_vital, is_guard, is_formatting, is_known, is_special, with_name, core, templates_among, no_words, has_no, is_placed, is_orderly, reaches, is_rooted, is_loose, is_loose_if_any, is_apart, are_apart, are_listed, Firm, has_facts, stands, main_mode, is_text_mode, is_text_like, has_text_top, is_late_if_any, is_template_mode, Ground, GroundOf}
-use Rattle.rule_laws.specs.Proper.{is_early, is_late}
+use Rattle.stack_laws.specs.Grounded.{is_vital, is_guard, is_known, core, templates_among, has_no, reaches, Firm, has_facts, stands, main_mode, is_text_mode, is_text_like, has_text_top, is_late_if_any, is_template_mode}
 use Rattle.stack_laws.proofs.Basics.{split}
 use Rattle.stack_laws.proofs.Basics.{both}
-use Rattle.rule_laws.proofs.FreshnessDocs.{same-true}
-use Rattle.stack_laws.proofs.Cores.{not-true, not-false, either-false, neither, to-false, to-true, Drops, drops-none, through-drops, has_no-left, has_no-kept, templates-kept, reaches-left, reaches-more, loose-closed, loose-push}
+use Rattle.stack_laws.proofs.Cores.{not-true, not-false, to-false, Drops, through-drops, has_no-left, has_no-kept, templates-kept, reaches-left}
 use Rattle.stack_laws.proofs.Popped.{Spares, firm-dropped, template-vital, is_foreign_top}
-use Rattle.stack_laws.proofs.GroundAdoption.{core-dropped, entry-listed, guard-special}
+use Rattle.stack_laws.proofs.GroundAdoption.{core-dropped}
 
 -- ---- the token's own name, and the words that are meant
 

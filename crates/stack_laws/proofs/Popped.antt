@@ -1,13 +1,11 @@
 -- What each way of popping pops.
 use Rattle.std.proofs.Common.{◌≡◌, inl, inr, refl, sym, ap, subst, ◌∙◌, true≢false, ℕ, Bool, true, false, not, ◌&&◌, ◌||◌, List, [], ◌∷◌, Option, Some, None}
 use Rattle.std.specs.Prelude.{if◌then◌else◌}
-use Rattle.std.specs.List.{list_all}
 use Rattle.html_types.proofs.WordLemmas.{word_decides}
 use Rattle.html_types.specs.Names.{name_text}
 use Rattle.html_types.specs.Words.{same_word}
 use Rattle.html_types.specs.declared.word.Word.{Word}
 use Rattle.html_types.specs.declared.word.Word.TheVariants as word
-use Rattle.html_types.specs.declared.name.Space.TheVariants.{Html, MathMl, Svg}
 use Rattle.html_types.specs.declared.name.Name.{Name}
 use Rattle.html_types.specs.declared.name.Name.TheVariants.{Known, Other}
 use Rattle.html_types.specs.declared.instruction.Group.TheVariants as group
@@ -15,17 +13,15 @@ use Rattle.html_types.specs.declared.instruction.Scope.{Scope}
 use Rattle.html_types.specs.declared.open.OpenElement.{OpenElement}
 use Rattle.html_types.specs.declared.open.Format.{Format}
 use Rattle.html_types.specs.declared.operation.NodeId.{NodeId}
-use Rattle.standard.specs.Rows.{has_word}
 use Rattle.standard.specs.Elements.{is_word, is_one_of, ends_scope}
 use Rattle.standard.specs.ForeignNames.{is_lower_of}
 use Rattle.standard.specs.Foreign.{is_html, is_html_or_point, is_text_point, is_html_point}
-use Rattle.standard.specs.Stack.{in_scope, pop, until, pop_to, pop_to_root, implied, implied_thoroughly, close, item_found, close_item, end_found, other_end}
+use Rattle.standard.specs.Stack.{in_scope, until, pop_to, pop_to_root, implied, implied_thoroughly, close, item_found, close_item, end_found, other_end}
 use Rattle.standard.specs.Instructions.{pop_foreign, foreign_end}
-use Rattle.stack_laws.specs.Grounded.{is_vital, is_guard, is_known, is_special, with_name, core, no_words, has_no, is_placed, is_orderly, reaches, is_rooted, is_loose, is_loose_if_any, are_apart, are_listed, Firm}
+use Rattle.stack_laws.specs.Grounded.{is_vital, is_guard, is_known, is_special, with_name, core, no_words, has_no, is_orderly, reaches, is_rooted, Firm}
 use Rattle.stack_laws.proofs.Basics.{split}
-use Rattle.stack_laws.proofs.Basics.{both}
 use Rattle.stack_laws.proofs.Basics.{Thinned, thin-same}
-use Rattle.stack_laws.proofs.Cores.{not-true, not-false, either-false, neither, to-false, Drops, drops-none, drops-more, drops-trans, through-drops, orderly-left, has_no-left, rooted-left, loose-thinned, apart-all-thinned, listed-by, owner-by}
+use Rattle.stack_laws.proofs.Cores.{not-true, either-false, neither, to-false, Drops, drops-none, drops-more, drops-trans, through-drops, orderly-left, has_no-left, rooted-left, loose-thinned, apart-all-thinned, listed-by, owner-by}
 
 -- ---- what is popped is left out, and the rest stays firm
 

@@ -1,6 +1,6 @@
 -- The open state stands on its root: the html element is the first of the stack, and as many template insertion modes are there as template
 -- elements are open. Both follow from what is said of each mode, of the order of some elements, and of ids.
-use Rattle.std.specs.Prelude.{◌≡◌, ℕ, suc, Bool, true, false, not, ◌&&◌, ◌||◌, if◌then◌else◌, List, [], ◌∷◌, length, Option, None, Some, IsTrue, IfSome, ⊤}
+use Rattle.std.specs.Prelude.{◌≡◌, ℕ, suc, Bool, true, false, not, ◌&&◌, if◌then◌else◌, List, [], ◌∷◌, length, Option, None, Some, IsTrue, IfSome, ⊤}
 use Rattle.std.specs.List.{list_all}
 use Rattle.html_types.specs.Operations.{same_id}
 use Rattle.html_types.specs.Words.{same_word}
