@@ -197,7 +197,7 @@ module _ (Coming : (NodeId → Bool) → NodeId → Type 0) (law : Follows Comin
   of_two true x y a b = a
   of_two false x y a b = b
 
-  turn_at-fits : (f : Option NodeId) (b : Open) (o : List Op) → AreOpsBound known o → Serves Coming (after o) b → TurnFits (turn_at f b o)
+  pub turn_at-fits : (f : Option NodeId) (b : Open) (o : List Op) → AreOpsBound known o → Serves Coming (after o) b → TurnFits (turn_at f b o)
   turn_at-fits None b o a s = (a, s)
   turn_at-fits (Some f) b o a s =
       of_two (not (is_open f b.stack)) (turned (record b { formats = without_entry f b.formats }) o Over) _ (

@@ -43,23 +43,23 @@ use Rattle.rule_laws.proofs.FreshnessOps.{known-append, bound-append, same-itsel
 use Rattle.rule_laws.proofs.AdoptionFreshness.{AdoptedFits, adopt-fits}
 use Rattle.rule_laws.proofs.FreshnessWalks.{IsElementBound, pop-bound, until-bound, pop_to-bound, pop_to_root-bound, AreBoundIfAny, pop_foreign-bound, foreign_end-bound, implied-bound, thoroughly-bound, close-bound, close_item-bound, other_end-bound, without_open-bound, current_id-bound, list_current-bound, without_entry-bound, first_open-bound, second_open-bound, place-bound, clear_to_marker-bound, kept-bound, open-more, formats-more, pointer-more, place-more}
 
-abbrev IsFlowBound : (NodeId → Bool) → Flow → Type 0
+abbrev pub IsFlowBound : (NodeId → Bool) → Flow → Type 0
 IsFlowBound known On = Unit {0}
 IsFlowBound known Skip = Unit {0}
 IsFlowBound known (Leave n) = IsNextBound known n
 
 module _ (Coming : (NodeId → Bool) → NodeId → Type 0) (law : Follows Coming) (known : NodeId → Bool) where
-  abbrev after : List Op → NodeId → Bool
+  abbrev pub after : List Op → NodeId → Bool
   after o = known_after_all known o
 
-  abbrev State : List Op → Open → Type 0
+  abbrev pub State : List Op → Open → Type 0
   State o b = Holds Coming (after o) b.stack b.formats b.head b.form b.next
 
   -- the operations so far are bound, and then the open state is
-  abbrev Fits : Open → List Op → Flow → Type 0
+  abbrev pub Fits : Open → List Op → Flow → Type 0
   Fits b o n = AreOpsBound known o × State o b × IsFlowBound (after o) n
 
-  abbrev ConfigFits : Config → Type 0
+  abbrev pub ConfigFits : Config → Type 0
   ConfigFits c = Fits c.open_state c.ops c.flow
 
   of_two : (v : Bool) (x y : Config) → ConfigFits x → ConfigFits y → ConfigFits (if v then x else y)
@@ -147,7 +147,7 @@ module _ (Coming : (NodeId → Bool) → NodeId → Type 0) (law : Follows Comin
       }))
       (f.0, f.1, tt)
 
-  reopen-fits : (tag : Tag) (b : Open) (o : List Op) → Fits b o On → ConfigFits (reopen tag b o)
+  pub reopen-fits : (tag : Tag) (b : Open) (o : List Op) → Fits b o On → ConfigFits (reopen tag b o)
   reopen-fits tag b o f = of_two (room b) (on (record (pushed tag b) { formats = Element b.next tag ∷ b.formats }) (made (here b) tag b o)) (config b o (Leave next.Deep))
       (made-fits (here b) tag b o (record (pushed tag b) { formats = Element b.next tag ∷ b.formats }) f (here-bound b o f) (record {
         stack_bound = (is_next b o, stack-more b o f);
@@ -165,7 +165,7 @@ module _ (Coming : (NodeId → Bool) → NodeId → Type 0) (law : Follows Comin
   reopen_all-fits (tag ∷ tags) b o Skip f = f
   reopen_all-fits (tag ∷ tags) b o (Leave n) f = f
 
-  reconstruct-fits : (b : Open) (o : List Op) → Fits b o On → ConfigFits (reconstruct b o)
+  pub reconstruct-fits : (b : Open) (o : List Op) → Fits b o On → ConfigFits (reconstruct b o)
   reconstruct-fits b o f =
       reopen_all-fits (reverse (lost b.stack b.formats)) (record b { formats = kept b.stack b.formats }) o On
       (f.0, record { stack_bound = f.1.stack_bound; formats_bound = kept-bound (after o) b.stack b.formats f.1.formats_bound; head_bound = f.1.head_bound; form_bound = f.1.form_bound; coming = f.1.coming }, tt)
@@ -225,7 +225,7 @@ module _ (Coming : (NodeId → Bool) → NodeId → Type 0) (law : Follows Comin
   body_text-fits c b o Skip f = f
   body_text-fits c b o (Leave n) f = f
 
-  body_character-fits : (c : ℕ) (b : Open) (o : List Op) → Fits b o On → ConfigFits (body_character c b o)
+  pub body_character-fits : (c : ℕ) (b : Open) (o : List Op) → Fits b o On → ConfigFits (body_character c b o)
   body_character-fits c b o f =
       let r : Config = reconstruct b o in
       body_text-fits c r.open_state r.ops r.flow (reconstruct-fits b o f)
@@ -376,7 +376,7 @@ module _ (Coming : (NodeId → Bool) → NodeId → Type 0) (law : Follows Comin
   step-fits ins.StopAtScript t b o f = script-fits b.stack b o f f.1.stack_bound
   step-fits _ t b o f = (f.0, f.1, tt)
 
-  turn-fits : (t : Token) (c : Config) (i : Instr) → ConfigFits c → ConfigFits (turn t c i)
+  pub turn-fits : (t : Token) (c : Config) (i : Instr) → ConfigFits c → ConfigFits (turn t c i)
   turn-fits t c i f = by c.flow f
     where
       by : (n : Flow) → Fits c.open_state c.ops n → ConfigFits (turn t (config c.open_state c.ops n) i)
@@ -386,7 +386,7 @@ module _ (Coming : (NodeId → Bool) → NodeId → Type 0) (law : Follows Comin
 
   -- ---- rows, and the rules that a token goes by
 
-  run-fits : (t : Token) (c : Config) (row : List Instr) → ConfigFits c → ConfigFits (run t c row)
+  pub run-fits : (t : Token) (c : Config) (row : List Instr) → ConfigFits c → ConfigFits (run t c row)
   unfolding run
   run-fits t c [] f = f
   run-fits t c (i ∷ is) f = run-fits t (turn t c i) is (turn-fits t c i f)
@@ -400,7 +400,7 @@ module _ (Coming : (NodeId → Bool) → NodeId → Type 0) (law : Follows Comin
   next_of-bound k Skip i = tt
   next_of-bound k (Leave n) i = i
 
-  by_mode-fits : (m : Mode) (t : Token) (b : Open) (o : List Op) → Fits b o On → AnswerFits (by_mode m t b o)
+  pub by_mode-fits : (m : Mode) (t : Token) (b : Open) (o : List Op) → Fits b o On → AnswerFits (by_mode m t b o)
   unfolding by_mode
   by_mode-fits m t b o f =
       let c : Config = run t (on b o) (row m t) in
@@ -416,7 +416,7 @@ module _ (Coming : (NodeId → Bool) → NodeId → Type 0) (law : Follows Comin
       let k : ConfigFits c = run-fits t (on a.open_state a.ops) (after_adopt h a.other) (g.0, g.1, tt) in
       (k.0, k.1, next_of-bound (after c.ops) c.flow k.2)
 
-  adoption-fits : (t : Token) (b : Open) (o : List Op) (n : Next) → AreOpsBound known o × State o b × IsNextBound (after o) n → AnswerFits (with_adoption t b o n)
+  pub adoption-fits : (t : Token) (b : Open) (o : List Op) (n : Next) → AreOpsBound known o × State o b × IsNextBound (after o) n → AnswerFits (with_adoption t b o n)
   adoption-fits t b o (next.Adopt w h) f = adopting-fits w h t b o (f.0, f.1, tt)
   adoption-fits t b o next.Done f = f
   adoption-fits t b o next.Again f = f

@@ -138,7 +138,7 @@ later-none id =
     let e : id.n + 0 ≡ id.n = omega arith in
     ap (λ n. record { realm = id.realm; n = n }) e
 
-later-later : (k : ℕ) (id : NodeId) → later k (later 1 id) ≡ later (1 + k) id
+pub later-later : (k : ℕ) (id : NodeId) → later k (later 1 id) ≡ later (1 + k) id
 later-later k id =
     let e : id.n + 1 + k ≡ id.n + (1 + k) = omega arith in
     ap (λ n. record { realm = id.realm; n = n }) e

@@ -40,7 +40,7 @@ use Rattle.standard.specs.RulesBody.{after_adopt}
 use Rattle.standard.specs.RulesForeign.{in_foreign_any_start, in_foreign_any_end}
 use Rattle.standard.specs.Rules.{Answer, answer, answer_of, next_of, start_row, end_row, comment_row, doctype_row, end_of_file_row, row, by_mode, adopting, with_adoption, rules_for, round_after, go_round, process, rounds, is_line_feed, settled_answer, construct}
 use Rattle.standard.specs.Instructions.{Config, config, on, here, holds, original_or, append_pending, all_space, texts, body_characters, none_pending, insert_pending, stop_at_script, pop_foreign, foreign_end, end_foreign_with, end_foreign, adopt_name, adopt_own, adopt_anchor, for_tag, step, run}
-use Rattle.rule_laws.specs.Proper.{is_main_mode, HasOriginal, HasPending, IsProper, OpeningIsProper, ProperUnlessDeep, TokensStayProper}
+use Rattle.rule_laws.specs.Proper.{is_main_mode, HasOriginal, HasPending, IsProper, OpeningIsProper, ProperUnlessDeep, TokensStayProper, is_early}
 use Rattle.rule_laws.specs.Rounds.{is_insertion_mode}
 use Rattle.rule_laws.proofs.Resets.{popped-hold, reset-holds}
 use Rattle.rule_laws.proofs.Calm.{split, run-left}
@@ -291,7 +291,7 @@ both true y e f = f
 both false y e f = e
 
 reset-other : (es : List OpenElement) (head : Option NodeId) (ms : List Mode) → are_other ms ≡ true → IsOther (reset_mode es head ms)
-reset-other = reset-holds is_main_mode (λ m e. e)
+reset-other = reset-holds is_main_mode (λ m e. (split (is_main_mode m) (not (is_early m)) e).0)
 
 -- ---- instructions that leave a row, or leave out the next one
 

@@ -1,4 +1,4 @@
--- Resetting the insertion mode gives a mode of which that holds which holds of all modes but "text" and "in table text".
+-- Resetting the insertion mode gives a mode of which that holds which holds of all modes from "before head" on, but "text" and "in table text".
 use Rattle.std.proofs.Common.{◌≡◌, refl, Bool, true, false, List, [], ◌∷◌, Option, Some, None}
 use Rattle.std.specs.Prelude.{if◌then◌else◌}
 use Rattle.std.specs.List.{list_all}
@@ -8,17 +8,17 @@ use Rattle.html_types.specs.declared.instruction.Mode.{Mode}
 use Rattle.html_types.specs.declared.instruction.Mode.TheVariants as mode
 use Rattle.html_types.specs.declared.operation.NodeId.{NodeId}
 use Rattle.html_types.specs.declared.open.OpenElement.{OpenElement}
+use Rattle.rule_laws.specs.Proper.{is_late}
 use Rattle.standard.specs.Elements.{is_word, is_one_of}
 use Rattle.standard.specs.Instructions.{pop_mode}
 use Rattle.standard.specs.Reset.{select_mode, template_mode, root_mode, reset_mode}
-use Rattle.rule_laws.specs.Proper.{is_main_mode}
 use Rattle.rule_laws.proofs.Calm.{split}
 
 pub popped-hold : (f : Mode → Bool) (ms : List Mode) → list_all f ms ≡ true → list_all f (pop_mode ms) ≡ true
 popped-hold f [] h = refl
 popped-hold f (m ∷ ms) h = (split (f m) (list_all f ms) h).1
 
-module _ (f : Mode → Bool) (main : (m : Mode) → is_main_mode m ≡ true → f m ≡ true) where
+module _ (f : Mode → Bool) (main : (m : Mode) → is_late m ≡ true → f m ≡ true) where
   either : (v : Bool) (m n : Mode) → f m ≡ true → f n ≡ true → f (if v then m else n) ≡ true
   either true m n h k = h
   either false m n h k = k

@@ -1,5 +1,5 @@
 -- Each instruction does what is said of its kind.
-use Rattle.std.proofs.Common.{◌≡◌, refl, ap, sym, subst, true≢false, ℕ, ◌+◌, ◌≤◌, ◌<◌, ◌⊎◌, inl, inr, Bool, true, false, ◌&&◌, ◌∙◌, List, [], ◌∷◌, ◌++◌, Option, Some, None, arith}
+use Rattle.std.proofs.Common.{◌≡◌, refl, ap, sym, subst, true≢false, ℕ, ◌+◌, ◌≤◌, ◌<◌, ◌⊎◌, inl, inr, Bool, true, false, not, ◌&&◌, ◌∙◌, List, [], ◌∷◌, ◌++◌, Option, Some, None, arith}
 use Rattle.std.specs.Prelude.{if◌then◌else◌}
 use Rattle.std.specs.List.{list_all}
 use Rattle.html_types.specs.declared.word.Word.{Word}
@@ -28,12 +28,12 @@ use Rattle.standard.specs.Foreign.{opened}
 use Rattle.standard.specs.Stack.{pop, until, pop_to, implied}
 use Rattle.standard.specs.Reset.{reset_mode}
 use Rattle.standard.specs.Instructions.{Config, config, on, room, holds, here, made, pushed, insert_at, tag_of, texts, all_space, body_characters, none_pending, insert_pending, original_or, pop_mode, step}
-use Rattle.rule_laws.specs.Proper.{is_main_mode}
+use Rattle.rule_laws.specs.Proper.{is_main_mode, is_early, is_late}
 use Rattle.rule_laws.specs.Rounds.{is_insertion_mode, is_insertion_mode_if_any}
 use Rattle.rule_laws.proofs.Counts.{add, count, all, is_weighty, weighty-word, fewer-than-all, pop-fewer, until-fewer, pop_to-fewer, implied-fewer, until-cuts}
 use Rattle.rule_laws.proofs.Readings.{calm_next, kept_weight, pending_weight, weight, weight_of, Fit, Fact, no_more, cut_off, at, at_or_fallen, fallen, Knows, stays, lowers, enters, cuts, resets, restores, or_fallen, Change, tame, loud, until_kind, kind, Takes, Splits, Obeys}
 use Rattle.rule_laws.proofs.Resets.{popped-hold, reset-holds}
-use Rattle.rule_laws.proofs.Calm.{straight, insert_pending-straight}
+use Rattle.rule_laws.proofs.Calm.{split, straight, insert_pending-straight}
 use Rattle.rule_laws.proofs.Pending.{Kept, room-small, body_characters-kept}
 
 -- ---- weights
@@ -117,6 +117,9 @@ pub main-insertion : (m : Mode) → is_main_mode m ≡ true → is_insertion_mod
 main-insertion InForeign h = h
 main-insertion _ h = refl
 
+late-insertion : (m : Mode) → is_late m ≡ true → is_insertion_mode m ≡ true
+late-insertion m h = main-insertion m (split (is_main_mode m) (not (is_early m)) h).0
+
 enter-fit : (m : Mode) (b : Open) → is_insertion_mode m ≡ true → Fit b → Fit (record b { mode = m })
 enter-fit m b e s = (s.0, record { mode = e; original = s.1.original; templates = s.1.templates })
 
@@ -134,7 +137,7 @@ original-fit (Some m) h = h
 
 -- the mode set anew
 reset-fit : (b : Open) → Fit b → Fit (record b { mode = reset_mode b.stack b.head b.template_modes })
-reset-fit b s = enter-fit _ b (reset-holds is_insertion_mode main-insertion b.stack b.head b.template_modes s.1.templates) s
+reset-fit b s = enter-fit _ b (reset-holds is_insertion_mode late-insertion b.stack b.head b.template_modes s.1.templates) s
 
 reset-change : (x : Bool) (b : Open) → Change resets x b (record b { mode = reset_mode b.stack b.head b.template_modes })
 reset-change x b no_more v s h = (reset-fit b s, h)

@@ -1,8 +1,8 @@
 -- The open state is proper: the original mode, the pending table text and the template insertion modes are there where the mode says so.
-use Rattle.std.specs.Prelude.{◌≡◌, ℕ, Bool, true, false, ⊤, List, [], Option, None, IsSomeAnd, IsTrue}
+use Rattle.std.specs.Prelude.{◌≡◌, ℕ, Bool, true, false, not, ◌&&◌, ⊤, List, [], Option, None, IsSomeAnd, IsTrue}
 use Rattle.std.specs.List.{list_all}
 use Rattle.html_types.specs.declared.instruction.Mode.{Mode}
-use Rattle.html_types.specs.declared.instruction.Mode.TheVariants.{InText, InTableText, InForeign}
+use Rattle.html_types.specs.declared.instruction.Mode.TheVariants.{Initial, BeforeHtml, InText, InTableText, InForeign}
 use Rattle.html_types.specs.declared.instruction.Next.{Next}
 use Rattle.html_types.specs.declared.instruction.Next.TheVariants as next
 use Rattle.html_types.specs.declared.token.Token.{Token}
@@ -18,6 +18,16 @@ is_main_mode InText = false
 is_main_mode InTableText = false
 is_main_mode InForeign = false
 is_main_mode _ = true
+
+-- the modes in which no element is open yet
+abbrev pub is_early : Mode → Bool
+is_early Initial = true
+is_early BeforeHtml = true
+is_early _ = false
+
+-- the modes to which resetting the insertion mode may come
+abbrev pub is_late : Mode → Bool
+is_late m = is_main_mode m && not (is_early m)
 
 -- an original mode is there exactly in the modes "text" and "in table text", and it is neither of them; the rules for foreign content are
 -- never the mode

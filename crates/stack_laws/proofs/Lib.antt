@@ -1,0 +1,12 @@
+mod Basics
+mod Cores
+mod Popped
+mod GroundAdoption
+mod Grounds
+mod GroundPushes
+mod GroundRows
+mod GroundTable
+mod GroundReset
+mod GroundSteps
+mod GroundWalk
+mod GroundTokens
