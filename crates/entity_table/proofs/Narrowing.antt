@@ -1,5 +1,5 @@
 -- The part of the table whose names begin with a text, as the text grows by a character.
-use Rattle.std.proofs.Common.{◌≡◌, ℕ, ◌+◌, ◌-◌, ◌<◌, ◌≤◌, Bool, true, false, List, [], ◌∷◌, ◌++◌, length, get_or, drop, map, Less, nat_cmp, string_bytes, sym, ap, ◌∙◌, subst, inl, inr, arith}
+use Rattle.std.proofs.Common.{◌≡◌, ℕ, suc, ◌+◌, ◌-◌, ◌<◌, ◌≤◌, Bool, true, false, true≢false, refl, List, [], ◌∷◌, ◌++◌, length, get_or, drop, map, Less, nat_cmp, string_bytes, sym, ap, ◌∙◌, subst, inl, inr, arith}
 use Rattle.std.specs.Cmp.Lexicographic.{slice_cmp}
 use Rattle.std.specs.List.{AllWithin, slice_range}
 use Rattle.std.specs.List.Sorted.{IsPartitionedBy, IsPartitionPoint}
@@ -46,6 +46,9 @@ rest_at (r ∷ more) low high depth k d ends fits h =
     ∙ ap rest (get_or-take (high - low) (drop low rows) k r h ∙ get_or-drop low rows k r)
     ∙ ap (drop depth) (sym (get_or-map name rows (low + k) r [] (omega arith)))
 
+length-within : (rows : List Row) (low high : ℕ) → low ≤ high → high ≤ length rows → length (slice_range rows low high) ≡ high - low
+length-within rows low high ends fits = simp (length-take, length-drop) (omega arith)
+
 length-names : (rows : List Row) → length (row_names rows) ≡ length rows
 length-names rows = length-map rows (λ (r : Row). string_bytes r.name)
 
@@ -91,6 +94,27 @@ pub partitioned_up_to : (rows : List Row) (text : List ℕ) (low high depth c : 
     → IsPartitionedBy (is_up_to c) (rests depth (slice_range rows low high))
 partitioned_up_to rows text low high depth c = partitioned (is_up_to c) rows text low high depth (λ a b. up_to_before text a b c)
 
+-- where the first doesn't pass, none does; where the last does, all do
+
+pub point-none : (p : List ℕ → Bool) (xs : List (List ℕ)) → ((d : List ℕ) → p (get_or xs 0 d) ≡ false) → IsPartitionedBy p xs → IsPartitionPoint (λ y. p y ≡ true) (λ y. p y ≡ false) xs 0
+point-none p xs first h = (λ k d le lt. absurd (omega arith), λ k d le lt. by k d lt (p (get_or xs k d)) refl)
+  where
+    by : (k : ℕ) (d : List ℕ) → k < length xs → (v : Bool) → p (get_or xs k d) ≡ v → p (get_or xs k d) ≡ false
+    by k d lt false e = e
+    by k d lt true e = absurd (true≢false (sym (h 0 k d (omega arith) lt e) ∙ first d))
+
+pub point-all : (p : List ℕ → Bool) (xs : List (List ℕ)) (n : ℕ) → length xs ≡ suc n → ((d : List ℕ) → p (get_or xs n d) ≡ true) → IsPartitionedBy p xs → IsPartitionPoint (λ y. p y ≡ true) (λ y. p y ≡ false) xs (length xs)
+point-all p xs n long last h = (λ k d le lt. h k n d (omega (arith, long, lt)) (omega (arith, long)) (last d), λ k d le lt. absurd (omega (arith, le, lt)))
+
+-- what stands behind the text in a row
+pub rest_of_row : (rows : List Row) (depth k : ℕ) (r : Row) (d : List ℕ) → k < length rows → r ≡ get_or rows k r → get_or (rests depth rows) k d ≡ drop depth (string_bytes r.name)
+rest_of_row rows depth k r d h is =
+    let rest : Row → List ℕ = λ x. drop depth (string_bytes x.name) in
+    get_or-map rest rows k r d h ∙ ap rest (sym is)
+
+pub length-of_rests : (rows : List Row) (depth : ℕ) → length (rests depth rows) ≡ length rows
+length-of_rests rows depth = length-map rows (λ (r : Row). drop depth (string_bytes r.name))
+
 -- ---- the part of the longer text
 
 abbrev SplitsAt : (List ℕ → Bool) → List (List ℕ) → ℕ → Type 0
@@ -119,6 +143,21 @@ IsPart-narrowed rows text low high depth c below up_to deep part s t some fits =
         | inr more ↦ front-not_longer text (name_at names k) c (part.behind k more lt)
       ];
     }
+
+-- all of its names go on so
+pub IsPart-whole : (rows : List Row) (text : List ℕ) (low high depth c : ℕ) → (low < high → depth ≡ length text) → IsPart (row_names rows) text low high
+    → SplitsAt (is_below c) (rests depth (slice_range rows low high)) 0 → SplitsAt (is_up_to c) (rests depth (slice_range rows low high)) (length (slice_range rows low high))
+    → 0 < length (slice_range rows low high) → IsPart (row_names rows) (text ++ c ∷ []) low high
+IsPart-whole rows text low high depth c deep part s t some =
+    let names = row_names rows in
+    let fits : high ≤ length rows = omega (arith, part.fits, length-names rows) in
+    let n = length (slice_range rows low high) in
+    let long : n ≡ high - low = length-within rows low high part.ends fits in
+    let begin : low + 0 ≡ low = omega arith in
+    let end : low + n ≡ high = omega (arith, long, part.ends) in
+    subst (λ (k : ℕ). IsPart names (text ++ c ∷ []) low k) end
+    (subst (λ (k : ℕ). IsPart names (text ++ c ∷ []) k (low + n)) begin
+    (IsPart-narrowed rows text low high depth c 0 n deep part s t some (omega (arith, long))))
 
 pub IsPart-none : (rows : List Row) (text : List ℕ) (low high depth c below up_to : ℕ) → (low < high → depth ≡ length text) → IsPart (row_names rows) text low high
     → SplitsAt (is_below c) (rests depth (slice_range rows low high)) below → SplitsAt (is_up_to c) (rests depth (slice_range rows low high)) up_to

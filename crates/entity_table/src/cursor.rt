@@ -53,6 +53,24 @@ fn count_up_to(rows: &[Row], depth: usize, c: char) -> usize
     rows.partition_point(|row| goes_up_to(row, depth, c))
 }
 
+/// Whether the first and the last row go on with `c` at `depth`, so that all do, as they are in order.
+fn all_go_on(rows: &[Row], depth: usize, c: char) -> bool
+    ensures some { IsTrue result → 0 < length rows.now }
+    ensures below { IsTrue result → IsPartitionedBy (is_below c) (rests depth rows.now)
+        → IsPartitionPoint (λ y. is_below c y ≡ true) (λ y. is_below c y ≡ false)
+        (rests depth rows.now) 0 }
+    ensures up_to { IsTrue result → IsPartitionedBy (is_up_to c) (rests depth rows.now)
+        → IsPartitionPoint (λ y. is_up_to c y ≡ true) (λ y. is_up_to c y ≡ false)
+        (rests depth rows.now) (length rows.now) }
+{
+    if rows.is_empty() {
+        return false;
+    }
+    let first = &rows[0];
+    let last = &rows[rows.len() - 1];
+    !goes_below(first, depth, c) && goes_up_to(last, depth, c)
+}
+
 /// The rows of the part that go on with `c` at `depth`.
 fn narrow(rows: &[Row], part: Part, depth: usize, c: char) -> Part
     ensures ends { result.low ≤ result.high }
@@ -66,6 +84,9 @@ fn narrow(rows: &[Row], part: Part, depth: usize, c: char) -> Part
     let Some(within) = rows.get(part.low..part.high) else {
         return Part { low: 0, high: 0 };
     };
+    if all_go_on(within, depth, c) {
+        return part;
+    }
     let below = count_below(within, depth, c);
     let up_to = count_up_to(within, depth, c);
     if below < up_to {

@@ -96,7 +96,7 @@ over-silent es s b o cs no_cr silent =
     subst (λ (w : Parsed). IsOver w o (length cs) (parser (feed es (is_foreign b) s cs).state false b) o stop.InputEnd) (sym (silent_parsed es s b cs no_cr silent))
     (record { ops = sym (append-nil o); state = refl; used = refl; at_stop = refl })
 
-over-tag : (es : Entities) (b : Open) (cs : List ℕ) (t : Token) (o o' : List Op) (p' : Parser) (at : Stop) → MakesAlone cs t → has_cr cs ≡ false
+over-tag : (es : Entities) (b : Open) (cs : List ℕ) (t : Token) (o o' : List Op) (p' : Parser) (at : Stop) → MakesAlone es cs t → has_cr cs ≡ false
     → after_ops o (build data_state false (t ∷ []) b) ≡ took o' p' at → IsOver (parse es (parser data_state false b) cs) o (length cs) p' o' at
 over-tag es b cs t o o' p' at alone no_cr built =
     let front = alone.front in
@@ -104,10 +104,10 @@ over-tag es b cs t o o' p' at alone no_cr built =
     let split : has_cr (front ++ last ∷ []) ≡ false = ap has_cr (sym alone.split) ∙ no_cr in
     let mid = (feed es (is_foreign b) data_state front).state in
     let reached : read es (is_foreign b) mid last ≡ record { tokens = t ∷ []; state = data_state } =
-    last_read es (is_foreign b) data_state front last _ (alone.silent es (is_foreign b)) (ap (feed es (is_foreign b) data_state) (sym alone.split) ∙ alone.whole es (is_foreign b)) in
+    last_read es (is_foreign b) data_state front last _ (alone.silent (is_foreign b)) (ap (feed es (is_foreign b) data_state) (sym alone.split) ∙ alone.whole (is_foreign b)) in
     subst (λ (l : List ℕ). IsOver (parse es (parser data_state false b) l) o (length l) p' o' at) (sym alone.split)
     (over-more es (parser data_state false b) o front (parser mid false b) o last p' o' at
-    (over-silent es data_state b o front (cr-front front last split) (alone.silent es (is_foreign b)))
+    (over-silent es data_state b o front (cr-front front last split) (alone.silent (is_foreign b)))
     (taken es mid b last o (record { tokens = t ∷ []; state = data_state }) (took o' p' at) (cr-last front last split) reached built))
 
 pub piece-front : (text : List ℕ) (from end : ℕ) → IsUtf8 text → IsCharBoundary text from → from ≤ end → chars (take end text) ≡ chars (take from text) ++ piece text from end
@@ -125,7 +125,7 @@ takes : (es : Entities) (text run : List ℕ) (from end : ℕ) (at : Stop) (p p'
 takes es text run from end at p p' o o' some front over = record { run = run; some = some; front = front; ops = over.ops; state = over.state; used = over.used; stop = over.at_stop }
 
 pub taken_tag : (es : Entities) (text : List ℕ) (from end : ℕ) (at : Stop) (t : Token) (p p' : Parser) (o o' : List Op) → IsUtf8 text → IsCharBoundary text from → from ≤ end
-    → ReadsTags p → MakesAlone (piece text from end) t → has_cr (piece text from end) ≡ false
+    → ReadsTags p → MakesAlone es (piece text from end) t → has_cr (piece text from end) ≡ false
     → after_ops o (build p.tokenizer p.after_cr (t ∷ []) p.open_state) ≡ took o' p' at → Takes es text from (record { stop = at; used = end }) p o p' o'
 taken_tag es text from end at t p p' o o' u b h reads alone no_cr built =
     let same : p ≡ parser data_state false p.open_state = ap (λ s. parser s p.after_cr p.open_state) reads.tokenizer ∙ ap (λ cr. parser data_state cr p.open_state) reads.after_cr in

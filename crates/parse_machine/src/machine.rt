@@ -29,7 +29,7 @@ use std::marker::Model;
 use tokenizer::Tokenizer;
 use tokenizer::reading::is_plain;
 use tokenizer::reference::whole_reference;
-use tokenizer::whole::whole_tag;
+use tokenizer::whole::whole_token;
 
 /// A parser: contracts see the tokenizer's state, whether the last character was a CR, and the open state.
 #[derive(Drop)]
@@ -456,10 +456,11 @@ impl Machine {
         }
     }
 
-    // Takes the tag that begins at a place with a character, where it is read at once.
+    // Takes the tag or the reference that begins at a place with a character, where it is read at once.
     fn take_tag(
         &mut self,
         alloc: Global,
+        table: &Table,
         text: &str,
         from: usize,
         c: char,
@@ -468,14 +469,14 @@ impl Machine {
         requires { IsCharBoundary text.now from }
         ensures boundary { IfOk result (λ o. IfSome o (λ ran. IsCharBoundary text.now ran.used)) }
         ensures onward { IfOk result (λ o. IfSome o (λ ran. from < ran.used)) }
-        ensures parsed { IfOk result (λ o. IfSome o (λ ran. (es : Entities) → Takes es text.now from ran self.old ops.old self.new ops.new)) }
+        ensures parsed { IfOk result (λ o. IfSome o (λ ran. Takes table.now text.now from ran self.old ops.old self.new ops.new)) }
         ensures none { IfOk result (λ o. o ≡ None → self.new ≡ self.old) }
         ensures none_added { IfOk result (λ o. o ≡ None → ops.new ≡ ops.old) }
     {
-        if c != '<' || !self.reads_tags() {
+        if (c != '<' && c != '&') || !self.reads_tags() {
             return Ok(None);
         }
-        let Some(whole) = whole_tag(alloc, text, from)? else {
+        let Some(whole) = whole_token(alloc, table, text, from)? else {
             return Ok(None);
         };
         let stop = self.take_token(alloc, &whole.token, ops)?;
@@ -502,11 +503,17 @@ impl Machine {
         ensures none { IfOk result (λ o. o ≡ None → self.new ≡ self.old) }
         ensures none_added { IfOk result (λ o. o ≡ None → ops.new ≡ ops.old) }
     {
+        if text.as_bytes().get(from) != Some(&b'&')
+            || !self.reads_tags()
+            || !self.builder.takes_text()
+        {
+            return Ok(None);
+        }
         let Some(reference) = whole_reference(table, text, from) else {
             return Ok(None);
         };
         let characters = reference.characters;
-        if has_nul(characters) || !self.reads_tags() || !self.builder.takes_text() {
+        if has_nul(characters) {
             return Ok(None);
         }
         let inserted = text_of(alloc, characters)?;
@@ -555,7 +562,7 @@ impl Machine {
         let Some((c, behind)) = char_at(text, from) else {
             return Ok(None);
         };
-        match self.take_tag(alloc, text, from, c, ops)? {
+        match self.take_tag(alloc, table, text, from, c, ops)? {
             Some(ran) => Ok(Some(ran)),
             None => {
                 let stop = self.take(alloc, table, c, ops)?;

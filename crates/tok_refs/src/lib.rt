@@ -3,7 +3,7 @@
 
 mod literal;
 mod named;
-mod numeric;
+pub mod numeric;
 pub mod rows;
 
 pub use rows::step;

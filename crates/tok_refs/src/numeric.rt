@@ -125,8 +125,8 @@ pub fn decimal_row(
     }
 }
 
-// The code with one more digit, where the character is one.
-fn with_digit(code: u32, radix: u32, c: char) -> Option<u32>
+/// The code with one more digit, where the character is one. 110000 (hexadecimal) stands for all codes beyond the last character.
+pub fn with_digit(code: u32, radix: u32, c: char) -> Option<u32>
     requires low { 2 ≤ radix }
     requires high { radix ≤ 36 }
     ensures { MatchOption result
@@ -158,8 +158,8 @@ fn end_of_digits(
     put(back, text.as_str(), reconsumes, out)
 }
 
-/// 13.2.5.80 Numeric character reference end state
-fn character_of(code: u32) -> char
+/// 13.2.5.80 Numeric character reference end state: the character that a number stands for.
+pub fn character_of(code: u32) -> char
     ensures { result ≡ rows.character_of code }
 {
     match code {

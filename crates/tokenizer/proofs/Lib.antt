@@ -1,3 +1,5 @@
 pub mod ReadingLemmas
 pub mod WholeLemmas
 pub mod ReferenceLemmas
+pub mod NumberLemmas
+pub mod CommentLemmas

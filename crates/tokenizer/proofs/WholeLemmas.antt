@@ -1,6 +1,6 @@
 -- A tag that stands whole in a text, read character by character.
 use Rattle.std.proofs.Common.{◌≡◌, ℕ, zero, suc, ◌+◌, ◌-◌, ◌<◌, ◌≤◌, Bool, true, false, true≢false, ◌==◌, ◌||◌, List, [], ◌∷◌, ◌++◌, length, get_or, take, drop, subst, refl, sym, ap, ◌∙◌, append-nil, append_assoc, arith}
-use Rattle.std.specs.Prelude.{slice_range, Some, None, not, if◌then◌else◌}
+use Rattle.std.specs.Prelude.{slice_range, Option, Some, None, not, if◌then◌else◌}
 use Rattle.std.specs.List.{list_any}
 use Rattle.std.specs.Str.{chars, IsUtf8, IsAscii, IsCharBoundary}
 use Rattle.std.proofs.Math.Utf8.{encode, encodes}
@@ -23,6 +23,9 @@ use Rattle.html_types.specs.Attributes.{has_name}
 use Rattle.html_types.specs.declared.attributes.Attribute.{Attribute}
 use Rattle.standard.specs.Class.{class_of, name_char, shown}
 use Rattle.standard.specs.Entities.{Entities}
+use Rattle.html_types.specs.declared.reference_state.ReturnState.TheVariants as back
+use Rattle.standard.specs.ReferenceStates.{return_state}
+use Rattle.tokenizer.specs.Reference.{Means}
 use Rattle.standard.specs.Step.{Step, in_tag, data_state, to, again, new_tag, finished, tag_token}
 use Rattle.standard.specs.TagStates.{tag_name_row, tag_open_row, end_tag_open_row, before_attribute_name_row, attribute_name_row, after_attribute_name_row, before_attribute_value_row, quoted_row, unquoted_row, after_quoted_row}
 use Rattle.standard.specs.Tokenizer.{Reached, after_tokens, row, settle, readings, reading, read, feed}
@@ -32,7 +35,7 @@ use Rattle.tokenizer.specs.declared.whole.Part.{Part}
 use Rattle.tokenizer.specs.declared.whole.Part.TheVariants as part
 use Rattle.tokenizer.specs.declared.whole.Behind.{Behind}
 use Rattle.tokenizer.specs.declared.whole.Behind.TheVariants as behind
-use Rattle.tokenizer.specs.Whole.{in_name, in_attribute_name, in_quoted, in_unquoted, is_space, is_alpha, is_of, all_of, begins_name, begins_with, has_cr, bare, is_gap, goes_on, begins_part, may_close, quote_mark, close_text, piece, Opens, Leads, HasValue, Gives, MakesAlone}
+use Rattle.tokenizer.specs.Whole.{in_name, in_attribute_name, in_quoted, in_unquoted, is_space, is_alpha, is_of, all_of, begins_name, begins_with, has_cr, bare, is_gap, goes_on, begins_part, may_close, quote_mark, close_text, piece, value_part, value_of, Opens, Leads, Reads, HasValue, Gives, MakesAlone}
 
 -- ---- pieces of a text
 
@@ -314,15 +317,47 @@ feed-unquoted es foreign (c ∷ cs) rest tag a h =
     ∙ ap (λ (x : List ℕ). feed es foreign (in_tag (AttributeValueUnquoted tag (Some (record a { value = x })))) rest) (append_assoc a.value (c ∷ []) cs)
 
 -- the first character of such a value is read again
-feed-before_unquoted : (es : Entities) (foreign : Bool) (cs rest : List ℕ) (tag : PartialTag) (n : List ℕ) → begins_with part.Unquoted cs ≡ true → all_of part.Unquoted cs ≡ true →
-    feed es foreign (in_tag (BeforeAttributeValue tag (Some n))) (cs ++ rest) ≡ feed es foreign (in_tag (AttributeValueUnquoted tag (Some (record { name = n; value = cs })))) rest
-feed-before_unquoted es foreign [] rest tag n b h = absurd (true≢false (sym b))
-feed-before_unquoted es foreign (c ∷ cs) rest tag n b h =
-    let r = and_parts (in_unquoted (class_of c)) (shown c == c) b in
+feed-before_unquoted : (es : Entities) (foreign : Bool) (c : ℕ) (rest : List ℕ) (tag : PartialTag) (n : List ℕ) → is_of part.Unquoted c ≡ true →
+    feed es foreign (in_tag (BeforeAttributeValue tag (Some n))) (c ∷ rest) ≡ feed es foreign (in_tag (AttributeValueUnquoted tag (Some (record { name = n; value = [] })))) (c ∷ rest)
+feed-before_unquoted es foreign c rest tag n h =
+    let r = and_parts (in_unquoted (class_of c)) (shown c == c) h in
     let a : Attribute = record { name = n; value = [] } in
-    feed-again es foreign (in_tag (BeforeAttributeValue tag (Some n))) (in_tag (AttributeValueUnquoted tag (Some a))) c (cs ++ rest) (before_unquoted_row (class_of c) tag n c r.0)
+    feed-again es foreign (in_tag (BeforeAttributeValue tag (Some n))) (in_tag (AttributeValueUnquoted tag (Some a))) c rest (before_unquoted_row (class_of c) tag n c r.0)
     (ap (λ (r : Step). r.again) (unquoted_value_row (class_of c) tag a c r.0 ((Decides-eqb (shown c) c).0 r.1)))
-    ∙ feed-unquoted es foreign (c ∷ cs) rest tag a h
+
+-- a value's characters, some as they are and some by references
+
+value_run : (es : Entities) (foreign : Bool) (o : Option Quote) (cs rest : List ℕ) (tag : PartialTag) (a : Attribute) → all_of (value_part o) cs ≡ true →
+    feed es foreign (return_state (value_of o tag a)) (cs ++ rest) ≡ feed es foreign (return_state (value_of o tag (record a { value = a.value ++ cs }))) rest
+value_run es foreign (Some q) cs rest tag a h = feed-value es foreign q cs rest tag a h
+value_run es foreign None cs rest tag a h = feed-unquoted es foreign cs rest tag a h
+
+pub Reads-run : (es : Entities) (o : Option Quote) (cs : List ℕ) → all_of (value_part o) cs ≡ true → Reads es o cs cs
+Reads-run es o cs h foreign tag a c rest = value_run es foreign o cs (c ∷ rest) tag a h
+
+reads_before : (es : Entities) (o : Option Quote) (cs value ys : List ℕ) → Reads es o cs value → (foreign : Bool) (tag : PartialTag) (a : Attribute) (c : ℕ) (rest : List ℕ) →
+    feed es foreign (return_state (value_of o tag a)) (cs ++ (ys ++ c ∷ rest)) ≡ feed es foreign (return_state (value_of o tag (record a { value = a.value ++ value }))) (ys ++ c ∷ rest)
+reads_before es o cs value [] r foreign tag a c rest = r foreign tag a c rest
+reads_before es o cs value (y ∷ ys) r foreign tag a c rest = r foreign tag a y (ys ++ c ∷ rest)
+
+Reads-reference : (es : Entities) (o : Option Quote) (cs us : List ℕ) → Means es cs us → Reads es o cs us
+Reads-reference es (Some q) cs us m foreign tag a c rest = m foreign (back.AttributeValueQuoted tag (Some a) q) c rest
+Reads-reference es None cs us m foreign tag a c rest = m foreign (back.AttributeValueUnquoted tag (Some a)) c rest
+
+pub Reads-more : (es : Entities) (o : Option Quote) (cs value reference us run : List ℕ) → Reads es o cs value → Means es reference us → all_of (value_part o) run ≡ true → Reads es o (cs ++ (reference ++ run)) ((value ++ us) ++ run)
+Reads-more es o cs value reference us run r m h foreign tag a c rest =
+    let b : Attribute = record a { value = a.value ++ value } in
+    let d : Attribute = record a { value = (a.value ++ value) ++ us } in
+    ap (feed es foreign (return_state (value_of o tag a))) (append_assoc cs (reference ++ run) (c ∷ rest))
+    ∙ reads_before es o cs value (reference ++ run) r foreign tag a c rest
+    ∙ ap (feed es foreign (return_state (value_of o tag b))) (append_assoc reference run (c ∷ rest))
+    ∙ reads_before es o reference us run (Reads-reference es o reference us m) foreign tag b c rest
+    ∙ value_run es foreign o run (c ∷ rest) tag d h
+    ∙ ap (λ (v : List ℕ). feed es foreign (return_state (value_of o tag (record a { value = v }))) (c ∷ rest))
+    (append_assoc (a.value ++ value) us run ∙ append_assoc a.value value (us ++ run) ∙ ap (λ (l : List ℕ). a.value ++ l) (sym (append_assoc value us run)))
+
+pub Reads-same : {xs ys vs ws : List ℕ} (es : Entities) (o : Option Quote) → xs ≡ ys → vs ≡ ws → Reads es o ys ws → Reads es o xs vs
+Reads-same {xs} {ys} {vs} {ws} es o e f r = subst (λ (l : List ℕ). Reads es o l vs) (sym e) (subst (λ (v : List ℕ). Reads es o ys v) (sym f) r)
 
 quote_opens : (q : Quote) (tag : PartialTag) (n : List ℕ) → before_attribute_value_row tag (Some n) (class_of (quote_mark q)) (quote_mark q) ≡ to (in_tag (AttributeValueQuoted tag (Some (record { name = n; value = [] })) q))
 quote_opens quote.Double tag n = refl
@@ -337,25 +372,33 @@ feed-equals : (es : Entities) (foreign : Bool) (tag : PartialTag) (name rest : L
 feed-equals es foreign tag name rest fresh =
     feed-to es foreign (in_tag (AttributeName tag name)) (in_tag (BeforeAttributeValue tag (Some name))) 61 rest (ap (λ (h : Bool). to (in_tag (BeforeAttributeValue tag (if h then None else Some name)))) fresh)
 
-pub quoted-value : (q : Quote) (b : Behind) (value gap : List ℕ) → all_of (part.Quoted q) value ≡ true → is_gap false b gap ≡ true →
-    HasValue b (61 ∷ (quote_mark q ∷ (value ++ (quote_mark q ∷ gap)))) value
-quoted-value q b value gap v g es foreign tag name rest fresh ends =
+pub quoted-value : (es : Entities) (q : Quote) (b : Behind) (cs value gap : List ℕ) → Reads es (Some q) cs value → is_gap false b gap ≡ true →
+    HasValue es b (61 ∷ (quote_mark q ∷ (cs ++ (quote_mark q ∷ gap)))) value
+quoted-value es q b cs value gap v g foreign tag name rest fresh ends =
     let m = quote_mark q in
     let a : Attribute = record { name = name; value = value } in
     let full : PartialTag = record tag { attributes = tag.attributes ++ a ∷ [] } in
-    ap (λ (l : List ℕ). feed es foreign (in_tag (AttributeName tag name)) (61 ∷ (m ∷ l))) (append_assoc value (m ∷ gap) rest)
-    ∙ feed-equals es foreign tag name (m ∷ (value ++ (m ∷ (gap ++ rest)))) fresh
-    ∙ feed-to es foreign (in_tag (BeforeAttributeValue tag (Some name))) (in_tag (AttributeValueQuoted tag (Some (record { name = name; value = [] })) q)) m (value ++ (m ∷ (gap ++ rest))) (quote_opens q tag name)
-    ∙ feed-value es foreign q value (m ∷ (gap ++ rest)) tag (record { name = name; value = [] }) v
+    ap (λ (l : List ℕ). feed es foreign (in_tag (AttributeName tag name)) (61 ∷ (m ∷ l))) (append_assoc cs (m ∷ gap) rest)
+    ∙ feed-equals es foreign tag name (m ∷ (cs ++ (m ∷ (gap ++ rest)))) fresh
+    ∙ feed-to es foreign (in_tag (BeforeAttributeValue tag (Some name))) (in_tag (AttributeValueQuoted tag (Some (record { name = name; value = [] })) q)) m (cs ++ (m ∷ (gap ++ rest))) (quote_opens q tag name)
+    ∙ v foreign tag (record { name = name; value = [] }) m (gap ++ rest)
     ∙ feed-to es foreign (in_tag (AttributeValueQuoted tag (Some a) q)) (in_tag (AfterAttributeValueQuoted full)) m (gap ++ rest) (quote_closes q tag a)
     ∙ feed-behind_quote es foreign full b gap rest g ends
 
-pub unquoted-value : (b : Behind) (value gap : List ℕ) → begins_with part.Unquoted value ≡ true → all_of part.Unquoted value ≡ true → is_gap true b gap ≡ true →
-    HasValue b (61 ∷ (value ++ gap)) value
-unquoted-value b value gap begins v g es foreign tag name rest fresh ends =
-    ap (λ (l : List ℕ). feed es foreign (in_tag (AttributeName tag name)) (61 ∷ l)) (append_assoc value gap rest)
-    ∙ feed-equals es foreign tag name (value ++ (gap ++ rest)) fresh
-    ∙ feed-before_unquoted es foreign value (gap ++ rest) tag name begins v
+value_ends : (es : Entities) (foreign : Bool) (b : Behind) (cs value gap rest : List ℕ) (tag : PartialTag) (a : Attribute) → Reads es None cs value → begins_part b rest ≡ true →
+    feed es foreign (in_tag (AttributeValueUnquoted tag (Some a))) (cs ++ (gap ++ rest)) ≡ feed es foreign (in_tag (AttributeValueUnquoted tag (Some (record a { value = a.value ++ value })))) (gap ++ rest)
+value_ends es foreign b cs value [] [] tag a v e = absurd (true≢false (sym e))
+value_ends es foreign b cs value [] (c ∷ x) tag a v e = v foreign tag a c x
+value_ends es foreign b cs value (c ∷ x) rest tag a v e = v foreign tag a c (x ++ rest)
+
+pub unquoted-value : (es : Entities) (b : Behind) (cs value gap : List ℕ) → begins_with part.Unquoted cs ≡ true → Reads es None cs value → is_gap true b gap ≡ true →
+    HasValue es b (61 ∷ (cs ++ gap)) value
+unquoted-value es b [] value gap begins v g foreign tag name rest fresh ends = absurd (true≢false (sym begins))
+unquoted-value es b (c ∷ cs) value gap begins v g foreign tag name rest fresh ends =
+    ap (λ (l : List ℕ). feed es foreign (in_tag (AttributeName tag name)) (61 ∷ l)) (append_assoc (c ∷ cs) gap rest)
+    ∙ feed-equals es foreign tag name (c ∷ (cs ++ (gap ++ rest))) fresh
+    ∙ feed-before_unquoted es foreign c (cs ++ (gap ++ rest)) tag name begins
+    ∙ value_ends es foreign b (c ∷ cs) value gap rest tag (record { name = name; value = [] }) v ends
     ∙ feed-behind_value es foreign tag (record { name = name; value = value }) b gap rest g ends
 
 -- an attribute with no value
@@ -387,42 +430,42 @@ feed-after_gap es foreign tag n (c ∷ cs) rest h b =
     let s = in_tag (AfterAttributeName tag (Some n)) in
     feed-to es foreign s s c (cs ++ rest) (ap (λ (k : Class). after_attribute_name_row tag (Some n) k c) (space (class_of c) p.0)) ∙ feed-after_gap es foreign tag n cs rest p.1 b
 
-pub no-value : (b : Behind) (gap : List ℕ) → is_gap false b gap ≡ true → HasValue b gap []
-no-value behind.Space [] g es foreign tag n rest f e = absurd (true≢false (sym g))
-no-value behind.Space (c ∷ cs) g es foreign tag n rest f e =
+pub no-value : (es : Entities) (b : Behind) (gap : List ℕ) → is_gap false b gap ≡ true → HasValue es b gap []
+no-value es behind.Space [] g foreign tag n rest f e = absurd (true≢false (sym g))
+no-value es behind.Space (c ∷ cs) g foreign tag n rest f e =
     let p = and_parts (is_of part.Gap c) (all_of part.Gap cs) g in
     let is = space (class_of c) p.0 in
     let s = in_tag (AttributeName tag n) in
     let t = in_tag (AfterAttributeName tag (Some n)) in
     feed-same es foreign s t c (cs ++ rest) (ap (λ (k : Class). reading es foreign s k c) is ∙ bare_space es foreign tag n c f ∙ ap (λ (k : Class). reading es foreign t k c) (sym is))
     ∙ feed-after_gap es foreign tag n (c ∷ cs) rest g e
-no-value b [] g es foreign tag n [] f e = absurd (true≢false (sym e))
-no-value behind.Nothing [] g es foreign tag n (c ∷ x) f e =
+no-value es b [] g foreign tag n [] f e = absurd (true≢false (sym e))
+no-value es behind.Nothing [] g foreign tag n (c ∷ x) f e =
     feed-same es foreign (in_tag (AttributeName tag n)) (in_tag (BeforeAttributeName (record tag { attributes = tag.attributes ++ record { name = n; value = [] } ∷ [] }))) c x (bare_at_once es foreign tag n (class_of c) c f e)
-no-value _ _ g es foreign tag n _ f e = absurd (true≢false (sym g))
+no-value es _ _ g foreign tag n _ f e = absurd (true≢false (sym g))
 
 pub begins_with-append : (p : Part) (xs ys : List ℕ) → begins_with p xs ≡ true → begins_with p (xs ++ ys) ≡ true
 begins_with-append p [] ys h = absurd (true≢false (sym h))
 begins_with-append p (x ∷ xs) ys h = h
 
 -- a name and then its value
-pub named-gives : (b : Behind) (name cs value : List ℕ) → begins_with part.AttributeName name ≡ true → all_of part.AttributeName name ≡ true → HasValue b cs value → Gives b (name ++ cs) (record { name = name; value = value })
-named-gives b name cs value begins n v es foreign tag rest fresh ends =
+pub named-gives : (es : Entities) (b : Behind) (name cs value : List ℕ) → begins_with part.AttributeName name ≡ true → all_of part.AttributeName name ≡ true → HasValue es b cs value → Gives es b (name ++ cs) (record { name = name; value = value })
+named-gives es b name cs value begins n v foreign tag rest fresh ends =
     ap (feed es foreign (in_tag (BeforeAttributeName tag))) (append_assoc name cs rest)
     ∙ feed-named es foreign name (cs ++ rest) tag begins n
-    ∙ v es foreign tag name rest fresh ends
+    ∙ v foreign tag name rest fresh ends
 
-pub HasValue-same : {xs ys vs ws : List ℕ} (b : Behind) → xs ≡ ys → vs ≡ ws → HasValue b ys ws → HasValue b xs vs
-HasValue-same {xs} {ys} {vs} {ws} b e f g = subst (λ (l : List ℕ). HasValue b l vs) (sym e) (subst (λ (v : List ℕ). HasValue b ys v) (sym f) g)
+pub HasValue-same : {xs ys vs ws : List ℕ} (es : Entities) (b : Behind) → xs ≡ ys → vs ≡ ws → HasValue es b ys ws → HasValue es b xs vs
+HasValue-same {xs} {ys} {vs} {ws} es b e f g = subst (λ (l : List ℕ). HasValue es b l vs) (sym e) (subst (λ (v : List ℕ). HasValue es b ys v) (sym f) g)
 
-pub Gives-same : {xs ys : List ℕ} {m n : Attribute} (b : Behind) → xs ≡ ys → m ≡ n → Gives b ys n → Gives b xs m
-Gives-same {xs} {ys} {m} {n} b e f g = subst (λ (l : List ℕ). Gives b l m) (sym e) (subst (λ (a : Attribute). Gives b ys a) (sym f) g)
+pub Gives-same : {xs ys : List ℕ} {m n : Attribute} (es : Entities) (b : Behind) → xs ≡ ys → m ≡ n → Gives es b ys n → Gives es b xs m
+Gives-same {xs} {ys} {m} {n} es b e f g = subst (λ (l : List ℕ). Gives es b l m) (sym e) (subst (λ (a : Attribute). Gives es b ys a) (sym f) g)
 
 -- ---- the tag so far
 
-pub name-leads : (front name gap : List ℕ) (k : TagKind) (b : Behind) → Opens front k → begins_name name ≡ true → all_of part.TagName name ≡ true → is_gap false b gap ≡ true → Leads b (front ++ (name ++ gap)) (new_tag k name)
-name-leads front [] gap k b o begins n g es foreign rest ends = absurd (true≢false (sym begins))
-name-leads front (c ∷ cs) gap k b o begins n g es foreign rest ends =
+pub name-leads : (es : Entities) (front name gap : List ℕ) (k : TagKind) (b : Behind) → Opens front k → begins_name name ≡ true → all_of part.TagName name ≡ true → is_gap false b gap ≡ true → Leads es b (front ++ (name ++ gap)) (new_tag k name)
+name-leads es front [] gap k b o begins n g foreign rest ends = absurd (true≢false (sym begins))
+name-leads es front (c ∷ cs) gap k b o begins n g foreign rest ends =
     let name = c ∷ cs in
     ap (feed es foreign data_state) (append_assoc front (name ++ gap) rest ∙ ap (λ (l : List ℕ). front ++ l) (append_assoc name gap rest))
     ∙ o es foreign (name ++ (gap ++ rest)) begins
@@ -433,17 +476,17 @@ begins_part-named : (xs rest : List ℕ) → begins_with part.AttributeName xs �
 begins_part-named [] rest h = absurd (true≢false (sym h))
 begins_part-named (c ∷ cs) rest h = name_goes_on (class_of c) (and_parts (in_attribute_name (class_of c)) (name_char c == c) h).0
 
-pub Leads-more : (cs xs : List ℕ) (tag : PartialTag) (a : Attribute) (b : Behind) → Leads behind.Space cs tag → begins_with part.AttributeName xs ≡ true → has_name a.name tag.attributes ≡ false → Gives b xs a → Leads b (cs ++ xs) (record tag { attributes = tag.attributes ++ a ∷ [] })
-Leads-more cs xs tag a b l begins f g es foreign rest ends =
-    ap (feed es foreign data_state) (append_assoc cs xs rest) ∙ l es foreign (xs ++ rest) (begins_part-named xs rest begins) ∙ g es foreign tag rest f ends
+pub Leads-more : (es : Entities) (cs xs : List ℕ) (tag : PartialTag) (a : Attribute) (b : Behind) → Leads es behind.Space cs tag → begins_with part.AttributeName xs ≡ true → has_name a.name tag.attributes ≡ false → Gives es b xs a → Leads es b (cs ++ xs) (record tag { attributes = tag.attributes ++ a ∷ [] })
+Leads-more es cs xs tag a b l begins f g foreign rest ends =
+    ap (feed es foreign data_state) (append_assoc cs xs rest) ∙ l foreign (xs ++ rest) (begins_part-named xs rest begins) ∙ g foreign tag rest f ends
 
-pub Leads-as : {xs ys : List ℕ} {olds news : List Attribute} (b : Behind) (k : TagKind) (name : List ℕ) → xs ≡ ys → olds ≡ news → Leads b ys (record { kind = k; name = name; attributes = news }) → Leads b xs (record { kind = k; name = name; attributes = olds })
-Leads-as b k name e f l es foreign rest ends =
-    ap (λ (x : List ℕ). feed es foreign data_state (x ++ rest)) e ∙ l es foreign rest ends
+pub Leads-as : {xs ys : List ℕ} {olds news : List Attribute} (es : Entities) (b : Behind) (k : TagKind) (name : List ℕ) → xs ≡ ys → olds ≡ news → Leads es b ys (record { kind = k; name = name; attributes = news }) → Leads es b xs (record { kind = k; name = name; attributes = olds })
+Leads-as es b k name e f l foreign rest ends =
+    ap (λ (x : List ℕ). feed es foreign data_state (x ++ rest)) e ∙ l foreign rest ends
     ∙ ap (λ (x : List Attribute). feed es foreign (in_tag (BeforeAttributeName (record { kind = k; name = name; attributes = x }))) rest) (sym f)
 
-pub Leads-behind : (b now : Behind) (cs : List ℕ) (tag : PartialTag) → b ≡ now → Leads b cs tag → Leads now cs tag
-Leads-behind b now cs tag e l = subst (λ (v : Behind). Leads v cs tag) e l
+pub Leads-behind : (es : Entities) (b now : Behind) (cs : List ℕ) (tag : PartialTag) → b ≡ now → Leads es b cs tag → Leads es now cs tag
+Leads-behind es b now cs tag e l = subst (λ (v : Behind). Leads es v cs tag) e l
 
 -- ---- its end
 
@@ -475,40 +518,40 @@ quiet_feed es foreign behind.Nothing tag = refl
 quiet_feed es foreign behind.Value tag = refl
 
 -- the tag so far makes no token
-leads-silent : (es : Entities) (foreign : Bool) (b : Behind) (cs : List ℕ) (tag : PartialTag) → Leads b cs tag → (feed es foreign data_state cs).tokens ≡ []
+leads-silent : (es : Entities) (foreign : Bool) (b : Behind) (cs : List ℕ) (tag : PartialTag) → Leads es b cs tag → (feed es foreign data_state cs).tokens ≡ []
 leads-silent es foreign b cs tag l =
     onward-front es foreign (record { tokens = []; state = data_state }) cs (quiet b ∷ [])
-    (ap (λ (m : Reached). m.tokens) (l es foreign (quiet b ∷ []) (quiet_begins b)) ∙ quiet_feed es foreign b tag)
+    (ap (λ (m : Reached). m.tokens) (l foreign (quiet b ∷ []) (quiet_begins b)) ∙ quiet_feed es foreign b tag)
 
-slash-silent : (es : Entities) (foreign : Bool) (b : Behind) (cs : List ℕ) (tag : PartialTag) → may_close b true ≡ true → Leads b cs tag → (feed es foreign data_state (cs ++ 47 ∷ [])).tokens ≡ []
+slash-silent : (es : Entities) (foreign : Bool) (b : Behind) (cs : List ℕ) (tag : PartialTag) → may_close b true ≡ true → Leads es b cs tag → (feed es foreign data_state (cs ++ 47 ∷ [])).tokens ≡ []
 unfolding feed settle
 slash-silent es foreign behind.Value cs tag h l = absurd (true≢false (sym h))
-slash-silent es foreign behind.Space cs tag h l = ap (λ (m : Reached). m.tokens) (l es foreign (47 ∷ []) refl)
-slash-silent es foreign behind.Nothing cs tag h l = ap (λ (m : Reached). m.tokens) (l es foreign (47 ∷ []) refl)
+slash-silent es foreign behind.Space cs tag h l = ap (λ (m : Reached). m.tokens) (l foreign (47 ∷ []) refl)
+slash-silent es foreign behind.Nothing cs tag h l = ap (λ (m : Reached). m.tokens) (l foreign (47 ∷ []) refl)
 
-pub Leads-close : (cs : List ℕ) (tag : PartialTag) (b : Behind) (closing : Bool) → may_close b closing ≡ true → Leads b cs tag → MakesAlone (cs ++ close_text closing) (tag_token tag.kind (finished closing tag))
-Leads-close cs tag b false may l = record {
+pub Leads-close : (es : Entities) (cs : List ℕ) (tag : PartialTag) (b : Behind) (closing : Bool) → may_close b closing ≡ true → Leads es b cs tag → MakesAlone es (cs ++ close_text closing) (tag_token tag.kind (finished closing tag))
+Leads-close es cs tag b false may l = record {
   front = cs;
   last = 62;
   split = refl;
-  silent = λ es foreign. leads-silent es foreign b cs tag l;
-  whole = λ es foreign. l es foreign (62 ∷ []) (close_begins b false may) ∙ feed-close es foreign tag false;
+  silent = λ foreign. leads-silent es foreign b cs tag l;
+  whole = λ foreign. l foreign (62 ∷ []) (close_begins b false may) ∙ feed-close es foreign tag false;
 }
-Leads-close cs tag b true may l = record {
+Leads-close es cs tag b true may l = record {
   front = cs ++ 47 ∷ [];
   last = 62;
   split = sym (append_assoc cs (47 ∷ []) (62 ∷ []));
-  silent = λ es foreign. slash-silent es foreign b cs tag may l;
-  whole = λ es foreign. l es foreign (47 ∷ 62 ∷ []) (close_begins b true may) ∙ feed-close es foreign tag true;
+  silent = λ foreign. slash-silent es foreign b cs tag may l;
+  whole = λ foreign. l foreign (47 ∷ 62 ∷ []) (close_begins b true may) ∙ feed-close es foreign tag true;
 }
 
-pub MakesAlone-same : {xs ys : List ℕ} {t u : Token} → xs ≡ ys → t ≡ u → MakesAlone ys u → MakesAlone xs t
-MakesAlone-same e f m = record {
+pub MakesAlone-same : {xs ys : List ℕ} {t u : Token} (es : Entities) → xs ≡ ys → t ≡ u → MakesAlone es ys u → MakesAlone es xs t
+MakesAlone-same es e f m = record {
   front = m.front;
   last = m.last;
   split = e ∙ m.split;
   silent = m.silent;
-  whole = λ es foreign. ap (feed es foreign data_state) e ∙ m.whole es foreign ∙ ap (λ (v : Token). record { tokens = v ∷ []; state = data_state }) (sym f);
+  whole = λ foreign. ap (feed es foreign data_state) e ∙ m.whole foreign ∙ ap (λ (v : Token). record { tokens = v ∷ []; state = data_state }) (sym f);
 }
 
 -- ---- no CR

@@ -1,11 +1,15 @@
--- A named character reference that stands whole in a text.
-use Rattle.std.specs.Prelude.{◌≡◌, ℕ, Bool, true, false, List, [], ◌++◌, map}
+-- Character references that stand whole in a text.
+use Rattle.std.specs.Prelude.{◌≡◌, ℕ, Bool, true, false, List, [], ◌∷◌, ◌++◌, map}
+use Rattle.std.specs.Char.{is_digit}
 use Rattle.html_types.specs.declared.class.Class.{Class}
 use Rattle.html_types.specs.declared.class.Class.TheVariants.{Alpha, Digit, Semicolon}
-use Rattle.html_types.specs.declared.reference_state.ReferenceState.TheVariants.{Named}
-use Rattle.html_types.specs.declared.reference_state.ReturnState.TheVariants.{Data}
+use Rattle.html_types.specs.declared.reference_state.ReferenceState.TheVariants.{Named, Decimal, Hexadecimal}
+use Rattle.html_types.specs.declared.reference_state.ReturnState.{ReturnState}
+use Rattle.html_types.specs.declared.state.TokState.{TokState}
 use Rattle.html_types.specs.declared.token.Token.TheVariants.{Character}
+use Rattle.standard.specs.Class.{class_of}
 use Rattle.standard.specs.Entities.{Entities}
+use Rattle.standard.specs.ReferenceStates.{return_state, literally, longer_code}
 use Rattle.standard.specs.Step.{data_state, in_reference}
 use Rattle.standard.specs.Tokenizer.{after_tokens, read, feed}
 
@@ -22,11 +26,46 @@ in_name Digit = true
 in_name Semicolon = true
 in_name _ = false
 
--- these characters were read in the data state, and are held as a name
+-- these characters were read in a state that references return to, and are held as a name
 abbrev pub InName : Entities → List ℕ → Type 0
-InName es cs = (foreign : Bool) (rest : List ℕ) → feed es foreign data_state (cs ++ rest) ≡ feed es foreign (in_reference (Named Data cs)) rest
+InName es cs = (foreign : Bool) (back : ReturnState) (rest : List ℕ) → feed es foreign (return_state back) (cs ++ rest) ≡ feed es foreign (in_reference (Named back cs)) rest
 
 -- Read one by one from the data state they make no token, and each character behind them makes first those for which they stand, and then its own of the data state.
 pub record Refers (es : Entities) (cs stands_for : List ℕ) : Type 0 where
   pub silent : (foreign : Bool) → (feed es foreign data_state cs).tokens ≡ []
   pub behind : (foreign : Bool) (c : ℕ) → read es foreign (feed es foreign data_state cs).state c ≡ after_tokens (map Character stands_for) (read es foreign data_state c)
+
+-- Where a character stands behind them, they come to those for which they stand: emitted, or behind the value; and it is read in the state that references return to.
+abbrev pub Means : Entities → List ℕ → List ℕ → Type 0
+Means es cs stands_for = (foreign : Bool) (back : ReturnState) (c : ℕ) (rest : List ℕ) →
+    feed es foreign (return_state back) (cs ++ c ∷ rest) ≡ after_tokens (literally back stands_for true).tokens (feed es foreign (literally back stands_for true).state (c ∷ rest))
+
+-- ---- numbers, in base 10 or in base 16
+
+abbrev pub radix : Bool → ℕ
+radix false = 10
+radix true = 16
+
+-- the classes of digits
+abbrev pub in_number : Bool → Class → Bool
+in_number hexadecimal Digit = true
+in_number true Alpha = true
+in_number hexadecimal _ = false
+
+pub record IsDigit (hexadecimal : Bool) (c : ℕ) : Type 0 where
+  pub class : in_number hexadecimal (class_of c) ≡ true
+  pub digit : is_digit c (radix hexadecimal) ≡ true
+
+-- the state in which digits were read
+abbrev pub digits : Bool → ReturnState → ℕ → TokState
+digits false back code = in_reference (Decimal back code)
+digits true back code = in_reference (Hexadecimal back code)
+
+-- behind these characters digits may stand
+abbrev pub OpensNumber : Bool → List ℕ → Type 0
+OpensNumber hexadecimal cs = (es : Entities) (foreign : Bool) (back : ReturnState) (c : ℕ) (rest : List ℕ) → IsDigit hexadecimal c →
+    feed es foreign (return_state back) (cs ++ c ∷ rest) ≡ feed es foreign (digits hexadecimal back 0) (c ∷ rest)
+
+-- digits were read among them
+abbrev pub Counts : Bool → List ℕ → ℕ → Type 0
+Counts hexadecimal cs code = (es : Entities) (foreign : Bool) (back : ReturnState) (rest : List ℕ) → feed es foreign (return_state back) (cs ++ rest) ≡ feed es foreign (digits hexadecimal back code) rest

@@ -1,5 +1,5 @@
 -- A tag that stands whole in a text.
-use Rattle.std.specs.Prelude.{◌≡◌, ℕ, Bool, true, false, not, List, [], ◌∷◌, ◌++◌, ◌&&◌, ◌==◌, slice_range}
+use Rattle.std.specs.Prelude.{◌≡◌, ℕ, Bool, true, false, not, List, [], ◌∷◌, ◌++◌, ◌&&◌, ◌==◌, Option, Some, None, slice_range}
 use Rattle.std.specs.List.{list_any}
 use Rattle.std.specs.Str.{chars}
 use Rattle.html_types.specs.Attributes.{has_name}
@@ -13,7 +13,10 @@ use Rattle.html_types.specs.declared.token.TagKind.{TagKind}
 use Rattle.html_types.specs.declared.token.Quote.{Quote}
 use Rattle.html_types.specs.declared.token.Quote.TheVariants as quote
 use Rattle.standard.specs.Class.{class_of, name_char, shown}
+use Rattle.html_types.specs.declared.reference_state.ReturnState.{ReturnState}
+use Rattle.html_types.specs.declared.reference_state.ReturnState.TheVariants.{AttributeValueQuoted, AttributeValueUnquoted}
 use Rattle.standard.specs.Entities.{Entities}
+use Rattle.standard.specs.ReferenceStates.{return_state}
 use Rattle.standard.specs.Step.{data_state, in_tag, new_tag}
 use Rattle.standard.specs.Tokenizer.{feed}
 use Rattle.tokenizer.specs.declared.whole.Part.{Part}
@@ -139,23 +142,38 @@ abbrev pub Opens : List ℕ → TagKind → Type 0
 Opens cs k = (es : Entities) (foreign : Bool) (rest : List ℕ) → begins_name rest ≡ true → feed es foreign data_state (cs ++ rest) ≡ feed es foreign (in_tag (TagName (new_tag k []))) rest
 
 -- they are the tag so far, and a part or the end follows
-abbrev pub Leads : Behind → List ℕ → PartialTag → Type 0
-Leads b cs tag = (es : Entities) (foreign : Bool) (rest : List ℕ) → begins_part b rest ≡ true → feed es foreign data_state (cs ++ rest) ≡ feed es foreign (in_tag (BeforeAttributeName tag)) rest
+abbrev pub Leads : Entities → Behind → List ℕ → PartialTag → Type 0
+Leads es b cs tag = (foreign : Bool) (rest : List ℕ) → begins_part b rest ≡ true → feed es foreign data_state (cs ++ rest) ≡ feed es foreign (in_tag (BeforeAttributeName tag)) rest
+
+-- the part that a value is, in quotes or without
+abbrev pub value_part : Option Quote → Part
+value_part (Some q) = part.Quoted q
+value_part None = part.Unquoted
+
+-- where references in it return to
+abbrev pub value_of : Option Quote → PartialTag → Attribute → ReturnState
+value_of (Some q) tag a = AttributeValueQuoted tag (Some a) q
+value_of None tag a = AttributeValueUnquoted tag (Some a)
+
+-- in such a value they come to these characters, where a character follows
+abbrev pub Reads : Entities → Option Quote → List ℕ → List ℕ → Type 0
+Reads es o cs value = (foreign : Bool) (tag : PartialTag) (a : Attribute) (c : ℕ) (rest : List ℕ) →
+    feed es foreign (return_state (value_of o tag a)) (cs ++ c ∷ rest) ≡ feed es foreign (return_state (value_of o tag (record a { value = a.value ++ value }))) (c ∷ rest)
 
 -- behind an attribute's name, they give it this value, and a part or the end follows
-abbrev pub HasValue : Behind → List ℕ → List ℕ → Type 0
-HasValue b cs value = (es : Entities) (foreign : Bool) (tag : PartialTag) (name rest : List ℕ) → has_name name tag.attributes ≡ false → begins_part b rest ≡ true →
+abbrev pub HasValue : Entities → Behind → List ℕ → List ℕ → Type 0
+HasValue es b cs value = (foreign : Bool) (tag : PartialTag) (name rest : List ℕ) → has_name name tag.attributes ≡ false → begins_part b rest ≡ true →
     feed es foreign (in_tag (AttributeName tag name)) (cs ++ rest) ≡ feed es foreign (in_tag (BeforeAttributeName (record tag { attributes = tag.attributes ++ record { name = name; value = value } ∷ [] }))) rest
 
 -- they are an attribute, and a part or the end follows
-abbrev pub Gives : Behind → List ℕ → Attribute → Type 0
-Gives b cs a = (es : Entities) (foreign : Bool) (tag : PartialTag) (rest : List ℕ) → has_name a.name tag.attributes ≡ false → begins_part b rest ≡ true →
+abbrev pub Gives : Entities → Behind → List ℕ → Attribute → Type 0
+Gives es b cs a = (foreign : Bool) (tag : PartialTag) (rest : List ℕ) → has_name a.name tag.attributes ≡ false → begins_part b rest ≡ true →
     feed es foreign (in_tag (BeforeAttributeName tag)) (cs ++ rest) ≡ feed es foreign (in_tag (BeforeAttributeName (record tag { attributes = tag.attributes ++ a ∷ [] }))) rest
 
 -- Read one by one from the data state, the last of the characters makes this token, those before it none, and they lead to the data state again.
-pub record MakesAlone (cs : List ℕ) (t : Token) : Type 0 where
+pub record MakesAlone (es : Entities) (cs : List ℕ) (t : Token) : Type 0 where
   pub front : List ℕ
   pub last : ℕ
   pub split : cs ≡ front ++ last ∷ []
-  pub silent : (es : Entities) (foreign : Bool) → (feed es foreign data_state front).tokens ≡ []
-  pub whole : (es : Entities) (foreign : Bool) → feed es foreign data_state cs ≡ record { tokens = t ∷ []; state = data_state }
+  pub silent : (foreign : Bool) → (feed es foreign data_state front).tokens ≡ []
+  pub whole : (foreign : Bool) → feed es foreign data_state cs ≡ record { tokens = t ∷ []; state = data_state }

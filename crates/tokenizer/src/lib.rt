@@ -1,7 +1,9 @@
 //! The tokenizer (13.2.5) over a text that comes in pieces.
 #![tactic(auto)]
 
+pub mod comment;
 mod discard;
+mod place;
 pub mod reading;
 pub mod reference;
 pub mod run;

@@ -1,14 +1,19 @@
 //! A tag that stands whole in a text, read at once in the data state.
 
-ghost use Rattle.std.specs.Prelude.{◌≡◌, ◌+◌, ◌<◌, ◌≤◌, ◌==◌, [], ◌∷◌, true, false, length, IfOk, IfSome, IsTrue};
-ghost use Rattle.std.specs.List.{list_any};
+ghost use Rattle.std.specs.Prelude.{◌≡◌, ◌+◌, ◌<◌, ◌≤◌, [], ◌∷◌, ◌++◌, true, false, length, IfOk, OnOk, IfSome};
 ghost use Rattle.std.specs.Str.{chars, IsCharBoundary};
+ghost use Rattle.entity_table.specs.View.{characters_in};
+ghost use Rattle.standard.specs.Entities.{Entities};
 ghost use Rattle.standard.specs.Step.{finished, tag_token};
-ghost use Rattle.tokenizer.specs.Whole.{all_of, is_gap, begins_name, begins_with, has_cr, quote_mark, close_text, may_close, piece, Opens, Gives, HasValue, MakesAlone};
+ghost use Rattle.tokenizer.specs.Whole.{all_of, is_gap, begins_name, begins_with, has_cr, quote_mark, close_text, may_close, piece, Opens, Reads, Gives, HasValue, MakesAlone};
 ghost use Rattle.tokenizer.specs.Whole as parts;
 ghost use Rattle.tokenizer.specs.declared.whole.Part.TheVariants as part;
 
+use crate::comment::whole_comment;
+use crate::place::{ascii_at, lacks_cr, past};
+use crate::reference::{reference_at, whole_number};
 use char_class::{class_of, name_char, shown};
+use entity_table::{Characters, Table};
 use html_types::{Attribute, Attributes, Class, Name, NoMemory, Quote, Tag, TagKind, Text, Token};
 use std::alloc::Global;
 
@@ -17,21 +22,6 @@ use std::alloc::Global;
 pub struct Whole {
     pub token: Token,
     pub end: usize,
-}
-
-// The ASCII character at a place; none at the end, or where another stands.
-pub(crate) fn ascii_at(text: &str, place: usize) -> Option<char>
-    requires { IsCharBoundary text.now place }
-    ensures within { IfSome result (λ _. place < length text.now) }
-    ensures boundary { IfSome result (λ _. IsCharBoundary text.now (place + 1)) }
-    ensures read { IfSome result (λ c. piece text.now place (place + 1) ≡ c ∷ []) }
-{
-    let bytes = text.as_bytes();
-    if place < bytes.len() && bytes[place] < 128 {
-        Some(bytes[place] as char)
-    } else {
-        None
-    }
 }
 
 /// A part of a tag.
@@ -144,20 +134,6 @@ fn name_end(text: &str, from: usize) -> Option<usize>
     } else {
         None
     }
-}
-
-// The place behind the character at a place, if it is of this kind.
-pub(crate) fn past(text: &str, from: usize, kind: char) -> Option<usize>
-    requires { IsCharBoundary text.now from }
-    ensures boundary { IfSome result (λ to. IsCharBoundary text.now to) }
-    ensures onward { IfSome result (λ to. from < to) }
-    ensures next { IfSome result (λ to. to ≡ from + 1) }
-    ensures read { IfSome result (λ to. piece text.now from to ≡ kind ∷ []) }
-{
-    let Some(c) = ascii_at(text, from) else {
-        return None;
-    };
-    if c == kind { Some(from + 1) } else { None }
 }
 
 // The kind of a tag, and where its name begins.
@@ -279,7 +255,7 @@ fn no_value(alloc: Global, text: &str, from: usize) -> Value
     requires { IsCharBoundary text.now from }
     ensures boundary { IsCharBoundary text.now result.gap.at }
     ensures onward { from ≤ result.gap.at }
-    ensures value { HasValue result.gap.behind (piece text.now from result.gap.at) result.value }
+    ensures value { (es : Entities) → HasValue es result.gap.behind (piece text.now from result.gap.at) result.value }
 {
     Value {
         value: Text::new(alloc),
@@ -287,9 +263,62 @@ fn no_value(alloc: Global, text: &str, from: usize) -> Value
     }
 }
 
+// A value so far, and the place behind it.
+#[derive(Drop)]
+struct Held {
+    value: Text,
+    end: usize,
+}
+
+// The part of a tag that a value is.
+fn value_part(quoting: Option<Quote>) -> Part
+    ensures { result ≡ parts.value_part quoting }
+{
+    match quoting {
+        Some(quote) => Part::Quoted(quote),
+        None => Part::Unquoted,
+    }
+}
+
+fn push_characters(value: &mut Text, characters: Characters) -> Result<(), NoMemory>
+    ensures { OnOk result (value.new ≡ value.old ++ characters_in characters) }
+{
+    value.push(characters.first)?;
+    if let Some(second) = characters.second {
+        value.push(second)?;
+    }
+    Ok(())
+}
+
+// What stands in a value from a place on, with the references among it.
+fn value_from(
+    alloc: Global,
+    table: &Table,
+    text: &str,
+    from: usize,
+    quoting: Option<Quote>,
+) -> Result<Held, NoMemory>
+    requires { IsCharBoundary text.now from }
+    ensures boundary { IfOk result (λ h. IsCharBoundary text.now h.end) }
+    ensures onward { IfOk result (λ h. from ≤ h.end) }
+    ensures reads { IfOk result (λ h. Reads table.now quoting (piece text.now from h.end) h.value) }
+{
+    let part = value_part(quoting);
+    let mut end = rest_of(text, from, part);
+    let mut value = Text::from_str(alloc, &text[from..end])?;
+    while let Some(reference) = reference_at(table, text, end) {
+        push_characters(&mut value, reference.characters)?;
+        let behind = rest_of(text, reference.end, part);
+        value.push_str(&text[reference.end..behind])?;
+        end = behind;
+    }
+    Ok(Held { value, end })
+}
+
 // The value behind `=` and a quote.
 fn quoted_value(
     alloc: Global,
+    table: &Table,
     text: &str,
     from: usize,
     start: usize,
@@ -301,20 +330,22 @@ fn quoted_value(
     requires opens { piece text.now from start ≡ 61 ∷ quote_mark quote ∷ [] }
     ensures boundary { IfOk result (λ o. IfSome o (λ v. IsCharBoundary text.now v.gap.at)) }
     ensures onward { IfOk result (λ o. IfSome o (λ v. from ≤ v.gap.at)) }
-    ensures value { IfOk result (λ o. IfSome o (λ v. HasValue v.gap.behind (piece text.now from v.gap.at) v.value)) }
+    ensures value { IfOk result (λ o. IfSome o (λ v. HasValue table.now v.gap.behind (piece text.now from v.gap.at) v.value)) }
 {
-    let end = rest_of(text, start, Part::Quoted(quote));
-    let Some(close) = past(text, end, mark_of(quote)) else {
+    let held = value_from(alloc, table, text, start, Some(quote))?;
+    let Some(close) = past(text, held.end, mark_of(quote)) else {
         return Ok(None);
     };
-    let gap = gap_at(text, close, false);
-    let value = Text::from_str(alloc, &text[start..end])?;
-    Ok(Some(Value { value, gap }))
+    Ok(Some(Value {
+        value: held.value,
+        gap: gap_at(text, close, false),
+    }))
 }
 
 // The value behind `=`, where no quote stands.
 fn unquoted_value(
     alloc: Global,
+    table: &Table,
     text: &str,
     from: usize,
     start: usize,
@@ -325,29 +356,43 @@ fn unquoted_value(
     requires opens { piece text.now from start ≡ 61 ∷ [] }
     ensures boundary { IfOk result (λ o. IfSome o (λ v. IsCharBoundary text.now v.gap.at)) }
     ensures onward { IfOk result (λ o. IfSome o (λ v. from ≤ v.gap.at)) }
-    ensures value { IfOk result (λ o. IfSome o (λ v. HasValue v.gap.behind (piece text.now from v.gap.at) v.value)) }
+    ensures value { IfOk result (λ o. IfSome o (λ v. HasValue table.now v.gap.behind (piece text.now from v.gap.at) v.value)) }
 {
-    let Some(end) = part_end(text, start, Part::Unquoted) else {
+    let Some(c) = ascii_at(text, start) else {
         return Ok(None);
     };
-    let gap = gap_at(text, end, true);
-    let value = Text::from_str(alloc, &text[start..end])?;
-    Ok(Some(Value { value, gap }))
+    if !is_of(Part::Unquoted, c) {
+        return Ok(None);
+    }
+    let held = value_from(alloc, table, text, start, None)?;
+    if held.end == start {
+        return Ok(None);
+    }
+    let gap = gap_at(text, held.end, true);
+    Ok(Some(Value {
+        value: held.value,
+        gap,
+    }))
 }
 
 // What stands behind an attribute's name; none where it is not read so.
-fn value_at(alloc: Global, text: &str, from: usize) -> Result<Option<Value>, NoMemory>
+fn value_at(
+    alloc: Global,
+    table: &Table,
+    text: &str,
+    from: usize,
+) -> Result<Option<Value>, NoMemory>
     requires { IsCharBoundary text.now from }
     ensures boundary { IfOk result (λ o. IfSome o (λ v. IsCharBoundary text.now v.gap.at)) }
     ensures onward { IfOk result (λ o. IfSome o (λ v. from ≤ v.gap.at)) }
-    ensures value { IfOk result (λ o. IfSome o (λ v. HasValue v.gap.behind (piece text.now from v.gap.at) v.value)) }
+    ensures value { IfOk result (λ o. IfSome o (λ v. HasValue table.now v.gap.behind (piece text.now from v.gap.at) v.value)) }
 {
     let Some(equals) = past(text, from, '=') else {
         return Ok(Some(no_value(alloc, text, from)));
     };
     match quote_at(text, equals) {
-        Some(quote) => quoted_value(alloc, text, from, equals + 1, quote),
-        None => unquoted_value(alloc, text, from, equals),
+        Some(quote) => quoted_value(alloc, table, text, from, equals + 1, quote),
+        None => unquoted_value(alloc, table, text, from, equals),
     }
 }
 
@@ -359,17 +404,22 @@ struct Found {
 }
 
 // The attribute that begins at a place.
-fn attribute_at(alloc: Global, text: &str, from: usize) -> Result<Option<Found>, NoMemory>
+fn attribute_at(
+    alloc: Global,
+    table: &Table,
+    text: &str,
+    from: usize,
+) -> Result<Option<Found>, NoMemory>
     requires { IsCharBoundary text.now from }
     ensures boundary { IfOk result (λ o. IfSome o (λ f. IsCharBoundary text.now f.gap.at)) }
     ensures onward { IfOk result (λ o. IfSome o (λ f. from < f.gap.at)) }
     ensures begins { IfOk result (λ o. IfSome o (λ f. begins_with part.AttributeName (piece text.now from f.gap.at) ≡ true)) }
-    ensures gives { IfOk result (λ o. IfSome o (λ f. Gives f.gap.behind (piece text.now from f.gap.at) f.attribute)) }
+    ensures gives { IfOk result (λ o. IfSome o (λ f. Gives table.now f.gap.behind (piece text.now from f.gap.at) f.attribute)) }
 {
     let Some(end) = part_end(text, from, Part::AttributeName) else {
         return Ok(None);
     };
-    let Some(held) = value_at(alloc, text, end)? else {
+    let Some(held) = value_at(alloc, table, text, end)? else {
         return Ok(None);
     };
     let name = Text::from_str(alloc, &text[from..end])?;
@@ -440,11 +490,11 @@ fn close_at(text: &str, from: usize, behind: Behind) -> Option<Close>
 }
 
 // The tag that begins at a place, whose characters may have a CR among them.
-fn tag_at(alloc: Global, text: &str, from: usize) -> Result<Option<Whole>, NoMemory>
+fn tag_at(alloc: Global, table: &Table, text: &str, from: usize) -> Result<Option<Whole>, NoMemory>
     requires { IsCharBoundary text.now from }
     ensures boundary { IfOk result (λ o. IfSome o (λ w. IsCharBoundary text.now w.end)) }
     ensures onward { IfOk result (λ o. IfSome o (λ w. from < w.end)) }
-    ensures alone { IfOk result (λ o. IfSome o (λ w. MakesAlone (piece text.now from w.end) w.token)) }
+    ensures alone { IfOk result (λ o. IfSome o (λ w. MakesAlone table.now (piece text.now from w.end) w.token)) }
 {
     let Some(head) = head_at(text, from) else {
         return Ok(None);
@@ -466,7 +516,7 @@ fn tag_at(alloc: Global, text: &str, from: usize) -> Result<Option<Whole>, NoMem
         if !matches!(gap.behind, Behind::Space) {
             return Ok(None);
         }
-        let Some(found) = attribute_at(alloc, text, gap.at)? else {
+        let Some(found) = attribute_at(alloc, table, text, gap.at)? else {
             return Ok(None);
         };
         if attributes.has(&found.attribute.name) {
@@ -477,33 +527,90 @@ fn tag_at(alloc: Global, text: &str, from: usize) -> Result<Option<Whole>, NoMem
     }
 }
 
-fn has_cr_byte(bytes: &[u8]) -> bool
-    ensures { result ≡ list_any (λ x. x == 13) bytes.now }
-{
-    bytes.iter().any(|byte| *byte == b'\r')
-}
-
-pub(crate) fn lacks_cr(text: &str) -> bool
-    ensures { IsTrue result → has_cr (chars text.now) ≡ false }
-{
-    !has_cr_byte(text.as_bytes())
-}
-
 /// The tag that begins at a place, and the place behind it; none where the text has none there, or where it is not read so.
 /// A CR would be read as a line feed (13.2.3.5), so a tag with one is left to the tokenizer.
-pub fn whole_tag(alloc: Global, text: &str, from: usize) -> Result<Option<Whole>, NoMemory>
+pub fn whole_tag(
+    alloc: Global,
+    table: &Table,
+    text: &str,
+    from: usize,
+) -> Result<Option<Whole>, NoMemory>
     requires { IsCharBoundary text.now from }
     ensures boundary { IfOk result (λ o. IfSome o (λ w. IsCharBoundary text.now w.end)) }
     ensures onward { IfOk result (λ o. IfSome o (λ w. from < w.end)) }
-    ensures alone { IfOk result (λ o. IfSome o (λ w. MakesAlone (piece text.now from w.end) w.token)) }
+    ensures alone { IfOk result (λ o. IfSome o (λ w. MakesAlone table.now (piece text.now from w.end) w.token)) }
     ensures no_cr { IfOk result (λ o. IfSome o (λ w. has_cr (piece text.now from w.end) ≡ false)) }
 {
-    let Some(whole) = tag_at(alloc, text, from)? else {
+    let Some(whole) = tag_at(alloc, table, text, from)? else {
         return Ok(None);
     };
     if lacks_cr(&text[from..whole.end]) {
         Ok(Some(whole))
     } else {
         Ok(None)
+    }
+}
+
+// The comment or the tag that begins at a place.
+fn comment_or_tag(
+    alloc: Global,
+    table: &Table,
+    text: &str,
+    from: usize,
+) -> Result<Option<Whole>, NoMemory>
+    requires { IsCharBoundary text.now from }
+    ensures boundary { IfOk result (λ o. IfSome o (λ w. IsCharBoundary text.now w.end)) }
+    ensures onward { IfOk result (λ o. IfSome o (λ w. from < w.end)) }
+    ensures alone { IfOk result (λ o. IfSome o (λ w. MakesAlone table.now (piece text.now from w.end) w.token)) }
+    ensures no_cr { IfOk result (λ o. IfSome o (λ w. has_cr (piece text.now from w.end) ≡ false)) }
+{
+    if text.as_bytes().get(from.saturating_add(1)) != Some(&b'!') {
+        return whole_tag(alloc, table, text, from);
+    }
+    let Some(comment) = whole_comment(alloc, text, from)? else {
+        return Ok(None);
+    };
+    Ok(Some(Whole {
+        token: Token::Comment(comment.text),
+        end: comment.end,
+    }))
+}
+
+// The numeric reference that begins at a place.
+fn number_token(text: &str, from: usize) -> Option<Whole>
+    requires { IsCharBoundary text.now from }
+    ensures boundary { IfSome result (λ w. IsCharBoundary text.now w.end) }
+    ensures onward { IfSome result (λ w. from < w.end) }
+    ensures alone { IfSome result (λ w. (es : Entities) → MakesAlone es (piece text.now from w.end) w.token) }
+    ensures no_cr { IfSome result (λ w. has_cr (piece text.now from w.end) ≡ false) }
+{
+    let Some(number) = whole_number(text, from) else {
+        return None;
+    };
+    let character = number.character;
+    Some(Whole {
+        token: Token::Character(character),
+        end: number.end,
+    })
+}
+
+/// The tag, the comment or the numeric reference that begins at a place, and the place behind it; none where the text has none there, or where it
+/// is not read so.
+pub fn whole_token(
+    alloc: Global,
+    table: &Table,
+    text: &str,
+    from: usize,
+) -> Result<Option<Whole>, NoMemory>
+    requires { IsCharBoundary text.now from }
+    ensures boundary { IfOk result (λ o. IfSome o (λ w. IsCharBoundary text.now w.end)) }
+    ensures onward { IfOk result (λ o. IfSome o (λ w. from < w.end)) }
+    ensures alone { IfOk result (λ o. IfSome o (λ w. MakesAlone table.now (piece text.now from w.end) w.token)) }
+    ensures no_cr { IfOk result (λ o. IfSome o (λ w. has_cr (piece text.now from w.end) ≡ false)) }
+{
+    if text.as_bytes().get(from) == Some(&b'&') {
+        Ok(number_token(text, from))
+    } else {
+        comment_or_tag(alloc, table, text, from)
     }
 }

@@ -23,7 +23,7 @@ returns-clause-gives c =
     let n = c.in-Some.ensures in
     let held = rw c.in-Some-2.is at c.in_ok-held.ensures in
     let name_is : c.in_ok-name.name ≡ piece text from end = c.in_ok-name.ensures ∙ ap chars c.range.ensures.value in
-    Gives-same v.gap.behind
+    Gives-same c.args.table.now v.gap.behind
     (piece-split text from end v.gap.at c.utf8.text c.requires n.boundary (omega (arith, n.onward)) held.onward)
     (ap (λ (x : List ℕ). record { name = x; value = v.value }) name_is)
-    (named-gives v.gap.behind (piece text from end) (piece text end v.gap.at) v.value n.begins n.all held.value)
+    (named-gives c.args.table.now v.gap.behind (piece text from end) (piece text end v.gap.at) v.value n.begins n.all held.value)

@@ -24,8 +24,8 @@ attributes-init c =
     record {
       boundary = g.boundary;
       onward = omega (arith, h.onward, n.onward, g.onward);
-      leads = Leads-as c.gap_at-gap.result.behind c.in-Some.head.kind (piece text name to) parts c.new-attributes.ensures
-          (name-leads (piece text from name) (piece text name to) (piece text to at) c.in-Some.head.kind c.gap_at-gap.result.behind h.opens n.begins n.name g.gap);
+      leads = Leads-as c.args.table.now c.gap_at-gap.result.behind c.in-Some.head.kind (piece text name to) parts c.new-attributes.ensures
+          (name-leads c.args.table.now (piece text from name) (piece text name to) (piece text to at) c.in-Some.head.kind c.gap_at-gap.result.behind h.opens n.begins n.name g.gap);
     }
 
 pub returns-in-Some-close_at-clause-alone : goal.returns-in-Some-close_at-clause-alone
@@ -42,7 +42,7 @@ returns-in-Some-close_at-clause-alone c =
     ∙ ap (λ (l : List ℕ). piece text from at ++ l) e.ensures.read in
     let token : c.in_ok-token.token ≡ tag_token kind (finished e.close.self_closing tag) =
     c.in_ok-token.ensures ∙ ap (λ (l : List ℕ). tag_token kind (finished e.close.self_closing (record { kind = kind; name = chars l; attributes = c.attributes.attributes }))) c.range-name.ensures.value in
-    MakesAlone-same parts token (Leads-close (piece text from at) tag c.attributes.gap.behind e.close.self_closing e.ensures.may i.leads)
+    MakesAlone-same c.args.table.now parts token (Leads-close c.args.table.now (piece text from at) tag c.attributes.gap.behind e.close.self_closing e.ensures.may i.leads)
 
 pub attributes-preserved : goal.attributes-preserved
 attributes-preserved c =
@@ -63,9 +63,9 @@ attributes-preserved c =
     record {
       boundary = boundary;
       onward = omega (arith, i.onward, onward);
-      leads = Leads-as found.gap.behind kind name
+      leads = Leads-as c.args.table.now found.gap.behind kind name
           (piece-split text from at found.gap.at c.utf8.text c.requires i.boundary (omega (arith, i.onward)) (omega (arith, onward)))
           c.in_ok-push.ensures.ok
-          (Leads-more (piece text from at) (piece text at found.gap.at) tag found.attribute found.gap.behind
-          (Leads-behind c.attributes.gap.behind behind.Space (piece text from at) tag space i.leads) begins (sym c.has.ensures ∙ c.if-has.false) gives);
+          (Leads-more c.args.table.now (piece text from at) (piece text at found.gap.at) tag found.attribute found.gap.behind
+          (Leads-behind c.args.table.now c.attributes.gap.behind behind.Space (piece text from at) tag space i.leads) begins (sym c.has.ensures ∙ c.if-has.false) gives);
     }

@@ -8,7 +8,7 @@ abbrev pub invariant-attributes : goal.invariant-attributes
 invariant-attributes l = record {
   boundary : IsCharBoundary l.text l.gap.at;
   onward : l.from < l.gap.at;
-  leads : Leads l.gap.behind (piece l.text l.from l.gap.at) (record { kind = l.head.kind; name = piece l.text l.head.name l.to; attributes = l.attributes });
+  leads : Leads l.table l.gap.behind (piece l.text l.from l.gap.at) (record { kind = l.head.kind; name = piece l.text l.head.name l.to; attributes = l.attributes });
 }
 
 abbrev pub decreases-attributes : goal.decreases-attributes

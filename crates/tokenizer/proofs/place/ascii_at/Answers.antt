@@ -1,7 +1,7 @@
 use Rattle.std.proofs.Common.{arith}
 use Rattle.std.proofs.lemmas.Str.{IsCharBoundary-after_ascii}
 use Rattle.tokenizer.proofs.WholeLemmas.{piece-byte}
-use Rattle.tokenizer.proofs.whole.ascii_at.Goals as goal
+use Rattle.tokenizer.proofs.place.ascii_at.Goals as goal
 
 pub returns-then-bytes-place-lt128-clause-boundary : goal.returns-then-bytes-place-lt128-clause-boundary
 returns-then-bytes-place-lt128-clause-boundary c =
