@@ -6,6 +6,7 @@ ghost use Rattle.std.specs.Char.{to_ascii_lowercase};
 ghost use Rattle.std.specs.Option.{option_map};
 ghost use Rattle.html_types.specs.Text.{same_text};
 ghost use Rattle.standard.specs.ForeignNames.{respelled, svg_names as svg_names_of, svg_attributes as svg_attributes_of, math_attributes as math_attributes_of};
+ghost use Rattle.foreign_tables.specs.Split.{FindsFrom};
 
 /// Whether a name in ASCII lower case is `lower`.
 pub fn is_lower_of(lower: &str, name: &str) -> bool
@@ -40,14 +41,20 @@ fn respelled(names: &'static [&'static str], lower: &str) -> Option<&'static str
 pub fn svg_name(lower: &str) -> Option<&'static str>
     ensures { option_map (λ name. chars name.now) result ≡ respelled svg_names_of (chars lower.now) }
 {
-    respelled(svg_names(), lower)
+    match lower.chars().next() {
+        Some(letter) => respelled(svg_names_from(letter), lower),
+        None => None,
+    }
 }
 
 /// The name of an SVG attribute whose name in lower case this is: "adjust SVG attributes". (13.2.6.1)
 pub fn svg_attribute(lower: &str) -> Option<&'static str>
     ensures { option_map (λ name. chars name.now) result ≡ respelled svg_attributes_of (chars lower.now) }
 {
-    respelled(svg_attributes(), lower)
+    match lower.chars().next() {
+        Some(letter) => respelled(svg_attributes_from(letter), lower),
+        None => None,
+    }
 }
 
 /// The name of a MathML attribute whose name in lower case this is: "adjust MathML attributes". (13.2.6.1)
@@ -57,113 +64,121 @@ pub fn math_attribute(lower: &str) -> Option<&'static str>
     respelled(math_attributes(), lower)
 }
 
-fn svg_names() -> &'static [&'static str]
-    ensures { map (λ name. chars name.now) result.now ≡ svg_names_of }
+// The names of SVG elements that begin with a letter, all those that there are.
+fn svg_names_from(letter: char) -> &'static [&'static str]
+    ensures { FindsFrom letter (map (λ name. chars name.now) result.now) svg_names_of }
 {
-    &[
-        "altGlyph",
-        "altGlyphDef",
-        "altGlyphItem",
-        "animateColor",
-        "animateMotion",
-        "animateTransform",
-        "clipPath",
-        "feBlend",
-        "feColorMatrix",
-        "feComponentTransfer",
-        "feComposite",
-        "feConvolveMatrix",
-        "feDiffuseLighting",
-        "feDisplacementMap",
-        "feDistantLight",
-        "feDropShadow",
-        "feFlood",
-        "feFuncA",
-        "feFuncB",
-        "feFuncG",
-        "feFuncR",
-        "feGaussianBlur",
-        "feImage",
-        "feMerge",
-        "feMergeNode",
-        "feMorphology",
-        "feOffset",
-        "fePointLight",
-        "feSpecularLighting",
-        "feSpotLight",
-        "feTile",
-        "feTurbulence",
-        "foreignObject",
-        "glyphRef",
-        "linearGradient",
-        "radialGradient",
-        "textPath",
-    ]
+    match letter {
+        'a' => &[
+            "altGlyph",
+            "altGlyphDef",
+            "altGlyphItem",
+            "animateColor",
+            "animateMotion",
+            "animateTransform",
+        ],
+        'c' => &["clipPath"],
+        'f' => &[
+            "feBlend",
+            "feColorMatrix",
+            "feComponentTransfer",
+            "feComposite",
+            "feConvolveMatrix",
+            "feDiffuseLighting",
+            "feDisplacementMap",
+            "feDistantLight",
+            "feDropShadow",
+            "feFlood",
+            "feFuncA",
+            "feFuncB",
+            "feFuncG",
+            "feFuncR",
+            "feGaussianBlur",
+            "feImage",
+            "feMerge",
+            "feMergeNode",
+            "feMorphology",
+            "feOffset",
+            "fePointLight",
+            "feSpecularLighting",
+            "feSpotLight",
+            "feTile",
+            "feTurbulence",
+            "foreignObject",
+        ],
+        'g' => &["glyphRef"],
+        'l' => &["linearGradient"],
+        'r' => &["radialGradient"],
+        't' => &["textPath"],
+        _ => &[],
+    }
 }
 
-fn svg_attributes() -> &'static [&'static str]
-    ensures { map (λ name. chars name.now) result.now ≡ svg_attributes_of }
+// The names of SVG attributes that begin with a letter.
+fn svg_attributes_from(letter: char) -> &'static [&'static str]
+    ensures { FindsFrom letter (map (λ name. chars name.now) result.now) svg_attributes_of }
 {
-    &[
-        "attributeName",
-        "attributeType",
-        "baseFrequency",
-        "baseProfile",
-        "calcMode",
-        "clipPathUnits",
-        "diffuseConstant",
-        "edgeMode",
-        "filterUnits",
-        "glyphRef",
-        "gradientTransform",
-        "gradientUnits",
-        "kernelMatrix",
-        "kernelUnitLength",
-        "keyPoints",
-        "keySplines",
-        "keyTimes",
-        "lengthAdjust",
-        "limitingConeAngle",
-        "markerHeight",
-        "markerUnits",
-        "markerWidth",
-        "maskContentUnits",
-        "maskUnits",
-        "numOctaves",
-        "pathLength",
-        "patternContentUnits",
-        "patternTransform",
-        "patternUnits",
-        "pointsAtX",
-        "pointsAtY",
-        "pointsAtZ",
-        "preserveAlpha",
-        "preserveAspectRatio",
-        "primitiveUnits",
-        "refX",
-        "refY",
-        "repeatCount",
-        "repeatDur",
-        "requiredExtensions",
-        "requiredFeatures",
-        "specularConstant",
-        "specularExponent",
-        "spreadMethod",
-        "startOffset",
-        "stdDeviation",
-        "stitchTiles",
-        "surfaceScale",
-        "systemLanguage",
-        "tableValues",
-        "targetX",
-        "targetY",
-        "textLength",
-        "viewBox",
-        "viewTarget",
-        "xChannelSelector",
-        "yChannelSelector",
-        "zoomAndPan",
-    ]
+    match letter {
+        'a' => &["attributeName", "attributeType"],
+        'b' => &["baseFrequency", "baseProfile"],
+        'c' => &["calcMode", "clipPathUnits"],
+        'd' => &["diffuseConstant"],
+        'e' => &["edgeMode"],
+        'f' => &["filterUnits"],
+        'g' => &["glyphRef", "gradientTransform", "gradientUnits"],
+        'k' => &[
+            "kernelMatrix",
+            "kernelUnitLength",
+            "keyPoints",
+            "keySplines",
+            "keyTimes",
+        ],
+        'l' => &["lengthAdjust", "limitingConeAngle"],
+        'm' => &[
+            "markerHeight",
+            "markerUnits",
+            "markerWidth",
+            "maskContentUnits",
+            "maskUnits",
+        ],
+        'n' => &["numOctaves"],
+        'p' => &[
+            "pathLength",
+            "patternContentUnits",
+            "patternTransform",
+            "patternUnits",
+            "pointsAtX",
+            "pointsAtY",
+            "pointsAtZ",
+            "preserveAlpha",
+            "preserveAspectRatio",
+            "primitiveUnits",
+        ],
+        'r' => &[
+            "refX",
+            "refY",
+            "repeatCount",
+            "repeatDur",
+            "requiredExtensions",
+            "requiredFeatures",
+        ],
+        's' => &[
+            "specularConstant",
+            "specularExponent",
+            "spreadMethod",
+            "startOffset",
+            "stdDeviation",
+            "stitchTiles",
+            "surfaceScale",
+            "systemLanguage",
+        ],
+        't' => &["tableValues", "targetX", "targetY", "textLength"],
+        'v' => &["viewBox", "viewTarget"],
+        'x' => &["xChannelSelector"],
+        'y' => &["yChannelSelector"],
+        'z' => &["zoomAndPan"],
+        _ => &[],
+    }
 }
 
 fn math_attributes() -> &'static [&'static str]
