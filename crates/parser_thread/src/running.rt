@@ -121,7 +121,7 @@ pub fn start<
     })
 }
 
-impl<E: InForce, G: Gate + Drop + Sync> ParserThread<E, G> {
+impl<E: InForce, G: Gate + Drop> ParserThread<E, G> {
     /// Sends a request.
     pub fn send<R: Wait>(&mut self, rt: &R, request: Request)
         requires { IsRunning E.InForce self.old }
@@ -144,7 +144,7 @@ impl<E: InForce, G: Gate + Drop + Sync> ParserThread<E, G> {
     }
 
     /// Tells the parser's side to stop, waits until it has, and gives back what went through both lanes.
-    pub fn finish<R: Threads + Wait + Sync>(self, rt: &R) -> Lanes<E>
+    pub fn finish<R: Threads + Wait>(self, rt: &R) -> Lanes<E>
         requires { IsRunning E.InForce self }
         // What was sent, and then the word to stop.
         ensures asked { result.asked.put ≡ self.ask.put ++ message.Stop ∷ [] }

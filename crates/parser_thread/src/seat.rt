@@ -6,7 +6,7 @@ ghost use Rattle.parser_thread.specs.Parts.{Kept};
 ghost use Rattle.parser_thread.specs.Seats.{asked_lane, answers_lane, IsSeated};
 
 use crate::messages::{FromParser, ToParser};
-use crate::side::{Ends, ParserSide, work};
+use crate::side::{Ends, ParserSide, answer_all};
 use entity_table::Table;
 use op_queue::{Put, Take};
 use outside::Gate;
@@ -41,6 +41,8 @@ pub(crate) struct OverLanes<E: InForce> {
 }
 
 impl<E: InForce> Promise<Parting<E>> for OverLanes<E> {
+    ghost use Rattle.parser_thread.specs.Parts.{Kept};
+
     ghost kept_by = { λ p r. Kept E.InForce p.lanes.value r };
 }
 
@@ -65,26 +67,23 @@ pub(crate) struct Outfit<E: InForce, G> {
 }
 
 // What runs in the thread; or in this one, where no thread could be made.
-fn sit<R: Threads + Wait + Copy + Sync, E: InForce, G: Gate + Drop + Sync>(
+fn sit<R: Wait + Copy, E: InForce, G: Gate + Drop>(
     rt: R,
     alloc: Global,
-    outfit: Outfit<E, G>,
+    lanes: ParserLanes<E>,
+    table: Table,
+    gate: Arc<G, Global>,
+    refused: Arc<AtomicU64, Global>,
 ) -> Parting<E>
-    requires table { outfit.table ≡ E.entities }
-    requires first { (outfit.lanes.asked.taken ≡ []) × (outfit.lanes.answers.put ≡ []) }
-    ensures { Kept E.InForce outfit.lanes result }
+    requires table { table ≡ E.entities }
+    requires first { (lanes.asked.taken ≡ []) × (lanes.answers.put ≡ []) }
+    ensures { Kept E.InForce lanes result }
 {
-    let Outfit {
-        lanes,
-        table,
-        gate,
-        refused,
-    } = outfit;
     if refused.load(Ordering::SeqCst) == 1 {
         return Parting::Unused(lanes);
     }
     let ParserLanes { asked, answers } = lanes;
-    Parting::Done(work(&rt, alloc, &table, asked, answers, &*gate))
+    Parting::Done(answer_all(&rt, alloc, &table, asked, answers, &*gate))
 }
 
 // The seat of a closure that was called here.
@@ -121,19 +120,25 @@ pub(crate) fn take_seat<
     ensures answers { answers_lane E.InForce result ≡ outfit.lanes.answers.lane }
     ensures seated { IsSeated E.InForce result }
 {
-    let was = Snapshot::of(&outfit.lanes);
+    let Outfit {
+        lanes,
+        table,
+        gate,
+        refused: told,
+    } = outfit;
+    let was = Snapshot::of(&lanes);
     let promise = OverLanes {
-        lanes: Snapshot::of(&outfit.lanes),
+        lanes: Snapshot::of(&lanes),
     };
     let their_rt = *rt;
     match thread::spawn_with(
         rt,
         promise,
         move || -> Parting<E>
-            requires table { outfit.table ≡ E.entities }
-            requires first { (outfit.lanes.asked.taken ≡ []) × (outfit.lanes.answers.put ≡ []) }
-            ensures { Kept E.InForce outfit.lanes result }
-        { sit(their_rt, alloc, outfit) },
+            requires table { table ≡ E.entities }
+            requires first { (lanes.asked.taken ≡ []) × (lanes.answers.put ≡ []) }
+            ensures { Kept E.InForce lanes result }
+        { sit(their_rt, alloc, lanes, table, gate, told) },
     ) {
         Ok(child) => Seat::There(child),
         Err(refusal) => {
@@ -166,7 +171,7 @@ impl<E: InForce> Seat<E> {
     }
 
     /// The ends of the lanes, once the parser's side has ended.
-    pub(crate) fn leave<R: Threads + Wait + Sync, G: Gate + Sync>(
+    pub(crate) fn leave<R: Threads + Wait, G: Gate>(
         self,
         rt: &R,
         alloc: Global,
@@ -184,7 +189,7 @@ impl<E: InForce> Seat<E> {
                 Parting::Done(ends) => ends,
                 Parting::Unused(lanes) => {
                     let ParserLanes { asked, answers } = lanes;
-                    work(rt, alloc, table, asked, answers, gate)
+                    answer_all(rt, alloc, table, asked, answers, gate)
                 }
             },
             Seat::Here(side) => side.finish(rt, alloc, table, gate),

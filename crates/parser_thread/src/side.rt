@@ -146,6 +146,24 @@ impl<E: InForce> ParserSide<E> {
     }
 }
 
+/// Answers all requests of a page.
+pub(crate) fn answer_all<R: Wait, E: InForce, G: Gate>(
+    rt: &R,
+    alloc: Global,
+    table: &Table,
+    asked: Take<ToParser>,
+    answers: Put<FromParser<E>>,
+    gate: &G,
+) -> Ends<E>
+    requires table { table.now ≡ E.entities }
+    requires first { (asked.taken ≡ []) × (answers.put ≡ []) }
+    ensures asked { result.asked.lane ≡ asked.lane }
+    ensures answers { result.answers.lane ≡ answers.lane }
+    ensures worked { Worked E.InForce result.asked.taken result.answers.put }
+{
+    ParserSide::new(alloc, asked, answers).finish(rt, alloc, table, gate)
+}
+
 /// What the parser's thread does, from the beginning of a page on: it takes requests until it is told to stop, and answers each once, in order,
 /// with the named character references of `table`, which are those in force. The gate is told the number of each reply once it is given. Where
 /// memory runs out over a request it says so in place of the reply, and ends. Its ends of the lanes come back in every case.
@@ -165,5 +183,5 @@ pub fn work<R: Threads + Wait + Sync, E: InForce, G: Gate + Sync>(
     // out.
     ensures worked { Worked E.InForce result.asked.taken result.answers.put }
 {
-    ParserSide::new(alloc, asked, answers).finish(rt, alloc, table, gate)
+    answer_all(rt, alloc, table, asked, answers, gate)
 }
