@@ -9,3 +9,7 @@ pub mod Sizes
 pub mod Executes
 pub mod DocSides
 pub mod Events
+pub mod Uses
+pub mod Ready
+pub mod Scripts
+pub mod Does
