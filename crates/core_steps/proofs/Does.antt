@@ -1,5 +1,5 @@
 -- What Do leaves as it is, and what the side shows behind it.
-use Rattle.std.proofs.Common.{◌≡◌, ◌<◌, ℕ, suc, Bool, true, false, true≢false, List, [], ◌∷◌, ◌++◌, Option, Some, None, refl, sym, ◌∙◌, ap, subst, IsTrue}
+use Rattle.std.proofs.Common.{◌≡◌, ◌<◌, ℕ, suc, Bool, true, false, true≢false, List, [], ◌∷◌, ◌++◌, Option, Some, None, Result, Ok, Err, OnOk, refl, sym, ◌∙◌, ap, subst, IsTrue}
 use Rattle.html_types.specs.declared.instruction.Stop.TheVariants as stop
 use Rattle.html_types.specs.declared.instruction.Finish.TheVariants as finale
 use Rattle.html_types.specs.declared.operation.NodeId.{NodeId}
@@ -165,3 +165,26 @@ module _ (stage : Stage) (s mid : Side) (j : Journal) (free : s.stage ≡ Free) 
 
   pub act-less : left_to_do (desk_of new) < left_to_do (desk_of old)
   act-less = subst (λ (d : Desk). left_to_do d < left_to_do (desk_of old)) same-desk (acts-less stage s mid free sound acts)
+
+-- what a call's success gives
+pub on_ok : {T E : Type 0} (r : Result T E) (P Q : Type 0) → (P → Q) → OnOk r P → OnOk r Q
+on_ok (Ok x) P Q more has = more has
+on_ok (Err e) P Q more has = tt
+
+-- the stage is taken out of the side before
+module _ (old : Side) (stage freed : Stage) (mid : Side) (j : Journal) (value : stage ≡ old.stage) (after : freed ≡ Free) (known : IsSound old) (able : IsTrue (can_do (desk_of old)))
+    (parts : ActsBy stage (at_stage freed old) mid) (same : mid.journal ≡ old.journal) (added : j ≡ record mid.journal { events = mid.journal.events ++ Do ∷ [] }) where
+  by_stage : ActsBy old.stage (at_stage freed old) mid
+  by_stage = subst (λ t. ActsBy t (at_stage freed old) mid) value parts
+
+  pub taken-sound : IsSound (record mid { journal = j })
+  taken-sound = act-sound old.stage (at_stage freed old) mid j after known able by_stage same added
+
+  pub taken-does : DoesShow old.table old.journal.fetches (desk_of old) (desk_of (record mid { journal = j }))
+  taken-does = act-does old.stage (at_stage freed old) mid j after known able by_stage same added
+
+  pub taken-shown : shown_of (record mid { journal = j }) false ≡ journaled Do (desk_of (record mid { journal = j })) (shown_of old false)
+  taken-shown = act-shown old.stage (at_stage freed old) mid j after known able by_stage same added
+
+  pub taken-less : left_to_do (desk_of (record mid { journal = j })) < left_to_do (desk_of old)
+  taken-less = act-less old.stage (at_stage freed old) mid j after known able by_stage same added

@@ -1,6 +1,6 @@
 -- The first batch in hand is there, can be executed, and is executed.
 use Rattle.std.proofs.Common.{◌≡◌, ℕ, Bool, true, false, true≢false, List, [], ◌∷◌, Option, Some, None, refl, sym, ◌∙◌, ap, subst, IsTrue}
-use Rattle.std.specs.Prelude.{◌↔◌, not}
+use Rattle.std.specs.Prelude.{◌↔◌}
 use Rattle.html_types.specs.declared.operation.NodeId.{NodeId}
 use Rattle.html_types.specs.declared.operation.Op.{Op}
 use Rattle.html_types.specs.declared.instruction.Stop.TheVariants as stop
@@ -48,8 +48,8 @@ rest-ahead hand b bs is = subst (λ h. AreAhead bs (behind_first h)) (sym is) (b
     by (c ∷ cs) = refl
 
 pub not-empty : (t u : List ℕ) (b : Bool) → u ≡ t → IsTrue b ↔ (u ≡ []) → b ≡ false → is_empty t ≡ false
-not-empty [] u b is h no = absurd (true≢false (sym (h.1 is) ∙ no))
-not-empty (c ∷ cs) u b is h no = refl
+not-empty [] u b is h failed = absurd (true≢false (sym (h.1 is) ∙ failed))
+not-empty (c ∷ cs) u b is h failed = refl
 
 -- ---- it can be executed
 
