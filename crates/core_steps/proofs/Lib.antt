@@ -1,0 +1,11 @@
+pub mod FileLemmas
+pub mod Hands
+pub mod Replays
+pub mod Settles
+pub mod Acts
+pub mod Sound
+pub mod Kept
+pub mod Sizes
+pub mod Executes
+pub mod DocSides
+pub mod Events
