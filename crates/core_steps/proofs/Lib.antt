@@ -9,3 +9,5 @@ pub mod Sizes
 pub mod Executes
 pub mod DocSides
 pub mod Events
+pub mod Indexes
+pub mod Stays

@@ -208,7 +208,8 @@ impl DocSide {
         if self.spent {
             return Err(NoMemory);
         }
-        self.side.take_lines()
+        let lines = self.side.take_lines()?;
+        Ok(lines)
     }
 
     /// The document. After want of memory it is perhaps executed in part.
