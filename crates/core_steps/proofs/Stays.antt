@@ -3,6 +3,7 @@ use Rattle.std.proofs.Common.{◌≡◌, ◌≤◌, ◌+◌, ℕ, suc, nat_lt, B
 use Rattle.std.specs.Prelude.{◌&&◌, if◌then◌else◌}
 use Rattle.std.specs.declared.snapshot.Snapshot.{Snapshot}
 use Rattle.std.proofs.lemmas.Bool.{and_parts, false≢true}
+use Rattle.html_types.specs.declared.script.Ending.{Ending}
 use Rattle.html_types.specs.declared.script.Line.{Line}
 use Rattle.standard.specs.Entities.{Entities}
 use Rattle.standard.specs.Parser.{Parser, new_parser}
@@ -22,7 +23,7 @@ use Rattle.core_steps.specs.declared.side.Side.{Side}
 use Rattle.core_steps.specs.Journals.{empty_journal}
 use Rattle.core_steps.specs.Sides.{Shown, first_shown, lines_given, phase_of, desk_of, shown_of, hand_of, IsIdle, IsHolding, IsTagged, IsWaiting, IsFree, StandsIn, AreAhead, IsPlaced, IsSound}
 use Rattle.core_steps.proofs.Hands.{nothing-alone}
-use Rattle.core_steps.proofs.Events.{placed-sent, placed-more, placed-took, left-none}
+use Rattle.core_steps.proofs.Events.{placed-sent, placed-more, placed-took, left-none, pieces-more}
 
 -- ---- before any event
 
@@ -82,6 +83,23 @@ sound-more s k j x h is more fits = record {
   ahead = subst (λ (z : Kept). AreAhead s.ready (hand_of s.table s.stage s.writer.parser z.left)) (sym is) h.ahead;
   placed = placed-more s.counts.place s.counts.sent_to s.ledger k x s.journal j h.placed is more fits;
 }
+
+pub piece-sound : (s : Side) (k : Kept) (j : Journal) (x : Piece) (o : Option Ending) (text copy whole : List ℕ) → IsSound s → k ≡ record s.ledger { to_send = s.ledger.to_send ++ x ∷ [] } → x ≡ record { text = text; ending = o } →
+    copy ≡ text → text ≡ whole → j ≡ record s.journal { pieces = s.journal.pieces ++ copy ∷ [] } → length (joined s.journal.pieces) + length whole ≤ page_limit → IsSound (record s { ledger = k; journal = j })
+piece-sound s k j x o text copy whole h is piece same read more fits =
+    let here : x.text ≡ whole = ap (λ (p : Piece). p.text) piece ∙ read in
+    sound-more s k j x h is
+    (pieces-more s.journal.pieces j.pieces copy (ap (λ (z : Journal). z.pieces) more) ∙ ap (λ (t : List ℕ). length (joined s.journal.pieces) + length t) (same ∙ (read ∙ sym here)))
+    (subst (λ (t : List ℕ). length (joined s.journal.pieces) + length t ≤ page_limit) (sym here) fits)
+
+pub ending-sound : (s : Side) (k : Kept) (j : Journal) (x : Piece) (o : Option Ending) (text : List ℕ) → IsSound s → k ≡ record s.ledger { to_send = s.ledger.to_send ++ x ∷ [] } → x ≡ record { text = text; ending = o } → text ≡ [] →
+    j.pieces ≡ s.journal.pieces → IsSound (record s { ledger = k; journal = j })
+ending-sound s k j x o text h is piece none same =
+    let here : x.text ≡ [] = ap (λ (p : Piece). p.text) piece ∙ none in
+    let size : length x.text ≡ 0 = ap length here in
+    let pieces : length (joined j.pieces) ≡ length (joined s.journal.pieces) = ap (λ (ps : List (List ℕ)). length (joined ps)) same in
+    let within : length (joined s.journal.pieces) ≤ page_limit = h.placed.within in
+    sound-more s k j x h is (omega (arith, size, pieces)) (omega (arith, size, within))
 
 -- ---- Send
 
