@@ -1,12 +1,13 @@
 -- What the document's side keeps: over its events, and after want of memory.
 use Rattle.std.proofs.Common.{◌≡◌, ℕ, Bool, true, false, true≢false, List, [], ◌∷◌, ◌++◌, Option, Some, None, refl, sym, ◌∙◌, ap, subst, IsTrue}
-use Rattle.std.specs.Prelude.{if◌then◌else◌}
+use Rattle.std.specs.Prelude.{not, ◌&&◌, ◌||◌, if◌then◌else◌}
 use Rattle.html_types.specs.declared.script.Line.{Line}
 use Rattle.core_rules.specs.declared.event.Event.TheVariants.{Do}
-use Rattle.core_rules.specs.Desk.{Desk, can_do}
+use Rattle.standard.specs.Scripts.{is_lawful}
+use Rattle.core_rules.specs.Desk.{Phase, free, tagged, waits, done, Desk, is_among, has_arrived, can_do, can_arrive}
 use Rattle.core_rules.specs.Journal.{Journal}
 use Rattle.core_steps.specs.declared.side.Side.{Side}
-use Rattle.core_steps.specs.Sides.{Shown, desk_of, shown_of, journaled, DoesShow, IsSound, IsReplayed, IsKept}
+use Rattle.core_steps.specs.Sides.{Shown, Standing, running, awaiting, over, unless_arrived, standing_in, standing_of, desk_of, shown_of, journaled, DoesShow, IsSound, IsReplayed, IsKept}
 use Rattle.core_steps.proofs.Kept.{do-replayed}
 
 -- while memory lasts it shows what it holds
@@ -68,3 +69,23 @@ given-kept old before new spent v lines going is kept sound shown =
 
 pub sound-now : (side before : Side) (spent : Bool) → spent ≡ false → IsKept side before spent (shown_of (if spent then before else side) spent) → IsSound side
 sound-now side before spent going k = k.sound going
+
+-- ---- a script that is awaited may arrive
+
+may-arrive : (lawful among : Bool) → (not lawful || among) ≡ false → (lawful && not among) ≡ true
+may-arrive true true h = absurd (true≢false h)
+may-arrive true false h = refl
+may-arrive false among h = absurd (true≢false h)
+
+pub awaited-arrives : (d : Desk) (name : List ℕ) → awaiting name ≡ standing_of d → IsTrue (can_arrive name d)
+awaited-arrives d name is = by d.phase is
+  where
+    unless : (n : List ℕ) (b : Bool) → has_arrived n d ≡ b → awaiting name ≡ unless_arrived b n → IsTrue (can_arrive name d)
+    unless n true e h = absurd (cc h)
+    unless n false e h = let same : name ≡ n = cc in subst (λ m. IsTrue (can_arrive m d)) (sym same) (may-arrive (is_lawful n) (is_among n d.arrived) e)
+
+    by : (p : Phase) → awaiting name ≡ standing_in p d → IsTrue (can_arrive name d)
+    by free h = absurd (cc h)
+    by (tagged i held) h = absurd (cc h)
+    by (waits n held) h = unless n (has_arrived n d) refl h
+    by (done r) h = absurd (cc h)

@@ -1,6 +1,6 @@
 -- What is known of a side: at the beginning, and behind the events but Do.
 use Rattle.std.proofs.Common.{◌≡◌, ◌≤◌, ◌+◌, ℕ, suc, nat_lt, Bool, true, false, List, [], ◌∷◌, ◌++◌, length, Option, Some, None, refl, sym, ◌∙◌, ap, subst, IsTrue, arith, append-nil, append_assoc}
-use Rattle.std.specs.Prelude.{◌&&◌, if◌then◌else◌}
+use Rattle.std.specs.Prelude.{◌&&◌}
 use Rattle.std.specs.declared.snapshot.Snapshot.{Snapshot}
 use Rattle.std.proofs.lemmas.Bool.{and_parts, false≢true}
 use Rattle.html_types.specs.declared.script.Ending.{Ending}
@@ -13,7 +13,7 @@ use Rattle.core_rules.specs.Desk.{Phase, free, Desk, first_desk, is_free, wants_
 use Rattle.core_rules.specs.Journal.{Journal}
 use Rattle.core_rules.specs.Settling.{is_empty}
 use Rattle.moment_laws.proofs.Served.{first-room}
-use Rattle.page_pieces.specs.Keeping.{Kept, first_kept, keeps, keeps_first, took, takes_first, stale, drops}
+use Rattle.page_pieces.specs.Keeping.{Kept, first_kept, keeps, keeps_first, took}
 use Rattle.write_parser.specs.Writing.{View, first_view, serial_of}
 use Rattle.speculation.specs.Asking.{page_limit}
 use Rattle.core_steps.specs.declared.stage.Stage.{Stage}
@@ -136,13 +136,6 @@ wants-stage s wants = stage-free s.stage (and_parts _ _ (and_parts _ _ wants).0)
 -- and no batch
 wants-none : (s : Side) → IsTrue (wants_reply (desk_of s)) → is_empty (answer s.table (Some s.writer.parser) s.ledger.left).batches ≡ true
 wants-none s wants = subst (λ t. is_empty (hand_of s.table t s.writer.parser s.ledger.left) ≡ true) (wants-stage s wants) (and_parts _ _ (and_parts _ _ wants).0).1
-
--- where the reply is dropped, nothing is in hand as before
-pub ahead-dropped : (s : Side) (k : Kept) → IsSound s → IsTrue (wants_reply (desk_of s)) → k ≡ took s.ledger → nat_lt 0 (stale s.ledger) ≡ true → AreAhead s.ready (answer s.table (Some s.writer.parser) k.left).batches
-ahead-dropped s k h wants is old =
-    let left : k.left ≡ s.ledger.left = ap (λ (z : Kept). z.left) (is ∙ ap (λ b. if b then drops s.ledger else takes_first s.ledger.asked s.ledger) old) in
-    subst (λ (x : Piece). AreAhead s.ready (answer s.table (Some s.writer.parser) x).batches) (sym left)
-    (subst (λ t. AreAhead s.ready (hand_of s.table t s.writer.parser s.ledger.left)) (wants-stage s wants) h.ahead)
 
 pub sound-took : (s : Side) (k : Kept) (ready : List Batch) (j : Journal) → IsSound s → IsTrue (wants_reply (desk_of s)) → k ≡ took s.ledger → AreAhead ready (answer s.table (Some s.writer.parser) k.left).batches → j.pieces ≡ s.journal.pieces →
     IsSound (record s { ledger = k; ready = ready; journal = j })

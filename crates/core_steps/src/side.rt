@@ -250,9 +250,9 @@ impl Side {
         ensures shown { OnOk result (shown_of self.new false ≡ journaled event.Take (takes self.old.table (desk_of self.old)) (shown_of self.old false)) }
         ensures journal { OnErr result (self.new.journal ≡ self.old.journal) }
     {
-        if self.ledger.took() {
-            self.ready = self.batches_of(reply);
-        }
+        // A reply to a request of an epoch that has ended isn't the one called for.
+        let _current = self.ledger.took();
+        self.ready = self.batches_of(reply);
         self.journal.add_event(Event::Take)
     }
 
