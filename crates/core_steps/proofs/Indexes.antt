@@ -44,6 +44,15 @@ module _ {Y : Type 0} where
       by bytes u true = refl
       by bytes u false = h.each bytes u
 
+  -- the list has it last
+  pub fetch-indexed : (m n : BTreeMap (String Y) Fetch) (fs gs hs : List (Snapshot FetchedFile)) (f : Snapshot FetchedFile) (file : FetchedFile) (key : List ℕ) → IsUtf8 key → chars key ≡ file.name → gs ≡ fs → hs ≡ gs ++ f ∷ [] → f.value ≡ file →
+      ((bytes : List ℕ) → get_by_text n bytes ≡ update bytes_eq (get_by_text m) key (Some file.fetch) bytes) → AreIndexed m (fetches_of (reverse fs)) → AreIndexed n (fetches_of (reverse hs))
+  fetch-indexed m n fs gs hs f file key utf8 is same more value updates h =
+      let all : fetches_of (reverse hs) ≡ (file.name, fetched_of file.fetch) ∷ fetches_of (reverse fs) =
+      ap (λ (l : List (Snapshot FetchedFile)). fetches_of (reverse l)) (more ∙ ap (λ (l : List (Snapshot FetchedFile)). l ++ f ∷ []) same)
+      ∙ (fetches-then fs f ∙ ap (λ (g : FetchedFile). (g.name, fetched_of g.fetch) ∷ fetches_of (reverse fs)) value) in
+      subst (AreIndexed n) (sym all) (more-indexed m n (fetches_of (reverse fs)) key file.name file.fetch utf8 is updates h)
+
   -- what is looked up is what is found
   pub found-some : (m : BTreeMap (String Y) Fetch) (fs : List (List ℕ × Fetched)) (bytes : List ℕ) (o : Option (Bor Fetch)) → AreIndexed m fs → IsUtf8 bytes → option_map (λ r. r.now) o ≡ get_by_text m bytes →
       IfSome o (λ f. found (chars bytes) fs ≡ Some (fetched_of f.now))
