@@ -9,6 +9,6 @@ use Rattle.core_steps.proofs.side.Side.take.Goals as goal
 pub returns-clause-sound : goal.returns-clause-sound
 returns-clause-sound g c =
     on_ok_weaker c.add_event.result
-    (λ more. sound-took c.args.self.now c.took-_current.new.self c.batches_of.result c.add_event.new.self c.requires.sound c.requires.wanted c.took-_current.ensures.took
-    (subst (λ es. AreAhead c.batches_of.result (answer es (Some c.args.self.now.writer.parser) c.took-_current.new.self.left).batches) (sym c.requires.entities) c.batches_of.ensures) (ap (λ (j : Journal). j.pieces) more))
+    (λ more. sound-took c.args.self.now c.took-current.new.self c.batches_of.result c.add_event.new.self c.requires.sound c.requires.wanted c.took-current.ensures.took
+    (subst (λ es. AreAhead c.batches_of.result (answer es (Some c.args.self.now.writer.parser) c.took-current.new.self.left).batches) (sym c.requires.entities) c.batches_of.ensures) (ap (λ (j : Journal). j.pieces) more))
     c.add_event.ensures.ok
