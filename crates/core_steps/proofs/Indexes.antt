@@ -24,12 +24,10 @@ fetches-then fs f = ap fetches_of (reverse-append fs (f ∷ []))
 
 module _ {Y : Type 0} where
   -- nothing is fetched
-  pub none-indexed : (m : BTreeMap (String Y) Fetch) → m.entries ≡ [] → AreIndexed m []
-  none-indexed m none = record { each = λ bytes utf8. ap (λ es. option_map fetched_of (lookup (is_at (λ k. slice_cmp nat_cmp bytes (string_bytes k))) es)) (sym none) }
-
-  -- no entry changed
-  pub same-indexed : (m n : BTreeMap (String Y) Fetch) (fs : List (List ℕ × Fetched)) → n.entries ≡ m.entries → AreIndexed m fs → AreIndexed n fs
-  same-indexed m n fs same h = record { each = λ bytes utf8. h.each bytes utf8 ∙ ap (λ es. option_map fetched_of (lookup (is_at (λ k. slice_cmp nat_cmp bytes (string_bytes k))) es)) (sym same) }
+  pub none-indexed : (m : BTreeMap (String Y) Fetch) (fs : List (Snapshot FetchedFile)) → m.entries ≡ [] → fs ≡ [] → AreIndexed m (fetches_of (reverse fs))
+  none-indexed m fs none first = subst (λ (l : List (Snapshot FetchedFile)). AreIndexed m (fetches_of (reverse l))) (sym first) (record {
+    each = λ bytes utf8. ap (λ es. option_map fetched_of (lookup (is_at (λ k. slice_cmp nat_cmp bytes (string_bytes k))) es)) (sym none);
+  })
 
   -- one more is fetched
   pub more-indexed : (m n : BTreeMap (String Y) Fetch) (fs : List (List ℕ × Fetched)) (key name : List ℕ) (fetch : Fetch) → IsUtf8 key → chars key ≡ name →
