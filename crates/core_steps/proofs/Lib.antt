@@ -11,3 +11,7 @@ pub mod DocSides
 pub mod Events
 pub mod Indexes
 pub mod Stays
+pub mod Uses
+pub mod Ready
+pub mod Scripts
+pub mod Does

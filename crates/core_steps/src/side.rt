@@ -448,18 +448,21 @@ impl Side {
         ensures journal { self.new.journal ≡ self.old.journal }
     {
         match self.journal.find(name.as_str()) {
-            Some(Fetch::Faulted) => {
-                self.end_parse(Some(Why::Fault));
-                return Ok(());
+            // A name that isn't lawful is missing.
+            None | Some(Fetch::Missing) => {
+                self.writer.miss()?;
+                self.settle(held)
             }
             Some(Fetch::Got(bytes)) => {
                 let text = text_of(self.alloc, bytes.as_slice())?;
                 self.writer.run_script(&self.table, text.as_str())?;
+                self.settle(held)
             }
-            // A name that isn't lawful is missing.
-            _ => self.writer.miss()?,
+            Some(Fetch::Faulted) => {
+                self.end_parse(Some(Why::Fault));
+                Ok(())
+            }
         }
-        self.settle(held)
     }
 
     // Parses what was written, until it is used, a script is awaited, or the page is refused.
