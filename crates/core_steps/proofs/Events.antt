@@ -129,6 +129,10 @@ found-among name (f ∷ fs) = by (same_text f.0 name) (found-among name fs)
     by true h = refl
     by false h = h
 
+-- a lawful name has arrived where it is found
+pub found-arrived : (name : List ℕ) (fs : List (List ℕ × Fetched)) (lawful b : Bool) → lawful ≡ is_lawful name → lawful ≡ true → b ≡ is_some (found name fs) → b ≡ (not (is_lawful name) || is_among name (names_of fs))
+found-arrived name fs lawful b is held at = at ∙ (found-among name fs ∙ ap (λ l. not l || is_among name (names_of fs)) (sym (sym is ∙ held)))
+
 -- ---- the text that is used
 
 -- of a text, so many bytes of its front

@@ -9,6 +9,8 @@ pub mod Sizes
 pub mod Executes
 pub mod DocSides
 pub mod Events
+pub mod Indexes
+pub mod Stays
 pub mod Uses
 pub mod Ready
 pub mod Scripts

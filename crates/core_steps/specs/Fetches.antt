@@ -1,5 +1,6 @@
 -- What came of fetching scripts.
 use Rattle.std.specs.Prelude.{ℕ, List, [], ◌∷◌}
+use Rattle.std.specs.declared.snapshot.Snapshot.{Snapshot}
 use Rattle.standard.specs.Scripts.{Fetched, got, missing, faulted}
 use Rattle.core_steps.specs.declared.fetch.Fetch.{Fetch}
 use Rattle.core_steps.specs.declared.fetch.Fetch.TheVariants.{Got, Missing, Faulted}
@@ -10,9 +11,9 @@ fetched_of (Got bytes) = got bytes.items
 fetched_of Missing = missing
 fetched_of Faulted = faulted
 
-abbrev pub fetches_of : List FetchedFile → List (List ℕ × Fetched)
+abbrev pub fetches_of : List (Snapshot FetchedFile) → List (List ℕ × Fetched)
 fetches_of [] = []
-fetches_of (f ∷ fs) = (f.name, fetched_of f.fetch) ∷ fetches_of fs
+fetches_of (f ∷ fs) = (f.value.name, fetched_of f.value.fetch) ∷ fetches_of fs
 
 -- the names that were fetched
 abbrev pub names_of : List (List ℕ × Fetched) → List (List ℕ)

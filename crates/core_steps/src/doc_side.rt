@@ -1,13 +1,13 @@
 //! The document's side.
 
-ghost use Rattle.std.specs.Prelude.{◌≡◌, ◌<◌, ◌≤◌, ◌+◌, ◌++◌, length, true, false, None, IfOk, OnOk, OnErr, IsErr, IsTrue};
+ghost use Rattle.std.specs.Prelude.{◌≡◌, ◌<◌, ◌≤◌, ◌+◌, ◌++◌, ℕ, List, length, true, false, None, IfOk, OnOk, OnErr, IsErr, IsTrue};
 ghost use Rattle.std.specs.Str.{chars};
 ghost use Rattle.core_rules.specs.declared.event.Event.TheVariants as event;
 ghost use Rattle.core_rules.specs.Core.{joined};
 ghost use Rattle.core_rules.specs.Desk.{can_send, can_do, wants_reply, can_arrive, sends, takes};
 ghost use Rattle.speculation.specs.Asking.{page_limit};
 ghost use Rattle.core_steps.specs.Fetches.{fetched_of};
-ghost use Rattle.core_steps.specs.Sides.{first_shown, with_piece, with_ending, journaled, with_fetch, IsRequestFor, sent_before, DoesShow, standing_of, left_to_do, IsReplayed};
+ghost use Rattle.core_steps.specs.Sides.{first_shown, with_piece, with_ending, journaled, with_fetch, IsRequestFor, sent_before, DoesShow, awaiting, standing_of, left_to_do, IsReplayed};
 ghost use Rattle.core_steps.specs.States.{standing_told};
 
 use crate::fetch::Fetch;
@@ -193,7 +193,9 @@ impl DocSide {
 
     /// Where it stands. After want of memory it tells nothing.
     pub fn status(&self) -> State<'_>
-        ensures { self.now.spent ≡ false → standing_told result ≡ standing_of self.now.desk }
+        ensures standing { self.now.spent ≡ false → standing_told result ≡ standing_of self.now.desk }
+        // A script that is awaited may arrive.
+        ensures awaited { self.now.spent ≡ false → (name : List ℕ) → awaiting name ≡ standing_told result → IsTrue (can_arrive name self.now.desk) }
     {
         self.side.status()
     }
@@ -208,7 +210,8 @@ impl DocSide {
         if self.spent {
             return Err(NoMemory);
         }
-        self.side.take_lines()
+        let lines = self.side.take_lines()?;
+        Ok(lines)
     }
 
     /// The document. After want of memory it is perhaps executed in part.

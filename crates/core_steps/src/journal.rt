@@ -3,8 +3,7 @@
 ghost use Rattle.std.specs.Prelude.{◌≡◌, ◌++◌, ◌∷◌, [], None, Some, OnOk, OnErr, IfSome, IfNone};
 ghost use Rattle.std.specs.Str.{chars};
 ghost use Rattle.core_rules.specs.declared.event.Event.TheVariants.{Arrive as arrived};
-ghost use Rattle.std.specs.Prelude.{reverse};
-ghost use Rattle.core_steps.specs.Fetches.{fetched_of, fetches_of};
+ghost use Rattle.core_steps.specs.Fetches.{fetched_of};
 ghost use Rattle.core_steps.specs.Journals.{empty_journal, found};
 
 use crate::fetch::{Fetch, FetchedFile};
@@ -12,7 +11,9 @@ use core_rules::Event;
 use html_types::{Ending, NoMemory, Text};
 use page_pieces::SharedText;
 use std::alloc::Global;
+use std::collections::BTreeMap;
 use std::marker::Model;
+use std::snapshot::Snapshot;
 
 /// What a run leaves behind: the pieces of the page's text as they were read, its ending where that was read, each name that was fetched with
 /// what came of it, the latest first, and the events of the document's side.
@@ -21,8 +22,9 @@ pub struct Journal {
     alloc: Global,
     pieces: Vec<SharedText>,
     ending: Option<Ending>,
-    // The latest last.
-    fetches: Vec<FetchedFile>,
+    fetches: BTreeMap<String, Fetch>,
+    // The same, the latest last. A contract sees them in this order.
+    fetched: Vec<Snapshot<FetchedFile>>,
     events: Vec<Event>,
 }
 
@@ -30,25 +32,13 @@ impl Model for Journal {
     ghost use Rattle.core_rules.specs.Journal as rules;
     ghost use Rattle.std.specs.Prelude.{reverse};
     ghost use Rattle.core_steps.specs.Fetches.{fetches_of};
+    ghost use Rattle.core_steps.specs.Journals.{AreIndexed};
 
     ghost Value = { rules.Journal };
 
-    ghost view = { λ j. record { pieces = j.pieces.items; ending = j.ending; fetches = fetches_of (reverse j.fetches.items); events = j.events.items } };
-}
+    ghost view = { λ j. record { pieces = j.pieces.items; ending = j.ending; fetches = fetches_of (reverse j.fetched.items); events = j.events.items } };
 
-// What came of the script of that name, the latest fetches first.
-fn find_in<'a>(files: &'a [FetchedFile], name: &str) -> Option<&'a Fetch>
-    ensures found { IfSome result (λ fetch. found (chars name.now) (fetches_of (reverse files.now)) ≡ Some (fetched_of fetch.now)) }
-    ensures none { IfNone result (found (chars name.now) (fetches_of (reverse files.now)) ≡ None) }
-{
-    let mut rest = files;
-    while let Some((last, before)) = rest.split_last() {
-        if last.name.is(name) {
-            return Some(&last.fetch);
-        }
-        rest = before;
-    }
-    None
+    ghost invariant = { λ j. AreIndexed j.fetches (fetches_of (reverse j.fetched.items)) };
 }
 
 impl Journal {
@@ -60,7 +50,8 @@ impl Journal {
             alloc,
             pieces: Vec::new(alloc),
             ending: None,
-            fetches: Vec::new(alloc),
+            fetches: BTreeMap::new(alloc),
+            fetched: Vec::new(alloc),
             events: Vec::new(alloc),
         }
     }
@@ -91,7 +82,7 @@ impl Journal {
         ensures found { IfSome result (λ fetch. found (chars name.now) self.now.fetches ≡ Some (fetched_of fetch.now)) }
         ensures none { IfNone result (found (chars name.now) self.now.fetches ≡ None) }
     {
-        find_in(self.fetches.as_slice(), name)
+        self.fetches.get(name)
     }
 
     /// Adds a piece that was read.
@@ -124,11 +115,15 @@ impl Journal {
         ensures ok { OnOk result (self.new ≡ record self.old { fetches = (name, fetched_of fetch) ∷ self.old.fetches; events = self.old.events ++ arrived name ∷ [] }) }
         ensures err { OnErr result (self.new ≡ self.old) }
     {
-        let arrived = name.copy(self.alloc)?;
+        let key = String::from_str(self.alloc, name.as_str())?;
         self.events.reserve(1)?;
-        self.fetches.reserve(1)?;
-        self.fetches.push_reserved(FetchedFile { name, fetch });
-        self.events.push_reserved(Event::Arrive(arrived));
+        self.fetched.reserve(1)?;
+        let file = FetchedFile { name, fetch };
+        let fetched = Snapshot::of(&file);
+        let FetchedFile { name, fetch } = file;
+        self.fetches.insert(key, fetch)?;
+        self.fetched.push_reserved(fetched);
+        self.events.push_reserved(Event::Arrive(name));
         Ok(())
     }
 }

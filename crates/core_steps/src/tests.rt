@@ -1,30 +1,55 @@
-//! Pages with a script that is kept and one that fails, event by event.
+//! Pages whose scripts are kept, fail and are awaited, event by event.
 
-ghost use Rattle.std.specs.Prelude.{◌≡◌};
+ghost use Rattle.std.specs.Prelude.{◌≡◌, ◌≤◌, ◌+◌, false, None, length, string_bytes, OnOk};
+ghost use Rattle.std.specs.Str.{chars};
 
 use crate::doc_side::DocSide;
 use crate::fetch::Fetch;
 use crate::state::State;
 use crate::work_side::WorkSide;
 use entity_table::Table;
-use html_types::{Ending, NoMemory, Text};
+use html_types::{Ending, NoMemory};
 use serialiser::document;
-use speculation::InForce;
+use speculation::{InForce, Reply};
 use std::alloc::Global;
+use std::collections::VecDeque;
 use std::marker::Brand;
 use std::test::Fail;
 
-// Sends, and has answered, as far as the credit goes; then takes a reply, and does what can be done.
+// A page in two pieces.
+#[derive(Drop)]
+struct Page {
+    table: Table,
+    front: String,
+    rest: String,
+}
+
+fn page(alloc: Global, front: &str, rest: &str) -> Result<Page, Fail> {
+    Ok(Page {
+        table: Table::read(alloc, b"{}")?,
+        front: String::from_str(alloc, front)?,
+        rest: String::from_str(alloc, rest)?,
+    })
+}
+
+// Sends a piece and has it answered, as far as the credit goes; or takes a reply, or does what can be done, or fetches a script.
 fn turn<E: InForce>(
     alloc: Global,
     table: &Table,
     doc: &mut DocSide,
     work: &mut WorkSide,
     replies: &mut VecDeque<Reply<E>>,
-) -> Result<(), NoMemory> {
+) -> Result<(), NoMemory>
+    requires going { doc.old.spent ≡ false }
+    requires entities { doc.old.entities ≡ E.entities }
+    requires table { table.now ≡ E.entities }
+    requires idle { work.old.hand ≡ None }
+    ensures going { OnOk result (doc.new.spent ≡ false) }
+    ensures entities { OnOk result (doc.new.entities ≡ E.entities) }
+    ensures idle { OnOk result (work.new.hand ≡ None) }
+{
     if doc.can_send() {
-        let request = doc.send()?;
-        work.pick(request);
+        work.pick(doc.send()?);
         replies.push_back(work.give::<E>(table)?)?;
         return Ok(());
     }
@@ -46,60 +71,67 @@ fn turn<E: InForce>(
     Ok(())
 }
 
-fn run_page<E: InForce>(
-    alloc: Global,
-    table: &Table,
-    text: &str,
-    cut: usize,
-) -> Result<String, NoMemory> {
-    let mut doc = DocSide::new(alloc, table, 4)?;
+// The document that it comes to, if it comes to the end.
+fn run_page<E: InForce>(alloc: Global, page: &Page) -> Result<Option<String>, NoMemory>
+    requires { page.now.table ≡ E.entities }
+{
+    let mut doc = DocSide::new(alloc, &page.table, 4)?;
     let mut work = WorkSide::new(alloc);
     let mut replies = VecDeque::new(alloc);
-    doc.piece(&text[..cut])?;
-    doc.piece(&text[cut..])?;
-    doc.end(Ending::End)?;
-    for _ in 0..1000 {
-        turn::<E>(alloc, table, &mut doc, &mut work, &mut replies)?;
+    if page.front.len() > 1000 || page.rest.len() > 1000 {
+        return Ok(None);
     }
-    let mut seen = document(alloc, doc.doc().tree())?;
-    let mut told = String::from_str(alloc, seen.as_str())?;
-    told.push_str(match doc.status() {
-        State::Done => " done",
-        State::Running => " running",
-        State::Awaits(_) => " awaits",
-        State::Refused(_) => " refused",
-    })?;
-    told.push_str(&format!(in alloc; " {}", doc.journal().events().len())?)?;
-    Ok(told)
+    doc.piece(page.front.as_str())?;
+    doc.piece(page.rest.as_str())?;
+    doc.end(Ending::End)?;
+    for _ in 0..100 {
+        turn::<E>(alloc, &page.table, &mut doc, &mut work, &mut replies)?;
+    }
+    if !matches!(doc.status(), State::Done) {
+        return Ok(None);
+    }
+    Ok(Some(document(alloc, doc.doc().tree())?))
 }
 
-use speculation::Reply;
-use std::collections::VecDeque;
+fn ends_with(text: Option<String>, end: &str) -> bool {
+    text.is_some_and(|text| text.as_str().ends_with(end))
+}
 
 #[test]
-fn a_script_is_kept(rt: HostRuntime) -> Result<(), Fail> {
+fn scripts_are_kept_fail_and_are_awaited(rt: HostRuntime) -> Result<(), Fail> {
     let alloc = rt.alloc();
-    let table = Table::read(alloc, b"{}")?;
-    let told = run_page::<Brand>(
+    let kept = page(
         alloc,
-        &table,
-        "<p>a<script>document.write(\"<b>x</b>\");</script>b",
-        5,
+        "<p>a<s",
+        "cript>document.write(\"<b>x</b>\");</script>b",
     )?;
-    println!(rt; "{told}")?;
-    let told = run_page::<Brand>(
+    assert!(rt;
+        ends_with(
+            run_page::<Brand>(alloc, &kept)?,
+            "</script><b>x</b>b</p></body></html>"
+        )
+    );
+    let failing = page(
         alloc,
-        &table,
-        "<p>a<script>document.write(\"<b>x\");</script>b",
-        10,
+        "<p>a<script>document.write(\"<b>x\");</script>",
+        "b",
     )?;
-    println!(rt; "{told}")?;
-    let told = run_page::<Brand>(
+    assert!(rt;
+        ends_with(
+            run_page::<Brand>(alloc, &failing)?,
+            "</script><b>xb</b></p></body></html>"
+        )
+    );
+    let awaiting = page(
         alloc,
-        &table,
-        "<body><script>document.write(\"<script src=\\\"a\\\"><\\/script>X\");document.write(\"Y\");</script>Z",
-        90,
+        "<body><script>document.write(\"<script src=\\\"a\\\"><\\/script>X\");document.write(\"Y\");</scr",
+        "ipt>Z",
     )?;
-    println!(rt; "{told}")?;
+    assert!(rt;
+        ends_with(
+            run_page::<Brand>(alloc, &awaiting)?,
+            "<script src=\"a\"></script>QXYZ</body></html>"
+        )
+    );
     Ok(())
 }
