@@ -111,7 +111,7 @@ fn scripts_are_kept_fail_and_are_awaited(rt: HostRuntime) -> Result<(), Fail> {
             "</script><b>x</b>b</p></body></html>"
         )
     );
-    let failing = page(alloc, "<p>a<script>document.write(\"<b>x\");</script>", "b")?;
+    let failing = cut(alloc, "<p>a<script>document.write(\"<b>x\");</script>", "b")?;
     assert!(rt;
         ends_with(
             run_page::<Brand>(alloc, &failing)?,
