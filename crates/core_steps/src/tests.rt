@@ -8,7 +8,7 @@ use crate::fetch::Fetch;
 use crate::state::State;
 use crate::work_side::WorkSide;
 use entity_table::Table;
-use html_types::{Ending, NoMemory};
+use html_types::{Ending, NoMemory, Text};
 use serialiser::document;
 use speculation::{InForce, Reply};
 use std::alloc::Global;
@@ -24,7 +24,7 @@ struct Page {
     rest: String,
 }
 
-fn page(alloc: Global, front: &str, rest: &str) -> Result<Page, Fail> {
+fn cut(alloc: Global, front: &str, rest: &str) -> Result<Page, Fail> {
     Ok(Page {
         table: Table::read(alloc, b"{}")?,
         front: String::from_str(alloc, front)?,
@@ -72,7 +72,7 @@ fn turn<E: InForce>(
 }
 
 // The document that it comes to, if it comes to the end.
-fn run_page<E: InForce>(alloc: Global, page: &Page) -> Result<Option<String>, NoMemory>
+fn run_page<E: InForce>(alloc: Global, page: &Page) -> Result<Option<Text>, NoMemory>
     requires { page.now.table ≡ E.entities }
 {
     let mut doc = DocSide::new(alloc, &page.table, 4)?;
@@ -93,14 +93,14 @@ fn run_page<E: InForce>(alloc: Global, page: &Page) -> Result<Option<String>, No
     Ok(Some(document(alloc, doc.doc().tree())?))
 }
 
-fn ends_with(text: Option<String>, end: &str) -> bool {
+fn ends_with(text: Option<Text>, end: &str) -> bool {
     text.is_some_and(|text| text.as_str().ends_with(end))
 }
 
 #[test]
 fn scripts_are_kept_fail_and_are_awaited(rt: HostRuntime) -> Result<(), Fail> {
     let alloc = rt.alloc();
-    let kept = page(
+    let kept = cut(
         alloc,
         "<p>a<s",
         "cript>document.write(\"<b>x</b>\");</script>b",
@@ -111,18 +111,14 @@ fn scripts_are_kept_fail_and_are_awaited(rt: HostRuntime) -> Result<(), Fail> {
             "</script><b>x</b>b</p></body></html>"
         )
     );
-    let failing = page(
-        alloc,
-        "<p>a<script>document.write(\"<b>x\");</script>",
-        "b",
-    )?;
+    let failing = cut(alloc, "<p>a<script>document.write(\"<b>x\");</script>", "b")?;
     assert!(rt;
         ends_with(
             run_page::<Brand>(alloc, &failing)?,
             "</script><b>xb</b></p></body></html>"
         )
     );
-    let awaiting = page(
+    let awaiting = cut(
         alloc,
         "<body><script>document.write(\"<script src=\\\"a\\\"><\\/script>X\");document.write(\"Y\");</scr",
         "ipt>Z",

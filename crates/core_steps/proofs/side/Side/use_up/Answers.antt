@@ -16,7 +16,7 @@ used-requires c =
 pub overflow_add-self : goal.overflow_add-self
 overflow_add-self c =
     let fits = use-fits c.args.self.now c.as_str.result.now c.args.bytes c.count-characters.result (c.as_str.ensures ∙ (c.text.ensures ∙ ap (λ (x : Piece). x.text) c.left.ensures)) c.as_str.utf8 c.requires.front
-        (c.count-characters.ensures ∙ ap (λ t. length (chars t)) c.range-front.ensures.value) c.requires.placed in
+    (c.count-characters.ensures ∙ ap (λ t. length (chars t)) c.range-front.ensures.value) c.requires.placed in
     omega arith
 
 pub returns : goal.returns
