@@ -1,0 +1,17 @@
+pub mod FileLemmas
+pub mod Hands
+pub mod Replays
+pub mod Settles
+pub mod Acts
+pub mod Sound
+pub mod Kept
+pub mod Sizes
+pub mod Executes
+pub mod DocSides
+pub mod Events
+pub mod Indexes
+pub mod Stays
+pub mod Uses
+pub mod Ready
+pub mod Scripts
+pub mod Does

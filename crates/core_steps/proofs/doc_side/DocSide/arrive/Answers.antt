@@ -1,0 +1,11 @@
+use Rattle.core_steps.specs.Fetches.{fetched_of}
+use Rattle.core_steps.specs.Sides.{with_fetch}
+use Rattle.core_steps.proofs.Kept.{arrive-replayed}
+use Rattle.core_steps.proofs.DocSides.{kept-behind}
+use Rattle.core_steps.proofs.doc_side.DocSide.arrive.Goals as goal
+
+pub invariant_of-self-2 : goal.invariant_of-self-2
+invariant_of-self-2 c =
+    let i = c.self.inside in
+    kept-behind i.side i.before.value c.arrive.new.self c.of.result.value i.spent c.args.self.now (with_fetch c.args.name (fetched_of c.args.fetch)) c.if-self.false c.self.view_is c.self.invariant c.in_ok-arrive.ensures.sound c.in_ok-arrive.ensures.shown
+    (arrive-replayed c.args.self.now c.args.name (fetched_of c.args.fetch) c.requires)

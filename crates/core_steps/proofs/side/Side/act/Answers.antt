@@ -1,0 +1,30 @@
+use Rattle.core_steps.proofs.Does.{on_ok, taken-sound, taken-does, taken-shown, taken-less}
+use Rattle.core_steps.proofs.side.Side.act.Goals as goal
+
+pub returns-clause-sound : goal.returns-clause-sound
+returns-clause-sound c =
+    on_ok c.add_event.result _ _
+    (λ added. taken-sound c.args.self.now c.replace-stage.result c.replace-stage.new.dest c.act_in.new.self c.add_event.new.self c.replace-stage.ensures.value c.replace-stage.ensures.after c.requires.sound
+    c.requires.can c.in_ok-act_in.ensures.acts c.in_ok-act_in.ensures.journal added)
+    c.add_event.ensures.ok
+
+pub returns-clause-does : goal.returns-clause-does
+returns-clause-does c =
+    on_ok c.add_event.result _ _
+    (λ added. taken-does c.args.self.now c.replace-stage.result c.replace-stage.new.dest c.act_in.new.self c.add_event.new.self c.replace-stage.ensures.value c.replace-stage.ensures.after c.requires.sound
+    c.requires.can c.in_ok-act_in.ensures.acts c.in_ok-act_in.ensures.journal added)
+    c.add_event.ensures.ok
+
+pub returns-clause-less : goal.returns-clause-less
+returns-clause-less c =
+    on_ok c.add_event.result _ _
+    (λ added. taken-less c.args.self.now c.replace-stage.result c.replace-stage.new.dest c.act_in.new.self c.add_event.new.self c.replace-stage.ensures.value c.replace-stage.ensures.after c.requires.sound
+    c.requires.can c.in_ok-act_in.ensures.acts c.in_ok-act_in.ensures.journal added)
+    c.add_event.ensures.ok
+
+pub returns-clause-others : goal.returns-clause-others
+returns-clause-others c =
+    on_ok c.add_event.result _ _
+    (λ added. taken-shown c.args.self.now c.replace-stage.result c.replace-stage.new.dest c.act_in.new.self c.add_event.new.self c.replace-stage.ensures.value c.replace-stage.ensures.after c.requires.sound
+    c.requires.can c.in_ok-act_in.ensures.acts c.in_ok-act_in.ensures.journal added)
+    c.add_event.ensures.ok

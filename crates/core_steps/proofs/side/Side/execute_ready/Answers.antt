@@ -1,0 +1,25 @@
+use Rattle.std.proofs.Common.{◌∙◌, length, refl}
+use Rattle.core_steps.proofs.Executes.{ready-front, ready-executed}
+use Rattle.core_steps.proofs.Ready.{ops-bound, machine-served, executed-behind}
+use Rattle.core_steps.proofs.side.Side.execute_ready.Goals as goal
+
+pub execute-requires-clause-bound : goal.execute-requires-clause-bound
+execute-requires-clause-bound c =
+    ops-bound c.args.self.now c.args.batch c.args.self.now.ready c.requires.first c.requires.free c.into_parts-ops.result.0 c.in-Some.machine c.into_parts-ops.ensures.ops
+
+pub execute-requires-clause-served : goal.execute-requires-clause-served
+execute-requires-clause-served c =
+    machine-served c.args.self.now c.args.batch c.args.self.now.ready c.requires.first c.requires.free c.into_parts-ops.result.0 c.in-Some.machine c.into_parts-ops.ensures.ops
+    (c.in-Some.ensures ∙ c.into_parts-ops.ensures.after)
+
+pub use_up-requires-clause-front : goal.use_up-requires-clause-front
+use_up-requires-clause-front c =
+    ready-front c.args.self.now c.args.batch c.args.self.now.ready (length c.as_str-used.result.now) c.as_str-used.result.now c.requires.first c.as_str-used.utf8 refl (c.as_str-used.ensures ∙ c.text.ensures)
+
+pub returns-in_ok-execute-in-Some-clause-executed : goal.returns-in_ok-execute-in-Some-clause-executed
+returns-in_ok-execute-in-Some-clause-executed c =
+    ready-executed c.args.self.now (record c.args.self.now { writer = c.execute.new.self }) c.use_up.new.self c.halt-halt.result c.args.batch (length c.as_str-used.result.now) c.as_str-used.result.now
+    c.requires.first c.halt-halt.ensures c.requires.free c.as_str-used.utf8 refl (c.as_str-used.ensures ∙ c.text.ensures)
+    (executed-behind c.args.self.now c.args.batch c.args.self.now.ready c.requires.first c.requires.free c.into_parts-ops.result.0 c.in-Some.machine c.into_parts-ops.ensures.ops
+    (c.in-Some.ensures ∙ c.into_parts-ops.ensures.after) c.execute.new.self c.in_ok-execute-in-Some.ensures.executed)
+    c.use_up.ensures

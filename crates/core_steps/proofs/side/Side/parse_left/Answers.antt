@@ -1,0 +1,16 @@
+use Rattle.std.proofs.Common.{◌∙◌, ap, refl}
+use Rattle.core_rules.specs.Batches.{Piece}
+use Rattle.core_steps.proofs.Executes.{parsed-front, parsed-executed}
+use Rattle.core_steps.proofs.Ready.{not-empty}
+use Rattle.core_steps.proofs.side.Side.parse_left.Goals as goal
+
+pub use_up-requires-clause-front : goal.use_up-requires-clause-front
+use_up-requires-clause-front c =
+    parsed-front c.args.self.now.ledger.left.text c.as_str-text.result.now c.in_ok-ran.ran.used (c.as_str-text.ensures ∙ (c.text-2.ensures ∙ ap (λ (x : Piece). x.text) c.left-2.ensures)) c.as_str-text.utf8
+    c.in_ok-ran.ensures.parsed.boundary
+
+pub returns-clause-executed : goal.returns-clause-executed
+returns-clause-executed c =
+    parsed-executed c.args.self.now (record c.args.self.now { writer = c.parse.new.self }) c.use_up.new.self c.parse.new.self c.as_str-text.result.now c.in_ok-ran.ran
+    (not-empty c.args.self.now.ledger.left.text c.text.result.now c.is_empty.result (c.text.ensures ∙ ap (λ (x : Piece). x.text) c.left.ensures) c.is_empty.ensures c.if-is_empty.false)
+    (c.as_str-text.ensures ∙ (c.text-2.ensures ∙ ap (λ (x : Piece). x.text) c.left-2.ensures)) c.as_str-text.utf8 c.in_ok-ran.ensures.parsed c.requires.free c.requires.ahead refl c.use_up.ensures

@@ -1,0 +1,6 @@
+pub mod Fetches
+pub mod Journals
+pub mod Sides
+pub mod Acting
+pub mod States
+pub mod Working

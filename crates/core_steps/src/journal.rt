@@ -1,0 +1,129 @@
+//! The journal of a run.
+
+ghost use Rattle.std.specs.Prelude.{◌≡◌, ◌++◌, ◌∷◌, [], None, Some, OnOk, OnErr, IfSome, IfNone};
+ghost use Rattle.std.specs.Str.{chars};
+ghost use Rattle.core_rules.specs.declared.event.Event.TheVariants.{Arrive as arrived};
+ghost use Rattle.core_steps.specs.Fetches.{fetched_of};
+ghost use Rattle.core_steps.specs.Journals.{empty_journal, found};
+
+use crate::fetch::{Fetch, FetchedFile};
+use core_rules::Event;
+use html_types::{Ending, NoMemory, Text};
+use page_pieces::SharedText;
+use std::alloc::Global;
+use std::collections::BTreeMap;
+use std::marker::Model;
+use std::snapshot::Snapshot;
+
+/// What a run leaves behind: the pieces of the page's text as they were read, its ending where that was read, each name that was fetched with
+/// what came of it, the latest first, and the events of the document's side.
+#[derive(Drop)]
+pub struct Journal {
+    alloc: Global,
+    pieces: Vec<SharedText>,
+    ending: Option<Ending>,
+    fetches: BTreeMap<String, Fetch>,
+    // The same, the latest last. A contract sees them in this order.
+    fetched: Vec<Snapshot<FetchedFile>>,
+    events: Vec<Event>,
+}
+
+impl Model for Journal {
+    ghost use Rattle.core_rules.specs.Journal as rules;
+    ghost use Rattle.std.specs.Prelude.{reverse};
+    ghost use Rattle.core_steps.specs.Fetches.{fetches_of};
+    ghost use Rattle.core_steps.specs.Journals.{AreIndexed};
+
+    ghost Value = { rules.Journal };
+
+    ghost view = { λ j. record { pieces = j.pieces.items; ending = j.ending; fetches = fetches_of (reverse j.fetched.items); events = j.events.items } };
+
+    ghost invariant = { λ j. AreIndexed j.fetches (fetches_of (reverse j.fetched.items)) };
+}
+
+impl Journal {
+    /// Nothing is read, fetched or done.
+    pub fn new(alloc: Global) -> Journal
+        ensures { result ≡ empty_journal }
+    {
+        Journal {
+            alloc,
+            pieces: Vec::new(alloc),
+            ending: None,
+            fetches: BTreeMap::new(alloc),
+            fetched: Vec::new(alloc),
+            events: Vec::new(alloc),
+        }
+    }
+
+    /// The pieces that were read.
+    pub fn pieces(&self) -> &[SharedText]
+        ensures { result.now ≡ self.now.pieces }
+    {
+        self.pieces.as_slice()
+    }
+
+    /// The page's ending, where it was read.
+    pub fn ending(&self) -> Option<Ending>
+        ensures { result ≡ self.now.ending }
+    {
+        self.ending
+    }
+
+    /// The events.
+    pub fn events(&self) -> &[Event]
+        ensures { result.now ≡ self.now.events }
+    {
+        self.events.as_slice()
+    }
+
+    /// What came of the script of that name, where it was fetched.
+    pub fn find(&self, name: &str) -> Option<&Fetch>
+        ensures found { IfSome result (λ fetch. found (chars name.now) self.now.fetches ≡ Some (fetched_of fetch.now)) }
+        ensures none { IfNone result (found (chars name.now) self.now.fetches ≡ None) }
+    {
+        self.fetches.get(name)
+    }
+
+    /// Adds a piece that was read.
+    pub(crate) fn add_piece(&mut self, piece: SharedText) -> Result<(), NoMemory>
+        ensures ok { OnOk result (self.new ≡ record self.old { pieces = self.old.pieces ++ piece ∷ [] }) }
+        ensures err { OnErr result (self.new ≡ self.old) }
+    {
+        self.pieces.push(piece)?;
+        Ok(())
+    }
+
+    /// The page's ending was read. It takes no memory.
+    pub(crate) fn set_ending(&mut self, ending: Ending)
+        ensures { self.new ≡ record self.old { ending = Some ending } }
+    {
+        self.ending = Some(ending);
+    }
+
+    /// Adds an event.
+    pub(crate) fn add_event(&mut self, event: Event) -> Result<(), NoMemory>
+        ensures ok { OnOk result (self.new ≡ record self.old { events = self.old.events ++ event ∷ [] }) }
+        ensures err { OnErr result (self.new ≡ self.old) }
+    {
+        self.events.push(event)?;
+        Ok(())
+    }
+
+    /// The fetch of the script of that name has returned.
+    pub(crate) fn add_fetch(&mut self, name: Text, fetch: Fetch) -> Result<(), NoMemory>
+        ensures ok { OnOk result (self.new ≡ record self.old { fetches = (name, fetched_of fetch) ∷ self.old.fetches; events = self.old.events ++ arrived name ∷ [] }) }
+        ensures err { OnErr result (self.new ≡ self.old) }
+    {
+        let key = String::from_str(self.alloc, name.as_str())?;
+        self.events.reserve(1)?;
+        self.fetched.reserve(1)?;
+        let file = FetchedFile { name, fetch };
+        let fetched = Snapshot::of(&file);
+        let FetchedFile { name, fetch } = file;
+        self.fetches.insert(key, fetch)?;
+        self.fetched.push_reserved(fetched);
+        self.events.push_reserved(Event::Arrive(name));
+        Ok(())
+    }
+}

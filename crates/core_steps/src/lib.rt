@@ -1,0 +1,22 @@
+//! The core, step by step: the document's side, the parser's side, and the pair of them with the requests and replies that are under way.
+//! What each event does is exactly what the definitions in `core_rules` say of it.
+#![tactic(auto)]
+
+pub mod doc_side;
+pub mod fetch;
+pub mod file;
+pub mod journal;
+mod side;
+mod stage;
+pub mod state;
+#[cfg(test)]
+mod tests;
+pub mod work_side;
+
+pub use core_rules::Event;
+pub use doc_side::DocSide;
+pub use fetch::{Fetch, FetchedFile};
+pub use file::is_lawful;
+pub use journal::Journal;
+pub use state::State;
+pub use work_side::WorkSide;

@@ -1,0 +1,547 @@
+//! What the document's side holds, while memory lasts, and its events.
+
+ghost use Rattle.std.specs.Prelude.{◌≡◌, ◌<◌, ◌++◌, ◌∷◌, [], false, None, Some, IfOk, OnOk, OnErr, IsTrue, not, length};
+ghost use Rattle.std.specs.Str.{chars};
+ghost use Rattle.core_rules.specs.declared.event.Event.TheVariants as event;
+ghost use Rattle.core_rules.specs.Batches.{answer};
+ghost use Rattle.core_rules.specs.Core.{joined};
+ghost use Rattle.write_parser.specs.Writing.{why_of};
+ghost use Rattle.core_rules.specs.Desk.{is_done, has_arrived, can_send, can_do, wants_reply, sends, takes};
+ghost use Rattle.core_rules.specs.Settling.{is_empty as has_none};
+ghost use Rattle.speculation.specs.Asking.{page_limit};
+ghost use Rattle.core_steps.specs.Fetches.{fetched_of};
+ghost use Rattle.core_steps.specs.States.{standing_told};
+ghost use Rattle.std.specs.Prelude.{◌+◌, ◌≤◌, suc};
+ghost use Rattle.standard.specs.Act.{is_bound};
+ghost use Rattle.core_rules.specs.declared.verdict.Verdict.TheVariants as verdict;
+ghost use Rattle.moment_laws.specs.Served.{AreBelow, IsRoomy};
+ghost use Rattle.core_steps.specs.Acting.{ended, IsFront, UsedUp, free_hand, behind_first, at_stage, Executed, MeetsTag, runs_there, RunsBatch, JudgedAs, Judged, Settled, RunsTagged, met, RunsFetched, ActsBy};
+ghost use Rattle.core_steps.specs.Sides.{IsFree, IsHolding, IsTagged, IsWaiting, IsPlaced};
+ghost use Rattle.core_steps.specs.Sides.{first_shown, standing_of, lines_given, with_piece, with_ending, journaled, with_fetch, IsRequestFor, sent_before, DoesShow, left_to_do, hand_of, desk_of, shown_of, AreAhead, IsSound};
+
+use crate::fetch::Fetch;
+use crate::file::{is_lawful, text_of};
+use crate::journal::Journal;
+use crate::stage::Stage;
+use crate::state::State;
+use core_rules::{Event, Verdict};
+use entity_table::Table;
+use html_types::{Ending, Finish, Lines, NoMemory, NodeId, Stop, Text, Why};
+use op_exec::ScriptKind;
+use page_pieces::{Ledger, Piece, SharedText};
+use parse_machine::Machine;
+use speculation::{Batch, Batches, Halt, InForce, Reply, Request, Said, decide};
+use std::alloc::Global;
+use std::mem;
+use std::snapshot::Snapshot;
+use write_parser::{Left, Overrun, Writer};
+
+/// The epoch, the next realm of ids, and two places in the page: of what is left of the piece in hand, and of the pieces to be sent.
+#[derive(Drop)]
+pub(crate) struct Counts {
+    pub epoch: u64,
+    pub realm: u64,
+    pub place: u64,
+    pub sent_to: u64,
+}
+
+/// What the document's side holds.
+#[derive(Drop)]
+pub(crate) struct Side {
+    pub alloc: Global,
+    pub table: Table,
+    pub writer: Writer,
+    // The lines that were taken, which are held no more.
+    pub given: Vec<Snapshot<Lines>>,
+    pub ledger: Ledger,
+    pub stage: Stage,
+    // The batches in hand, where a reply had them. Where there are none, what is left of the piece in hand is parsed as it is executed.
+    pub ready: Batches,
+    pub begins: Option<Machine>,
+    pub counts: Counts,
+    pub journal: Journal,
+}
+
+// How many characters a text has.
+fn count(text: &str) -> u64
+    ensures { result ≡ length (chars text.now) }
+{
+    text.chars().count() as u64
+}
+
+fn why_of(overrun: Overrun) -> Why
+    ensures { result ≡ why_of overrun }
+{
+    match overrun {
+        Overrun::Depth => Why::Depth,
+        Overrun::Writes => Why::Writes,
+    }
+}
+
+// What is handed in, and what is known of it.
+impl Side {
+    /// Before any event, with no pieces. So many requests are sent ahead at most.
+    pub fn new(alloc: Global, table: &Table, ahead: usize) -> Result<Side, NoMemory>
+        ensures first { IfOk result (λ s. shown_of s false ≡ first_shown table.now ahead) }
+        ensures sound { IfOk result (λ s. IsSound s) }
+    {
+        let table = table.copy()?;
+        let writer = Writer::new(alloc, 0)?;
+        let ledger = Ledger::new(alloc, ahead)?;
+        Ok(Side {
+            alloc,
+            table,
+            writer,
+            given: Vec::new(alloc),
+            ledger,
+            stage: Stage::Free,
+            ready: Batches::new(alloc),
+            begins: Some(Machine::new(alloc, 0)),
+            counts: Counts {
+                epoch: 1,
+                realm: 1,
+                place: 0,
+                sent_to: 0,
+            },
+            journal: Journal::new(alloc),
+        })
+    }
+
+    /// Adds a piece of the page's text, behind all others.
+    pub fn piece(&mut self, text: &str) -> Result<(), NoMemory>
+        requires sound { IsSound self.old }
+        requires no_ending { self.old.journal.ending ≡ None }
+        requires within { length (joined self.old.journal.pieces) + length (chars text.now) ≤ page_limit }
+        ensures sound { OnOk result (IsSound self.new) }
+        ensures shown { OnOk result (shown_of self.new false ≡ with_piece (chars text.now) (shown_of self.old false)) }
+        ensures journal { OnErr result (self.new.journal ≡ self.old.journal) }
+    {
+        let text = SharedText::of(self.alloc, String::from_str(self.alloc, text)?)?;
+        let copy = text.copy()?;
+        self.ledger.add(Piece::new(text, None))?;
+        self.journal.add_piece(copy)
+    }
+
+    /// Adds the page's ending, behind all pieces.
+    pub fn end(&mut self, ending: Ending) -> Result<(), NoMemory>
+        requires sound { IsSound self.old }
+        requires no_ending { self.old.journal.ending ≡ None }
+        ensures sound { OnOk result (IsSound self.new) }
+        ensures shown { OnOk result (shown_of self.new false ≡ with_ending ending (shown_of self.old false)) }
+        ensures journal { OnErr result (self.new.journal ≡ self.old.journal) }
+    {
+        let text = SharedText::empty(self.alloc)?;
+        self.ledger.add(Piece::new(text, Some(ending)))?;
+        self.journal.set_ending(ending);
+        Ok(())
+    }
+
+    /// Whether the parse is over.
+    fn is_done(&self) -> bool
+        ensures { result ≡ is_done (desk_of self.now).phase }
+    {
+        matches!(&self.stage, Stage::Done(_))
+    }
+
+    /// Whether a piece may be sent.
+    pub fn can_send(&self) -> bool
+        ensures { result ≡ can_send self.now.ledger.ahead (desk_of self.now) }
+    {
+        !self.is_done() && self.ledger.can_keep()
+    }
+
+    // Whether the script of that name has arrived.
+    fn has_arrived(&self, name: &Text) -> bool
+        ensures { result ≡ has_arrived name.now (desk_of self.now) }
+    {
+        !is_lawful(name.as_str()) || self.journal.find(name.as_str()).is_some()
+    }
+
+    /// Whether a batch is in hand, or a script that can run on.
+    pub fn can_do(&self) -> bool
+        ensures { result ≡ can_do (desk_of self.now) }
+    {
+        match &self.stage {
+            Stage::Free => !self.ledger.left().is_blank(),
+            Stage::Tagged(_, _) => true,
+            Stage::Waits(name, _) => self.has_arrived(name),
+            Stage::Done(_) => false,
+        }
+    }
+
+    /// Whether nothing is in hand, and a reply is to come.
+    pub fn wants_reply(&self) -> bool
+        ensures { result ≡ wants_reply (desk_of self.now) }
+    {
+        match &self.stage {
+            Stage::Free => self.ledger.left().is_blank() && self.ledger.outstanding() > 0,
+            _ => false,
+        }
+    }
+
+    /// Where it stands.
+    pub fn status(&self) -> State<'_>
+        ensures { standing_told result ≡ standing_of (desk_of self.now) }
+    {
+        match &self.stage {
+            Stage::Waits(name, _) => {
+                if self.has_arrived(name) {
+                    State::Running
+                } else {
+                    State::Awaits(name)
+                }
+            }
+            Stage::Done(None) => State::Done,
+            Stage::Done(Some(why)) => State::Refused(*why),
+            _ => State::Running,
+        }
+    }
+}
+
+// The events but Do.
+impl Side {
+    /// Sends the first of the pieces to be sent.
+    pub fn send(&mut self) -> Result<Request, NoMemory>
+        requires sound { IsSound self.old }
+        requires can { IsTrue (can_send self.old.ledger.ahead (desk_of self.old)) }
+        ensures sound { OnOk result (IsSound self.new) }
+        ensures request { IfOk result (λ r. IsRequestFor self.old.ledger.to_send (desk_of self.old) r.request) }
+        ensures from { IfOk result (λ r. r.from ≡ sent_before (shown_of self.old false)) }
+        ensures shown { OnOk result (shown_of self.new false ≡ journaled event.Send (sends (desk_of self.old)) (shown_of self.old false)) }
+        ensures journal { OnErr result (self.new.journal ≡ self.old.journal) }
+    {
+        let from = self.counts.sent_to;
+        let piece = self.ledger.keep()?;
+        self.counts.sent_to = from + count(piece.text().as_str());
+        let number = self.ledger.sent() as u64;
+        let begins = self.begins.take();
+        self.journal.add_event(Event::Send)?;
+        Ok(Request::new(self.counts.epoch, number, begins, piece, from))
+    }
+
+    // Whether a reply is the one called for: to the piece in hand, from where the parser stands.
+    fn is_called_for(&self, said: &Said) -> bool
+        ensures { IsTrue result → (said.now.start ≡ Some self.now.writer.parser) × (said.now.piece ≡ self.now.ledger.left) }
+    {
+        said.epoch() == self.counts.epoch
+            && said.number() == (self.ledger.sent() - self.ledger.outstanding()) as u64
+            && said.from() == self.counts.place
+            && said.is_of(self.ledger.left())
+            && said.begins_at(self.writer.machine())
+    }
+
+    // The batches of a reply, where it is the one called for.
+    fn batches_of<E: InForce>(&self, reply: Reply<E>) -> Batches
+        ensures { AreAhead result (answer E.entities (Some self.now.writer.parser) self.now.ledger.left).batches }
+    {
+        let said = reply.said;
+        if !self.is_called_for(&said) {
+            return Batches::new(self.alloc);
+        }
+        said.into_batches()
+    }
+
+    /// Takes a reply. It is dropped where an epoch that has ended sent the request; else what was made of the piece is in hand.
+    pub fn take<E: InForce>(&mut self, reply: Reply<E>) -> Result<(), NoMemory>
+        requires entities { self.old.table ≡ E.entities }
+        requires sound { IsSound self.old }
+        requires wanted { IsTrue (wants_reply (desk_of self.old)) }
+        ensures sound { OnOk result (IsSound self.new) }
+        ensures shown { OnOk result (shown_of self.new false ≡ journaled event.Take (takes self.old.table (desk_of self.old)) (shown_of self.old false)) }
+        ensures journal { OnErr result (self.new.journal ≡ self.old.journal) }
+    {
+        // A reply to a request of an epoch that has ended isn't the one called for.
+        let _current = self.ledger.took();
+        self.ready = self.batches_of(reply);
+        self.journal.add_event(Event::Take)
+    }
+
+    /// The fetch of the script of that name has returned.
+    pub fn arrive(&mut self, name: Text, fetch: Fetch) -> Result<(), NoMemory>
+        requires sound { IsSound self.old }
+        ensures sound { OnOk result (IsSound self.new) }
+        ensures shown { OnOk result (shown_of self.new false ≡ with_fetch name (fetched_of fetch) (shown_of self.old false)) }
+        ensures journal { OnErr result (self.new.journal ≡ self.old.journal) }
+    {
+        self.journal.add_fetch(name, fetch)
+    }
+
+    /// The lines that scripts gave since lines were last taken.
+    pub fn take_lines(&mut self) -> Result<Lines, NoMemory>
+        requires { IsSound self.old }
+        ensures lines { IfOk result (λ lines. self.old.writer.lines ≡ lines) }
+        ensures taken { IfOk result (λ lines. shown_of self.new false ≡ record (shown_of self.old false) { given = lines_given self.old.given.items ++ lines }) }
+        ensures sound { IsSound self.new }
+        ensures err { OnErr result (shown_of self.new false ≡ shown_of self.old false) }
+    {
+        self.given.reserve(1)?;
+        let lines = self.writer.take_lines();
+        self.given.push_reserved(Snapshot::of(&lines));
+        Ok(lines)
+    }
+}
+
+// Do, with no script in hand.
+impl Side {
+    // Executes the first batch in hand.
+    fn execute_batch(&mut self) -> Result<Halt, NoMemory>
+        requires sound { IsSound self.old }
+        requires free { self.old.stage ≡ Stage.Free }
+        requires some { has_none (free_hand self.old) ≡ false }
+        ensures executed { IfOk result (λ halt. Executed self.old halt self.new) }
+        ensures journal { self.new.journal ≡ self.old.journal }
+    {
+        match self.ready.pop() {
+            Some(batch) => self.execute_ready(batch),
+            None => self.parse_left(),
+        }
+    }
+
+    // Executes a batch that was made ahead. Where it holds no machine its text is parsed here.
+    fn execute_ready(&mut self, batch: Batch) -> Result<Halt, NoMemory>
+        requires going { self.old.writer.spent ≡ false }
+        requires free { IsFree self.old.counts.realm self.old.writer }
+        requires first { free_hand self.old ≡ batch ∷ self.old.ready }
+        requires placed { IsPlaced self.old.counts.place self.old.counts.sent_to self.old.ledger self.old.journal }
+        ensures executed { IfOk result (λ halt. Executed self.old halt self.new) }
+        ensures journal { self.new.journal ≡ self.old.journal }
+    {
+        let halt = batch.halt();
+        let used = batch.text().as_str().len();
+        let (ops, after) = batch.into_parts();
+        match after.into_machine() {
+            None => self.parse_left(),
+            Some(machine) => {
+                self.writer.execute(ops, machine)?;
+                self.use_up(used);
+                Ok(halt)
+            }
+        }
+    }
+
+    // So many bytes of the piece in hand are executed.
+    fn use_up(&mut self, bytes: usize)
+        requires front { IsFront bytes self.old.ledger.left.text }
+        requires placed { IsPlaced self.old.counts.place self.old.counts.sent_to self.old.ledger self.old.journal }
+        ensures { UsedUp bytes self.old self.new }
+    {
+        let front = &self.ledger.left().text().as_str()[..bytes];
+        let characters = count(front);
+        self.ledger.used(bytes);
+        self.counts.place += characters;
+    }
+
+    // Parses what is left of the piece in hand up to the first stop, and does the operations.
+    fn parse_left(&mut self) -> Result<Halt, NoMemory>
+        requires going { self.old.writer.spent ≡ false }
+        requires free { IsFree self.old.counts.realm self.old.writer }
+        requires some { has_none (free_hand self.old) ≡ false }
+        requires ahead { AreAhead self.old.ready (behind_first (free_hand self.old)) }
+        requires placed { IsPlaced self.old.counts.place self.old.counts.sent_to self.old.ledger self.old.journal }
+        ensures executed { IfOk result (λ halt. Executed self.old halt self.new) }
+        ensures journal { self.new.journal ≡ self.old.journal }
+    {
+        if self.ledger.left().text().is_empty() {
+            return self.parse_ending();
+        }
+        let text = self.ledger.left().text().as_str();
+        let ran = self.writer.parse(&self.table, text)?;
+        self.use_up(ran.used);
+        Ok(Halt::At(ran.stop))
+    }
+
+    // Takes the page's ending, which the piece in hand carries.
+    fn parse_ending(&mut self) -> Result<Halt, NoMemory>
+        requires going { self.old.writer.spent ≡ false }
+        requires free { IsFree self.old.counts.realm self.old.writer }
+        requires some { has_none (free_hand self.old) ≡ false }
+        requires ends { self.old.ledger.left.text ≡ [] }
+        requires ahead { AreAhead self.old.ready (behind_first (free_hand self.old)) }
+        requires placed { IsPlaced self.old.counts.place self.old.counts.sent_to self.old.ledger self.old.journal }
+        ensures executed { IfOk result (λ halt. Executed self.old halt self.new) }
+        ensures journal { self.new.journal ≡ self.old.journal }
+    {
+        match self.ledger.left().ending() {
+            Some(Ending::End) => {
+                let finish = self.writer.finish(&self.table)?;
+                Ok(Halt::Finishing(finish))
+            }
+            Some(Ending::Bad) => Ok(Halt::Refusing(Why::BadUtf8)),
+            Some(Ending::Long) => Ok(Halt::Refusing(Why::Page)),
+            Some(Ending::Fault) => Ok(Halt::Refusing(Why::Fault)),
+            None => Err(NoMemory),
+        }
+    }
+
+    // The parse is over.
+    fn end_parse(&mut self, why: Option<Why>)
+        ensures { self.new ≡ ended why self.old }
+    {
+        self.ready = Batches::new(self.alloc);
+        self.stage = Stage::Done(why);
+    }
+
+    // A realm that no element's id has, and the next behind it.
+    fn new_realm(&mut self) -> Result<u64, NoMemory>
+        ensures realm { IfOk result (λ realm. realm ≡ self.old.counts.realm) }
+        ensures next { OnOk result (self.new ≡ record self.old { counts = record self.old.counts { realm = suc self.old.counts.realm } }) }
+        ensures err { OnErr result (self.new ≡ self.old) }
+    {
+        let realm = self.counts.realm;
+        self.counts.realm = realm.checked_add(1).ok_or(NoMemory)?;
+        Ok(realm)
+    }
+
+    // The end tag of a script was met. One that runs is in hand from here on, and what it writes has ids of its own.
+    fn meet_end_tag(&mut self, id: NodeId) -> Result<(), NoMemory>
+        requires bound { IsTrue (is_bound self.old.writer.doc.bound id) }
+        requires room { IsRoomy self.old.counts.realm self.old.writer.parser self.old.writer.doc }
+        ensures met { OnOk result (MeetsTag (runs_there id self.old) id self.old self.new) }
+        ensures journal { self.new.journal ≡ self.old.journal }
+    {
+        if self.writer.doc().script_kind(id) == ScriptKind::Still {
+            return Ok(());
+        }
+        let held = self.writer.machine().copy(self.alloc)?;
+        let realm = self.new_realm()?;
+        self.writer.renew(realm);
+        self.stage = Stage::Tagged(id, held);
+        Ok(())
+    }
+
+    // Executes a batch, and does what its end asks for.
+    fn run_batch(&mut self) -> Result<(), NoMemory>
+        requires sound { IsSound self.old }
+        requires free { self.old.stage ≡ Stage.Free }
+        requires some { has_none (free_hand self.old) ≡ false }
+        ensures runs { OnOk result (RunsBatch self.old self.new) }
+        ensures journal { self.new.journal ≡ self.old.journal }
+    {
+        match self.execute_batch()? {
+            Halt::At(Stop::InputEnd) => {}
+            Halt::At(Stop::Script(id)) => self.meet_end_tag(id)?,
+            Halt::At(Stop::Deep) => self.end_parse(Some(Why::Depth)),
+            Halt::Finishing(Finish::Finished) => self.end_parse(None),
+            Halt::Finishing(Finish::Deep) => self.end_parse(Some(Why::Depth)),
+            Halt::Refusing(why) => self.end_parse(Some(why)),
+        }
+        Ok(())
+    }
+}
+
+// Do, with a script in hand.
+impl Side {
+    // Runs the script whose end tag was met.
+    fn run_tagged(&mut self, id: NodeId, held: Machine) -> Result<(), NoMemory>
+        requires { IsTagged self.old.counts.realm held self.old.writer (is_bound self.old.writer.doc.bound id) }
+        ensures runs { OnOk result (RunsTagged id held self.old self.new) }
+        ensures journal { self.new.journal ≡ self.old.journal }
+    {
+        self.writer.end_tag(&self.table, id)?;
+        self.settle(held)
+    }
+
+    // Runs the script that was awaited.
+    fn run_awaited(&mut self, name: &Text, held: Machine) -> Result<(), NoMemory>
+        requires { IsWaiting self.old.counts.realm name.now held self.old.writer }
+        ensures runs { OnOk result (RunsFetched (met self.old name.now) name.now held self.old self.new) }
+        ensures journal { self.new.journal ≡ self.old.journal }
+    {
+        match self.journal.find(name.as_str()) {
+            // A name that isn't lawful is missing.
+            None | Some(Fetch::Missing) => {
+                self.writer.miss()?;
+                self.settle(held)
+            }
+            Some(Fetch::Got(bytes)) => {
+                let text = text_of(self.alloc, bytes.as_slice())?;
+                self.writer.run_script(&self.table, text.as_str())?;
+                self.settle(held)
+            }
+            Some(Fetch::Faulted) => {
+                self.end_parse(Some(Why::Fault));
+                Ok(())
+            }
+        }
+    }
+
+    // Parses what was written, until it is used, a script is awaited, or the page is refused.
+    fn settle(&mut self, held: Machine) -> Result<(), NoMemory>
+        requires { self.old.writer.halted ≡ None → IsHolding self.old.counts.realm held self.old.writer }
+        ensures settled { OnOk result (Settled held self.old self.new) }
+        ensures journal { self.new.journal ≡ self.old.journal }
+    {
+        match self.writer.feed_left(&self.table)? {
+            Left::Empty => self.judge(held)?,
+            Left::Awaits(name) => self.stage = Stage::Waits(name, held),
+            Left::Limit(overrun) => self.end_parse(Some(why_of(overrun))),
+        }
+        Ok(())
+    }
+
+    // The script has ended, and all that was written is used: what was made ahead of it is kept or thrown away.
+    fn judge(&mut self, held: Machine) -> Result<(), NoMemory>
+        requires { IsHolding self.old.counts.realm held self.old.writer }
+        ensures judged { OnOk result (Judged held self.old self.new) }
+        ensures journal { self.new.journal ≡ self.old.journal }
+    {
+        match decide(&held, self.writer.machine()) {
+            Verdict::Keep => {
+                self.writer.load(held);
+                self.stage = Stage::Free;
+                Ok(())
+            }
+            Verdict::Rewind => self.rewind(),
+        }
+    }
+
+    // The epoch ends: what isn't executed of the pieces that were sent is sent again.
+    fn rewind(&mut self) -> Result<(), NoMemory>
+        requires { AreBelow self.old.counts.realm (is_bound self.old.writer.doc.bound) }
+        ensures rewound { OnOk result (JudgedAs verdict.Rewind self.old.writer.parser self.old self.new) }
+        ensures journal { self.new.journal ≡ self.old.journal }
+    {
+        let epoch = self.counts.epoch.checked_add(1).ok_or(NoMemory)?;
+        let realm = self.new_realm()?;
+        self.writer.renew(realm);
+        let begins = self.writer.machine().copy(self.alloc)?;
+        self.ledger.rewind(self.alloc)?;
+        self.ready = Batches::new(self.alloc);
+        self.begins = Some(begins);
+        self.counts.epoch = epoch;
+        self.counts.sent_to = self.counts.place;
+        self.stage = Stage::Free;
+        Ok(())
+    }
+
+    // Do by what is in hand.
+    fn act_in(&mut self, stage: Stage) -> Result<(), NoMemory>
+        requires free { self.old.stage ≡ Stage.Free }
+        requires sound { IsSound (at_stage stage self.old) }
+        requires can { IsTrue (can_do (desk_of (at_stage stage self.old))) }
+        ensures acts { OnOk result (ActsBy stage self.old self.new) }
+        ensures journal { self.new.journal ≡ self.old.journal }
+    {
+        match stage {
+            Stage::Free => self.run_batch(),
+            Stage::Tagged(id, held) => self.run_tagged(id, held),
+            Stage::Waits(name, held) => self.run_awaited(&name, held),
+            Stage::Done(_) => Ok(()),
+        }
+    }
+
+    /// Executes a batch, or runs the script that is in hand, until it ends or a script is awaited.
+    pub fn act(&mut self) -> Result<(), NoMemory>
+        requires sound { IsSound self.old }
+        requires can { IsTrue (can_do (desk_of self.old)) }
+        ensures sound { OnOk result (IsSound self.new) }
+        ensures does { OnOk result (DoesShow self.old.table self.old.journal.fetches (desk_of self.old) (desk_of self.new)) }
+        ensures others { OnOk result (shown_of self.new false ≡ journaled event.Do (desk_of self.new) (shown_of self.old false)) }
+        ensures less { OnOk result (left_to_do (desk_of self.new) < left_to_do (desk_of self.old)) }
+        ensures journal { OnErr result (self.new.journal ≡ self.old.journal) }
+    {
+        let stage = mem::replace(&mut self.stage, Stage::Free);
+        self.act_in(stage)?;
+        self.journal.add_event(Event::Do)
+    }
+}

@@ -1,0 +1,17 @@
+//! What the document's side has in hand besides batches.
+
+use html_types::{NodeId, Text, Why};
+use parse_machine::Machine;
+
+/// Where the document's side stands.
+#[derive(Drop)]
+pub(crate) enum Stage {
+    /// No script is in hand.
+    Free,
+    /// A script whose end tag was met, and the parser just behind the tag.
+    Tagged(NodeId, Machine),
+    /// A script that awaits the file of that name, and that parser.
+    Waits(Text, Machine),
+    /// The parse is over: why it is refused, if it is.
+    Done(Option<Why>),
+}
