@@ -9,8 +9,6 @@ pub mod journal;
 mod side;
 mod stage;
 pub mod state;
-#[cfg(test)]
-mod tests;
 pub mod work_side;
 
 pub use core_rules::Event;
