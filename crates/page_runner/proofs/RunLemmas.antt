@@ -14,6 +14,7 @@ use Rattle.standard.specs.Scripts as fetched
 use Rattle.standard.specs.Serial.{World}
 use Rattle.standard.specs.Output.{line_text, result_with, output_with}
 use Rattle.standard_laws.proofs.Total.{has_outcome}
+use Rattle.write_parser.specs.Writing.{View}
 use Rattle.page_runner.specs.declared.command.TheConstants.{ENTITIES_LIMIT}
 use Rattle.page_runner.specs.declared.command.Unread.{Unread}
 use Rattle.page_runner.specs.declared.command.Unread.TheVariants as unread
@@ -31,7 +32,6 @@ use Rattle.page_runner.specs.Taken.{Took, TookFront}
 use Rattle.page_runner.specs.Scripts.{path_of, IsAbsent, MayFetch, ReadScriptsTo, NamesOnce, none_begun, last}
 use Rattle.page_runner.specs.Shown.{result_of, status_of}
 use Rattle.page_runner.specs.Pages.{PageRead, page_at, world_of, AreTaken, ReadsOn, IsReadFrom, MeetsFaults, Ended, EndsWithScripts, FrontWithScripts}
-use Rattle.page_runner.specs.Turns.{LeavesAlone}
 use Rattle.page_runner.specs.Answers.{IsPageOf, PageMet, MayGivePage, FaultsMet, IsParsed, Answer, status_with, answer_to_page, answer_over, answer_to, table_of, status_for, Gives, is_answered, IsBegun, PageAnswers, ReadsPage, ReadsTable, ReadsNone, answer_without, Answers, RunsTo, StopsAtEach, StopsAtLimits, BeginsEach, BeginsOnce, is_finished}
 use Rattle.outside.proofs.KeepsLemmas.{keeps-same}
 use Rattle.page_runner.proofs.KeepsLemmas.{begun_none, begun_then, begun_stays, begun_since, begun_is, rose-on, rose-stays, entities-same, entities-then, entities-others}
@@ -122,21 +122,20 @@ read_of (Some map) path whole left read found taken = record { so_far = there (m
     there None whole some same taken = absurd (cc some)
     there (Some all) whole some same taken = subst (λ w. IfSome w (λ all. (rest : List ℕ) × (all ≡ read ++ rest) × (left ≡ Some rest))) same taken
 
--- what is written of an outcome depends on the tree only where the parse finished
-ended_text : (w : World) (page : PageRead) (doc : Doc) (t t' : Option (List ℕ)) (o : Told) (end : Ended w page doc t t' o) (dump : Bool)
-    → output_with dump end.outcome ≡ flat_map line_text end.outcome.last.side.lines ++ result_with dump (result_of o) doc.tree
+-- what is written of the page that ended so
+ended_text : (w : World) (page : PageRead) (v : View) (t t' : Option (List ℕ)) (o : Told) (end : Ended w page v t t' o) (dump : Bool)
+    → output_with dump end.outcome ≡ flat_map line_text end.outcome.last.side.lines ++ result_with dump (result_of o) v.doc.tree
 unfolding output_with
-ended_text w page doc t t' o end dump =
-    ap (λ r. flat_map line_text end.outcome.last.side.lines ++ result_with dump r end.outcome.last.side.doc.tree) end.result
-    ∙ ap (λ x. flat_map line_text end.outcome.last.side.lines ++ result_with dump (result_of o) x) end.tree
+ended_text w page v t t' o end dump = ap (λ l. flat_map line_text end.outcome.last.side.lines ++ l) (end.text dump)
 
-module _ (es : Table) (dump : Bool) (path dir : List ℕ) (before after : Seen) (found : IsBegun path before) where
+module _ (es : Table) (dump : Bool) (path dir : List ℕ) (dir' : List ℕ) (is_dir : dir' ≡ dir) (before after : Seen) (found : IsBegun path before) where
   may_page : (page : PageRead) → IsReadFrom before after page → IsPageOf (file_at before path) (after.left Page) (FaultsRose Page before after) (NoFault Page before after) page
   may_page page from = page_of before.files path before after page found from
 
   -- the parse gave up
-  pub page_gave_up : (k k' : ℕ) (t t' : Option (List ℕ)) (f : Failure) → (f ≡ failures.Write → Rose k k') → FrontWithScripts es dir before after t t' → PageAnswers es dump path dir before after k k' t t' (status_for f)
-  page_gave_up k k' t t' f cause part =
+  pub page_gave_up : (k k' : ℕ) (t t' : Option (List ℕ)) (f : Failure) → (f ≡ failures.Write → Rose k k') → FrontWithScripts es dir' before after t t' → PageAnswers es dump path dir before after k k' t t' (status_for f)
+  page_gave_up k k' t t' f cause front =
+      let part = subst (λ d. FrontWithScripts es d before after t t') is_dir front in
       let end = has_outcome (page_at part.page) (world_of es part.scripts) in
       let met : PageMet = record { read = part.page; scripts = part.scripts; outcome = end.0 } in
       record {
@@ -148,9 +147,10 @@ module _ (es : Table) (dump : Bool) (path dir : List ℕ) (before after : Seen) 
       }
 
   -- the parse ended, and what comes of it was written, or a front of it
-  pub page_ended : (k now_k k' : ℕ) (t now' t' : Option (List ℕ)) (doc doc' : Doc) (o : Told) (r : Status) → k ≤ now_k → EndsWithScripts es dir before after doc t now' o → doc' ≡ doc
-      → Gives (Rose now_k k') now' t' (status_of o, result_with dump (result_of o) doc'.tree) r → PageAnswers es dump path dir before after k k' t t' r
-  page_ended k now_k k' t now' t' doc doc' o r later ends same gives' =
+  pub page_ended : (k now_k k' : ℕ) (t now' t' : Option (List ℕ)) (v : View) (doc : Doc) (o : Told) (r : Status) → k ≤ now_k → EndsWithScripts es dir' before after v t now' o → doc ≡ v.doc
+      → Gives (Rose now_k k') now' t' (status_of o, result_with dump (result_of o) doc.tree) r → PageAnswers es dump path dir before after k k' t t' r
+  page_ended k now_k k' t now' t' v doc o r later ends' same gives' =
+      let ends = subst (λ d. EndsWithScripts es d before after v t now' o) is_dir ends' in
       let gives = subst (λ d. Gives (Rose now_k k') now' t' (status_of o, result_with dump (result_of o) d.tree) r) same gives' in
       let end = ends.ended in
       let all = gives_behind (Rose now_k k') (Rose k k') t now' t' (status_of o) _ _ r (λ rose. rose-on k now_k k' later rose) end.took gives in
@@ -160,20 +160,21 @@ module _ (es : Table) (dump : Bool) (path dir : List ℕ) (before after : Seen) 
         faults = λ _. subst (λ result. MeetsFaults ends.page result before after) (sym end.result) ends.faults;
         parsed = end.comes;
         gives = subst (λ s. Gives (Rose k k') t t' (s, output_with dump end.outcome) r) (status_is o ∙ ap status_with (sym end.result))
-            (subst (λ l. Gives (Rose k k') t t' (status_of o, l) r) (sym (ended_text (world_of es ends.scripts) ends.page doc t now' o end dump)) all);
+            (subst (λ l. Gives (Rose k k') t t' (status_of o, l) r) (sym (ended_text (world_of es ends.scripts) ends.page v t now' o end dump)) all);
       }
 
   page_read_to : ReadsOn (PAGE_LIMIT + 1) (before.left Page) (after.left Page) → ReadTo PAGE_LIMIT Page path before after
   page_read_to reads = begun reads.read (read_of before.files path (before.left Page) (after.left Page) reads.read found reads.taken) reads.at_most
 
   -- what it read
-  pub page_reads : LeavesAlone dir before after → ReadsPage path dir [] before after
-  page_reads alone = record {
-    others = alone.keeps;
-    page = page_read_to alone.read;
-    scripts = alone.scripts;
-    begun = begun_none _ _ alone.begun;
-    names = alone.names;
+  pub page_reads : (begun_same : after.begun Page ≡ before.begun Page) → KeepsEntities before after → ReadsOn (PAGE_LIMIT + 1) (before.left Page) (after.left Page) → ReadScriptsTo SCRIPT_LIMIT dir' before after
+      → NamesOnce dir' (before.begun Script) (after.begun Script) → ReadsPage path dir [] before after
+  page_reads same keeps reads scripts names = record {
+    others = keeps;
+    page = page_read_to reads;
+    scripts = subst (λ d. ReadScriptsTo SCRIPT_LIMIT d before after) is_dir scripts;
+    begun = begun_none _ _ same;
+    names = subst (λ d. NamesOnce d (before.begun Script) (after.begun Script)) is_dir names;
   }
 
 -- ---- the run
