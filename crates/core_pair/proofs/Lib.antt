@@ -1,6 +1,0 @@
-pub mod Shown
-pub mod Running
-pub mod Interleaved
-pub mod Standings
-pub mod Holding
-pub mod Applying
