@@ -1,5 +1,5 @@
-//! The core, step by step: the document's side, the parser's side, and the pair of them with the requests and replies that are under way.
-//! What each event does is exactly what the definitions in `core_rules` say of it.
+//! The core, step by step: the document's side and the parser's side. What each event does is exactly what the definitions in `core_rules`
+//! say of it.
 #![tactic(auto)]
 
 pub mod doc_side;
