@@ -1,0 +1,49 @@
+-- What a pair holds before any event.
+use Rattle.std.proofs.Common.{◌≡◌, ℕ, List, [], ◌∷◌, ◌++◌, append-nil, append_assoc, Some, None, refl, sym, ◌∙◌, ap}
+use Rattle.html_types.specs.declared.script.Ending.{Ending}
+use Rattle.standard.specs.Entities.{Entities}
+use Rattle.standard.specs.Scripts.{Fetched}
+use Rattle.core_rules.specs.declared.event.Event.{Event}
+use Rattle.core_rules.specs.Batches.{Piece, of_text, of_ending}
+use Rattle.core_rules.specs.Desk.{first_desk, pieces_with}
+use Rattle.core_rules.specs.Core.{Request, Reply, WorkSide, first_core, first_work}
+use Rattle.core_steps.specs.Sides.{Shown, first_shown, with_ending}
+use Rattle.core_pair.specs.Pairs.{setup_from, first_paired, told_of, with_pieces}
+
+-- so many more are to be sent, and those are the page's
+abbrev with_parts : List Piece → List (List ℕ) → Shown → Shown
+with_parts xs ts s = record s { desk = record s.desk { to_send = xs }; journal = record s.journal { pieces = ts } }
+
+read-more : (ts : List (List ℕ)) (xs : List Piece) (us : List (List ℕ)) (s : Shown) → with_pieces ts (with_parts xs us s) ≡ with_parts (xs ++ pieces_with ts None) (us ++ ts) s
+read-more [] xs us s = sym (ap (λ l. with_parts l (us ++ []) s) (append-nil xs) ∙ ap (λ l. with_parts xs l s) (append-nil us))
+read-more (t ∷ ts) xs us s =
+    read-more ts (xs ++ of_text t ∷ []) (us ++ t ∷ []) s
+    ∙ (ap (λ l. with_parts l ((us ++ t ∷ []) ++ ts) s) (append_assoc xs (of_text t ∷ []) (pieces_with ts None))
+    ∙ ap (λ l. with_parts (xs ++ of_text t ∷ pieces_with ts None) l s) (append_assoc us (t ∷ []) ts))
+
+ending-last : (ts : List (List ℕ)) (e : Ending) → pieces_with ts None ++ of_ending e ∷ [] ≡ pieces_with ts (Some e)
+ending-last [] e = refl
+ending-last (t ∷ ts) e = ap (λ xs. of_text t ∷ xs) (ending-last ts e)
+
+module _ (es : Entities) (ahead : ℕ) (ts : List (List ℕ)) (first read : Shown) (is_first : first ≡ first_shown es ahead) (is_read : read ≡ with_pieces ts first) where
+  all-read : read ≡ with_parts (pieces_with ts None) ts (first_shown es ahead)
+  all-read = is_read ∙ (ap (with_pieces ts) is_first ∙ read-more ts [] [] (first_shown es ahead))
+
+  pub no-ending : read.journal.ending ≡ None
+  no-ending = ap (λ (s : Shown). s.journal.ending) all-read
+
+  module _ (e : Ending) (d : Shown) (ended : d ≡ with_ending e read) where
+    pub same-entities : d.entities ≡ es
+    same-entities = ap (λ (s : Shown). s.entities) (ended ∙ ap (with_ending e) all-read)
+
+    pub first-told : (files : List (List ℕ × Fetched)) (rs : List Request) (w : WorkSide) (bs : List Reply) (vs : List Event) → rs ≡ [] → w ≡ first_work → bs ≡ [] → vs ≡ [] → told_of d rs w bs files e vs ≡ first_paired es files ts e ahead
+    first-told files rs w bs vs no_requests blank no_replies no_events =
+        ap (λ (s : Shown). told_of s rs w bs files e vs) (ended ∙ ap (with_ending e) all-read)
+        ∙ (ap (λ l. told_of whole l w bs files e vs) no_requests
+        ∙ (ap (λ (z : WorkSide). told_of whole [] z bs files e vs) blank
+        ∙ (ap (λ l. told_of whole [] first_work l files e vs) no_replies
+        ∙ (ap (λ l. told_of whole [] first_work [] files e l) no_events
+        ∙ ap (λ xs. record (first_paired es files ts e ahead) { core = record (first_core (setup_from es files ts e ahead)) { desk = first_desk xs } }) (ending-last ts e)))))
+      where
+        whole : Shown
+        whole = with_ending e (with_parts (pieces_with ts None) ts (first_shown es ahead))

@@ -1,0 +1,7 @@
+pub mod Shown
+pub mod Running
+pub mod Interleaved
+pub mod Standings
+pub mod Holding
+pub mod Applying
+pub mod Beginning

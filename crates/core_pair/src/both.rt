@@ -1,0 +1,280 @@
+//! Both sides and what is under way between them, while memory lasts.
+
+ghost use Rattle.std.specs.Prelude.{◌≡◌, ◌≤◌, ◌<◌, ◌+◌, ◌++◌, None, Some, false, length, is_some, OnOk, OnErr, IfOk, IsTrue};
+ghost use Rattle.std.specs.Str.{chars};
+ghost use Rattle.core_rules.specs.declared.event.Event.TheVariants as event;
+ghost use Rattle.core_rules.specs.Core.{joined, enabled};
+ghost use Rattle.core_rules.specs.Desk.{can_send, can_do, can_arrive, wants_reply};
+ghost use Rattle.core_rules.specs.Settling.{is_empty as has_none};
+ghost use Rattle.speculation.specs.Asking.{page_limit};
+ghost use Rattle.core_steps.specs.States.{standing_told};
+ghost use Rattle.core_pair.specs.Interleaving.{standing_of_core};
+ghost use Rattle.core_pair.specs.Pairs.{setup_of, first_paired, with_pieces, StepsShown, stepped, IsApplicable, Applied, IsRun, is_busy};
+
+use crate::scripts::Scripts;
+use crate::setup::Setup;
+use core_steps::{DocSide, Event, State, WorkSide, is_lawful};
+use entity_table::Table;
+use html_types::{Ending, Lines, NoMemory, Text};
+use speculation::{InForce, Reply, Request};
+use std::alloc::Global;
+use std::collections::VecDeque;
+use std::marker::Model;
+use std::snapshot::Snapshot;
+
+/// Both sides, and the requests and replies that are under way, each in order.
+#[derive(Drop)]
+pub(crate) struct Both<E: InForce> {
+    pub alloc: Global,
+    pub table: Table,
+    pub doc: DocSide,
+    pub requests: VecDeque<Request>,
+    pub work: WorkSide,
+    pub replies: VecDeque<Reply<E>>,
+    pub scripts: Scripts,
+    pub ending: Ending,
+    // The events so far, which are held no more.
+    pub events: Vec<Snapshot<Event>>,
+}
+
+impl<E: InForce> Model for Both<E> {
+    ghost use Rattle.std.specs.Prelude.{◌≡◌, map};
+    ghost use Rattle.core_pair.specs.Pairs.{Paired, told_of, events_of};
+
+    ghost Value = { Paired };
+
+    ghost view = { λ b. told_of b.doc (map (λ r. r.request) b.requests.items) b.work (map (λ r. r.said.reply) b.replies.items) b.scripts b.ending (events_of b.events.items) };
+
+    ghost invariant = { λ b. b.table ≡ b.doc.entities };
+}
+
+// Hands in the page's pieces.
+fn hand_in(doc: &mut DocSide, pieces: &[Text]) -> Result<(), NoMemory>
+    requires no_ending { doc.old.journal.ending ≡ None }
+    requires within { length (joined doc.old.journal.pieces) + length (joined pieces.now) ≤ page_limit }
+    ensures { OnOk result (doc.new ≡ with_pieces pieces.now doc.old) }
+{
+    let mut rest = pieces;
+    'pieces: while let Some((first, behind)) = rest.split_first() {
+        doc.piece(first.as_str())?;
+        rest = behind;
+    }
+    Ok(())
+}
+
+impl<E: InForce> Both<E> {
+    /// Before any event.
+    pub fn new(alloc: Global, setup: Setup<'_>) -> Result<Both<E>, NoMemory>
+        requires some { 0 < setup.ahead }
+        requires few { setup.ahead ≤ 64 }
+        requires within { length (joined setup.pieces.items) ≤ page_limit }
+        ensures { IfOk result (λ b. b ≡ first_paired setup.entry.table.now setup.entry.scripts setup.entry.pieces.items setup.entry.ending setup.entry.ahead) }
+    {
+        let Setup {
+            table,
+            pieces,
+            ending,
+            scripts,
+            ahead,
+        } = setup;
+        let table = table.copy()?;
+        let mut doc = DocSide::new(alloc, &table, ahead)?;
+        hand_in(&mut doc, pieces.as_slice())?;
+        doc.end(ending)?;
+        Ok(Both {
+            alloc,
+            table,
+            doc,
+            requests: VecDeque::new(alloc),
+            work: WorkSide::new(alloc),
+            replies: VecDeque::new(alloc),
+            scripts,
+            ending,
+            events: Vec::new(alloc),
+        })
+    }
+
+    // Whether the document's side knows of no fetch of that script, which has a lawful name.
+    fn can_arrive(&self, name: &Text) -> bool
+        requires { IsRun E.entities self.now }
+        ensures { result ≡ can_arrive name.now self.now.core.desk }
+    {
+        is_lawful(name.as_str()) && self.doc.journal().find(name.as_str()).is_none()
+    }
+
+    // Whether a request is to be picked, and the parser's side has none in hand.
+    fn can_pick(&self) -> bool
+        ensures { result ≡ enabled (setup_of self.now) event.Pick self.now.core }
+    {
+        self.work.can_pick() && !self.requests.is_empty()
+    }
+
+    // Whether the parser's side has a request in hand.
+    fn can_give(&self) -> bool
+        ensures { result ≡ enabled (setup_of self.now) event.Give self.now.core }
+    {
+        !self.work.can_pick()
+    }
+
+    // Whether a reply is to be taken, and nothing is in hand.
+    fn can_take(&self) -> bool
+        requires going { self.now.spent ≡ false }
+        requires run { IsRun E.entities self.now }
+        ensures { result ≡ enabled (setup_of self.now) event.Take self.now.core }
+    {
+        self.doc.wants_reply() && !self.replies.is_empty()
+    }
+
+    /// Whether the event is enabled.
+    pub fn enabled(&self, event: &Event) -> bool
+        requires going { self.now.spent ≡ false }
+        requires run { IsRun E.entities self.now }
+        ensures { result ≡ enabled (setup_of self.now) event.now self.now.core }
+    {
+        match event {
+            Event::Send => self.doc.can_send(),
+            Event::Pick => self.can_pick(),
+            Event::Give => self.can_give(),
+            Event::Take => self.can_take(),
+            Event::Do => self.doc.can_do(),
+            Event::Arrive(name) => self.can_arrive(name),
+        }
+    }
+
+    // Whether an event is enabled that needs no script.
+    fn is_busy(&self) -> bool
+        requires { self.now.spent ≡ false }
+        ensures { result ≡ is_busy (setup_of self.now) self.now.core }
+    {
+        self.doc.can_send() || self.can_pick() || self.can_give()
+    }
+
+    /// Where it stands.
+    pub fn status(&self) -> State<'_>
+        requires { self.now.spent ≡ false }
+        ensures { standing_told result ≡ standing_of_core (setup_of self.now) self.now.core }
+    {
+        let busy = self.is_busy();
+        match self.doc.status() {
+            State::Awaits(_) if busy => State::Running,
+            state => state,
+        }
+    }
+}
+
+// What it gives.
+impl<E: InForce> Both<E> {
+    /// The lines that scripts gave since lines were last taken.
+    pub fn take_lines(&mut self) -> Result<Lines, NoMemory>
+        ensures lines { IfOk result (λ lines. self.old.core.desk.own.side.lines ≡ self.old.given ++ lines) }
+        ensures taken { IfOk result (λ lines. self.new ≡ record self.old { given = self.old.given ++ lines }) }
+        ensures err { OnErr result (self.new ≡ self.old) }
+    {
+        self.doc.take_lines()
+    }
+}
+
+// The events.
+impl<E: InForce> Both<E> {
+    // The document's side sends a piece.
+    fn send(&mut self) -> Result<(), NoMemory>
+        requires { IsTrue (can_send self.old.ahead self.old.core.desk) }
+        ensures applied { OnOk result (Applied event.Send self.old self.new) }
+        ensures journal { OnErr result (self.new.journal ≡ self.old.journal) }
+    {
+        self.requests.reserve(1)?;
+        let request = self.doc.send()?;
+        self.requests.push_back_reserved(request);
+        Ok(())
+    }
+
+    // The parser's side takes the request that stands first.
+    fn pick(&mut self)
+        requires { self.old.core.work.hand ≡ None }
+        ensures { Applied event.Pick self.old self.new }
+    {
+        if let Some(request) = self.requests.pop_front() {
+            self.work.pick(request);
+        }
+    }
+
+    // The parser's side gives the reply to it.
+    fn give(&mut self) -> Result<(), NoMemory>
+        requires entities { self.old.entities ≡ E.entities }
+        requires full { IsTrue (is_some self.old.core.work.hand) }
+        ensures applied { OnOk result (Applied event.Give self.old self.new) }
+        ensures journal { OnErr result (self.new.journal ≡ self.old.journal) }
+    {
+        let reply = self.work.give::<E>(&self.table)?;
+        self.replies.push_back(reply)?;
+        Ok(())
+    }
+
+    // The document's side takes the reply that stands first.
+    fn take(&mut self) -> Result<(), NoMemory>
+        requires entities { self.old.entities ≡ E.entities }
+        requires wanted { IsTrue (wants_reply self.old.core.desk) }
+        ensures applied { OnOk result (Applied event.Take self.old self.new) }
+        ensures journal { OnErr result (self.new.journal ≡ self.old.journal) }
+    {
+        let Some(reply) = self.replies.pop_front() else {
+            return Err(NoMemory);
+        };
+        self.doc.take(reply)?;
+        Ok(())
+    }
+
+    // The document's side executes a batch, or runs the script that is in hand.
+    fn act(&mut self) -> Result<(), NoMemory>
+        requires { IsTrue (can_do self.old.core.desk) }
+        ensures applied { OnOk result (Applied event.Do self.old self.new) }
+        ensures journal { OnErr result (self.new.journal ≡ self.old.journal) }
+    {
+        self.doc.act()?;
+        Ok(())
+    }
+
+    // The fetch of the script of that name has returned.
+    fn arrive(&mut self, name: Text) -> Result<(), NoMemory>
+        requires { IsTrue (can_arrive name self.old.core.desk) }
+        ensures applied { OnOk result (Applied (event.Arrive name) self.old self.new) }
+        ensures journal { OnErr result (self.new.journal ≡ self.old.journal) }
+    {
+        let fetch = self.scripts.fetch(self.alloc, name.as_str())?;
+        self.doc.arrive(name, fetch)
+    }
+
+    // What the event makes of both sides.
+    fn apply(&mut self, event: Event) -> Result<(), NoMemory>
+        requires { IsApplicable E.entities event self.old }
+        ensures applied { OnOk result (Applied event self.old self.new) }
+        ensures journal { OnErr result (self.new.journal ≡ self.old.journal) }
+    {
+        match event {
+            Event::Send => self.send(),
+            Event::Pick => {
+                self.pick();
+                Ok(())
+            }
+            Event::Give => self.give(),
+            Event::Take => self.take(),
+            Event::Do => self.act(),
+            Event::Arrive(name) => self.arrive(name),
+        }
+    }
+
+    /// Takes an event.
+    pub fn step(&mut self, event: Event) -> Result<(), NoMemory>
+        requires run { IsRun E.entities self.old }
+        requires can { IsTrue (enabled (setup_of self.old) event self.old.core) }
+        ensures run { OnOk result (IsRun E.entities self.new) }
+        ensures steps { OnOk result (StepsShown (setup_of self.old) event self.old.core self.new.core) }
+        ensures others { OnOk result (self.new ≡ stepped event self.new.core self.new.journal self.old) }
+        ensures journal { OnErr result (self.new.journal ≡ self.old.journal) }
+    {
+        let taken = Snapshot::of(&event);
+        self.events.push(taken)?;
+        self.apply(event)?;
+        Ok(())
+    }
+}
