@@ -14,7 +14,6 @@ use Rattle.standard.specs.Scripts as fetched
 use Rattle.standard.specs.Serial.{World}
 use Rattle.standard.specs.Output.{line_text, result_with, output_with}
 use Rattle.standard_laws.proofs.Total.{has_outcome}
-use Rattle.write_parser.specs.Writing.{View}
 use Rattle.page_runner.specs.declared.command.TheConstants.{ENTITIES_LIMIT}
 use Rattle.page_runner.specs.declared.command.Unread.{Unread}
 use Rattle.page_runner.specs.declared.command.Unread.TheVariants as unread
@@ -31,8 +30,9 @@ use Rattle.page_runner.specs.Given.{Given, unmet, missing, faulted, got, FaultsR
 use Rattle.page_runner.specs.Taken.{Took, TookFront}
 use Rattle.page_runner.specs.Scripts.{path_of, IsAbsent, MayFetch, ReadScriptsTo, NamesOnce, none_begun, last}
 use Rattle.page_runner.specs.Shown.{result_of, status_of}
-use Rattle.page_runner.specs.Pages.{PageRead, page_at, world_of, AreTaken, ReadsOn, IsReadFrom, MeetsFaults, Ended, EndsWithScripts, FrontWithScripts}
-use Rattle.page_runner.specs.Answers.{IsPageOf, PageMet, MayGivePage, FaultsMet, IsParsed, Answer, status_with, answer_to_page, answer_over, answer_to, table_of, status_for, Gives, is_answered, IsBegun, PageAnswers, ReadsPage, ReadsTable, ReadsNone, answer_without, Answers, RunsTo, StopsAtEach, StopsAtLimits, BeginsEach, BeginsOnce, is_finished}
+use Rattle.page_runner.specs.Pages.{PageRead, page_at, world_of, AreTaken, ReadsOn, IsReadFrom, Ended, EndsWithScripts, FrontWithScripts}
+use Rattle.page_runner.specs.Turns.{LeavesAlone}
+use Rattle.page_runner.specs.Answers.{IsPageOf, PageMet, MayGivePage, FaultsOver, FaultsMet, IsParsed, Answer, status_with, answer_to_page, answer_over, answer_to, table_of, status_for, Gives, is_answered, IsBegun, PageAnswers, ReadsPage, ReadsTable, ReadsNone, answer_without, Answers, RunsTo, StopsAtEach, StopsAtLimits, BeginsEach, BeginsOnce, is_finished}
 use Rattle.outside.proofs.KeepsLemmas.{keeps-same}
 use Rattle.page_runner.proofs.KeepsLemmas.{begun_none, begun_then, begun_stays, begun_since, begun_is, rose-on, rose-stays, entities-same, entities-then, entities-others}
 use Rattle.page_runner.proofs.MeetLemmas.{names_none}
@@ -122,20 +122,21 @@ read_of (Some map) path whole left read found taken = record { so_far = there (m
     there None whole some same taken = absurd (cc some)
     there (Some all) whole some same taken = subst (λ w. IfSome w (λ all. (rest : List ℕ) × (all ≡ read ++ rest) × (left ≡ Some rest))) same taken
 
--- what is written of the page that ended so
-ended_text : (w : World) (page : PageRead) (v : View) (t t' : Option (List ℕ)) (o : Told) (end : Ended w page v t t' o) (dump : Bool)
-    → output_with dump end.outcome ≡ flat_map line_text end.outcome.last.side.lines ++ result_with dump (result_of o) v.doc.tree
+-- what is written of an outcome depends on the tree only where the parse finished
+ended_text : (w : World) (page : PageRead) (doc : Doc) (t t' : Option (List ℕ)) (o : Told) (end : Ended w page doc t t' o) (dump : Bool)
+    → output_with dump end.outcome ≡ flat_map line_text end.outcome.last.side.lines ++ result_with dump (result_of o) doc.tree
 unfolding output_with
-ended_text w page v t t' o end dump = ap (λ l. flat_map line_text end.outcome.last.side.lines ++ l) (end.text dump)
+ended_text w page doc t t' o end dump =
+    ap (λ r. flat_map line_text end.outcome.last.side.lines ++ result_with dump r end.outcome.last.side.doc.tree) end.result
+    ∙ ap (λ x. flat_map line_text end.outcome.last.side.lines ++ result_with dump (result_of o) x) end.tree
 
-module _ (es : Table) (dump : Bool) (path dir : List ℕ) (dir' : List ℕ) (is_dir : dir' ≡ dir) (before after : Seen) (found : IsBegun path before) where
+module _ (es : Table) (dump : Bool) (path dir : List ℕ) (before after : Seen) (found : IsBegun path before) where
   may_page : (page : PageRead) → IsReadFrom before after page → IsPageOf (file_at before path) (after.left Page) (FaultsRose Page before after) (NoFault Page before after) page
   may_page page from = page_of before.files path before after page found from
 
   -- the parse gave up
-  pub page_gave_up : (k k' : ℕ) (t t' : Option (List ℕ)) (f : Failure) → (f ≡ failures.Write → Rose k k') → FrontWithScripts es dir' before after t t' → PageAnswers es dump path dir before after k k' t t' (status_for f)
-  page_gave_up k k' t t' f cause front =
-      let part = subst (λ d. FrontWithScripts es d before after t t') is_dir front in
+  pub page_gave_up : (k k' : ℕ) (t t' : Option (List ℕ)) (f : Failure) → (f ≡ failures.Write → Rose k k') → FrontWithScripts es dir before after t t' → PageAnswers es dump path dir before after k k' t t' (status_for f)
+  page_gave_up k k' t t' f cause part =
       let end = has_outcome (page_at part.page) (world_of es part.scripts) in
       let met : PageMet = record { read = part.page; scripts = part.scripts; outcome = end.0 } in
       record {
@@ -147,34 +148,32 @@ module _ (es : Table) (dump : Bool) (path dir : List ℕ) (dir' : List ℕ) (is_
       }
 
   -- the parse ended, and what comes of it was written, or a front of it
-  pub page_ended : (k now_k k' : ℕ) (t now' t' : Option (List ℕ)) (v : View) (doc : Doc) (o : Told) (r : Status) → k ≤ now_k → EndsWithScripts es dir' before after v t now' o → doc ≡ v.doc
-      → Gives (Rose now_k k') now' t' (status_of o, result_with dump (result_of o) doc.tree) r → PageAnswers es dump path dir before after k k' t t' r
-  page_ended k now_k k' t now' t' v doc o r later ends' same gives' =
-      let ends = subst (λ d. EndsWithScripts es d before after v t now' o) is_dir ends' in
+  pub page_ended : (k now_k k' : ℕ) (t now' t' : Option (List ℕ)) (doc doc' : Doc) (o : Told) (r : Status) → k ≤ now_k → EndsWithScripts es dir before after doc t now' o → doc' ≡ doc
+      → Gives (Rose now_k k') now' t' (status_of o, result_with dump (result_of o) doc'.tree) r → PageAnswers es dump path dir before after k k' t t' r
+  page_ended k now_k k' t now' t' doc doc' o r later ends same gives' =
       let gives = subst (λ d. Gives (Rose now_k k') now' t' (status_of o, result_with dump (result_of o) d.tree) r) same gives' in
       let end = ends.ended in
       let all = gives_behind (Rose now_k k') (Rose k k') t now' t' (status_of o) _ _ r (λ rose. rose-on k now_k k' later rose) end.took gives in
       record {
         page = got (record { read = ends.page; scripts = ends.scripts; outcome = end.outcome });
         may = record { read = may_page ends.page ends.read_from; scripts = ends.are_scripts };
-        faults = λ _. subst (λ result. MeetsFaults ends.page result before after) (sym end.result) ends.faults;
+        faults = λ _. ends.faults;
         parsed = end.comes;
         gives = subst (λ s. Gives (Rose k k') t t' (s, output_with dump end.outcome) r) (status_is o ∙ ap status_with (sym end.result))
-            (subst (λ l. Gives (Rose k k') t t' (status_of o, l) r) (sym (ended_text (world_of es ends.scripts) ends.page v t now' o end dump)) all);
+            (subst (λ l. Gives (Rose k k') t t' (status_of o, l) r) (sym (ended_text (world_of es ends.scripts) ends.page doc t now' o end dump)) all);
       }
 
   page_read_to : ReadsOn (PAGE_LIMIT + 1) (before.left Page) (after.left Page) → ReadTo PAGE_LIMIT Page path before after
   page_read_to reads = begun reads.read (read_of before.files path (before.left Page) (after.left Page) reads.read found reads.taken) reads.at_most
 
   -- what it read
-  pub page_reads : (begun_same : after.begun Page ≡ before.begun Page) → KeepsEntities before after → ReadsOn (PAGE_LIMIT + 1) (before.left Page) (after.left Page) → ReadScriptsTo SCRIPT_LIMIT dir' before after
-      → NamesOnce dir' (before.begun Script) (after.begun Script) → ReadsPage path dir [] before after
-  page_reads same keeps reads scripts names = record {
-    others = keeps;
-    page = page_read_to reads;
-    scripts = subst (λ d. ReadScriptsTo SCRIPT_LIMIT d before after) is_dir scripts;
-    begun = begun_none _ _ same;
-    names = subst (λ d. NamesOnce d (before.begun Script) (after.begun Script)) is_dir names;
+  pub page_reads : LeavesAlone dir before after → ReadsPage path dir [] before after
+  page_reads alone = record {
+    others = alone.keeps;
+    page = page_read_to alone.read;
+    scripts = alone.scripts;
+    begun = begun_none _ _ alone.begun;
+    names = alone.names;
   }
 
 -- ---- the run
@@ -210,12 +209,16 @@ may_since port path dir before now after (got page) keeps quiet may = record {
   scripts = record { each = λ name. fetch_since port dir before now after name (page.scripts name) keeps (may.scripts.each name) };
 }
 
-faults_since : (before now after : Seen) (page : Given PageMet) → NoFault Script before now → FaultsMet page now after → FaultsMet page before after
-faults_since before now after unmet quiet met = met ∙ quiet
-faults_since before now after missing quiet met = met ∙ quiet
-faults_since before now after faulted quiet met = met ∙ quiet
-faults_since before now after (got page) quiet (inl none) = inl (none ∙ quiet)
-faults_since before now after (got page) quiet (inr is) = inr is
+faults_over : (table : Option Table) (before now after : Seen) (page : PageMet) → NoFault Script before now → FaultsOver table page now after → FaultsOver table page before after
+faults_over None before now after page quiet met = met ∙ quiet
+faults_over (Some es) before now after page quiet (inl none) = inl (none ∙ quiet)
+faults_over (Some es) before now after page quiet (inr stops) = inr stops
+
+faults_since : (table : Option Table) (before now after : Seen) (page : Given PageMet) → NoFault Script before now → FaultsMet table page now after → FaultsMet table page before after
+faults_since table before now after unmet quiet met = met ∙ quiet
+faults_since table before now after missing quiet met = met ∙ quiet
+faults_since table before now after faulted quiet met = met ∙ quiet
+faults_since table before now after (got page) quiet met = faults_over table before now after page quiet met
 
 -- the page was begun before
 pub page_since : (es : Table) (dump : Bool) (path dir : List ℕ) (before now after : Seen) (k k' : ℕ) (t t' : Option (List ℕ)) (result : Status) → KeepsOthers Page before now → NoFault Page before now
@@ -223,7 +226,7 @@ pub page_since : (es : Table) (dump : Bool) (path dir : List ℕ) (before now af
 page_since es dump path dir before now after k k' t t' result keeps quiet answers = record {
   page = answers.page;
   may = may_since Page path dir before now after answers.page keeps quiet answers.may;
-  faults = λ e. faults_since before now after answers.page (keeps.other_faults Script (λ e. cc e)) (answers.faults e);
+  faults = λ e. faults_since (Some es) before now after answers.page (keeps.other_faults Script (λ e. cc e)) (answers.faults e);
   parsed = answers.parsed;
   gives = answers.gives;
 }
@@ -268,7 +271,7 @@ answers_on asked before now after k k' t t' result es reads keeps answers keeps'
   page = answers.page;
   may_entities = (reads.given.0, keeps'.no_fault ∙ reads.given.1);
   may_page = may_since Entities asked.page asked.dir before now after answers.page keeps (keeps.other_faults Page (λ e. cc e)) answers.may;
-  faults = λ e. faults_since before now after answers.page (keeps.other_faults Script (λ e. cc e)) (answers.faults e);
+  faults = λ e. subst (λ table. FaultsMet table answers.page before after) (sym reads.lists) (faults_since (Some es) before now after answers.page (keeps.other_faults Script (λ e. cc e)) (answers.faults e));
   parsed = λ bytes' es' same table'.
       let is : reads.bytes ≡ bytes' = cc in
       let one : Some es ≡ Some es' = sym reads.lists ∙ ap table_of is ∙ table' in

@@ -50,10 +50,14 @@ MayGivePage path dir before after missing = AbsencesRose Page before after × If
 MayGivePage path dir before after faulted = FaultsRose Page before after × IfSome (after.left Page) (λ rest. rest ≡ [])
 MayGivePage path dir before after (got page) = MayMeetPage path dir before after page
 
--- A fetch of a script failed only where the serial parse stops at it.
-abbrev pub FaultsMet : Given PageMet → Seen → Seen → Type 0
-FaultsMet (got page) before after = MeetsFaults page.read page.outcome.result before after
-FaultsMet other before after = NoFault Script before after
+-- A fetch of a script failed only where the serial parse stops at it. Without a table there is no fetch.
+abbrev pub FaultsOver : Option Table → PageMet → Seen → Seen → Type 0
+FaultsOver None page before after = NoFault Script before after
+FaultsOver (Some es) page before after = MeetsFaults (world_of es page.scripts) page.read page.outcome before after
+
+abbrev pub FaultsMet : Option Table → Given PageMet → Seen → Seen → Type 0
+FaultsMet table (got page) before after = FaultsOver table page before after
+FaultsMet table other before after = NoFault Script before after
 
 -- the outcome is that of the serial parse
 abbrev pub IsParsed : Table → Given PageMet → Type 0
@@ -84,6 +88,11 @@ answer_to_page dump (got page) = (status_with page.outcome.result, output_with d
 -- the table of the entities file; one that is too long is none
 abbrev pub table_of : List ℕ → Option Table
 table_of bytes = if nat_le (length bytes) ENTITIES_LIMIT then entities_of bytes else None
+
+-- and where that file wasn't read there is none
+abbrev pub table_in : Given (List ℕ) → Option Table
+table_in (got bytes) = table_of bytes
+table_in other = None
 
 abbrev pub answer_over : Bool → Option Table → Given PageMet → Answer
 answer_over dump None page = (status.Entities, [])
@@ -122,7 +131,7 @@ IsBegun path now = IfSome now.files (λ map. IsSome (map path) × (now.left Page
 pub record PageAnswers (es : Table) (dump : Bool) (path dir : List ℕ) (before after : Seen) (sink sink' : ℕ) (taken taken' : Option (List ℕ)) (result : Status) : Type 0 where
   pub page : Given PageMet
   pub may : MayGivePage path dir before after page
-  pub faults : IsTrue (is_answered result) → FaultsMet page before after
+  pub faults : IsTrue (is_answered result) → FaultsMet (Some es) page before after
   pub parsed : IsParsed es page
   pub gives : Gives (Rose sink sink') taken taken' (answer_to_page dump page) result
 
@@ -160,7 +169,7 @@ pub record Answers (asked : Asked) (before after : Seen) (sink sink' : ℕ) (tak
   pub page : Given PageMet
   pub may_entities : MayGive ENTITIES_LIMIT Entities asked.entities before after entities
   pub may_page : MayGivePage asked.page asked.dir before after page
-  pub faults : IsTrue (is_answered result) → FaultsMet page before after
+  pub faults : IsTrue (is_answered result) → FaultsMet (table_in entities) page before after
   pub parsed : (bytes : List ℕ) (es : Table) → entities ≡ got bytes → table_of bytes ≡ Some es → IsParsed es page
   pub gives : Gives (Rose sink sink') taken taken' (answer_to asked.dump entities page) result
 

@@ -4,8 +4,8 @@ use Rattle.std.specs.Option.{option_map}
 use Rattle.outside.specs.Outside.{Rose, NeverFall, Paths, Begun, Seen}
 use Rattle.outside.specs.declared.traits.Port.{Port}
 use Rattle.outside.specs.declared.traits.Port.TheVariants.{Entities}
-use Rattle.page_runner.specs.declared.fetch.Fetch.{Fetch}
-use Rattle.page_runner.specs.declared.fetch.Fetch.TheVariants as fetches
+use Rattle.core_steps.specs.declared.fetch.Fetch.{Fetch}
+use Rattle.core_steps.specs.declared.fetch.Fetch.TheVariants as fetches
 
 -- What came of a file that was begun and read. `unmet`: memory ran out before that was known.
 pub data Given (A : Type 0) : Type 0 where

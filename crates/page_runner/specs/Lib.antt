@@ -3,7 +3,8 @@ pub mod Taken
 pub mod Given
 pub mod Words
 pub mod Scripts
-pub mod Moments
 pub mod Shown
 pub mod Pages
+pub mod Turns
 pub mod Answers
+pub mod Reports

@@ -1,27 +1,23 @@
 -- A page as it is read, and what its parse comes to.
-use Rattle.std.specs.Prelude.{◌≡◌, ◌≤◌, ◌⊎◌, ℕ, Bool, true, false, List, [], ◌++◌, length, flat_map, Option, Some, None, IfSome}
+use Rattle.std.specs.Prelude.{◌≡◌, ◌≤◌, ◌<◌, ◌+◌, ◌⊎◌, ℕ, Bool, true, false, List, [], ◌++◌, length, flat_map, Option, Some, None, IfSome}
 use Rattle.html_types.specs.declared.script.Ending.{Ending}
-use Rattle.html_types.specs.declared.script.Line.{Line}
-use Rattle.html_types.specs.declared.script.Ending.TheVariants as ending
 use Rattle.html_types.specs.declared.script.Why.TheVariants as why
 use Rattle.outside.specs.Outside.{Seen}
 use Rattle.outside.specs.declared.traits.Port.TheVariants as port
 use Rattle.standard.specs.Entities.{Entities}
 use Rattle.standard.specs.Page.{Page, page_of, text_of, ending_of, shown}
-use Rattle.standard.specs.Scripts.{Fetched}
-use Rattle.standard.specs.Serial.{World, Outcome, Result, refused, first, IsSerial, Moment, reading, over, Leads}
-use Rattle.standard.specs.Output.{line_text, result_with, output_with}
-use Rattle.utf8_pieces.specs.declared.decoder.Decoder.{Decoder}
+use Rattle.standard.specs.Scripts.{Fetched, faulted}
+use Rattle.standard.specs.Act.{Doc}
+use Rattle.standard.specs.Serial.{World, fetched, Serial, Outcome, refusal, awaits, IsSerial, Passes}
+use Rattle.standard.specs.Output.{line_text, output_with}
 use Rattle.utf8_pieces.specs.Decoder.{HasRead}
-use Rattle.write_parser.specs.Writing.{View, serial_of}
+use Rattle.core_rules.specs.Core.{joined}
 use Rattle.page_runner.specs.declared.page.TheConstants.{PAGE_LIMIT}
 use Rattle.page_runner.specs.declared.outcome.Outcome.{Outcome as Told}
-use Rattle.page_runner.specs.declared.outcome.Outcome.TheVariants.{Refused}
-use Rattle.page_runner.specs.declared.driver.Driver.{Driver}
-use Rattle.page_runner.specs.declared.scripts.ScriptFiles.{ScriptFiles}
+use Rattle.page_runner.specs.declared.reader.PageReader.{PageReader}
 use Rattle.page_runner.specs.Given.{FaultsRose, NoFault}
 use Rattle.page_runner.specs.Taken.{Took, TookFront}
-use Rattle.page_runner.specs.Scripts.{AreScriptsOf, Suits}
+use Rattle.page_runner.specs.Scripts.{AreScriptsOf}
 use Rattle.page_runner.specs.Shown.{result_of}
 
 -- what the reads of a page gave, and whether a read behind that failed
@@ -59,47 +55,37 @@ pub record IsReadFrom (before after : Seen) (page : PageRead) : Type 0 where
   pub cut : page.fault ≡ true → AreTaken (before.left port.Page) (after.left port.Page) page.bytes
   pub cause : page.fault ≡ true → FaultsRose port.Page before after
 
--- No fetch of a script failed, or no read of the page did and the parse is refused for the fault: so at an awaited script.
-abbrev pub MeetsFaults : PageRead → Result → Seen → Seen → Type 0
-MeetsFaults page result before after = NoFault port.Script before after ⊎ ((page.fault ≡ false) × (result ≡ refused why.Fault))
+-- The serial parse of the page awaits a script whose fetch failed, and is refused there.
+pub record StopsAtScript (w : World) (page : Page) (o : Outcome) : Type 0 where
+  pub name : List ℕ
+  pub last : Serial
+  pub awaited : Passes page w (awaits name last)
+  pub failed : fetched w name ≡ faulted
+  pub refused_there : o ≡ refusal why.Fault last
 
--- What was read at the ports before now, since before: nothing was begun at the page's, and no call failed.
-pub record ReadWell (before now : Seen) : Type 0 where
-  pub begun : now.begun port.Page ≡ before.begun port.Page
-  pub page : NoFault port.Page before now
-  pub script : NoFault port.Script before now
+-- No fetch of a script failed, or the parse is refused at an awaited script whose fetch failed. (A read of the page may have failed too, that
+-- was made ahead of that script.)
+abbrev pub MeetsFaults : World → PageRead → Outcome → Seen → Seen → Type 0
+MeetsFaults w page o before after = NoFault port.Script before after ⊎ StopsAtScript w (page_at page) o
 
 -- ---- what a parse comes to
 
--- The serial parse of the page ended so, with the tree of this view, and the sink took its lines.
-pub record Ended (w : World) (page : PageRead) (v : View) (taken taken' : Option (List ℕ)) (told : Told) : Type 0 where
+-- The serial parse of the page ended so, with the tree of this document, and the sink took its lines.
+pub record Ended (w : World) (page : PageRead) (doc : Doc) (taken taken' : Option (List ℕ)) (told : Told) : Type 0 where
   pub outcome : Outcome
   pub comes : ComesTo w page outcome
   pub result : outcome.result ≡ result_of told
-  pub text : (dump : Bool) → result_with dump outcome.result outcome.last.side.doc.tree ≡ result_with dump (result_of told) v.doc.tree
+  pub tree : outcome.last.side.doc.tree ≡ doc.tree
   pub took : Took taken taken' (flat_map line_text outcome.last.side.lines)
 
--- So ended the page that was read at its port, whatever the scripts are that weren't fetched.
-pub record ParsesPage (es : Entities) (before after : Seen) (d : Driver) (taken taken' : Option (List ℕ)) (told : Told) : Type 0 where
-  pub page : PageRead
-  pub read_from : IsReadFrom before after page
-  pub faults : MeetsFaults page (result_of told) before after
-  pub ended : (w : World) → Suits es d.scripts w → Ended w page d.writer taken taken' told
-
--- The sink took a front of what is written of the page that was read at its port, with the dump of the tree and with its text.
-pub record ParsesFront (es : Entities) (files : ScriptFiles) (before after : Seen) (taken taken' : Option (List ℕ)) : Type 0 where
-  pub page : PageRead
-  pub read_from : IsReadFrom before after page
-  pub front : (dump : Bool) (w : World) (o : Outcome) → Suits es files w → ComesTo w page o → TookFront taken taken' (output_with dump o)
-
 -- So ended the page that was read at its port, with the scripts of the folder.
-pub record EndsWithScripts (es : Entities) (dir : List ℕ) (before after : Seen) (v : View) (taken taken' : Option (List ℕ)) (told : Told) : Type 0 where
+pub record EndsWithScripts (es : Entities) (dir : List ℕ) (before after : Seen) (doc : Doc) (taken taken' : Option (List ℕ)) (told : Told) : Type 0 where
   pub scripts : List ℕ → Fetched
   pub are_scripts : AreScriptsOf dir before after scripts
   pub page : PageRead
   pub read_from : IsReadFrom before after page
-  pub faults : MeetsFaults page (result_of told) before after
-  pub ended : Ended (world_of es scripts) page v taken taken' told
+  pub ended : Ended (world_of es scripts) page doc taken taken' told
+  pub faults : MeetsFaults (world_of es scripts) page ended.outcome before after
 
 -- The sink took a front of what is written of it.
 pub record FrontWithScripts (es : Entities) (dir : List ℕ) (before after : Seen) (taken taken' : Option (List ℕ)) : Type 0 where
@@ -109,25 +95,7 @@ pub record FrontWithScripts (es : Entities) (dir : List ℕ) (before after : See
   pub read_from : IsReadFrom before after page
   pub front : (dump : Bool) (o : Outcome) → ComesTo (world_of es scripts) page o → TookFront taken taken' (output_with dump o)
 
--- ---- where a parse stands
-
--- the moment before a text
-abbrev pub before_page : List ℕ → Moment
-before_page text = reading (first (record { text = text; ending = ending.End }))
-
--- These bytes of a page were read and their text was parsed, whatever follows them, and the sink took the lines.
-pub record StandsAt (es : Entities) (read : List ℕ) (d : Driver) (taken taken' : Option (List ℕ)) : Type 0 where
-  pub lines : List Line
-  pub leads : (e : Ending) (w : World) (rest : List ℕ) → Suits es d.scripts w → Leads e w (before_page (text_of PAGE_LIMIT read ++ rest)) (reading (serial_of d.writer lines rest))
-  pub took : Took taken taken' (flat_map line_text lines)
-
--- The parse of every page that begins with these bytes has ended so.
-pub record IsPast (es : Entities) (read : List ℕ) (d : Driver) (taken taken' : Option (List ℕ)) (told : Told) : Type 0 where
-  pub ended : (w : World) (more : List ℕ) → Suits es d.scripts w → Ended w (record { bytes = read ++ more; fault = false }) d.writer taken taken' told
-
--- The sink took a front of what is written of every page that begins with these bytes.
-pub record TookOf (es : Entities) (files : ScriptFiles) (read : List ℕ) (taken taken' : Option (List ℕ)) : Type 0 where
-  pub front : (dump : Bool) (w : World) (more : List ℕ) (fault : Bool) (o : Outcome) → Suits es files w → ComesTo w (record { bytes = read ++ more; fault = fault }) o → TookFront taken taken' (output_with dump o)
+-- ---- reading on
 
 -- Behind these bytes the page ends so: by a fault, or since the port has no more.
 pub record ClosesAt (now after : Seen) (read : List ℕ) (e : Ending) : Type 0 where
@@ -138,25 +106,38 @@ pub record ClosesAt (now after : Seen) (read : List ℕ) (e : Ending) : Type 0 w
   pub no_fault : fault ≡ false → NoFault port.Page now after
   pub cause : fault ≡ true → FaultsRose port.Page now after
 
--- At the end of the input the page's ending is applied, and the parse comes to this.
-pub record EndsAs (es : Entities) (old new : View) (e : Ending) (told : Told) : Type 0 where
-  pub ends : (w : World) (m : Moment) (lines : List Line) → w.entities ≡ es → Leads e w m (reading (serial_of old lines []))
-      → (o : Outcome) × (o.last.side.lines ≡ lines) × (o.result ≡ result_of told)
-      × ((dump : Bool) → result_with dump o.result o.last.side.doc.tree ≡ result_with dump (result_of told) new.doc.tree) × Leads e w m (over o)
+-- The reader has read these bytes, which show no ending, and the pieces are their text.
+pub record IsReading (reader : PageReader) (pieces : List (List ℕ)) : Type 0 where
+  pub read : List ℕ
+  pub decoded : HasRead PAGE_LIMIT reader.decoder read
+  pub open_yet : shown PAGE_LIMIT read ≡ None
+  pub text : joined pieces ≡ text_of PAGE_LIMIT read
+  pub left_is : reader.left + length read ≡ PAGE_LIMIT + 1
 
--- behind a piece the parse stands, and no ending is shown, or it is over
-abbrev pub Comes : Entities → Decoder → List ℕ → Driver → Option (List ℕ) → Option (List ℕ) → Option Told → Type 0
-Comes es u read d taken taken' None = HasRead PAGE_LIMIT u read × (shown PAGE_LIMIT read ≡ None) × StandsAt es read d taken taken'
-Comes es u read d taken taken' (Some told) = IsPast es read d taken taken' told
+-- It has read nothing.
+pub record IsUnread (reader : PageReader) : Type 0 where
+  pub decoded : HasRead PAGE_LIMIT reader.decoder []
+  pub left : reader.left ≡ PAGE_LIMIT + 1
 
--- A piece was parsed, wherever the parse stood.
-pub record TakesPiece (es : Entities) (u u' : Decoder) (old new : Driver) (piece : List ℕ) (now taken' : Option (List ℕ)) (told : Option Told) : Type 0 where
-  pub comes : (read : List ℕ) (taken : Option (List ℕ)) → HasRead PAGE_LIMIT u read → StandsAt es read old taken now → Comes es u' (read ++ piece) new taken taken' told
+-- So far no read failed.
+pub record PageOpen (before now : Seen) (reader : PageReader) (pieces : List (List ℕ)) : Type 0 where
+  pub reading : IsReading reader pieces
+  pub so_far : AreTaken (before.left port.Page) (now.left port.Page) reading.read
+  pub quiet : NoFault port.Page before now
 
--- No fetch of a script failed in the piece, or the parse is over and refused for the fault.
-abbrev pub PieceMeetsFaults : Option Told → Seen → Seen → Type 0
-PieceMeetsFaults told before after = NoFault port.Script before after ⊎ (told ≡ Some (Refused why.Fault))
+-- The page goes on from the pieces, where its ending wasn't read, and is theirs where it was.
+abbrev pub IsPageBehind : Option Ending → List (List ℕ) → Page → Type 0
+IsPageBehind None pieces page = (more : List ℕ) × (page.text ≡ joined pieces ++ more)
+IsPageBehind (Some e) pieces page = page ≡ record { text = joined pieces; ending = e }
 
--- Memory ran out or the sink failed, wherever the parse stood.
-pub record TakesPieceInPart (es : Entities) (files : ScriptFiles) (u : Decoder) (old : Driver) (piece : List ℕ) (now taken' : Option (List ℕ)) : Type 0 where
-  pub front : (read : List ℕ) (taken : Option (List ℕ)) → HasRead PAGE_LIMIT u read → StandsAt es read old taken now → TookOf es files (read ++ piece) taken taken'
+-- The page that was read at its port goes on so.
+pub record PageFor (before now : Seen) (pieces : List (List ℕ)) (ending : Option Ending) : Type 0 where
+  pub page : PageRead
+  pub read_from : IsReadFrom before now page
+  pub is : IsPageBehind ending pieces (page_at page)
+  pub read : ReadsOn (PAGE_LIMIT + 1) (before.left port.Page) (now.left port.Page)
+
+-- what was read, as the pieces and the ending tell it
+abbrev pub PageAt : Seen → Seen → PageReader → List (List ℕ) → Option Ending → Type 0
+PageAt before now reader pieces None = PageOpen before now reader pieces
+PageAt before now reader pieces (Some e) = PageFor before now pieces (Some e)

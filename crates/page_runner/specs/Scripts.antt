@@ -1,21 +1,14 @@
 -- The files of external scripts, as a run meets them.
 use Rattle.std.specs.Prelude.{◌≡◌, ◌≢◌, ◌⊎◌, ℕ, Bool, true, List, [], ◌∷◌, ◌++◌, map, Option, Some, None, IfSome, IsSome}
 use Rattle.std.specs.List.{AllByRecursion}
-use Rattle.std.specs.Str.{chars}
-use Rattle.std.specs.String.{string_bytes}
-use Rattle.std.specs.BTreeMap.{get_by_text}
 use Rattle.outside.specs.Outside.{Files, Paths, Begun, Seen}
 use Rattle.outside.specs.declared.traits.Port.TheVariants.{Script as script_port}
 use Rattle.standard.specs.Entities.{Entities}
 use Rattle.standard.specs.Scripts.{Fetched, got, missing, faulted, is_lawful, file_statements}
-use Rattle.standard.specs.Statements.{statements}
 use Rattle.standard.specs.Serial.{World}
-use Rattle.page_runner.specs.declared.fetch.Fetch.{Fetch}
-use Rattle.page_runner.specs.declared.fetch.Fetch.TheVariants as fetches
+use Rattle.core_steps.specs.Journals.{found}
+use Rattle.core_steps.specs.Fetches.{names_of}
 use Rattle.page_runner.specs.declared.scripts.TheConstants.{SCRIPT_LIMIT}
-use Rattle.page_runner.specs.declared.scripts.FetchedScript.{FetchedScript}
-use Rattle.page_runner.specs.declared.scripts.FetchedScript.TheVariants.{Text, Missing, Faulted}
-use Rattle.page_runner.specs.declared.scripts.ScriptFiles.{ScriptFiles}
 use Rattle.page_runner.specs.Given.{FaultsRose, AbsencesRose, file_at, ReadTo}
 
 -- the path of a script's file: the folder, `/`, the name
@@ -67,50 +60,42 @@ fetched_of (Some bytes) = got bytes
 abbrev pub world_in : Entities → Files → List ℕ → World
 world_in es files dir = record { entities = es; scripts = λ name. fetched_of (files (path_of dir name)) }
 
--- ---- what was met so far
+-- ---- what was fetched so far
 
--- what came of the script of a name that was fetched
-abbrev pub met_of : ScriptFiles → List ℕ → Option FetchedScript
-met_of files name = get_by_text files.met name
+-- names, each with what came of it, the latest first
+abbrev pub Met : Type 0
+Met = List (List ℕ × Fetched)
 
--- What came of a script stands for what the parse is given of it: its text has the statements of the file.
-abbrev pub StandsFor : FetchedScript → Fetched → Type 0
-StandsFor (Text text) (got bytes) = statements (chars (string_bytes text)) ≡ file_statements bytes
-StandsFor Missing missing = Unit {0}
-StandsFor Faulted faulted = Unit {0}
-StandsFor _ _ = ⊥
+-- Two things that may come of a name are the same to the parse: of a file that is too long no more is read than shows that.
+abbrev pub Alike : Fetched → Fetched → Type 0
+Alike (got a) (got b) = file_statements a ≡ file_statements b
+Alike missing missing = Unit {0}
+Alike faulted faulted = Unit {0}
+Alike _ _ = ⊥
 
--- what came of a script is that of what fetching gave
-abbrev pub IsScriptOf : Fetch → FetchedScript → Type 0
-IsScriptOf (fetches.Got bytes) (Text text) = statements (chars (string_bytes text)) ≡ file_statements bytes.items
-IsScriptOf fetches.Missing Missing = Unit {0}
-IsScriptOf fetches.Faulted Faulted = Unit {0}
-IsScriptOf _ _ = ⊥
+-- what came of a name is, to the parse, something that may come of it
+abbrev pub MayMeet : List ℕ → Seen → Seen → List ℕ → Fetched → Type 0
+MayMeet dir before after name f = (g : Fetched) × MayFetch dir before after name g × Alike f g
 
--- These scripts agree with what was met so far.
-pub record Knows (files : ScriptFiles) (scripts : List ℕ → Fetched) : Type 0 where
-  pub each : (name : List ℕ) (script : FetchedScript) → met_of files name ≡ Some script → StandsFor script (scripts name)
+-- Nothing was done, or the file of that name was begun and read.
+pub data BeginsFile (dir name : List ℕ) (before after : Seen) : Type 0 where
+  left_alone : after ≡ before → BeginsFile dir name before after
+  begun_once : Begun (before.begun script_port) (after.begun script_port) (path_of dir name ∷ []) → ReadTo SCRIPT_LIMIT script_port (path_of dir name) before after → BeginsFile dir name before after
 
--- The world has these entities, and its scripts agree with what was met so far.
-pub record Suits (es : Entities) (files : ScriptFiles) (w : World) : Type 0 where
-  pub entities : w.entities ≡ es
-  pub knows : Knows files w.scripts
-
--- what came of a name stands for something that may come of it
-abbrev pub MayMeet : List ℕ → Seen → Seen → List ℕ → FetchedScript → Type 0
-MayMeet dir before after name script = (f : Fetched) × MayFetch dir before after name f × StandsFor script f
-
--- No script was begun whose name was met before, and where the fetching is done, all that were begun are met.
-pub record BeginsNew (done : Bool) (dir : List ℕ) (before after : Paths) (old new : ScriptFiles) : Type 0 where
+-- No script was begun whose name was fetched before, and where the fetching is done, all that were begun are among those that were.
+pub record BeginsNew (done : Bool) (dir : List ℕ) (before after : Paths) (old new : Met) : Type 0 where
   pub which : NamesOnce dir before after
-  pub fresh : AllByRecursion (λ name. met_of old name ≡ None) which.names
-  pub met : done ≡ true → AllByRecursion (λ name. IsSome (met_of new name)) which.names
+  pub fresh : AllByRecursion (λ name. found name old ≡ None) which.names
+  pub met : done ≡ true → AllByRecursion (λ name. IsSome (found name new)) which.names
 
 -- Scripts were fetched: more names are met, and what was met stays. It is done, or memory ran out.
-pub record Fetches (done : Bool) (before after : Seen) (old new : ScriptFiles) : Type 0 where
-  pub dir : new.dir ≡ old.dir
-  pub kept : (name : List ℕ) (script : FetchedScript) → met_of old name ≡ Some script → met_of new name ≡ Some script
-  pub fresh : (name : List ℕ) (script : FetchedScript) → met_of new name ≡ Some script
-      → (met_of old name ≡ Some script) ⊎ MayMeet (string_bytes old.dir) before after name script
-  pub no_further : ReadScriptsTo SCRIPT_LIMIT (string_bytes old.dir) before after
-  pub begins : BeginsNew done (string_bytes old.dir) (before.begun script_port) (after.begun script_port) old new
+pub record Fetches (done : Bool) (dir : List ℕ) (before after : Seen) (old new : Met) : Type 0 where
+  pub kept : (name : List ℕ) (f : Fetched) → found name old ≡ Some f → found name new ≡ Some f
+  pub fresh : (name : List ℕ) (f : Fetched) → found name new ≡ Some f → (found name old ≡ Some f) ⊎ MayMeet dir before after name f
+  pub no_further : ReadScriptsTo SCRIPT_LIMIT dir before after
+  pub begins : BeginsNew done dir (before.begun script_port) (after.begun script_port) old new
+
+-- Each name that was fetched is lawful, and none twice.
+pub record AreKnown (met : Met) : Type 0 where
+  pub lawful : AllByRecursion (λ name. is_lawful name ≡ true) (names_of met)
+  pub once : AreDistinct (names_of met)

@@ -1,7 +1,5 @@
 -- What a parse comes to, and the status of a run with it.
 use Rattle.html_types.specs.declared.script.Why.TheVariants as why
-use Rattle.html_types.specs.declared.instruction.Finish.{Finish}
-use Rattle.html_types.specs.declared.instruction.Finish.TheVariants as finale
 use Rattle.standard.specs.Serial.{Result, finished, refused}
 use Rattle.page_runner.specs.declared.outcome.Outcome.{Outcome}
 use Rattle.page_runner.specs.declared.outcome.Outcome.TheVariants.{Finished, Refused}
@@ -13,11 +11,6 @@ use Rattle.page_runner.specs.declared.status.Status.TheVariants as status
 abbrev pub result_of : Outcome → Result
 result_of Finished = finished
 result_of (Refused reason) = refused reason
-
--- what the parse comes to at the end of a page that ends well
-abbrev pub outcome_of : Finish → Outcome
-outcome_of finale.Finished = Finished
-outcome_of finale.Deep = Refused why.Depth
 
 -- the status with which a run of that outcome ends
 abbrev pub status_of : Outcome → Status

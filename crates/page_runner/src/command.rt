@@ -5,20 +5,20 @@ ghost use Rattle.standard.specs.Output.{result_with};
 ghost use Rattle.outside.specs.Outside.{Rose, Begun, KeepsOthers};
 ghost use Rattle.page_runner.specs.Words.{asked, shown};
 ghost use Rattle.page_runner.specs.Given.{ReadTo};
-ghost use Rattle.write_parser.specs.Writing.{first_view};
-ghost use Rattle.page_runner.specs.Scripts.{met_of};
 ghost use Rattle.page_runner.specs.Taken.{Took, TookFront};
 ghost use Rattle.page_runner.specs.Shown.{result_of, status_of};
-ghost use Rattle.page_runner.specs.Answers.{status_for, table_of, is_finished, Gives, IsBegun, PageAnswers, ReadsPage, ReadsTable, ReadsNone, answer_without, Answers, RunsTo, StopsAtLimits, BeginsOnce, CompletesRun, Exactly, AbsenceRose, FaultRose};
+ghost use Rattle.page_runner.specs.Answers.{status_for, table_of, is_finished, Gives, PageAnswers, ReadsPage, ReadsTable, ReadsNone, answer_without, Answers, RunsTo, StopsAtLimits, BeginsOnce, CompletesRun, Exactly, AbsenceRose, FaultRose};
 
-use crate::driver::Driver;
-use crate::fetch::{Fetch, read_whole};
+use crate::fetch::read_whole;
+use crate::in_place::page_in_place;
+use crate::job::Job;
 use crate::outcome::{Outcome, status_at};
 use crate::output::show_outcome;
-use crate::page::{Failure, parse_page};
+use crate::page::Failure;
 use crate::status::Status;
 use crate::words::{PageWords, Refused, read_words};
 use crate::write::write_all;
+use core_steps::Fetch;
 use entity_table::{Table, TableFault};
 use html_types::NoMemory;
 use op_exec::Doc;
@@ -42,7 +42,7 @@ pub(crate) enum Unread {
     NotTable,
 }
 
-fn status_for(failure: Failure) -> Status
+pub(crate) fn status_for(failure: Failure) -> Status
     ensures { result ≡ status_for failure }
 {
     match failure {
@@ -71,7 +71,13 @@ fn write_end<K: Sink>(
 }
 
 // The same, and the status of the run.
-fn end_page<K: Sink>(alloc: Global, out: &mut K, doc: &Doc, outcome: Outcome, dump: bool) -> Status
+pub(crate) fn end_page<K: Sink>(
+    alloc: Global,
+    out: &mut K,
+    doc: &Doc,
+    outcome: Outcome,
+    dump: bool,
+) -> Status
     ensures gives { Gives (Rose (K.faults out.old) (K.faults out.new)) (K.taken out.old) (K.taken out.new)
         (status_of outcome, result_with dump (result_of outcome) doc.now.tree) result }
     ensures clean { IsTrue (is_finished result) → IsTrue (K.clean out.new) }
@@ -83,7 +89,7 @@ fn end_page<K: Sink>(alloc: Global, out: &mut K, doc: &Doc, outcome: Outcome, du
 }
 
 // A fault before the page was begun. The sink is finished then too.
-fn end_at_fault<K: Sink>(out: &mut K) -> Status
+pub(crate) fn end_at_fault<K: Sink>(out: &mut K) -> Status
     ensures gives { Gives (Rose (K.faults out.old) (K.faults out.new)) (K.taken out.old) (K.taken out.new) (Status.ReadFault, []) result }
     ensures clean { IsTrue (is_finished result) → IsTrue (K.clean out.new) }
 {
@@ -106,74 +112,30 @@ fn end_without<K: Sink>(out: &mut K, unread: Unread) -> Status
     }
 }
 
-// Parses the page that was begun, and writes what comes of it.
-fn run_begun<F: Outside, K: Sink>(
-    alloc: Global,
-    table: &Table,
-    files: &mut F,
-    out: &mut K,
-    driver: &mut Driver,
-    words: &PageWords,
-) -> Status
-    requires first { driver.old.writer ≡ first_view 0 }
-    requires dir { string_bytes driver.old.scripts.dir ≡ string_bytes words.now.dir }
-    requires none { (name : _) → met_of driver.old.scripts name ≡ None }
-    requires begun { IsBegun (string_bytes words.now.page) (F.seen files.old) }
-    requires piece { 0 < words.now.piece }
-    ensures answer { PageAnswers table.now words.now.dump (string_bytes words.now.page) (string_bytes words.now.dir)
-        (F.seen files.old) (F.seen files.new) (K.faults out.old) (K.faults out.new) (K.taken out.old) (K.taken out.new) result }
-    ensures reads { ReadsPage (string_bytes words.now.page) (string_bytes words.now.dir) [] (F.seen files.old) (F.seen files.new) }
-    ensures clean { IsTrue (is_finished result) → IsTrue (K.clean out.new) }
-{
-    match parse_page(alloc, table, files, out, driver, words.piece) {
-        Err(failure) => status_for(failure),
-        Ok(outcome) => end_page(alloc, out, driver.doc(), outcome, words.dump),
-    }
-}
-
-// Parses the page that was begun, with the scripts of the folder, and writes what comes of it.
-fn run_in_folder<F: Outside, K: Sink>(
-    alloc: Global,
-    table: &Table,
-    files: &mut F,
-    out: &mut K,
-    words: &PageWords,
-) -> Status
-    requires begun { IsBegun (string_bytes words.now.page) (F.seen files.old) }
-    requires piece { 0 < words.now.piece }
-    ensures answer { PageAnswers table.now words.now.dump (string_bytes words.now.page) (string_bytes words.now.dir)
-        (F.seen files.old) (F.seen files.new) (K.faults out.old) (K.faults out.new) (K.taken out.old) (K.taken out.new) result }
-    ensures reads { ReadsPage (string_bytes words.now.page) (string_bytes words.now.dir) [] (F.seen files.old) (F.seen files.new) }
-    ensures clean { IsTrue (is_finished result) → IsTrue (K.clean out.new) }
-{
-    let mut driver = match Driver::new(alloc, words.dir.as_str()) {
-        Err(NoMemory) => return Status::NoMemory,
-        Ok(driver) => driver,
-    };
-    let status = run_begun(alloc, table, files, out, &mut driver, words);
-    drop(driver);
-    status
-}
-
-// Begins the page, parses it and writes what comes of it.
+// Runs the page over the table.
 fn run_page<F: Outside, K: Sink>(
     alloc: Global,
     table: &Table,
     files: &mut F,
     out: &mut K,
-    words: &PageWords,
+    words: PageWords,
 ) -> Status
-    requires { 0 < words.now.piece }
-    ensures answer { PageAnswers table.now words.now.dump (string_bytes words.now.page) (string_bytes words.now.dir)
+    requires piece { (0 < words.piece) × (words.piece ≤ 65536) }
+    requires ahead { (0 < words.ahead) × (words.ahead ≤ 64) }
+    ensures answer { PageAnswers table.now words.dump (string_bytes words.page) (string_bytes words.dir)
         (F.seen files.old) (F.seen files.new) (K.faults out.old) (K.faults out.new) (K.taken out.old) (K.taken out.new) result }
-    ensures reads { ReadsPage (string_bytes words.now.page) (string_bytes words.now.dir) (string_bytes words.now.page ∷ []) (F.seen files.old) (F.seen files.new) }
+    ensures reads { ReadsPage (string_bytes words.page) (string_bytes words.dir) (string_bytes words.page ∷ []) (F.seen files.old) (F.seen files.new) }
     ensures clean { IsTrue (is_finished result) → IsTrue (K.clean out.new) }
 {
-    match files.begin(Port::Page, words.page.as_str()) {
-        Err(Failed) => end_at_fault(out),
-        Ok(false) => Status::Absent,
-        Ok(true) => run_in_folder(alloc, table, files, out, words),
-    }
+    let job = Job {
+        page: words.page,
+        dir: words.dir,
+        table,
+        piece: words.piece,
+        ahead: words.ahead,
+        dump: words.dump,
+    };
+    page_in_place(alloc, &job, files, out).outcome
 }
 
 // The table that the file lists. One that is too long is none.
@@ -213,13 +175,14 @@ fn run_files<F: Outside, K: Sink>(
     alloc: Global,
     files: &mut F,
     out: &mut K,
-    words: &PageWords,
+    words: PageWords,
 ) -> Status
-    requires { 0 < words.now.piece }
-    ensures answer { Answers (shown words.now) (F.seen files.old) (F.seen files.new)
+    requires piece { (0 < words.piece) × (words.piece ≤ 65536) }
+    requires ahead { (0 < words.ahead) × (words.ahead ≤ 64) }
+    ensures answer { Answers (shown words) (F.seen files.old) (F.seen files.new)
         (K.faults out.old) (K.faults out.new) (K.taken out.old) (K.taken out.new) result }
-    ensures no_further { StopsAtLimits (Some (shown words.now)) (F.seen files.old) (F.seen files.new) }
-    ensures begins { BeginsOnce (Some (shown words.now)) (F.seen files.old) (F.seen files.new) }
+    ensures no_further { StopsAtLimits (Some (shown words)) (F.seen files.old) (F.seen files.new) }
+    ensures begins { BeginsOnce (Some (shown words)) (F.seen files.old) (F.seen files.new) }
     ensures clean { IsTrue (is_finished result) → IsTrue (K.clean out.new) }
 {
     match read_entities(alloc, files, words.entities.as_str()) {
@@ -244,7 +207,7 @@ fn run_words<F: Outside, K: Sink>(
     match read_words(alloc, words) {
         Err(Refused::Usage) => Status::Usage,
         Err(Refused::NoMemory) => Status::NoMemory,
-        Ok(words) => run_files(alloc, files, out, &words),
+        Ok(words) => run_files(alloc, files, out, words),
     }
 }
 

@@ -3,23 +3,14 @@ ghost use Rattle.std.specs.Prelude.{◌≡◌, ◌<◌, ◌^◌, [], ◌∷◌, 
 ghost use Rattle.outside.specs.Outside.{OthersStay, NeverFall, Begun, KeepsOthers};
 ghost use Rattle.page_runner.specs.Given.{MayGive, given_of, ReadTo};
 
+use core_steps::Fetch;
 use html_types::NoMemory;
 use outside::{Failed, Outside, Port};
 use std::alloc::Global;
 
-/// What came of a file: its bytes, of a longer one those up to one past the limit.
-#[derive(Drop)]
-pub enum Fetch {
-    Got(Vec<u8>),
-    /// There is no such file.
-    Missing,
-    /// Beginning or reading it failed.
-    Faulted,
-}
-
 const PIECE: usize = 4096;
 
-/// Begins a file and reads it, no further than one byte past the limit.
+/// Begins a file and reads it, no further than one byte past the limit: of a longer one its bytes are those up to there.
 pub fn read_whole<F: Outside>(
     alloc: Global,
     files: &mut F,

@@ -2,11 +2,14 @@
 #![tactic(auto)]
 
 mod command;
-mod driver;
 mod fetch;
+mod in_place;
+mod job;
+mod lanes;
 mod outcome;
 mod output;
 mod page;
+mod reader;
 mod scripts;
 mod status;
 #[cfg(test)]
@@ -15,7 +18,10 @@ mod words;
 mod write;
 
 pub use command::{ENTITIES_LIMIT, run};
-pub use fetch::{Fetch, read_whole};
+pub use core_steps::Fetch;
+pub use fetch::read_whole;
+pub use in_place::page_in_place;
+pub use job::{Job, Report};
 pub use page::PAGE_LIMIT;
 pub use scripts::SCRIPT_LIMIT;
 pub use status::{Limit, Status};

@@ -1,24 +1,14 @@
 // What the parse of a page comes to.
 ghost use Rattle.std.specs.Prelude.{◌≡◌};
-ghost use Rattle.page_runner.specs.Shown.{outcome_of, status_of};
+ghost use Rattle.page_runner.specs.Shown.{status_of};
 
 use crate::status::{Limit, Status};
-use html_types::{Finish, Why};
+use html_types::Why;
 
 #[derive(Clone, Copy, Debug, PartialEq, Eq)]
 pub(crate) enum Outcome {
     Finished,
     Refused(Why),
-}
-
-/// The outcome at the end of a page that ends well.
-pub(crate) fn outcome_at(finish: Finish) -> Outcome
-    ensures { result ≡ outcome_of finish }
-{
-    match finish {
-        Finish::Finished => Outcome::Finished,
-        Finish::Deep => Outcome::Refused(Why::Depth),
-    }
 }
 
 /// The status with which a run of that outcome ends.

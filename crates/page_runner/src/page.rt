@@ -1,23 +1,26 @@
-// The page is parsed piece by piece, and its lines are written as they come.
-ghost use Rattle.std.specs.Prelude.{◌≡◌, ◌<◌, ◌≤◌, ◌+◌, ℕ, List, [], length, take, is_ok, IfOk, IfErr, OnOk, OnErr, IsErrOf, IsNone};
+// A page is parsed on one thread: its document's side and its parser's side take turns.
+ghost use Rattle.std.specs.Prelude.{◌≡◌, ◌<◌, ◌≤◌, length, suc, nat_lt, ◌&&◌, is_none, false, IfOk, IfSome, IfNone, OnOk, OnErr, IsErrOf, IsTrue};
 ghost use Rattle.std.specs.String.{string_bytes};
 ghost use Rattle.outside.specs.Outside.{Rose, KeepsOthers};
+ghost use Rattle.core_rules.specs.declared.event.Event.TheVariants as event;
+ghost use Rattle.core_rules.specs.Desk.{done, is_done, can_do, wants_reply, takes};
+ghost use Rattle.core_steps.specs.Sides.{first_shown, journaled, IsReplayed, Standing, awaiting, standing_of};
 ghost use Rattle.page_runner.specs.declared.page.Failure.TheVariants as failures;
-ghost use Rattle.write_parser.specs.Writing.{first_view};
-ghost use Rattle.page_runner.specs.Given.{KeepsEntities, NoFault};
-ghost use Rattle.page_runner.specs.Scripts.{met_of, Fetches, NamesOnce, ReadScriptsTo};
-ghost use Rattle.page_runner.specs.Moments.{IsReady};
-ghost use Rattle.utf8_pieces.specs.Decoder.{HasRead};
-ghost use Rattle.page_runner.specs.Pages.{AreTaken, ReadsOn, ClosesAt, EndsAs, TakesPiece, TakesPieceInPart, PieceMeetsFaults, ParsesPage, ParsesFront, EndsWithScripts, FrontWithScripts};
+ghost use Rattle.page_runner.specs.Shown.{result_of};
+ghost use Rattle.page_runner.specs.Pages.{IsUnread};
+ghost use Rattle.page_runner.specs.Turns.{no_load, under_way, RunsOn, RunsInPart, Arrives, BeginsAwaited, GivesUp, RunsOut};
 
-use crate::driver::{Driver, PartEnd};
-use crate::outcome::{Outcome, outcome_at};
-use crate::scripts::SCRIPT_LIMIT;
-use entity_table::Table;
-use html_types::{Ending, NoMemory, Why};
+use crate::job::Job;
+use crate::lanes::Lanes;
+use crate::outcome::Outcome;
+use crate::output::write_lines;
+use crate::reader::PageReader;
+use crate::scripts::fetch_script;
+use core_steps::{DocSide, State};
+use html_types::{NoMemory, Text};
 use outside::{Failed, Outside, Port, Sink};
+use speculation::InForce;
 use std::alloc::{AllocError, Global};
-use utf8_pieces::Decoder;
 
 /// Why a call that was going on gave up.
 #[derive(Clone, Copy, Debug, PartialEq, Eq)]
@@ -53,150 +56,129 @@ impl From<Failed> for Failure {
 /// The most bytes of a page.
 pub const PAGE_LIMIT: usize = 1_073_741_824;
 
-// The outcome where the text is used, by how the page ends.
-fn end(table: &Table, driver: &mut Driver, ending: Ending) -> Result<Outcome, NoMemory>
-    requires { IsReady driver.old.writer }
-    ensures ends { IfOk result (λ outcome. EndsAs table.now driver.old.writer driver.new.writer ending outcome) }
-    ensures scripts { driver.new.scripts ≡ driver.old.scripts }
+// What the parse came to, where it is over.
+fn outcome_of(doc: &DocSide) -> Option<Outcome>
+    requires { doc.now.spent ≡ false }
+    ensures over { IfSome result (λ o. doc.now.desk.phase ≡ done (result_of o)) }
+    ensures on { IfNone result (is_done doc.now.desk.phase ≡ false) }
 {
-    match ending {
-        Ending::End => {
-            let finish = driver.finish(table)?;
-            Ok(outcome_at(finish))
-        }
-        Ending::Bad => Ok(Outcome::Refused(Why::BadUtf8)),
-        Ending::Long => Ok(Outcome::Refused(Why::Page)),
-        Ending::Fault => Ok(Outcome::Refused(Why::Fault)),
+    match doc.status() {
+        State::Done => Some(Outcome::Finished),
+        State::Refused(why) => Some(Outcome::Refused(why)),
+        _ => None,
     }
 }
 
-// Reads the next piece of the page, and says how many bytes it has. Where none comes, the page ends so.
-fn read_piece<F: Outside>(
-    files: &mut F,
-    decoder: &Decoder,
-    room: &mut [u8],
-) -> Result<usize, Ending>
-    ensures count { IfOk result (λ n. (0 < n) × (n ≤ length room.old)) }
-    ensures taken { IfOk result (λ n. AreTaken ((F.seen files.old).left Port.Page) ((F.seen files.new).left Port.Page) (take n room.new)) }
-    ensures ending { IfErr result (λ ending. 0 < length room.old → (read : List ℕ) → HasRead PAGE_LIMIT decoder.now read
-        → ClosesAt (F.seen files.old) (F.seen files.new) read ending) }
-    ensures no_fault { OnOk result (NoFault Port.Page (F.seen files.old) (F.seen files.new)) }
-    ensures begun { (F.seen files.new).begun ≡ (F.seen files.old).begun }
-    ensures others { KeepsOthers Port.Page (F.seen files.old) (F.seen files.new) }
+// Whether the page is read on, where nothing of it is to be sent: credit is left, and its ending wasn't read.
+fn may_read<E: InForce>(doc: &DocSide, lanes: &Lanes<E>, ahead: usize) -> bool
+    requires { under_way lanes.now ≤ 64 }
+    ensures may { result ≡ (nat_lt (under_way lanes.now) ahead && is_none doc.now.journal.ending) }
+    ensures replayed { IsReplayed doc.now }
 {
-    match files.read(Port::Page, room) {
-        Err(Failed) => Err(decoder.close(true)),
-        Ok(0) => Err(decoder.close(false)),
-        Ok(n) => Ok(n),
+    let open = doc.journal().ending().is_none();
+    lanes.has_room(ahead) && open
+}
+
+// Takes the reply that stands first.
+fn take_reply<E: InForce>(doc: &mut DocSide, lanes: &mut Lanes<E>) -> Result<(), NoMemory>
+    requires entities { doc.old.entities ≡ E.entities }
+    requires wanted { IsTrue (wants_reply doc.old.desk) }
+    requires stands { 0 < lanes.old.replies }
+    ensures took { OnOk result (doc.new ≡ journaled event.Take (takes doc.old.entities doc.old.desk) doc.old) }
+    ensures lanes { OnOk result (lanes.old ≡ record lanes.new { replies = suc lanes.new.replies }) }
+{
+    let Some(reply) = lanes.take() else {
+        unreachable!()
+    };
+    doc.take(reply)
+}
+
+// Executes a batch, or runs the script that is in hand, and writes the lines that it gave.
+fn run_on<K: Sink>(alloc: Global, out: &mut K, doc: &mut DocSide) -> Result<(), Failure>
+    requires can { IsTrue (can_do doc.old.desk) }
+    requires lines { doc.old.desk.own.side.lines ≡ doc.old.given }
+    ensures ok { OnOk result (RunsOn (K.taken out.old) (K.taken out.new) doc.old doc.new) }
+    ensures err { OnErr result (RunsInPart (K.taken out.old) (K.taken out.new) doc.old doc.new) }
+    ensures write { IsErrOf result Failure.Write → Rose (K.faults out.old) (K.faults out.new) }
+    ensures faults { K.faults out.old ≤ K.faults out.new }
+{
+    doc.act()?;
+    let lines = doc.take_lines()?;
+    write_lines(alloc, out, lines.as_slice())
+}
+
+// The name of the script that is awaited.
+fn awaited_name(alloc: Global, doc: &DocSide) -> Result<Text, NoMemory>
+    requires going { doc.now.spent ≡ false }
+    requires awaits { (name : _) × (standing_of doc.now.desk ≡ awaiting name) }
+    ensures { IfOk result (λ name. standing_of doc.now.desk ≡ awaiting name) }
+{
+    match doc.status() {
+        State::Awaits(name) => name.copy(alloc),
+        _ => unreachable!(),
     }
 }
 
-// Parses the text of the next piece. An outcome says that the parse is over.
-fn take_piece<F: Outside, K: Sink>(
+// Fetches the script that is awaited.
+fn fetch_awaited<F: Outside>(
     alloc: Global,
-    table: &Table,
+    dir: &str,
     files: &mut F,
-    out: &mut K,
-    driver: &mut Driver,
-    decoder: &mut Decoder,
-    piece: &[u8],
-) -> Result<Option<Outcome>, Failure>
-    requires { IsReady driver.old.writer }
-    ensures ready { IfOk result (λ o. IsNone o → IsReady driver.new.writer) }
-    ensures ok { IfOk result (λ o. TakesPiece table.now decoder.old decoder.new driver.old driver.new piece.now (K.taken out.old) (K.taken out.new) o) }
-    ensures unfailed { IfOk result (λ o. PieceMeetsFaults o (F.seen files.old) (F.seen files.new)) }
-    ensures err { OnErr result (TakesPieceInPart table.now driver.new.scripts decoder.old driver.old piece.now (K.taken out.old) (K.taken out.new)) }
-    ensures fetches { Fetches (is_ok result) (F.seen files.old) (F.seen files.new) driver.old.scripts driver.new.scripts }
+    doc: &mut DocSide,
+) -> Result<(), NoMemory>
+    requires going { doc.old.spent ≡ false }
+    requires awaits { (name : _) × (standing_of doc.old.desk ≡ awaiting name) }
+    ensures arrives { OnOk result (Arrives dir.now (F.seen files.old) (F.seen files.new) doc.old doc.new) }
+    ensures begins { BeginsAwaited dir.now (F.seen files.old) (F.seen files.new) doc.old.desk }
     ensures others { KeepsOthers Port.Script (F.seen files.old) (F.seen files.new) }
-    ensures write { IsErrOf result Failure.Write → Rose (K.faults out.old) (K.faults out.new) }
-    ensures faults { K.faults out.old ≤ K.faults out.new }
 {
-    let fed = decoder.feed(alloc, piece)?;
-    match driver.take(alloc, table, files, out, fed.text.as_str())? {
-        PartEnd::Refused(why) => Ok(Some(Outcome::Refused(why))),
-        PartEnd::On => match fed.ending {
-            None => Ok(None),
-            Some(ending) => {
-                let outcome = end(table, driver, ending)?;
-                Ok(Some(outcome))
-            }
-        },
-    }
+    let name = awaited_name(alloc, doc)?;
+    let fetch = fetch_script(alloc, files, dir, name.as_str())?;
+    doc.arrive(name, fetch)
 }
 
-// Parses the page that was begun, by reads of at most as many bytes as there is room, and writes its lines.
-fn parse_reads<F: Outside, K: Sink>(
+// Takes turns until the parse is over: Send and reading on come first, then the events of the parser's side, then Take, then Do, and where
+// nothing else can be done the script that is awaited is fetched.
+pub(crate) fn take_turns<E: InForce, F: Outside, K: Sink>(
     alloc: Global,
-    table: &Table,
+    job: &Job<'_>,
     files: &mut F,
     out: &mut K,
-    driver: &mut Driver,
+    doc: &mut DocSide,
+    lanes: &mut Lanes<E>,
+    reader: &mut PageReader,
     room: &mut [u8],
 ) -> Result<Outcome, Failure>
-    requires first { driver.old.writer ≡ first_view 0 }
     requires room { 0 < length room.old }
-    ensures ok { IfOk result (λ outcome. ParsesPage table.now (F.seen files.old) (F.seen files.new) driver.new (K.taken out.old) (K.taken out.new) outcome) }
-    ensures err { OnErr result (ParsesFront table.now driver.new.scripts (F.seen files.old) (F.seen files.new) (K.taken out.old) (K.taken out.new)) }
-    ensures fetches { Fetches (is_ok result) (F.seen files.old) (F.seen files.new) driver.old.scripts driver.new.scripts }
-    ensures others { KeepsEntities (F.seen files.old) (F.seen files.new) }
-    ensures no_further { ReadsOn (PAGE_LIMIT + 1) ((F.seen files.old).left Port.Page) ((F.seen files.new).left Port.Page) }
-    ensures begun { (F.seen files.new).begun Port.Page ≡ (F.seen files.old).begun Port.Page }
+    requires table { job.now.table.now ≡ E.entities }
+    requires first { doc.old ≡ first_shown job.now.table.now job.now.ahead }
+    requires lanes { lanes.old ≡ no_load }
+    requires reader { IsUnread reader.old }
+    requires some { 0 < job.now.ahead }
+    requires few { job.now.ahead ≤ 64 }
+    ensures ok { IfOk result (λ o. RunsOut job.now.table.now job.now.ahead (string_bytes job.now.dir) (F.seen files.old) (F.seen files.new) (K.taken out.old) (K.taken out.new) doc.new o) }
+    ensures err { OnErr result (GivesUp job.now.table.now job.now.ahead (string_bytes job.now.dir) (F.seen files.old) (F.seen files.new) (K.taken out.old) (K.taken out.new) doc.new) }
     ensures write { IsErrOf result Failure.Write → Rose (K.faults out.old) (K.faults out.new) }
     ensures faults { K.faults out.old ≤ K.faults out.new }
 {
-    let mut decoder = Decoder::new(alloc, PAGE_LIMIT);
-    let mut left = PAGE_LIMIT + 1;
-    'reads: loop {
-        let most = room.len().min(left);
-        match read_piece(files, &decoder, &mut room[..most]) {
-            Err(ending) => {
-                let outcome = end(table, driver, ending)?;
-                return Ok(outcome);
-            }
-            Ok(n) => {
-                left -= n;
-                let piece = &room[..n];
-                if let Some(outcome) = take_piece(
-                    alloc,
-                    table,
-                    files,
-                    out,
-                    driver,
-                    &mut decoder,
-                    piece,
-                )? {
-                    return Ok(outcome);
-                }
-            }
+    'turns: loop {
+        if let Some(outcome) = outcome_of(doc) {
+            return Ok(outcome);
+        }
+        let may_read = may_read(doc, lanes, job.ahead);
+        if doc.can_send() {
+            let request = doc.send()?;
+            lanes.ask(request)?;
+        } else if may_read {
+            reader.read_on(alloc, files, doc, room)?;
+        } else if lanes.answer(job.table)? {
+            continue;
+        } else if doc.wants_reply() {
+            take_reply(doc, lanes)?;
+        } else if doc.can_do() {
+            run_on(alloc, out, doc)?;
+        } else {
+            fetch_awaited(alloc, job.dir.as_str(), files, doc)?;
         }
     }
-}
-
-/// Parses the page that was begun, by reads of at most that many bytes, with the scripts of the driver's folder, and writes its
-/// lines. Where memory runs out or the sink fails it has taken a front of what is written of the page.
-pub(crate) fn parse_page<F: Outside, K: Sink>(
-    alloc: Global,
-    table: &Table,
-    files: &mut F,
-    out: &mut K,
-    driver: &mut Driver,
-    piece: usize,
-) -> Result<Outcome, Failure>
-    requires first { driver.old.writer ≡ first_view 0 }
-    requires none { (name : _) → met_of driver.old.scripts name ≡ None }
-    requires piece { 0 < piece }
-    ensures ok { IfOk result (λ outcome. EndsWithScripts table.now (string_bytes driver.old.scripts.dir) (F.seen files.old) (F.seen files.new)
-        driver.new.writer (K.taken out.old) (K.taken out.new) outcome) }
-    ensures err { OnErr result (FrontWithScripts table.now (string_bytes driver.old.scripts.dir) (F.seen files.old) (F.seen files.new)
-        (K.taken out.old) (K.taken out.new)) }
-    ensures others { KeepsEntities (F.seen files.old) (F.seen files.new) }
-    ensures no_further { ReadsOn (PAGE_LIMIT + 1) ((F.seen files.old).left Port.Page) ((F.seen files.new).left Port.Page) }
-    ensures begun { (F.seen files.new).begun Port.Page ≡ (F.seen files.old).begun Port.Page }
-    ensures scripts_no_further { ReadScriptsTo SCRIPT_LIMIT (string_bytes driver.old.scripts.dir) (F.seen files.old) (F.seen files.new) }
-    ensures names { NamesOnce (string_bytes driver.old.scripts.dir) ((F.seen files.old).begun Port.Script) ((F.seen files.new).begun Port.Script) }
-    ensures write { IsErrOf result Failure.Write → Rose (K.faults out.old) (K.faults out.new) }
-    ensures faults { K.faults out.old ≤ K.faults out.new }
-{
-    let mut room = vec![in alloc; 0u8; piece]?;
-    parse_reads(alloc, table, files, out, driver, &mut room)
 }

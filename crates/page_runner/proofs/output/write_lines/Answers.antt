@@ -1,4 +1,4 @@
-use Rattle.page_runner.proofs.WayLemmas.{on_err, line-front}
+use Rattle.page_runner.proofs.LineLemmas.{on_err, line-front}
 use Rattle.page_runner.proofs.output.write_lines.Goals as goal
 
 pub returns-in_err-write_line-clause-front : goal.returns-in_err-write_line-clause-front

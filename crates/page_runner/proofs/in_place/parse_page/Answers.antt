@@ -1,0 +1,17 @@
+use Rattle.std.proofs.Common.{◌≡◌, refl, ap, sym, ◌∙◌}
+use Rattle.page_runner.proofs.LineLemmas.{if_ok, err_weaker}
+use Rattle.page_runner.proofs.EndLemmas.{left_alone, gave_up, ran_out}
+use Rattle.page_runner.proofs.ReportLemmas.{replays-to}
+use Rattle.page_runner.proofs.in_place.parse_page.Goals as goal
+
+pub returns-clause-ok : goal.returns-clause-ok
+returns-clause-ok g c = if_ok _ (λ o out. ran_out _ _ _ _ _ _ _ _ o c.journal-journal.ensures.replayed out) c.take_turns-ended.ensures.ok
+
+pub returns-clause-err : goal.returns-clause-err
+returns-clause-err g c = err_weaker _ _ _ (λ gives. gave_up _ _ _ _ _ _ _ _ c.journal-journal.ensures.replayed gives) c.take_turns-ended.ensures.err
+
+pub returns-clause-replays : goal.returns-clause-replays
+returns-clause-replays g c = replays-to _ _ _ refl refl c.journal-journal.ensures.replayed
+
+pub returns-clause-alone : goal.returns-clause-alone
+returns-clause-alone g c = left_alone _ _ _ _ _ _ _ _ _ c.take_turns-ended.ensures.ok c.take_turns-ended.ensures.err

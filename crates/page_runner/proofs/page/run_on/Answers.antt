@@ -1,0 +1,20 @@
+use Rattle.std.proofs.Common.{◌∙◌, sym, ap, subst, refl, flat_map}
+use Rattle.standard.specs.Output.{line_text}
+use Rattle.page_runner.specs.Taken.{Took, TookFront}
+use Rattle.page_runner.proofs.LineLemmas.{ok_weaker, err_weaker}
+use Rattle.page_runner.proofs.StepLemmas.{ran_on, ran_cut}
+use Rattle.page_runner.proofs.page.run_on.Goals as goal
+
+pub returns-clause-ok : goal.returns-clause-ok
+returns-clause-ok g c =
+    let t = g.K.Sink.taken c.args.out.now in
+    let t' = g.K.Sink.taken c.write_lines.new.out in
+    ok_weaker _ _ _ (λ took. ran_on t t' c.args.doc.now c.act.new.self c.take_lines.new.self c.in_ok-lines.lines c.in_ok-act.ensures.others c.in_ok-lines.ensures.lines c.in_ok-lines.ensures.taken c.in_ok-act.ensures.does c.in_ok-act.ensures.less
+    (subst (λ ls. Took t t' (flat_map line_text ls)) c.as_slice.ensures took)) c.write_lines.ensures.took
+
+pub returns-clause-err : goal.returns-clause-err
+returns-clause-err g c =
+    let t = g.K.Sink.taken c.args.out.now in
+    let t' = g.K.Sink.taken c.write_lines.new.out in
+    err_weaker _ _ _ (λ took. ran_cut t t' c.args.doc.now c.act.new.self c.take_lines.new.self c.in_ok-lines.lines c.in_ok-act.ensures.others c.in_ok-lines.ensures.lines c.in_ok-lines.ensures.taken
+    (subst (λ ls. TookFront t t' (flat_map line_text ls)) c.as_slice.ensures took)) c.write_lines.ensures.front

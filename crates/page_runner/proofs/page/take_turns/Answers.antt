@@ -1,0 +1,101 @@
+use Rattle.std.proofs.Common.{◌≡◌, ◌<◌, ◌≤◌, ◌∙◌, sym, subst, refl, arith}
+use Rattle.page_runner.specs.Turns.{Arrives, BeginsAwaited}
+use Rattle.page_runner.proofs.LineLemmas.{on_err}
+use Rattle.page_runner.proofs.TurnLemmas.{holds_first, holds_open, holds_read, holds_answered}
+use Rattle.page_runner.proofs.GiveLemmas.{runs_out, gives_up, gives_up_reading, gives_up_fetching, gives_up_running, awaits_name, none-of, answers-as, stands_reply, read_less, answered_less, after_sent, after_sent_less, with_same, after_took, after_took_less, after_ran, after_ran_less, after_arrived, after_arrived_less}
+use Rattle.page_runner.proofs.page.take_turns.Goals as goal
+
+pub turns-init : goal.turns-init
+turns-init g c = record { holds = holds_first _ _ _ _ _ _ _ _ c.requires.first c.requires.lanes c.requires.reader; faults = omega arith }
+
+pub returns-in-Some-clause-ok : goal.returns-in-Some-clause-ok
+returns-in-Some-clause-ok g c =
+    runs_out _ _ _ _ _ _ _ _ _ _ c.turns.invariant.holds c.in-Some.outcome c.in-Some.ensures.over
+
+pub returns-in_err-request-clause-err : goal.returns-in_err-request-clause-err
+returns-in_err-request-clause-err g c =
+    on_err _ _ (gives_up _ _ _ _ _ _ _ _ _ _ c.turns.invariant.holds c.may_read-may_read.ensures.replayed _)
+
+pub returns-in_err-ask-clause-err : goal.returns-in_err-ask-clause-err
+returns-in_err-ask-clause-err g c =
+    on_err _ _ (gives_up _ _ _ _ _ _ _ _ _ _ c.turns.invariant.holds c.may_read-may_read.ensures.replayed _)
+
+pub turns-preserved-in-Continue-branch-2 : goal.turns-preserved-in-Continue-branch-2
+turns-preserved-in-Continue-branch-2 g c =
+    record { holds = after_sent _ _ _ _ _ _ _ _ _ _ c.turns.invariant.holds _ _ (sym (c.can_send.ensures c.turns.invariant.holds.inside.going) ∙ c.if-can_send.true) c.in_ok-request.ensures.sent c.in_ok-ask.ensures; faults = c.turns.invariant.faults }
+
+pub turns-smaller-in-Continue-branch-2 : goal.turns-smaller-in-Continue-branch-2
+turns-smaller-in-Continue-branch-2 g c =
+    after_sent_less _ _ _ _ _ _ _ _ _ _ c.turns.invariant.holds _ _ (sym (c.can_send.ensures c.turns.invariant.holds.inside.going) ∙ c.if-can_send.true) c.in_ok-request.ensures.sent c.in_ok-ask.ensures
+
+pub read_on-requires-clause-reading : goal.read_on-requires-clause-reading
+read_on-requires-clause-reading g c =
+    (holds_open _ _ _ _ _ _ _ _ _ _ (none-of _ _ _ c.may_read-may_read.ensures.may c.if-may_read.true) c.turns.invariant.holds).reading
+
+pub turns-preserved-in-Continue-branch-3 : goal.turns-preserved-in-Continue-branch-3
+turns-preserved-in-Continue-branch-3 g c =
+    record { holds = holds_read _ _ _ _ _ _ _ _ _ _ _ _ _ c.in_default.ensures.on (none-of _ _ _ c.may_read-may_read.ensures.may c.if-may_read.true) c.in_ok-read_on.ensures.ok c.read_on.ensures.others c.read_on.ensures.begun c.turns.invariant.holds; faults = c.turns.invariant.faults }
+
+pub turns-smaller-in-Continue-branch-3 : goal.turns-smaller-in-Continue-branch-3
+turns-smaller-in-Continue-branch-3 g c =
+    read_less _ _ _ _ _ _ _ (none-of _ _ _ c.may_read-may_read.ensures.may c.if-may_read.true) c.in_ok-read_on.ensures.ok
+
+pub returns-in_err-read_on-clause-err : goal.returns-in_err-read_on-clause-err
+returns-in_err-read_on-clause-err g c =
+    on_err _ _ (gives_up_reading _ _ _ _ _ _ _ _ _ _ c.turns.invariant.holds c.may_read-may_read.ensures.replayed _ _ (none-of _ _ _ c.may_read-may_read.ensures.may c.if-may_read.true) c.in_err-read_on.ensures.err c.read_on.ensures.others c.read_on.ensures.begun)
+
+pub returns-in_err-answer-clause-err : goal.returns-in_err-answer-clause-err
+returns-in_err-answer-clause-err g c =
+    on_err _ _ (gives_up _ _ _ _ _ _ _ _ _ _ c.turns.invariant.holds c.may_read-may_read.ensures.replayed _)
+
+pub turns-preserved-then-branch : goal.turns-preserved-then-branch
+turns-preserved-then-branch g c =
+    record { holds = holds_answered _ _ _ _ _ _ _ _ _ _ _ (answers-as _ _ _ _ c.if-branch.true c.in_ok-answer.ensures).0 c.turns.invariant.holds; faults = c.turns.invariant.faults }
+
+pub turns-smaller-then-branch : goal.turns-smaller-then-branch
+turns-smaller-then-branch g c =
+    answered_less c.turns.reader c.turns.lanes c.answer.new.self c.turns.doc (answers-as _ _ _ _ c.if-branch.true c.in_ok-answer.ensures).1
+
+pub take_reply-requires-clause-stands : goal.take_reply-requires-clause-stands
+take_reply-requires-clause-stands g c =
+    stands_reply c.turns.lanes c.answer.new.self c.turns.doc.desk c.turns.invariant.holds.inside.count (answers-as _ _ _ _ c.if-branch.false c.in_ok-answer.ensures) (sym (c.wants_reply.ensures c.turns.invariant.holds.inside.going) ∙ c.if-wants_reply.true)
+
+pub turns-preserved-in-Continue-branch-5 : goal.turns-preserved-in-Continue-branch-5
+turns-preserved-in-Continue-branch-5 g c =
+    record { holds = after_took _ _ _ _ _ _ _ _ _ _ c.turns.invariant.holds _ (answers-as _ _ _ _ c.if-branch.false c.in_ok-answer.ensures) _ _ (sym (c.wants_reply.ensures c.turns.invariant.holds.inside.going) ∙ c.if-wants_reply.true) c.in_ok-take_reply.ensures.lanes c.in_ok-take_reply.ensures.took; faults = c.turns.invariant.faults }
+
+pub turns-smaller-in-Continue-branch-5 : goal.turns-smaller-in-Continue-branch-5
+turns-smaller-in-Continue-branch-5 g c =
+    after_took_less _ _ _ _ _ _ _ _ _ _ c.turns.invariant.holds _ (answers-as _ _ _ _ c.if-branch.false c.in_ok-answer.ensures) _ _ c.in_ok-take_reply.ensures.lanes c.in_ok-take_reply.ensures.took
+
+pub returns-in_err-take_reply-clause-err : goal.returns-in_err-take_reply-clause-err
+returns-in_err-take_reply-clause-err g c =
+    on_err _ _ (gives_up _ _ _ _ _ _ _ _ _ _ c.turns.invariant.holds c.may_read-may_read.ensures.replayed _)
+
+pub turns-preserved-in-Continue-branch-6 : goal.turns-preserved-in-Continue-branch-6
+turns-preserved-in-Continue-branch-6 g c =
+    record { holds = after_ran _ _ _ _ _ _ _ _ _ _ c.turns.invariant.holds _ (answers-as _ _ _ _ c.if-branch.false c.in_ok-answer.ensures) _ _ c.may_read-may_read.ensures.replayed (sym (c.can_do.ensures c.turns.invariant.holds.inside.going) ∙ c.if-can_do.true) c.in_ok-run_on.ensures.ok; faults = let first = c.turns.invariant.faults in let second = c.run_on.ensures.faults in omega (arith, first, second) }
+
+pub turns-smaller-in-Continue-branch-6 : goal.turns-smaller-in-Continue-branch-6
+turns-smaller-in-Continue-branch-6 g c =
+    after_ran_less _ _ _ _ _ _ _ _ _ _ c.turns.invariant.holds _ (answers-as _ _ _ _ c.if-branch.false c.in_ok-answer.ensures) _ _ c.requires.few c.in_ok-run_on.ensures.ok
+
+pub returns-in_err-run_on-clause-err : goal.returns-in_err-run_on-clause-err
+returns-in_err-run_on-clause-err g c =
+    on_err _ _ (gives_up_running _ _ _ _ _ _ _ _ _ _ c.turns.invariant.holds c.may_read-may_read.ensures.replayed _ _ c.in_err-run_on.ensures.err)
+
+pub fetch_awaited-requires-clause-awaits : goal.fetch_awaited-requires-clause-awaits
+fetch_awaited-requires-clause-awaits g c =
+    awaits_name _ _ _ _ _ _ _ _ _ _ c.turns.invariant.holds c.may_read-may_read.ensures.replayed c.requires.some c.in_default.ensures.on (sym c.may_read-may_read.ensures.may ∙ c.if-may_read.false) (sym (c.can_send.ensures c.turns.invariant.holds.inside.going) ∙ c.if-can_send.false) (sym (c.wants_reply.ensures c.turns.invariant.holds.inside.going) ∙ c.if-wants_reply.false) (sym (c.can_do.ensures c.turns.invariant.holds.inside.going) ∙ c.if-can_do.false)
+
+pub turns-preserved : goal.turns-preserved
+turns-preserved g c =
+    record { holds = after_arrived _ _ _ _ _ _ _ _ _ _ c.turns.invariant.holds _ (answers-as _ _ _ _ c.if-branch.false c.in_ok-answer.ensures) _ _ (subst (λ d. Arrives d (g.F.Outside.seen c.turns.files) (g.F.Outside.seen c.fetch_awaited.new.files) c.turns.doc c.fetch_awaited.new.doc) c.as_str.ensures.value c.in_ok-fetch_awaited.ensures.arrives) (subst (λ d. BeginsAwaited d (g.F.Outside.seen c.turns.files) (g.F.Outside.seen c.fetch_awaited.new.files) c.turns.doc.desk) c.as_str.ensures.value c.fetch_awaited.ensures.begins) c.fetch_awaited.ensures.others; faults = c.turns.invariant.faults }
+
+pub turns-smaller : goal.turns-smaller
+turns-smaller g c =
+    after_arrived_less _ _ _ _ _ _ _ _ _ _ c.turns.invariant.holds _ (answers-as _ _ _ _ c.if-branch.false c.in_ok-answer.ensures) _ _ (subst (λ d. Arrives d (g.F.Outside.seen c.turns.files) (g.F.Outside.seen c.fetch_awaited.new.files) c.turns.doc c.fetch_awaited.new.doc) c.as_str.ensures.value c.in_ok-fetch_awaited.ensures.arrives)
+
+pub returns-in_err-fetch_awaited-clause-err : goal.returns-in_err-fetch_awaited-clause-err
+returns-in_err-fetch_awaited-clause-err g c =
+    on_err _ _ (gives_up_fetching _ _ _ _ _ _ _ _ _ _ c.turns.invariant.holds c.may_read-may_read.ensures.replayed _ _ (subst (λ d. BeginsAwaited d (g.F.Outside.seen c.turns.files) (g.F.Outside.seen c.fetch_awaited.new.files) c.turns.doc.desk) c.as_str.ensures.value c.fetch_awaited.ensures.begins) c.fetch_awaited.ensures.others)
