@@ -62,13 +62,6 @@ pub(crate) struct Side {
     pub journal: Journal,
 }
 
-// How many characters a text has.
-fn count(text: &str) -> u64
-    ensures { result ≡ length (chars text.now) }
-{
-    text.chars().count() as u64
-}
-
 fn why_of(overrun: Overrun) -> Why
     ensures { result ≡ why_of overrun }
 {
@@ -212,7 +205,7 @@ impl Side {
     {
         let from = self.counts.sent_to;
         let piece = self.ledger.keep()?;
-        self.counts.sent_to = from + count(piece.text().as_str());
+        self.counts.sent_to = from + piece.text().count() as u64;
         let number = self.ledger.sent() as u64;
         let begins = self.begins.take();
         self.journal.add_event(Event::Send)?;
@@ -325,10 +318,9 @@ impl Side {
         requires placed { IsPlaced self.old.counts.place self.old.counts.sent_to self.old.ledger self.old.journal }
         ensures { UsedUp bytes self.old self.new }
     {
-        let front = &self.ledger.left().text().as_str()[..bytes];
-        let characters = count(front);
+        let characters = self.ledger.left().text().count_front(bytes);
         self.ledger.used(bytes);
-        self.counts.place += characters;
+        self.counts.place += characters as u64;
     }
 
     // Parses what is left of the piece in hand up to the first stop, and does the operations.

@@ -21,7 +21,11 @@ struct Realm {
     nodes: Vec<usize>,
 }
 
-/// What ids stand for: ids come in order in their realm, and one that doesn't is among the others. A contract sees the pairs in the ids' order.
+// So many realms have a list of their own. Looking through them is then as fast as a search, however many scripts made elements.
+const MOST_LISTS: usize = 16;
+
+/// What ids stand for: ids come in order in their realm, and one that doesn't, or whose realm has no list, is among the others. A contract sees
+/// the pairs in the ids' order.
 #[derive(Drop)]
 pub(crate) struct Bound {
     alloc: Global,
@@ -186,7 +190,7 @@ impl Bound {
         if let Some(place) = next_in(&self.realms, id) {
             return make_in_list(&mut self.realms[place].nodes, tree, name, attributes);
         }
-        if id.n == 0 {
+        if id.n == 0 && self.realms.len() < MOST_LISTS {
             return make_in_realm(self.alloc, &mut self.realms, id, tree, name, attributes);
         }
         make_in_map(&mut self.others, id, tree, name, attributes)

@@ -1,6 +1,6 @@
 //! A part of a text that is shared.
 
-ghost use Rattle.std.specs.Prelude.{◌≡◌, ◌↔◌, [], take, drop, IfOk, OnOk, OnErr, IsTrue, string_bytes};
+ghost use Rattle.std.specs.Prelude.{◌≡◌, ◌↔◌, [], length, take, drop, IfOk, OnOk, OnErr, IsTrue, string_bytes};
 ghost use Rattle.std.specs.Str.{chars, encode_utf8_all, IsCharBoundary};
 
 use html_types::NoMemory;
@@ -14,6 +14,8 @@ pub struct SharedText {
     whole: Arc<String, Global>,
     begin: usize,
     end: usize,
+    // Whether a character of the whole text is a byte.
+    ascii: bool,
 }
 
 impl Model for SharedText {
@@ -34,11 +36,13 @@ impl SharedText {
         ensures { IfOk result (λ t. t ≡ chars (string_bytes text)) }
     {
         let end = text.as_str().len();
+        let ascii = text.as_str().is_ascii();
         let whole = Arc::new(alloc, text)?;
         Ok(SharedText {
             whole,
             begin: 0,
             end,
+            ascii,
         })
     }
 
@@ -58,6 +62,7 @@ impl SharedText {
             whole,
             begin: self.begin,
             end: self.end,
+            ascii: self.ascii,
         })
     }
 
@@ -66,6 +71,27 @@ impl SharedText {
         ensures { chars result.now ≡ self.now }
     {
         &self.whole[self.begin..self.end]
+    }
+
+    /// How many characters its first bytes are, so many.
+    pub fn count_front(&self, bytes: usize) -> usize
+        requires { IsCharBoundary (encode_utf8_all self.now) bytes }
+        ensures { result ≡ length (chars (take bytes (encode_utf8_all self.now))) }
+    {
+        if self.ascii {
+            return bytes;
+        }
+        self.as_str()[..bytes].chars().count()
+    }
+
+    /// How many characters it has.
+    pub fn count(&self) -> usize
+        ensures { result ≡ length self.now }
+    {
+        if self.ascii {
+            return self.end - self.begin;
+        }
+        self.as_str().chars().count()
     }
 
     /// Whether it has none.
@@ -92,6 +118,7 @@ impl SharedText {
             whole,
             begin: self.begin,
             end: self.begin + bytes,
+            ascii: self.ascii,
         })
     }
 
