@@ -5,20 +5,17 @@ use Rattle.std.proofs.lemmas.Str.{IsUtf8-take, chars-append}
 use Rattle.std.proofs.lemmas.List.{take-append-drop}
 use Rattle.html_types.specs.declared.instruction.Stop.{Stop}
 use Rattle.html_types.specs.declared.instruction.Stop.TheVariants as stop
-use Rattle.html_types.specs.declared.instruction.Finish.{Finish}
 use Rattle.html_types.specs.declared.script.Ending.{Ending}
-use Rattle.html_types.specs.declared.script.Ending.TheVariants as ending
-use Rattle.html_types.specs.declared.script.Why.{Why}
-use Rattle.html_types.specs.declared.script.Why.TheVariants as why
 use Rattle.standard.specs.Act.{Doc, acts, is_bound}
 use Rattle.standard.specs.Entities.{Entities}
 use Rattle.standard.specs.Parser.{Parser, Parsed, parse}
-use Rattle.standard_laws.specs.Laws.{HasParsed, HasFinished}
 use Rattle.core_rules.specs.Batches.{Piece, Batch, Halt, at, finishing, refusing, end_batch, answer}
 use Rattle.core_rules.specs.Settling.{is_empty}
 use Rattle.core_laws.proofs.Cutting.{GoesOn}
 use Rattle.moment_laws.specs.Served.{IsRoomy}
+use Rattle.parse_machine.specs.declared.machine.PageEnd.{PageEnd}
 use Rattle.parse_machine.specs.declared.machine.Ran.{Ran}
+use Rattle.parse_machine.specs.Machine.{halt_at}
 use Rattle.write_parser.specs.Writing.{View, Parses, Finishes}
 use Rattle.speculation.specs.declared.batch.Halt as code
 use Rattle.speculation.specs.declared.batch.Halt.TheVariants as halt
@@ -26,7 +23,7 @@ use Rattle.speculation.specs.Halting.{halt_of}
 use Rattle.core_steps.specs.declared.side.Side.{Side}
 use Rattle.core_steps.specs.Sides.{AreAhead, IsFree, IsPlaced}
 use Rattle.core_steps.specs.Acting.{used_up, IsFront, UsedUp, behind_first, free_hand, IsHaltBound, Executed}
-use Rattle.core_steps.proofs.Hands.{batch_of, first-of-text, ending-alone, IsServed, IsNext, next-of, rest-of-text}
+use Rattle.core_steps.proofs.Hands.{batch_of, first-of-text, ending-alone, no-text, IsServed, IsNext, next-of, rest-of-text}
 
 goes-map : (h : Halt) (C D : Type 0) → (C → D) → GoesOn h C → GoesOn h D
 goes-map (at stop.InputEnd) C D f c = f c
@@ -128,13 +125,6 @@ parsed-executed old mid new v text ran some is utf8 p free ahead m used =
 
 -- ---- the page's ending
 
--- the ending refuses the page so
-abbrev pub Refuses : Ending → Why → Type 0
-Refuses ending.End w = ⊥
-Refuses ending.Bad w = w ≡ why.BadUtf8
-Refuses ending.Long w = w ≡ why.Page
-Refuses ending.Fault w = w ≡ why.Fault
-
 ended-from : (old new : Side) (h : code.Halt) (e : Ending) → old.ledger.left.text ≡ [] → old.ledger.left.ending ≡ Some e → halt_of h ≡ (end_batch old.table old.writer.parser e).halt → IsFree old.counts.realm old.writer →
     AreAhead old.ready (behind_first (free_hand old)) → new ≡ behind (end_batch old.table old.writer.parser e) old → IsPlaced new.counts.place new.counts.sent_to new.ledger new.journal → (end_batch old.table old.writer.parser e).text ≡ [] → Executed old h new
 ended-from old new h e none carries halts free ahead m placed nothing =
@@ -151,15 +141,8 @@ module _ (old new : Side) (none : old.ledger.left.text ≡ []) (free : IsFree ol
   placed-as : (v : View) → new ≡ record old { writer = v } → IsPlaced new.counts.place new.counts.sent_to new.ledger new.journal
   placed-as v m = subst (λ (z : Side). IsPlaced z.counts.place z.counts.sent_to z.ledger z.journal) (sym m) placed
 
-  pub finish-executed : (v : View) (f : Finish) → old.ledger.left.ending ≡ Some ending.End → Finishes old.table old.writer v f → new ≡ record old { writer = v } → Executed old (halt.Finishing f) new
-  finish-executed v f carries fin m =
-      let b : Batch = end_batch old.table old.writer.parser ending.End in
-      ended-from old new (halt.Finishing f) ending.End none carries (ap finishing fin.finished.finish) free ahead
-      (m ∙ ap (λ z. record old { writer = z }) (view-of old.writer v b.after (acts old.writer.doc b.ops) fin.others fin.finished.parser fin.finished.doc)) (placed-as v m) refl
-
-  pub refusal-executed : (e : Ending) (w : Why) → old.ledger.left.ending ≡ Some e → Refuses e w → new ≡ old → Executed old (halt.Refusing w) new
-  unfolding acts
-  refusal-executed ending.Bad w carries r m = ended-from old new (halt.Refusing w) ending.Bad none carries (ap refusing r) free ahead m (placed-as old.writer m) refl
-  refusal-executed ending.Long w carries r m = ended-from old new (halt.Refusing w) ending.Long none carries (ap refusing r) free ahead m (placed-as old.writer m) refl
-  refusal-executed ending.Fault w carries r m = ended-from old new (halt.Refusing w) ending.Fault none carries (ap refusing r) free ahead m (placed-as old.writer m) refl
-  refusal-executed ending.End w carries r m = absurd r
+  pub ending-executed : (v : View) (e : Ending) (end : PageEnd) (h : code.Halt) → old.ledger.left.ending ≡ Some e → Finishes old.table e old.writer v end → halt_of h ≡ halt_at end → new ≡ record old { writer = v } → Executed old h new
+  ending-executed v e end h carries fin halts m =
+      let b : Batch = end_batch old.table old.writer.parser e in
+      ended-from old new h e none carries (halts ∙ fin.taken.answer) free ahead
+      (m ∙ ap (λ z. record old { writer = z }) (view-of old.writer v b.after (acts old.writer.doc b.ops) fin.others fin.taken.parser fin.taken.doc)) (placed-as v m) (no-text old.table old.writer.parser e)

@@ -111,7 +111,7 @@ halts-there es p ending.Bad C = tt
 halts-there es p ending.Long C = tt
 halts-there es p ending.Fault C = tt
 
-no-text : (es : Entities) (p : Parser) (e : Ending) → (end_batch es p e).text ≡ []
+pub no-text : (es : Entities) (p : Parser) (e : Ending) → (end_batch es p e).text ≡ []
 no-text es p ending.End = refl
 no-text es p ending.Bad = refl
 no-text es p ending.Long = refl

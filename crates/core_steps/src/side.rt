@@ -354,13 +354,10 @@ impl Side {
         ensures journal { self.new.journal ≡ self.old.journal }
     {
         match self.ledger.left().ending() {
-            Some(Ending::End) => {
-                let finish = self.writer.finish(&self.table)?;
-                Ok(Halt::Finishing(finish))
+            Some(ending) => {
+                let end = self.writer.finish(&self.table, ending)?;
+                Ok(Halt::of(end))
             }
-            Some(Ending::Bad) => Ok(Halt::Refusing(Why::BadUtf8)),
-            Some(Ending::Long) => Ok(Halt::Refusing(Why::Page)),
-            Some(Ending::Fault) => Ok(Halt::Refusing(Why::Fault)),
             None => Err(NoMemory),
         }
     }

@@ -30,7 +30,14 @@ use Rattle.standard.specs.Parser.{Parser, parser, read_as, Took, took, after_ops
 use Rattle.standard_laws.specs.Laws.{joined, unless_stopped}
 use Rattle.rule_laws.proofs.Framing.{construct-framed}
 use Rattle.standard_laws.proofs.Parse.{parse-append}
-use Rattle.parse_machine.specs.Machine.{WentTo, EndedTo, finished_as, stops, RanAs}
+use Rattle.html_types.specs.declared.script.Ending.{Ending}
+use Rattle.html_types.specs.declared.script.Ending.TheVariants as ending
+use Rattle.html_types.specs.declared.script.Why.{Why}
+use Rattle.html_types.specs.declared.script.Why.TheVariants as why
+use Rattle.core_rules.specs.Batches.{Batch, finishing, refusing, finish_batch, refusal_batch, end_batch}
+use Rattle.parse_machine.specs.declared.machine.PageEnd.{PageEnd}
+use Rattle.parse_machine.specs.declared.machine.PageEnd.TheVariants as page_end
+use Rattle.parse_machine.specs.Machine.{WentTo, EndedTo, finished_as, stops, RanAs, halt_at, EndsAs}
 use Rattle.parse_machine.specs.declared.machine.Went.{Went}
 use Rattle.parse_machine.specs.declared.machine.Went.TheVariants as went
 use Rattle.parse_machine.specs.declared.machine.Went.TheVariants.{AllUsed}
@@ -262,6 +269,18 @@ pub finished-read : (es : Entities) (s : TokState) (cr : Bool) (b : Open) (o : L
     → after_all o (build_end (read_end es (is_foreign b) s).state cr (read_end es (is_foreign b) s).tokens b) ≡ f → after_all o (finish es (parser s cr b)) ≡ f
 unfolding finish
 finished-read es s cr b o f is = is
+
+-- ---- the page's ending
+
+pub ends-well : (p p' : Parser) (o o' : List Op) (f : Finished) (k : Finish) (x : PageEnd) → after_all o f ≡ record { ops = o'; parser = p'; finish = k } → halt_at x ≡ finishing k → EndsAs (finish_batch p f) o p' o' x
+ends-well p p' o o' f k x e is = record {
+  ops = sym (ap (λ (g : Finished). g.ops) e);
+  state = sym (ap (λ (g : Finished). g.parser) e);
+  answer = is ∙ ap (λ (g : Finished). finishing g.finish) (sym e);
+}
+
+pub ends-refused : (p : Parser) (o : List Op) (w : Why) → EndsAs (refusal_batch p w) o p o (page_end.Refused w)
+ends-refused p o w = record { ops = sym (append-nil o); state = refl; answer = refl }
 
 -- ---- a text
 

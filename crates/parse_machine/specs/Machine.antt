@@ -5,10 +5,14 @@ use Rattle.html_types.specs.declared.operation.Op.{Op}
 use Rattle.html_types.specs.declared.instruction.Stop.{Stop}
 use Rattle.html_types.specs.declared.instruction.Stop.TheVariants.{InputEnd}
 use Rattle.html_types.specs.declared.instruction.Finish.{Finish}
+use Rattle.html_types.specs.declared.instruction.Finish.TheVariants as finale
 use Rattle.html_types.specs.declared.open.Open.{Open}
 use Rattle.standard.specs.Tokenizer.{Reached}
 use Rattle.standard.specs.Parser.{Parser, parser, Parsed, Took, took, after_ops, build, Finished, after_all, build_end}
+use Rattle.core_rules.specs.Batches.{Batch, Halt, finishing, refusing}
 use Rattle.parse_machine.specs.declared.machine.Ran.{Ran}
+use Rattle.parse_machine.specs.declared.machine.PageEnd.{PageEnd}
+use Rattle.parse_machine.specs.declared.machine.PageEnd.TheVariants as page_end
 use Rattle.parse_machine.specs.declared.machine.Went.{Went}
 use Rattle.parse_machine.specs.declared.machine.Went.TheVariants.{AllUsed}
 use Rattle.parse_machine.specs.declared.machine.Went.TheVariants as went
@@ -47,3 +51,15 @@ pub record RanAs (p : Parsed) (before : List Op) (now : Parser) (after : List Op
 abbrev pub stops : Stop → Bool
 stops InputEnd = false
 stops _ = true
+
+-- why the page's batch ends, as the answer to its ending says it
+abbrev pub halt_at : PageEnd → Halt
+halt_at page_end.Finished = finishing finale.Finished
+halt_at page_end.Deep = finishing finale.Deep
+halt_at (page_end.Refused w) = refusing w
+
+-- The operations of the ending stand behind those before, and the state and the answer are the ending's.
+pub record EndsAs (b : Batch) (before : List Op) (now : Parser) (after : List Op) (end : PageEnd) : Type 0 where
+  pub ops : after ≡ before ++ b.ops
+  pub state : now ≡ b.after
+  pub answer : halt_at end ≡ b.halt

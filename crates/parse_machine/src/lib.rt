@@ -9,5 +9,5 @@ mod token;
 mod weight;
 
 pub use html_types::{Finish, Stop};
-pub use machine::{Machine, Ran};
+pub use machine::{Machine, PageEnd, Ran};
 pub use token::construct;

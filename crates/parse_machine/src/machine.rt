@@ -13,7 +13,8 @@ ghost use Rattle.standard.specs.Instructions.{here, texts};
 ghost use Rattle.std.specs.List.{list_any};
 ghost use Rattle.entity_table.specs.View.{characters_in};
 ghost use Rattle.parse_machine.specs.Runs.{ArePlain, reads_runs as state_reads_runs, Ahead, Inserts, ReadsTags, Takes, TakesRuns, TakesRun};
-ghost use Rattle.parse_machine.specs.Machine.{WentTo, EndedTo, Builds, BuildsLast, RanAs, stops as stops_at};
+ghost use Rattle.core_rules.specs.Batches.{end_batch, finishing};
+ghost use Rattle.parse_machine.specs.Machine.{WentTo, EndedTo, Builds, BuildsLast, RanAs, halt_at, EndsAs, stops as stops_at};
 
 use crate::token::construct;
 use crate::weight::is_light_state;
@@ -21,8 +22,8 @@ use builder_state::Builder;
 use char_class::{class_of, first_mark};
 use entity_table::{Characters, Table};
 use html_types::{
-    Finish, Name, Next, NoMemory, NodeId, Ops, RawText, Stop, Text, TextState, TokState, Token,
-    TokenizerSwitch, Word, char_at,
+    Ending, Finish, Name, Next, NoMemory, NodeId, Ops, RawText, Stop, Text, TextState, TokState,
+    Token, TokenizerSwitch, Why, Word, char_at,
 };
 use std::alloc::Global;
 use std::marker::Model;
@@ -56,6 +57,17 @@ impl Model for Machine {
 pub struct Ran {
     pub stop: Stop,
     pub used: usize,
+}
+
+/// What the page's ending comes to.
+#[derive(Clone, Copy, Debug, PartialEq, Eq)]
+pub enum PageEnd {
+    /// Parsing stopped (13.2.7).
+    Finished,
+    /// At a push that would open element 513.
+    Deep,
+    /// The page ends in a way that refuses it.
+    Refused(Why),
 }
 
 // The parser stops before the text is used.
@@ -308,6 +320,16 @@ fn end_and_build(
 {
     tokenizer.finish(alloc, table, builder.is_foreign())?;
     build_last(alloc, tokenizer, builder, ops)
+}
+
+// The answer where the end of the input came to that.
+fn page_end(finish: Finish) -> PageEnd
+    ensures { halt_at result ≡ finishing finish }
+{
+    match finish {
+        Finish::Finished => PageEnd::Finished,
+        Finish::Deep => PageEnd::Deep,
+    }
 }
 
 // Whether the state emits characters other than NUL, CR, `&` and `<` as they are, and stays.
@@ -618,8 +640,8 @@ impl Machine {
         })
     }
 
-    /// Takes the end of the input, with the named character references of `table`.
-    pub fn finish(
+    // Takes the end of the input.
+    fn end_input(
         &mut self,
         alloc: Global,
         table: &Table,
@@ -633,6 +655,30 @@ impl Machine {
                 self.tokenizer.clear(alloc);
                 Err(error)
             }
+        }
+    }
+
+    /// Takes the page's ending, with the named character references of `table`. At the end of the file the last tokens are processed, and
+    /// operations are added at the end of `ops`. Any other ending refuses the page, and the machine and the operations stay as they are.
+    /// Where it answers want of memory, the machine and the operations only keep their types.
+    pub fn finish(
+        &mut self,
+        alloc: Global,
+        table: &Table,
+        ending: Ending,
+        ops: &mut Ops,
+    ) -> Result<PageEnd, NoMemory>
+        // The operations, the next state and the answer are those of the ending.
+        ensures ended { IfOk result (λ end. EndsAs (end_batch table.now self.old ending) ops.old self.new ops.new end) }
+    {
+        match ending {
+            Ending::End => {
+                let finish = self.end_input(alloc, table, ops)?;
+                Ok(page_end(finish))
+            }
+            Ending::Bad => Ok(PageEnd::Refused(Why::BadUtf8)),
+            Ending::Long => Ok(PageEnd::Refused(Why::Page)),
+            Ending::Fault => Ok(PageEnd::Refused(Why::Fault)),
         }
     }
 

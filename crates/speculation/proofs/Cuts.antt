@@ -7,10 +7,12 @@ use Rattle.html_types.specs.declared.operation.Op.{Op}
 use Rattle.html_types.specs.declared.instruction.Stop.{Stop}
 use Rattle.html_types.specs.declared.instruction.Stop.TheVariants as stop
 use Rattle.html_types.specs.declared.script.Ending.{Ending}
+use Rattle.html_types.specs.declared.script.Ending.TheVariants as ending
 use Rattle.standard.specs.Entities.{Entities}
 use Rattle.standard.specs.Parser.{Parser, Parsed, parse}
 use Rattle.parse_machine.specs.declared.machine.Ran.{Ran}
-use Rattle.parse_machine.specs.Machine.{RanAs}
+use Rattle.parse_machine.specs.declared.machine.PageEnd.{PageEnd}
+use Rattle.parse_machine.specs.Machine.{RanAs, halt_at, EndsAs}
 use Rattle.core_rules.specs.Batches.{Piece, Batch, Halt, at, finishing, refusing, Answered, and_behind, cut, end_batch, and_ending, answer}
 use Rattle.core_laws.proofs.Cutting.{cut-enough, shorter}
 use Rattle.speculation.specs.Halting.{first_batch}
@@ -144,6 +146,21 @@ fewer es p (c ∷ cs) t' some is =
     let n : length cs ≤ length cs = omega arith in
     let k : length (drop (parse es p (c ∷ cs)).used (c ∷ cs)) ≤ length cs = shorter es p c cs (length cs) n in
     rw is (omega (arith, k))
+
+-- ---- the batch of the page's ending
+
+abbrev with_start : Parser → Batch → Batch
+with_start p b = record b { start = p; text = [] }
+
+ends-there : (es : Entities) (p : Parser) (e : Ending) → with_start p (end_batch es p e) ≡ end_batch es p e
+ends-there es p ending.End = refl
+ends-there es p ending.Bad = refl
+ends-there es p ending.Long = refl
+ends-there es p ending.Fault = refl
+
+pub is-last : (es : Entities) (p : Parser) (e : Ending) (start : Parser) (text : List ℕ) (before ops : List Op) (after p' : Parser) (end : PageEnd) (h : Halt) → start ≡ p → text ≡ [] → before ≡ [] →
+    after ≡ p' → h ≡ halt_at end → EndsAs (end_batch es p e) before p' ops end → record { start = start; text = text; ops = ops; after = after; halt = h } ≡ end_batch es p e
+is-last es p e start text before ops after p' end h a b none c d ended = rw (a, b, c, d, ended.ops, none, ended.state, ended.answer) (ends-there es p e)
 
 -- ---- a piece: its text, and its ending behind that
 

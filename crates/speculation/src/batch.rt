@@ -2,12 +2,13 @@
 
 ghost use Rattle.std.specs.Prelude.{◌≡◌, [], ◌∷◌, ◌++◌, length, OnOk, OnErr, MatchOption};
 ghost use Rattle.core_rules.specs.Settling.{is_empty as has_none};
+ghost use Rattle.parse_machine.specs.Machine.{halt_at};
 ghost use Rattle.speculation.specs.Halting.{halt_of};
 
 use crate::checkpoint::Checkpoint;
 use html_types::{Finish, NoMemory, Ops, Stop, Why};
 use page_pieces::SharedText;
-use parse_machine::Machine;
+use parse_machine::{Machine, PageEnd};
 use std::alloc::Global;
 use std::collections::VecDeque;
 use std::marker::Model;
@@ -22,6 +23,19 @@ pub enum Halt {
     Finishing(Finish),
     /// The page ends in a way that refuses it.
     Refusing(Why),
+}
+
+impl Halt {
+    /// Why the batch ends that carries the page's ending.
+    pub fn of(end: PageEnd) -> Halt
+        ensures { halt_of result ≡ halt_at end }
+    {
+        match end {
+            PageEnd::Finished => Halt::Finishing(Finish::Finished),
+            PageEnd::Deep => Halt::Finishing(Finish::Deep),
+            PageEnd::Refused(why) => Halt::Refusing(why),
+        }
+    }
 }
 
 /// A text that was parsed: the parser's state before it and behind it, its operations, and why it ends. The page's ending goes with an empty

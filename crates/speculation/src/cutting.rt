@@ -2,14 +2,14 @@
 
 ghost use Rattle.std.specs.Prelude.{◌≡◌, ◌↔◌, ◌++◌, Some, None, length, drop, if◌then◌else◌, IfOk, OnOk, IsTrue};
 ghost use Rattle.html_types.specs.declared.instruction.Stop.TheVariants as stop;
-ghost use Rattle.standard.specs.Parser.{parse, finish};
-ghost use Rattle.core_rules.specs.Batches.{at, cut, end_batch, finish_batch, refusal_batch, answer};
+ghost use Rattle.standard.specs.Parser.{parse};
+ghost use Rattle.core_rules.specs.Batches.{at, cut, end_batch, answer};
 ghost use Rattle.speculation.specs.Halting.{first_batch};
 
 use crate::batch::{Batch, Batches, Halt};
 use crate::checkpoint::Checkpoint;
 use entity_table::Table;
-use html_types::{Ending, NoMemory, Ops, Stop, Why};
+use html_types::{Ending, NoMemory, Ops, Stop};
 use page_pieces::{Piece, SharedText};
 use parse_machine::Machine;
 use std::alloc::Global;
@@ -86,44 +86,17 @@ fn last_batch(
 ) -> Result<Batch, NoMemory>
     ensures { IfOk result (λ b. b ≡ end_batch table.now machine ending) }
 {
-    match ending {
-        Ending::End => finish_page(alloc, table, machine),
-        Ending::Bad => refuse_page(alloc, machine, Why::BadUtf8),
-        Ending::Long => refuse_page(alloc, machine, Why::Page),
-        Ending::Fault => refuse_page(alloc, machine, Why::Fault),
-    }
-}
-
-// The page ends here (13.2.7).
-fn finish_page(alloc: Global, table: &Table, machine: Machine) -> Result<Batch, NoMemory>
-    ensures { IfOk result (λ b. b ≡ finish_batch machine (finish table.now machine)) }
-{
     let mut machine = machine;
     let start = Snapshot::of(&machine);
     let text = SharedText::empty(alloc)?;
     let mut ops = Ops::new(alloc);
-    let finish = machine.finish(alloc, table, &mut ops)?;
+    let end = machine.finish(alloc, table, ending, &mut ops)?;
     Ok(Batch {
         start,
         text,
         ops,
         after: Checkpoint::holding(machine),
-        halt: Halt::Finishing(finish),
-    })
-}
-
-// The page is refused here.
-fn refuse_page(alloc: Global, machine: Machine, why: Why) -> Result<Batch, NoMemory>
-    ensures { IfOk result (λ b. b ≡ refusal_batch machine why) }
-{
-    let start = Snapshot::of(&machine);
-    let text = SharedText::empty(alloc)?;
-    Ok(Batch {
-        start,
-        text,
-        ops: Ops::new(alloc),
-        after: Checkpoint::holding(machine),
-        halt: Halt::Refusing(why),
+        halt: Halt::of(end),
     })
 }
 

@@ -6,16 +6,19 @@ use Rattle.std.proofs.lemmas.List.{append_cancel_left, drop-drop}
 use Rattle.html_types.specs.declared.operation.Op.{Op}
 use Rattle.html_types.specs.declared.instruction.Stop.{Stop}
 use Rattle.html_types.specs.declared.instruction.Stop.TheVariants as stop
-use Rattle.html_types.specs.declared.instruction.Finish.{Finish}
+use Rattle.html_types.specs.declared.script.Ending.{Ending}
+use Rattle.html_types.specs.declared.script.Ending.TheVariants as ending
 use Rattle.standard.specs.Entities.{Entities}
 use Rattle.standard.specs.Act.{Doc, is_bound, acts, AreOpsBound}
 use Rattle.standard_laws.specs.Laws.{HasParsed}
-use Rattle.standard.specs.Parser.{Parser, Took, took, take_character, Parsed, and_rest, parse, Finished, finish, after_all}
+use Rattle.standard.specs.Parser.{Parser, Took, took, take_character, Parsed, and_rest, parse}
+use Rattle.core_rules.specs.Batches.{Batch, end_batch}
 use Rattle.rule_laws.specs.Naming.{AreFresh}
 use Rattle.rule_laws.proofs.FreshnessTexts.{fresh-follows}
 use Rattle.rule_laws.proofs.FreshnessDocs.{texts-served, ends-served}
 use Rattle.parse_machine.specs.declared.machine.Ran.{Ran}
-use Rattle.parse_machine.specs.Machine.{RanAs}
+use Rattle.parse_machine.specs.declared.machine.PageEnd.{PageEnd}
+use Rattle.parse_machine.specs.Machine.{RanAs, EndsAs}
 use Rattle.write_parser.specs.Parsing.{IsServed, TextParsed, RestParsed, EndParsed}
 
 -- the rest of a text, in characters
@@ -98,20 +101,26 @@ rest-parsed es p p' d d' bytes used ran parsed = by (subst (λ b. HasParsed es p
       shorter = λ stops. stop-shortens es p p' d d' (chars (drop used bytes)) (chars (drop (used + ran.used) bytes)) ran.stop here stops;
     }
 
--- the last operations are bound
-pub last-bound : (es : Entities) (p : Parser) (d : Doc) (now : Parser) (before ops : List Op) (f : Finish) → IsServed p d → before ≡ [] →
-    after_all before (finish es p) ≡ record { ops = ops; parser = now; finish = f } → AreOpsBound (is_bound d.bound) ops
-last-bound es p d now before ops f served none run =
-    let all : ops ≡ (finish es p).ops = sym (ap (λ (k : Finished). k.ops) run) ∙ ap (λ l. l ++ (finish es p).ops) none in
-    subst (AreOpsBound (is_bound d.bound)) (sym all) (ends-served AreFresh fresh-follows d es p served).0
+-- what the page's ending comes to: the operations are bound, and behind them the ids are as the parser holds them
+ending-served : (es : Entities) (p : Parser) (d : Doc) (e : Ending) → IsServed p d → AreOpsBound (is_bound d.bound) (end_batch es p e).ops × IsServed (end_batch es p e).after (acts d (end_batch es p e).ops)
+unfolding AreOpsBound acts
+ending-served es p d ending.End served = ends-served AreFresh fresh-follows d es p served
+ending-served es p d ending.Bad served = (tt, served)
+ending-served es p d ending.Long served = (tt, served)
+ending-served es p d ending.Fault served = (tt, served)
 
-pub end-parsed : (es : Entities) (p p' : Parser) (d d' : Doc) (before ops : List Op) (f : Finish) → IsServed p d → before ≡ [] →
-    after_all before (finish es p) ≡ record { ops = ops; parser = p'; finish = f } → d' ≡ acts d ops → EndParsed es p d p' d' f
-end-parsed es p p' d d' before ops f served none run done =
-    let all : ops ≡ (finish es p).ops = sym (ap (λ (k : Finished). k.ops) run) ∙ ap (λ l. l ++ (finish es p).ops) none in
-    let doc : d' ≡ acts d (finish es p).ops = done ∙ ap (acts d) all in
-    let parser : p' ≡ (finish es p).parser = sym (ap (λ (k : Finished). k.parser) run) in
+-- the last operations are bound
+pub last-bound : (es : Entities) (p : Parser) (d : Doc) (e : Ending) (now : Parser) (before ops : List Op) (end : PageEnd) → IsServed p d → before ≡ [] →
+    EndsAs (end_batch es p e) before now ops end → AreOpsBound (is_bound d.bound) ops
+last-bound es p d e now before ops end served none run =
+    subst (AreOpsBound (is_bound d.bound)) (sym (ops-are before ops (end_batch es p e).ops none run.ops)) (ending-served es p d e served).0
+
+pub end-parsed : (es : Entities) (e : Ending) (p p' : Parser) (d d' : Doc) (before ops : List Op) (end : PageEnd) → IsServed p d → before ≡ [] →
+    EndsAs (end_batch es p e) before p' ops end → d' ≡ acts d ops → EndParsed es e p d p' d' end
+end-parsed es e p p' d d' before ops end served none run done =
+    let b : Batch = end_batch es p e in
+    let doc : d' ≡ acts d b.ops = done ∙ ap (acts d) (ops-are before ops b.ops none run.ops) in
     record {
-      finished = record { parser = parser; doc = doc; finish = sym (ap (λ (k : Finished). k.finish) run) };
-      served = rw (doc, parser) (ends-served AreFresh fresh-follows d es p served).1;
+      taken = record { parser = run.state; doc = doc; answer = run.answer };
+      served = rw (doc, run.state) (ending-served es p d e served).1;
     }

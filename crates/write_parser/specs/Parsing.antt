@@ -3,13 +3,16 @@ use Rattle.std.specs.Prelude.{◌≢◌, ◌<◌, ℕ, List, length, drop}
 use Rattle.std.specs.Str.{chars, IsCharBoundary}
 use Rattle.html_types.specs.declared.instruction.Stop.{Stop}
 use Rattle.html_types.specs.declared.instruction.Stop.TheVariants as stop
-use Rattle.html_types.specs.declared.instruction.Finish.{Finish}
+use Rattle.html_types.specs.declared.script.Ending.{Ending}
 use Rattle.standard.specs.Entities.{Entities}
-use Rattle.standard.specs.Act.{Doc, is_bound}
+use Rattle.standard.specs.Act.{Doc, acts, is_bound}
 use Rattle.standard.specs.Parser.{Parser}
 use Rattle.rule_laws.specs.Naming.{Serves, AreFresh, IsStopBound}
-use Rattle.standard_laws.specs.Laws.{HasParsed, HasFinished}
+use Rattle.standard_laws.specs.Laws.{HasParsed}
+use Rattle.core_rules.specs.Batches.{end_batch}
+use Rattle.parse_machine.specs.declared.machine.PageEnd.{PageEnd}
 use Rattle.parse_machine.specs.declared.machine.Ran.{Ran}
+use Rattle.parse_machine.specs.Machine.{halt_at}
 
 -- The ids that the parser holds are bound in the document, and those that it is to give aren't.
 abbrev pub IsServed : Parser → Doc → Type 0
@@ -31,7 +34,14 @@ pub record RestParsed (es : Entities) (p : Parser) (d : Doc) (rest : List ℕ) (
   pub bound : IsStopBound (is_bound d'.bound) s
   pub shorter : s ≢ stop.InputEnd → length left < length rest
 
--- The end of the page was parsed, and its operations were done.
-pub record EndParsed (es : Entities) (p : Parser) (d : Doc) (p' : Parser) (d' : Doc) (f : Finish) : Type 0 where
-  pub finished : HasFinished es p d p' d' f
+-- What a parser that stood at p has made of the page's ending, on the document d: the end of the input, or a refusal, which has no operations
+-- and leaves the parser at p.
+pub record HasTakenEnding (es : Entities) (e : Ending) (p : Parser) (d : Doc) (p' : Parser) (d' : Doc) (end : PageEnd) : Type 0 where
+  pub parser : p' ≡ (end_batch es p e).after
+  pub doc : d' ≡ acts d (end_batch es p e).ops
+  pub answer : halt_at end ≡ (end_batch es p e).halt
+
+-- The page's ending was taken, and its operations were done.
+pub record EndParsed (es : Entities) (e : Ending) (p : Parser) (d : Doc) (p' : Parser) (d' : Doc) (end : PageEnd) : Type 0 where
+  pub taken : HasTakenEnding es e p d p' d' end
   pub served : IsServed p' d'

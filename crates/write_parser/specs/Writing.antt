@@ -9,15 +9,16 @@ use Rattle.html_types.specs.declared.script.Why.TheVariants as why
 use Rattle.html_types.specs.declared.script.Line.{Line}
 use Rattle.html_types.specs.declared.script.Line.TheVariants as line
 use Rattle.html_types.specs.declared.instruction.Stop.TheVariants as stop
-use Rattle.html_types.specs.declared.instruction.Finish.{Finish}
 use Rattle.standard.specs.Entities.{Entities}
 use Rattle.standard.specs.Act.{Doc, new_doc, is_bound}
 use Rattle.standard.specs.Parser.{Parser, new_parser}
 use Rattle.rule_laws.specs.Naming.{IsStopBound}
 use Rattle.standard.specs.Serial.{World, Serial, Course, goes, refuses, awaiting, run_text, write_limit, Moment, reading, tag_ended, awaits, over, refusal}
 use Rattle.core_rules.specs.Settling.{Through}
-use Rattle.standard_laws.specs.Laws.{HasParsed, HasFinished, EndsIn}
+use Rattle.standard_laws.specs.Laws.{HasParsed, EndsIn}
+use Rattle.parse_machine.specs.declared.machine.PageEnd.{PageEnd}
 use Rattle.parse_machine.specs.declared.machine.Ran.{Ran}
+use Rattle.write_parser.specs.Parsing.{HasTakenEnding}
 use Rattle.write_parser.specs.declared.left.Overrun.{Overrun}
 use Rattle.write_parser.specs.declared.left.Overrun.TheVariants as limit
 use Rattle.write_parser.specs.declared.left.Left.{Left}
@@ -109,9 +110,9 @@ pub record Parses (es : Entities) (old new : View) (text : List ℕ) (ran : Ran)
   pub others : new ≡ record old { parser = new.parser; doc = new.doc }
   pub bound : IsStopBound (is_bound new.doc.bound) ran.stop
 
--- The end of the page was parsed, and its operations were done.
-pub record Finishes (es : Entities) (old new : View) (finish : Finish) : Type 0 where
-  pub finished : HasFinished es old.parser old.doc new.parser new.doc finish
+-- The page's ending was taken, and its operations were done.
+pub record Finishes (es : Entities) (e : Ending) (old new : View) (end : PageEnd) : Type 0 where
+  pub taken : HasTakenEnding es e old.parser old.doc new.parser new.doc end
   pub others : new ≡ record old { parser = new.parser; doc = new.doc }
 
 -- ---- scripts

@@ -11,5 +11,5 @@ mod tests;
 mod writer;
 
 pub use left::{Left, Overrun};
-pub use parse_machine::Ran;
+pub use parse_machine::{PageEnd, Ran};
 pub use writer::Writer;

@@ -14,9 +14,9 @@ use crate::left::{Left, Overrun};
 use crate::nesting::{Begun, Nesting};
 use crate::rest::{Rest, parse_text};
 use entity_table::Table;
-use html_types::{Finish, Line, Lines, NoMemory, NodeId, Ops, Statement, Stop, Text};
+use html_types::{Ending, Line, Lines, NoMemory, NodeId, Ops, Statement, Stop, Text};
 use op_exec::{Doc, ScriptKind};
-use parse_machine::{Machine, Ran};
+use parse_machine::{Machine, PageEnd, Ran};
 use std::alloc::Global;
 use std::mem;
 
@@ -89,16 +89,16 @@ impl Live {
         parse_text(self.alloc, table, &mut self.machine, &mut self.doc, text)
     }
 
-    /// Takes the end of the page, and does the operations.
-    pub fn finish(&mut self, table: &Table) -> Result<Finish, NoMemory>
+    /// Takes the page's ending, and does the operations. Where it refuses the page, nothing changes.
+    pub fn finish(&mut self, table: &Table, ending: Ending) -> Result<PageEnd, NoMemory>
         requires { IsServed self.old.machine self.old.doc }
-        ensures parsed { IfOk result (λ finish. EndParsed table.now self.old.machine self.old.doc self.new.machine self.new.doc finish) }
+        ensures parsed { IfOk result (λ end. EndParsed table.now ending self.old.machine self.old.doc self.new.machine self.new.doc end) }
         ensures others { OnOk result (self.new ≡ record self.old { machine = self.new.machine; doc = self.new.doc }) }
     {
         let mut ops = Ops::new(self.alloc);
-        let finish = self.machine.finish(self.alloc, table, &mut ops)?;
+        let end = self.machine.finish(self.alloc, table, ending, &mut ops)?;
         self.doc.apply_all(ops)?;
-        Ok(finish)
+        Ok(end)
     }
 
     // Whether the parser goes on in written text: it does unless a script is pending.

@@ -2,7 +2,7 @@
 
 use crate::{Left, Writer};
 use entity_table::Table;
-use html_types::{Line, NoMemory, Stop};
+use html_types::{Ending, Line, NoMemory, Stop};
 use serialiser::document;
 use std::alloc::Global;
 use std::test::Fail;
@@ -24,7 +24,7 @@ fn a_script_in_a_script_writes_at_its_own_place(rt: HostRuntime) -> Result<(), F
         "<body><script>document.write(\"<script>document.write(\\\"A\\\");<\\/script>B\");document.write(\"C\");</script>";
     let mut writer = page(alloc, &table, text)?;
     assert!(rt; matches!(writer.feed_left(&table)?, Left::Empty));
-    writer.finish(&table)?;
+    writer.finish(&table, Ending::End)?;
     let written = document(alloc, writer.doc().tree())?;
     assert!(rt;
         written.as_str().ends_with(

@@ -12,9 +12,9 @@ ghost use Rattle.write_parser.specs.Writing.{first_view, Parses, Finishes, AtTag
 use crate::left::Left;
 use crate::live::Live;
 use entity_table::Table;
-use html_types::{Finish, Line, Lines, NoMemory, NodeId, Ops};
+use html_types::{Ending, Line, Lines, NoMemory, NodeId, Ops};
 use op_exec::Doc;
-use parse_machine::{Machine, Ran};
+use parse_machine::{Machine, PageEnd, Ran};
 use std::alloc::Global;
 use std::marker::Model;
 use std::mem;
@@ -84,20 +84,20 @@ impl Writer {
         Ok(ran)
     }
 
-    /// Takes the end of the page, and does the operations.
-    pub fn finish(&mut self, table: &Table) -> Result<Finish, NoMemory>
+    /// Takes the page's ending, and does the operations. Where it refuses the page, nothing changes.
+    pub fn finish(&mut self, table: &Table, ending: Ending) -> Result<PageEnd, NoMemory>
         ensures spent { self.old.spent ≡ true → IsErr result }
         ensures kept { OnOk result (self.new.spent ≡ false) }
         ensures err { OnErr result (self.new.spent ≡ true) }
-        ensures finished { IfOk result (λ finish. Finishes table.now self.old self.new finish) }
+        ensures finished { IfOk result (λ end. Finishes table.now ending self.old self.new end) }
     {
         if self.spent {
             return Err(NoMemory);
         }
         self.spent = true;
-        let finish = self.live.finish(table)?;
+        let end = self.live.finish(table, ending)?;
         self.spent = false;
-        Ok(finish)
+        Ok(end)
     }
 
     /// The script whose end tag the page's characters have just ended (13.2.6.4.8): it is prepared on the tree as it is, and then

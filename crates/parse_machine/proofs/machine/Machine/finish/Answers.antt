@@ -1,6 +1,6 @@
-use Rattle.parse_machine.proofs.MachineLemmas.{finished-read}
+use Rattle.std.proofs.Common.{subst, ap, sym}
+use Rattle.html_types.specs.declared.script.Ending.{Ending}
+use Rattle.core_rules.specs.Batches.{end_batch}
+use Rattle.parse_machine.specs.Machine.{EndsAs}
+use Rattle.parse_machine.proofs.MachineLemmas.{ends-well, ends-refused}
 use Rattle.parse_machine.proofs.machine.Machine.finish.Goals as goal
-
-pub returns-in-Ok : goal.returns-in-Ok
-returns-in-Ok c = rw (← c.self.view_is)
-    (finished-read c.args.table.now c.self.inside.tokenizer.state c.self.inside.after_cr c.self.inside.builder c.args.ops.now _ (c.in-Ok.ensures.built c.self.inside.after_cr))
