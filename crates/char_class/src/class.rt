@@ -6,6 +6,7 @@ ghost use Rattle.standard.specs.Class as classes;
 use html_types::Class;
 
 /// The class of a character.
+#[inline]
 pub fn class_of(c: char) -> Class
     ensures { result ≡ classes.class_of c }
 {
@@ -33,6 +34,7 @@ pub fn class_of(c: char) -> Class
 }
 
 /// The character that a text gets for one of the input: U+FFFD for NUL.
+#[inline]
 pub fn shown(c: char) -> char
     ensures { result ≡ classes.shown c }
 {
@@ -40,6 +42,7 @@ pub fn shown(c: char) -> char
 }
 
 /// The character that a name gets for one of the input: U+FFFD for NUL, and ASCII letters in lower case.
+#[inline]
 pub fn name_char(c: char) -> char
     ensures { result ≡ classes.name_char c }
 {

@@ -5,3 +5,5 @@ pub mod Narrowing
 pub mod Pushing
 pub mod Examples
 pub mod Semicolons
+pub mod Spelling
+pub mod Finding

@@ -55,7 +55,7 @@ other_whole names text low high order part some apart k h is =
       ]
     ]
 
-length-names_of : (es : Entities) → length (names_of es) ≡ length es
+pub length-names_of : (es : Entities) → length (names_of es) ≡ length es
 length-names_of [] = refl
 length-names_of (e ∷ es) = ap (λ n. suc n) (length-names_of es)
 

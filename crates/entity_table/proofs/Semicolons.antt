@@ -7,7 +7,7 @@ use Rattle.std.proofs.lemmas.Bool.{and_parts}
 use Rattle.std.proofs.lemmas.Bool.Decides.{Decides-eqb}
 use Rattle.std.proofs.lemmas.List.{length-append}
 use Rattle.std.proofs.Math.Seq.{take-append-add}
-use Rattle.standard.specs.Entities.{Entity, Entities, is_front, is_name, inner, ends_in_semicolon, begins_some}
+use Rattle.standard.specs.Entities.{Entities, is_front, is_name, inner, ends_in_semicolon, begins_some}
 use Rattle.entity_table.specs.Order.{names_of, AreNames}
 use Rattle.entity_table.specs.Parts.{row_names}
 use Rattle.entity_table.specs.View.{rows_in}

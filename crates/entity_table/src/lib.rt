@@ -1,9 +1,11 @@
-//! The standard's named character references (13.5): reading their file, and the longest name that a text begins with.
+//! The standard's named character references (13.5): reading their file, the name that a text is, and the longest name that a text begins with.
 #![tactic(auto)]
 
 pub mod cursor;
+mod guess;
 mod read;
 pub mod row;
+mod search;
 pub mod table;
 #[cfg(test)]
 mod tests;

@@ -1,13 +1,17 @@
 //! The table of all named character references.
 
-ghost use Rattle.std.specs.Prelude.{◌≡◌, ℕ, List, [], ◌∷◌, ◌++◌, false, Some, None, IfOk, IfErr};
-ghost use Rattle.standard.specs.Entities.{begins_some, entities_of};
-ghost use Rattle.entity_table.specs.Order.{AreNames};
+ghost use Rattle.std.specs.Prelude.{◌≡◌, ℕ, List, [], ◌∷◌, ◌++◌, true, false, Some, None, IfOk, IfErr, IfSome};
+ghost use Rattle.std.specs.Str.{chars};
+ghost use Rattle.standard.specs.Entities.{begins_some, entities_of, is_name, longest};
+ghost use Rattle.entity_table.specs.Matches.{Tells};
+ghost use Rattle.entity_table.specs.Order.{AreNames, entity_named};
 ghost use Rattle.entity_table.specs.Parts.{row_names};
 ghost use Rattle.entity_table.specs.View.{rows_in};
 
+use crate::guess::Guesses;
 use crate::read;
-use crate::row::Row;
+use crate::row::{Match, Row, as_match};
+use crate::search::place_of;
 use html_types::NoMemory;
 use std::alloc::{AllocError, AllocFailed, Global};
 use std::marker::Model;
@@ -43,10 +47,17 @@ impl<T: Drop> From<AllocFailed<T>> for TableFault {
     }
 }
 
+// The rows in the order of their names, and where a name may stand among them.
+#[derive(Drop)]
+struct Names {
+    rows: Vec<Row>,
+    guesses: Guesses,
+}
+
 /// The named character references, read once and shared since.
 #[derive(Drop)]
 pub struct Table {
-    rows: Arc<Vec<Row>, Global>,
+    names: Arc<Names, Global>,
 }
 
 impl Model for Table {
@@ -58,9 +69,9 @@ impl Model for Table {
 
     ghost Value = { Entities };
 
-    ghost view = { λ t. rows_in (arc_value t.rows).items };
+    ghost view = { λ t. rows_in (arc_value t.names).rows.items };
 
-    ghost invariant = { λ t. AreNames (row_names (arc_value t.rows).items) };
+    ghost invariant = { λ t. AreNames (row_names (arc_value t.names).rows.items) };
 }
 
 impl Table {
@@ -72,8 +83,9 @@ impl Table {
         ensures no_table { result ≡ Err TableFault.NotTable → entities_of bytes.now ≡ None }
     {
         let rows = read::rows(alloc, bytes)?;
-        let rows = Arc::new(alloc, rows)?;
-        Ok(Table { rows })
+        let guesses = Guesses::new(alloc, rows.as_slice())?;
+        let names = Arc::new(alloc, Names { rows, guesses })?;
+        Ok(Table { names })
     }
 
     /// All rows, in the order of their names.
@@ -81,7 +93,21 @@ impl Table {
         ensures rows { rows_in result.now ≡ self.now }
         ensures names { AreNames (row_names result.now) }
     {
-        self.rows.as_slice()
+        self.names.rows.as_slice()
+    }
+
+    /// What a name stands for, its `&` counted and its `;` if it has one; none where the text isn't a name of the table, or goes on behind one.
+    pub fn find(&self, name: &str) -> Option<Match>
+        ensures found { Tells (entity_named (chars name.now) self.now) result }
+        // A text that is a name begins with no longer one.
+        ensures longest { IfSome result (λ m. Tells (longest (chars name.now) self.now) (Some m)) }
+        ensures named { IfSome result (λ _. is_name (chars name.now) ≡ true) }
+    {
+        let rows = self.rows();
+        match place_of(rows, self.names.guesses.row_of(name), name) {
+            Some(place) => Some(as_match(&rows[place])),
+            None => None,
+        }
     }
 
     /// No name goes on behind a `;`.
@@ -95,7 +121,7 @@ impl Table {
     pub fn copy(&self) -> Result<Table, NoMemory>
         ensures { IfOk result (λ t. t ≡ self.now) }
     {
-        let rows = Arc::try_clone(&self.rows)?;
-        Ok(Table { rows })
+        let names = Arc::try_clone(&self.names)?;
+        Ok(Table { names })
     }
 }

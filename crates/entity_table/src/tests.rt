@@ -44,6 +44,17 @@ fn gives_both_characters(rt: HostRuntime) -> Result<(), Fail> {
     Ok(())
 }
 
+#[test]
+fn finds_whole_names(rt: HostRuntime) -> Result<(), Fail> {
+    let table = Table::read(rt.alloc(), SIX)?;
+    assert_eq!(rt; table.find("&not;"), one(5, true, '¬'));
+    assert_eq!(rt; table.find("&not"), one(4, false, '¬'));
+    assert_eq!(rt; table.find("&no"), None);
+    assert_eq!(rt; table.find("&notit;"), None);
+    assert_eq!(rt; table.find("amp;"), None);
+    Ok(())
+}
+
 fn is_refused(rt: &HostRuntime, bytes: &[u8]) -> bool {
     matches!(Table::read(rt.alloc(), bytes), Err(TableFault::NotTable))
 }

@@ -37,7 +37,7 @@ pub(crate) fn past(text: &str, from: usize, kind: char) -> Option<usize>
 fn has_cr_byte(bytes: &[u8]) -> bool
     ensures { result ≡ list_any (λ x. x == 13) bytes.now }
 {
-    bytes.iter().any(|byte| *byte == b'\r')
+    bytes.contains(&b'\r')
 }
 
 pub(crate) fn lacks_cr(text: &str) -> bool

@@ -1,4 +1,4 @@
-use Rattle.std.proofs.Common.{◌≡◌, zero, suc, ◌<◌, ◌-◌, ◌==◌, ℕ, List, length, Bool, true, false, true≢false, sym, ap, ◌∙◌, subst, arith}
+use Rattle.std.proofs.Common.{◌≡◌, zero, suc, ◌<◌, ◌-◌, ◌==◌, ℕ, length, Bool, true, false, true≢false, sym, ap, ◌∙◌, subst, arith}
 use Rattle.std.specs.List.Sorted.{IsPartitionPoint}
 use Rattle.entity_table.specs.Parts.{is_below, is_up_to, rests}
 use Rattle.entity_table.proofs.Narrowing.{point-none, point-all, rest_of_row, length-of_rests}
