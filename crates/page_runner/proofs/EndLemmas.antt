@@ -106,6 +106,12 @@ pub left_alone : {E : Type 0} (es : Entities) (ahead : ℕ) (dir : List ℕ) (be
 left_alone es ahead dir before after t t' s (Ok o) out gives = out.alone
 left_alone es ahead dir before after t t' s (Err e) out gives = gives.alone
 
+-- and what is in the journal
+pub left_behind : {E : Type 0} (es : Entities) (ahead : ℕ) (dir : List ℕ) (before after : Seen) (t t' : Option (List ℕ)) (s : Shown) (r : Result Told E) → IfOk r (λ o. RunsOut es ahead dir before after t t' s o)
+    → OnErr r (GivesUp es ahead dir before after t t' s) → Leaves es ahead dir before after s
+left_behind es ahead dir before after t t' s (Ok o) out gives = out.leaves
+left_behind es ahead dir before after t t' s (Err e) out gives = gives.left
+
 -- the sink took a front
 pub gave_up : (es : Entities) (ahead : ℕ) (dir : List ℕ) (before after : Seen) (t t' : Option (List ℕ)) (s : Shown) → IsReplayed s → GivesUp es ahead dir before after t t' s → FrontWithScripts es dir before after t t'
 gave_up es ahead dir before after t t' s replayed gives = front_here es ahead dir before after gives.shown (gives.replayed replayed) gives.leaves t t' gives.front

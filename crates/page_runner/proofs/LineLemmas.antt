@@ -26,6 +26,10 @@ pub if_ok : {T E : Type 0} (r : Result T E) {P Q : T → Type 0} → ((x : T) �
 if_ok (Ok x) turn p = turn x p
 if_ok (Err e) turn p = p
 
+pub if_some : {T : Type 0} (r : Option T) {P Q : T → Type 0} → ((x : T) → P x → Q x) → IfSome r P → IfSome r Q
+if_some None turn p = tt
+if_some (Some x) turn p = turn x p
+
 pub line-front : (t now t' : Option (List ℕ)) (lines : List Line) (i : ℕ) (a : Line) → i < length lines → a ≡ get_or lines i a → Took t now (flat_map line_text (take i lines)) → TookFront now t' (line_text a)
     → TookFront t t' (flat_map line_text lines)
 line-front t now t' lines i a within is took front =

@@ -75,9 +75,15 @@ pub record ReadsPiece (now after : Seen) (reader reader' : PageReader) (old new 
   pub handed : Handed reader reader' old new
   pub at : (before : Seen) → PageOpen before now reader old.journal.pieces → PageAt before after reader' new.journal.pieces new.journal.ending
 
--- Memory ran out, wherever the page stood.
-abbrev pub ReadsInPart : Seen → Seen → PageReader → List (List ℕ) → Type 0
-ReadsInPart now after reader pieces = (before : Seen) → PageOpen before now reader pieces → PageFor before after pieces None
+-- Memory ran out: a piece was handed in, or none, and the page goes on from the pieces, wherever it stood.
+pub record ReadsInPart (now after : Seen) (reader : PageReader) (old new : Shown) : Type 0 where
+  pub at : (before : Seen) → PageOpen before now reader old.journal.pieces → PageFor before after new.journal.pieces None
+  pub own : new.desk.own ≡ old.desk.own
+  pub others : new ≡ record old { desk = new.desk; journal = record old.journal { pieces = new.journal.pieces }; spent = new.spent }
+
+-- Nothing was read or fetched: whatever else changed, the journal is as it was but for the events.
+abbrev pub StaysRead : Shown → Shown → Type 0
+StaysRead old new = new ≡ record old { desk = new.desk; given = new.given; journal = record old.journal { events = new.journal.events }; spent = new.spent }
 
 -- ---- running on
 
@@ -196,6 +202,7 @@ pub record LeavesAlone (dir : List ℕ) (before after : Seen) : Type 0 where
 
 -- The sink took a front of the lines of what is shown, or was before the last events.
 pub record GivesUp (es : Entities) (ahead : ℕ) (dir : List ℕ) (before after : Seen) (taken taken' : Option (List ℕ)) (s : Shown) : Type 0 where
+  pub left : Leaves es ahead dir before after s
   pub shown : Shown
   pub replayed : IsReplayed s → IsReplayed shown
   pub leaves : Leaves es ahead dir before after shown

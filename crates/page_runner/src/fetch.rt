@@ -8,6 +8,7 @@ use html_types::NoMemory;
 use outside::{Failed, Outside, Port};
 use std::alloc::Global;
 
+// The most bytes of one read.
 const PIECE: usize = 4096;
 
 /// Begins a file and reads it, no further than one byte past the limit: of a longer one its bytes are those up to there.
