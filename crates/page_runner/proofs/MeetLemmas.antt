@@ -48,11 +48,6 @@ unfailed limit path before after (fetches.Got bytes) may = inl may.1
 unfailed limit path before after fetches.Missing may = inl may.2
 unfailed limit path before after fetches.Faulted may = inr refl
 
--- what is an error isn't done
-pub never_done : {T E : Type 0} (r : Result T E) → IsErr r → is_ok r ≡ true → ⊥
-never_done (Ok x) err e = absurd (cc err)
-never_done (Err x) err e = absurd (cc e)
-
 -- ---- which were begun
 
 each_then : {X : Type 0} (P : X → Type 0) (xs ys : List X) → AllByRecursion P xs → AllByRecursion P ys → AllByRecursion P (xs ++ ys)

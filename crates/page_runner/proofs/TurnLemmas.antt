@@ -40,9 +40,6 @@ use Rattle.page_runner.proofs.ReadLemmas.{first_open, at_past}
 
 -- ---- the first
 
-first-lines : (es : Entities) (ahead : ℕ) (s : Shown) → s ≡ first_shown es ahead → s.given ≡ []
-first-lines es ahead s is = ap (λ (z : Shown). z.given) is
-
 pub holds_first : (es : Entities) (ahead : ℕ) (dir : List ℕ) (before : Seen) (t : Option (List ℕ)) (reader : PageReader) (l : Load) (s : Shown) → s ≡ first_shown es ahead → l ≡ no_load → IsUnread reader → Holds es ahead dir before before t t reader l s
 holds_first es ahead dir before t reader l s is none unread =
     subst (λ z. Holds es ahead dir before before t t reader l z) (sym is) (subst (λ z. Holds es ahead dir before before t t reader z (first_shown es ahead)) (sym none) (record {
@@ -76,10 +73,6 @@ not-so false e = refl
 
 module _ (es : Entities) (ahead : ℕ) (dir : List ℕ) (before : Seen) (t : Option (List ℕ)) where
   -- ---- Send
-
-  some-piece : (d : Desk) (ps : List Piece) → d.to_send ≡ ps → not (is_empty ps) ≡ true → (x : Piece) × (xs : List Piece) × (d.to_send ≡ x ∷ xs)
-  some-piece d [] q some = absurd (true≢false (sym some))
-  some-piece d (x ∷ xs) q some = (x, xs, q)
 
   sent-first : (now : Seen) (t' : Option (List ℕ)) (reader : PageReader) (l : Load) (s : Shown) (ps : List Piece) → is_done s.desk.phase ≡ false → under_way l < ahead → s.desk.to_send ≡ ps → not (is_empty ps) ≡ true → Holds es ahead dir before now t t' reader l s
       → Holds es ahead dir before now t t' reader (record l { requests = suc l.requests }) (journaled event.Send (sends_first ps s.desk) s)
