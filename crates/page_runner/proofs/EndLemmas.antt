@@ -1,21 +1,18 @@
 -- What the run of a page comes to, by its journal.
-use Rattle.std.proofs.Common.{◌≡◌, ◌<◌, ℕ, Bool, true, false, List, [], ◌++◌, Option, Some, None, Ok, Err, OnErr, flat_map, refl, sym, ap, subst, ◌∙◌, inl, inr, append_assoc}
+use Rattle.std.proofs.Common.{◌≡◌, ℕ, Bool, List, ◌++◌, Option, Ok, Err, OnErr, flat_map, sym, ap, subst, ◌∙◌, inl, inr, append_assoc}
 use Rattle.std.specs.Prelude.{Result, IfOk}
 use Rattle.std.proofs.lemmas.Grind.{flat_map-append}
-use Rattle.html_types.specs.declared.script.Line.{Line}
 use Rattle.outside.specs.Outside.{Seen}
 use Rattle.standard.specs.Entities.{Entities}
 use Rattle.standard.specs.Output.{line_text, result_with, output_with}
-use Rattle.standard.specs.Page.{Page}
-use Rattle.standard.specs.Scripts.{Fetched}
 use Rattle.standard.specs.Serial.{World, Serial, Outcome, IsSerial}
 use Rattle.standard.specs.Serial as serial
 use Rattle.standard_laws.specs.Laws.{GoesOnFrom}
 use Rattle.standard_laws.proofs.Total.{has_outcome}
-use Rattle.core_rules.specs.Core.{Setup, whole_page}
-use Rattle.core_rules.specs.Desk.{Phase, free, tagged, waits, done, Desk, with_more}
+use Rattle.core_rules.specs.Core.{whole_page}
+use Rattle.core_rules.specs.Desk.{Phase, free, tagged, waits, done, Desk}
 use Rattle.core_laws.proofs.Standing.{ends-as-serial, lines-begin}
-use Rattle.core_steps.specs.Sides.{Shown, ShowsIn, Shows, IsReplayed}
+use Rattle.core_steps.specs.Sides.{Shown, ShowsIn, IsReplayed}
 use Rattle.page_runner.specs.declared.outcome.Outcome.{Outcome as Told}
 use Rattle.page_runner.specs.Taken.{Took, TookFront}
 use Rattle.page_runner.specs.Shown.{result_of}

@@ -1,31 +1,29 @@
 -- Where a run gives up, or is over, and what is still to come of it.
-use Rattle.std.proofs.Common.{◌≡◌, ℕ, suc, ◌≤◌, ◌<◌, ◌+◌, ◌-◌, ◌*◌, nat_lt, List, [], ◌∷◌, ◌++◌, length, Bool, true, false, true≢false, Option, Some, None, flat_map, refl, sym, ap, subst, ◌∙◌, inl, inr, length-append, arith}
-use Rattle.std.specs.Prelude.{◌⊎◌, IsTrue, not, ◌&&◌, ◌||◌, is_none}
+use Rattle.std.proofs.Common.{◌≡◌, ℕ, suc, ◌≤◌, ◌<◌, ◌+◌, ◌-◌, ◌*◌, nat_lt, List, [], ◌∷◌, length, Bool, true, false, true≢false, Option, Some, None, flat_map, refl, sym, ap, subst, ◌∙◌, inl, inr, length-append, arith}
+use Rattle.std.specs.Prelude.{IsTrue, not, ◌&&◌, ◌||◌, is_none}
 use Rattle.std.proofs.lemmas.Bool.{and_parts, lt-ltb, ltb-false, ltb-true}
 use Rattle.std.proofs.lemmas.Grind.{flat_map-append}
 use Rattle.html_types.specs.declared.script.Ending.{Ending}
-use Rattle.html_types.specs.declared.script.Line.{Line}
 use Rattle.outside.specs.Outside.{Seen, KeepsOthers}
 use Rattle.outside.specs.declared.traits.Port.TheVariants as port
 use Rattle.standard.specs.Entities.{Entities}
 use Rattle.standard.specs.Output.{line_text}
-use Rattle.standard.specs.Scripts.{Fetched, is_lawful, missing}
+use Rattle.standard.specs.Scripts.{is_lawful, missing}
 use Rattle.standard.specs.Serial.{World, Serial}
 use Rattle.core_rules.specs.declared.event.Event.TheVariants as event
 use Rattle.core_rules.specs.Batches.{Piece}
 use Rattle.core_rules.specs.Core.{joined}
-use Rattle.core_rules.specs.Desk.{Phase, free, tagged, waits, done, Desk, with_more, outstanding, is_done, is_free, is_among, has_arrived, can_send, wants_reply, can_do, can_do_in, sends_first, sends, takes, arrives}
+use Rattle.core_rules.specs.Desk.{Phase, free, tagged, waits, done, Desk, outstanding, is_done, is_free, is_among, has_arrived, can_send, wants_reply, can_do, can_do_in, sends_first, sends, takes, arrives}
 use Rattle.core_rules.specs.Settling.{is_empty}
 use Rattle.core_rules.specs.StandsFor.{text_of}
 use Rattle.core_steps.specs.Sides.{Shown, ShowsIn, journaled, with_fetch, IsReplayed, Standing, running, awaiting, over, unless_arrived, standing_in, standing_of, left_to_do}
-use Rattle.page_runner.specs.declared.page.TheConstants.{PAGE_LIMIT}
 use Rattle.page_runner.specs.declared.outcome.Outcome.{Outcome as Told}
 use Rattle.page_runner.specs.declared.reader.PageReader.{PageReader}
-use Rattle.page_runner.specs.Given.{NoFault, KeepsEntities}
+use Rattle.page_runner.specs.Given.{KeepsEntities}
 use Rattle.page_runner.specs.Taken.{Took, TookFront}
-use Rattle.page_runner.specs.Scripts.{Met, BeginsFile, Fetches, AreKnown}
+use Rattle.page_runner.specs.Scripts.{Met, Fetches, AreKnown}
 use Rattle.page_runner.specs.Shown.{result_of}
-use Rattle.page_runner.specs.Pages.{PageFor, PageAt}
+use Rattle.page_runner.specs.Pages.{PageFor}
 use Rattle.page_runner.specs.Turns.{Load, under_way, weight_of, Answers, while_open, while_awaiting, ReadsPiece, ReadsInPart, StaysRead, RunsOn, RunsInPart, unwritten, part_written, Arrives, BeginsAwaited, StopsIn, Holds, text_to_come, steps_to_come, turns_to_come, Leaves, LeavesAlone, GivesUp, RunsOut}
 use Rattle.page_runner.proofs.KeepsLemmas.{later-others, later-entities, entities-then, entities-others}
 use Rattle.page_runner.proofs.PageTakenLemmas.{front_of_all, front_then}
@@ -33,7 +31,7 @@ use Rattle.page_runner.proofs.MeetLemmas.{fetches_as, fetches-then, fetches-past
 use Rattle.page_runner.proofs.TextLemmas.{same-refl, none-found}
 use Rattle.page_runner.proofs.DeskLemmas as desk
 use Rattle.page_runner.proofs.ReachLemmas.{reached_whole, knows-met, scripts_with}
-use Rattle.page_runner.proofs.ReadLemmas.{page_for, for_past, open_for}
+use Rattle.page_runner.proofs.ReadLemmas.{page_for, for_past}
 use Rattle.page_runner.proofs.Stuck.{never-free}
 use Rattle.page_runner.proofs.TurnLemmas.{holds_open, holds_sent, holds_took, holds_ran, holds_arrived, awaits-in, not-arrived, keeps-desk, took-desk}
 

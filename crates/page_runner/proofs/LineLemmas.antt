@@ -1,5 +1,5 @@
 -- What answers owe, and lines that are written one by one.
-use Rattle.std.proofs.Common.{◌≡◌, ℕ, suc, List, [], ◌∷◌, ◌++◌, drop, ◌<◌, ◌+◌, length, take, get_or, drop-cons, add-one, take-append-drop, flat_map, Option, Some, None, Ok, Err, OnErr, refl, sym, ap, ◌∙◌, subst}
+use Rattle.std.proofs.Common.{◌≡◌, ℕ, suc, List, ◌∷◌, ◌++◌, drop, ◌<◌, ◌+◌, length, take, get_or, drop-cons, add-one, take-append-drop, flat_map, Option, Some, None, Ok, Err, OnErr, sym, ap, ◌∙◌, subst}
 use Rattle.std.specs.Prelude.{Result, OnOk, IfOk, IfSome, option_to_list}
 use Rattle.std.proofs.lemmas.Grind.{flat_map-append}
 use Rattle.html_types.specs.declared.script.Line.{Line}

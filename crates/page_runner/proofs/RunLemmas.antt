@@ -9,7 +9,7 @@ use Rattle.outside.specs.declared.traits.Port.{Port}
 use Rattle.outside.specs.declared.traits.Port.TheVariants.{Entities, Page, Script}
 use Rattle.standard.specs.Act.{Doc}
 use Rattle.standard.specs.Entities.{Entities as Table}
-use Rattle.standard.specs.Scripts.{Fetched, is_lawful}
+use Rattle.standard.specs.Scripts.{Fetched}
 use Rattle.standard.specs.Scripts as fetched
 use Rattle.standard.specs.Serial.{World}
 use Rattle.standard.specs.Output.{line_text, result_with, output_with}

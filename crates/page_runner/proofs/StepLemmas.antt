@@ -1,5 +1,5 @@
 -- What reading on and running on come to.
-use Rattle.std.proofs.Common.{◌≡◌, ℕ, ◌≤◌, ◌<◌, ◌+◌, ◌*◌, List, [], ◌∷◌, ◌++◌, length, take, flat_map, Bool, true, false, Option, Some, None, refl, sym, ap, subst, ◌∙◌, append_assoc, append-nil, length-append, length-take, arith}
+use Rattle.std.proofs.Common.{◌≡◌, ℕ, ◌≤◌, ◌<◌, ◌+◌, List, [], ◌∷◌, ◌++◌, length, take, flat_map, Bool, true, Option, Some, None, refl, sym, ap, subst, ◌∙◌, append_assoc, append-nil, length-append, length-take, arith}
 use Rattle.std.proofs.lemmas.List.{take-append-le}
 use Rattle.html_types.specs.declared.script.Ending.{Ending}
 use Rattle.html_types.specs.declared.script.Line.{Line}
@@ -7,14 +7,12 @@ use Rattle.outside.specs.Outside.{Seen}
 use Rattle.outside.specs.declared.traits.Port.TheVariants as port
 use Rattle.standard.specs.Output.{line_text}
 use Rattle.standard.specs.Page.{text_of, shown}
-use Rattle.utf8_pieces.specs.declared.decoder.Decoder.{Decoder}
 use Rattle.utf8_pieces.specs.Decoder.{HasRead}
 use Rattle.core_rules.specs.declared.event.Event.{Event}
 use Rattle.core_rules.specs.declared.event.Event.TheVariants as event
-use Rattle.core_rules.specs.Batches.{Piece, of_text, of_ending}
+use Rattle.core_rules.specs.Batches.{of_text, of_ending}
 use Rattle.core_rules.specs.Core.{joined}
-use Rattle.core_rules.specs.Desk.{Desk, with_more}
-use Rattle.core_rules.specs.StandsFor.{text_of as pieces_text}
+use Rattle.core_rules.specs.Desk.{Desk}
 use Rattle.core_steps.specs.Sides.{Shown, with_piece, with_ending, journaled, DoesShow, left_to_do}
 use Rattle.page_runner.specs.declared.page.TheConstants.{PAGE_LIMIT}
 use Rattle.page_runner.specs.declared.reader.PageReader.{PageReader}
@@ -22,7 +20,7 @@ use Rattle.page_runner.specs.Given.{NoFault}
 use Rattle.page_runner.specs.Taken.{Took, TookFront}
 use Rattle.page_runner.specs.Pages.{AreTaken, ClosesAt, IsReading, PageOpen, PageFor, PageAt}
 use Rattle.page_runner.specs.Turns.{while_open, Handed, ReadsPiece, ReadsInPart, StaysRead, RunsOn, RunsInPart, part_written}
-use Rattle.page_runner.proofs.ReadLemmas.{text-le, joined-more, open_for, forget, closed, piece_cut, piece_open, piece_shut}
+use Rattle.page_runner.proofs.ReadLemmas.{text-le, joined-more, forget, closed, piece_cut, piece_open, piece_shut}
 
 -- ---- what stays
 

@@ -17,14 +17,14 @@ use Rattle.core_rules.specs.Journal.{Journal}
 use Rattle.core_rules.specs.StandsFor.{text_of}
 use Rattle.core_steps.specs.Fetches.{names_of}
 use Rattle.core_steps.specs.Journals.{found}
-use Rattle.core_steps.specs.Sides.{Shown, journaled, with_fetch, DoesShow, IsReplayed, Standing, running, awaiting, over, standing_of, left_to_do}
+use Rattle.core_steps.specs.Sides.{Shown, journaled, with_fetch, DoesShow, IsReplayed, Standing, awaiting, standing_of, left_to_do}
 use Rattle.page_runner.specs.declared.page.TheConstants.{PAGE_LIMIT}
 use Rattle.page_runner.specs.declared.outcome.Outcome.{Outcome as Told}
 use Rattle.page_runner.specs.declared.scripts.TheConstants.{SCRIPT_LIMIT}
 use Rattle.page_runner.specs.declared.reader.PageReader.{PageReader}
 use Rattle.page_runner.specs.Given.{NoFault, KeepsEntities}
 use Rattle.page_runner.specs.Taken.{Took, TookFront}
-use Rattle.page_runner.specs.Scripts.{Met, MayMeet, BeginsFile, Fetches, AreKnown, ReadScriptsTo, NamesOnce}
+use Rattle.page_runner.specs.Scripts.{MayMeet, BeginsFile, Fetches, AreKnown, ReadScriptsTo, NamesOnce}
 use Rattle.page_runner.specs.Shown.{result_of}
 use Rattle.page_runner.specs.Pages.{PageOpen, PageFor, PageAt, ReadsOn}
 

@@ -1,6 +1,6 @@
 // A whole file, up to a limit.
-ghost use Rattle.std.specs.Prelude.{◌≡◌, ◌<◌, ◌^◌, [], ◌∷◌, IfOk};
-ghost use Rattle.outside.specs.Outside.{OthersStay, NeverFall, Begun, KeepsOthers};
+ghost use Rattle.std.specs.Prelude.{◌<◌, ◌^◌, [], ◌∷◌, IfOk};
+ghost use Rattle.outside.specs.Outside.{Begun, KeepsOthers};
 ghost use Rattle.page_runner.specs.Given.{MayGive, given_of, ReadTo};
 
 use core_steps::Fetch;

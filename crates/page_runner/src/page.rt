@@ -4,7 +4,7 @@ ghost use Rattle.std.specs.String.{string_bytes};
 ghost use Rattle.outside.specs.Outside.{Rose, KeepsOthers};
 ghost use Rattle.core_rules.specs.declared.event.Event.TheVariants as event;
 ghost use Rattle.core_rules.specs.Desk.{done, is_done, can_do, wants_reply, takes};
-ghost use Rattle.core_steps.specs.Sides.{first_shown, journaled, IsReplayed, Standing, awaiting, standing_of};
+ghost use Rattle.core_steps.specs.Sides.{first_shown, journaled, IsReplayed, awaiting, standing_of};
 ghost use Rattle.page_runner.specs.declared.page.Failure.TheVariants as failures;
 ghost use Rattle.page_runner.specs.Shown.{result_of};
 ghost use Rattle.page_runner.specs.Pages.{IsUnread};

@@ -1,4 +1,3 @@
-use Rattle.std.proofs.Common.{refl}
 use Rattle.page_runner.proofs.LineLemmas.{if_ok, err_weaker}
 use Rattle.page_runner.proofs.EndLemmas.{left_alone, left_behind, gave_up, ran_out}
 use Rattle.page_runner.proofs.ReportLemmas.{replays-to}

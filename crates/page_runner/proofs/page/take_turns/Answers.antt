@@ -1,9 +1,9 @@
-use Rattle.std.proofs.Common.{◌≡◌, ◌<◌, ◌≤◌, ◌∙◌, sym, subst, refl, arith}
+use Rattle.std.proofs.Common.{◌∙◌, sym, subst, refl, arith}
 use Rattle.page_runner.specs.Turns.{Arrives, BeginsAwaited}
 use Rattle.page_runner.proofs.LineLemmas.{on_err}
 use Rattle.page_runner.proofs.StepLemmas.{stays_spent, stays_journaled}
 use Rattle.page_runner.proofs.TurnLemmas.{holds_first, holds_open, holds_read, holds_answered}
-use Rattle.page_runner.proofs.GiveLemmas.{runs_out, gives_up, gives_up_reading, gives_up_fetching, gives_up_running, awaits_name, none-of, answers-as, stands_reply, read_less, answered_less, after_sent, after_sent_less, with_same, after_took, after_took_less, after_ran, after_ran_less, after_arrived, after_arrived_less}
+use Rattle.page_runner.proofs.GiveLemmas.{runs_out, gives_up, gives_up_reading, gives_up_fetching, gives_up_running, awaits_name, none-of, answers-as, stands_reply, read_less, answered_less, after_sent, after_sent_less, after_took, after_took_less, after_ran, after_ran_less, after_arrived, after_arrived_less}
 use Rattle.page_runner.proofs.page.take_turns.Goals as goal
 
 pub turns-init : goal.turns-init
