@@ -1,5 +1,5 @@
 -- What is reported of a page that was run: its journal is of this run, and replays in the core to this document, these lines and this outcome.
-use Rattle.std.specs.Prelude.{◌≡◌, ℕ, Bool, List, ◌++◌, flat_map, Option, Some, IsTrue}
+use Rattle.std.specs.Prelude.{◌≡◌, ℕ, Bool, true, false, List, ◌++◌, flat_map, Option, Some, IsTrue}
 use Rattle.outside.specs.Outside.{Seen}
 use Rattle.outside.specs.declared.traits.Port.TheVariants.{Page}
 use Rattle.standard.specs.Entities.{Entities}
@@ -12,11 +12,19 @@ use Rattle.core_rules.specs.Journal.{Journal, IsRunOf, with_replies}
 use Rattle.core_steps.specs.Journals.{found}
 use Rattle.core_steps.specs.Sides.{Shown}
 use Rattle.page_runner.specs.declared.status.Status.{Status}
+use Rattle.page_runner.specs.declared.status.Status.TheVariants as status
 use Rattle.page_runner.specs.Given.{FaultsRose, NoFault, file_at}
 use Rattle.page_runner.specs.Taken.{Took}
 use Rattle.page_runner.specs.Scripts.{MayMeet}
 use Rattle.page_runner.specs.Pages.{PageRead, page_at, IsPageBehind}
 use Rattle.page_runner.specs.Answers.{status_with, is_answered, IsPageOf}
+
+-- the statuses that come only where a page was parsed to its end
+abbrev pub is_parsed : Status → Bool
+is_parsed status.Done = true
+is_parsed status.BadUtf8 = true
+is_parsed (status.Limit which) = true
+is_parsed _ = false
 
 -- In each run in which all is as the journal has it, its events, each of them enabled, lead the core to what is shown.
 pub record ReplaysTo (es : Entities) (ahead : ℕ) (s : Shown) : Type 0 where

@@ -1,11 +1,11 @@
 // A page is run on the calling thread.
-ghost use Rattle.std.specs.Prelude.{◌≡◌, ◌<◌, ◌≤◌, [], ◌∷◌, length, IfOk, IfSome, OnErr, IsErrOf, IsTrue};
+ghost use Rattle.std.specs.Prelude.{◌≡◌, ◌<◌, ◌≤◌, [], ◌∷◌, length, IfOk, IfSome, OnErr, IsErrOf, IsSome, IsTrue};
 ghost use Rattle.std.specs.String.{string_bytes};
 ghost use Rattle.outside.specs.Outside.{Rose};
 ghost use Rattle.core_steps.specs.Sides.{first_shown};
 ghost use Rattle.page_runner.specs.Pages.{EndsWithScripts, FrontWithScripts};
 ghost use Rattle.page_runner.specs.Turns.{LeavesAlone, Leaves, RunsOut};
-ghost use Rattle.page_runner.specs.Reports.{ReplaysTo, Reports};
+ghost use Rattle.page_runner.specs.Reports.{is_parsed, ReplaysTo, Reports};
 ghost use Rattle.page_runner.specs.Answers.{is_finished, IsBegun, PageAnswers, ReadsPage};
 
 use crate::command::{end_at_fault, end_page, status_for};
@@ -116,6 +116,7 @@ fn run_begun<E: InForce, F: Outside, K: Sink>(
     ensures clean { IsTrue (is_finished result.outcome) → IsTrue (K.clean out.new) }
     ensures reports { IfSome result.side (λ side. Reports job.now.table.now job.now.ahead job.now.dump (string_bytes job.now.page) (string_bytes job.now.dir)
         (F.seen files.old) (F.seen files.new) (K.taken out.old) (K.taken out.new) side result.outcome) }
+    ensures side { IsTrue (is_parsed result.outcome) → IsSome result.side }
 {
     let (mut room, mut side) = match begin_run(alloc, job) {
         Err(NoMemory) => {
@@ -150,6 +151,7 @@ pub fn page_in_place<F: Outside, K: Sink>(
     ensures clean { IsTrue (is_finished result.outcome) → IsTrue (K.clean out.new) }
     ensures reports { IfSome result.side (λ side. Reports job.now.table.now job.now.ahead job.now.dump (string_bytes job.now.page) (string_bytes job.now.dir)
         (F.seen files.old) (F.seen files.new) (K.taken out.old) (K.taken out.new) side result.outcome) }
+    ensures side { IsTrue (is_parsed result.outcome) → IsSome result.side }
 {
     match files.begin(Port::Page, job.page.as_str()) {
         Err(Failed) => Report {

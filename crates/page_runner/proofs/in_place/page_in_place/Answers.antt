@@ -1,4 +1,4 @@
-use Rattle.std.proofs.Common.{refl, inr}
+use Rattle.std.proofs.Common.{true≢false, refl, sym, ◌∙◌, inr}
 use Rattle.std.specs.String.{string_bytes}
 use Rattle.page_runner.proofs.RunLemmas.{page_since, page_faulted, page_absent, page_unbegun, reads_since, found_there}
 use Rattle.page_runner.proofs.LineLemmas.{if_some}
@@ -42,3 +42,6 @@ returns-in-Ok-true-clause-reports g c =
     if_some c.run_begun.result.side
     (λ side reports. reports_since c.args.job.now.table.now c.args.job.now.ahead c.args.job.now.dump (string_bytes c.args.job.now.page) (string_bytes c.args.job.now.dir) (at c.args.files.now) (at c.begin.new.self) (at c.run_begun.new.files) _ _ side _
     c.begin.ensures.others c.in-Ok-true.ensures.no_fault reports) c.run_begun.ensures.reports
+
+pub returns-in-Err-clause-side : goal.returns-in-Err-clause-side
+returns-in-Err-clause-side g c e = absurd (true≢false (sym e ∙ c.end_at_fault.ensures.unparsed))
