@@ -40,4 +40,4 @@ pub returns-in_err-fetch-clause-stays : goal.returns-in_err-fetch-clause-stays
 returns-in_err-fetch-clause-stays g c = on_err _ _ refl
 
 pub returns-clause-stays : goal.returns-clause-stays
-returns-clause-stays g c = err_weaker _ _ _ (λ is. stays_spent _ _ is) c.arrive.ensures.err
+returns-clause-stays g c = err_weaker _ _ _ (λ is. stays_spent c.args.doc.now c.arrive.new.self is) c.arrive.ensures.err

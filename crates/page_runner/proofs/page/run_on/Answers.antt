@@ -1,5 +1,6 @@
 use Rattle.std.proofs.Common.{◌∙◌, subst, flat_map}
 use Rattle.standard.specs.Output.{line_text}
+use Rattle.core_rules.specs.declared.event.Event.TheVariants as event
 use Rattle.page_runner.specs.Taken.{Took, TookFront}
 use Rattle.page_runner.proofs.LineLemmas.{on_err, ok_weaker, err_weaker}
 use Rattle.page_runner.proofs.StepLemmas.{stays_spent, stays_journaled, ran_on, ran_cut, stays_ran}
@@ -20,10 +21,10 @@ returns-clause-err g c =
     (subst (λ ls. TookFront t t' (flat_map line_text ls)) c.as_slice.ensures took)) c.write_lines.ensures.front
 
 pub returns-in_err-act-clause-stays : goal.returns-in_err-act-clause-stays
-returns-in_err-act-clause-stays g c = on_err _ _ (stays_spent _ _ c.in_err-act.ensures.err)
+returns-in_err-act-clause-stays g c = on_err _ _ (stays_spent c.args.doc.now c.act.new.self c.in_err-act.ensures.err)
 
 pub returns-in_err-lines-clause-stays : goal.returns-in_err-lines-clause-stays
-returns-in_err-lines-clause-stays g c = on_err _ _ (stays_journaled _ _ _ _ (c.in_err-lines.ensures.err ∙ c.in_ok-act.ensures.others))
+returns-in_err-lines-clause-stays g c = on_err _ _ (stays_journaled event.Do c.act.new.self.desk c.args.doc.now c.take_lines.new.self (c.in_err-lines.ensures.err ∙ c.in_ok-act.ensures.others))
 
 pub returns-clause-stays : goal.returns-clause-stays
 returns-clause-stays g c =

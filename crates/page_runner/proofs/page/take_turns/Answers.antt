@@ -1,4 +1,6 @@
 use Rattle.std.proofs.Common.{◌∙◌, sym, subst, refl, arith}
+use Rattle.core_rules.specs.declared.event.Event.TheVariants as event
+use Rattle.core_rules.specs.Desk.{sends}
 use Rattle.page_runner.specs.Turns.{Arrives, BeginsAwaited}
 use Rattle.page_runner.proofs.LineLemmas.{on_err}
 use Rattle.page_runner.proofs.StepLemmas.{stays_spent, stays_journaled}
@@ -15,11 +17,11 @@ returns-in-Some-clause-ok g c =
 
 pub returns-in_err-request-clause-err : goal.returns-in_err-request-clause-err
 returns-in_err-request-clause-err g c =
-    on_err _ _ (gives_up _ _ _ _ _ _ _ _ _ _ c.turns.invariant.holds c.may_read-may_read.ensures.replayed _ (stays_spent _ _ c.in_err-request.ensures.err))
+    on_err _ _ (gives_up _ _ _ _ _ _ _ _ _ _ c.turns.invariant.holds c.may_read-may_read.ensures.replayed _ (stays_spent c.turns.doc c.send.new.self c.in_err-request.ensures.err))
 
 pub returns-in_err-ask-clause-err : goal.returns-in_err-ask-clause-err
 returns-in_err-ask-clause-err g c =
-    on_err _ _ (gives_up _ _ _ _ _ _ _ _ _ _ c.turns.invariant.holds c.may_read-may_read.ensures.replayed _ (stays_journaled _ _ _ _ c.in_ok-request.ensures.sent))
+    on_err _ _ (gives_up _ _ _ _ _ _ _ _ _ _ c.turns.invariant.holds c.may_read-may_read.ensures.replayed _ (stays_journaled event.Send (sends c.turns.doc.desk) c.turns.doc c.send.new.self c.in_ok-request.ensures.sent))
 
 pub turns-preserved-in-Continue-branch-2 : goal.turns-preserved-in-Continue-branch-2
 turns-preserved-in-Continue-branch-2 g c =

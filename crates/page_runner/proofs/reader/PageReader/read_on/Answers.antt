@@ -17,7 +17,7 @@ pub returns-in-Err-clause-err : goal.returns-in-Err-clause-err
 returns-in-Err-clause-err g c =
     let at = g.F.Outside.seen in
     let room = has_room c.args.self.now c.args.doc.now.journal.pieces c.args.room.now c.min-most.result c.requires.reading c.requires.room c.min-most.ensures in
-    err_weaker _ _ _ (λ is. reads_end_cut (at c.args.files.now) (at c.read_piece.new.files) c.args.self.now c.args.doc.now c.requires.reading c.in-Err.ending (c.in-Err.ensures.ending room) _ is) c.end.ensures.err
+    err_weaker _ _ _ (λ is. reads_end_cut (at c.args.files.now) (at c.read_piece.new.files) c.args.self.now c.args.doc.now c.requires.reading c.in-Err.ending (c.in-Err.ensures.ending room) c.end.new.self is) c.end.ensures.err
 
 pub overflow_sub-self : goal.overflow_sub-self
 overflow_sub-self g c =
@@ -42,7 +42,7 @@ returns-in_err-piece-in-Ok-clause-err g c =
     let at = g.F.Outside.seen in
     let fits : c.in-Ok.n ≤ length c.read_piece.new.room = omega (arith, c.read_piece.auto.room, c.in-Ok.ensures.count.1) in
     let within : c.in-Ok.n ≤ c.args.self.now.left = omega (arith, c.min-most.ensures, c.in-Ok.ensures.count.1, length-take c.min-most.result c.args.room.now) in
-    on_err _ _ (reads_cut (at c.args.files.now) (at c.read_piece.new.files) c.args.self.now c.args.doc.now c.requires.reading c.in-Ok.n (take c.in-Ok.n (c.read_piece.new.room ++ drop c.min-most.result c.args.room.now)) c.in-Ok.ensures.count.0 (piece-length c.read_piece.new.room (drop c.min-most.result c.args.room.now) (c.read_piece.new.room ++ drop c.min-most.result c.args.room.now) c.in-Ok.n refl fits) within (piece-taken _ _ c.read_piece.new.room (drop c.min-most.result c.args.room.now) (c.read_piece.new.room ++ drop c.min-most.result c.args.room.now) c.in-Ok.n refl fits c.in-Ok.ensures.taken) c.in-Ok.ensures.no_fault true _ c.in_err-piece-in-Ok.ensures.err)
+    on_err _ _ (reads_cut (at c.args.files.now) (at c.read_piece.new.files) c.args.self.now c.args.doc.now c.requires.reading c.in-Ok.n (take c.in-Ok.n (c.read_piece.new.room ++ drop c.min-most.result c.args.room.now)) c.in-Ok.ensures.count.0 (piece-length c.read_piece.new.room (drop c.min-most.result c.args.room.now) (c.read_piece.new.room ++ drop c.min-most.result c.args.room.now) c.in-Ok.n refl fits) within (piece-taken _ _ c.read_piece.new.room (drop c.min-most.result c.args.room.now) (c.read_piece.new.room ++ drop c.min-most.result c.args.room.now) c.in-Ok.n refl fits c.in-Ok.ensures.taken) c.in-Ok.ensures.no_fault true c.piece.new.self c.in_err-piece-in-Ok.ensures.err)
 
 pub returns-in-None-clause-ok : goal.returns-in-None-clause-ok
 returns-in-None-clause-ok g c =
