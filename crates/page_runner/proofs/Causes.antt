@@ -5,7 +5,6 @@ use Rattle.html_types.specs.declared.script.Why.TheVariants as why
 use Rattle.outside.specs.Outside.{Rose, Seen}
 use Rattle.outside.specs.declared.traits.Port.TheVariants.{Entities}
 use Rattle.standard.specs.Entities.{Entities as Table}
-use Rattle.standard.specs.Scripts.{Fetched}
 use Rattle.standard.specs.Scripts as fetched
 use Rattle.standard.specs.Serial.{Result, finished, refused}
 use Rattle.page_runner.specs.declared.command.TheConstants.{ENTITIES_LIMIT}

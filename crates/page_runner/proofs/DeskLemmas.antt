@@ -1,9 +1,7 @@
 -- What the events of the document's side leave alone, and what they leave to be done.
-use Rattle.std.proofs.Common.{◌≡◌, ◌<◌, ◌≤◌, ℕ, suc, ◌+◌, ◌-◌, ◌*◌, nat_lt, Bool, true, false, true≢false, List, [], ◌∷◌, ◌++◌, length, Option, Some, None, refl, sym, ◌∙◌, ap, subst, append_assoc, length-append, inl, inr, arith}
-use Rattle.std.specs.Prelude.{◌⊎◌, IsTrue, not, ◌&&◌, is_none, if◌then◌else◌}
-use Rattle.std.proofs.lemmas.Bool.{and_parts}
+use Rattle.std.proofs.Common.{◌≡◌, ◌<◌, ◌≤◌, ℕ, suc, ◌+◌, ◌*◌, nat_lt, Bool, true, false, true≢false, List, [], ◌∷◌, ◌++◌, length, Option, Some, None, refl, sym, ◌∙◌, ap, subst, append_assoc, length-append, arith}
+use Rattle.std.specs.Prelude.{◌&&◌, is_none, if◌then◌else◌}
 use Rattle.html_types.specs.declared.operation.NodeId.{NodeId}
-use Rattle.html_types.specs.declared.script.Ending.{Ending}
 use Rattle.html_types.specs.declared.script.Ending.TheVariants as ending
 use Rattle.html_types.specs.declared.script.Why.TheVariants as why
 use Rattle.html_types.specs.declared.instruction.Stop.TheVariants as stop
@@ -16,10 +14,10 @@ use Rattle.core_rules.specs.declared.verdict.Verdict.{Verdict}
 use Rattle.core_rules.specs.declared.verdict.Verdict.TheVariants.{Keep, Rewind}
 use Rattle.core_rules.specs.Batches.{Piece, Batch, Halt, at, finishing, refusing}
 use Rattle.core_rules.specs.Verdict.{runs}
-use Rattle.core_rules.specs.Settling.{is_empty, is_settled, Through, here, onward, Settles}
-use Rattle.core_rules.specs.Desk.{Phase, free, tagged, waits, done, Desk, with_more, outstanding, stale, is_done, is_free, can_send, wants_reply, sends_first, sends, with_batches, drops, answer_called_for, takes, in_phase, at_end_tag, behind_halt, with_executed, executes, sent_again, decided, Concludes, RunsOn, DoesIn, Does, has_arrived, arrives}
+use Rattle.core_rules.specs.Settling.{is_empty, Through, here, onward, Settles}
+use Rattle.core_rules.specs.Desk.{Phase, free, tagged, waits, done, Desk, with_more, stale, sends_first, sends, with_batches, drops, answer_called_for, takes, in_phase, at_end_tag, behind_halt, with_executed, executes, sent_again, decided, Concludes, DoesIn, Does, arrives}
 use Rattle.core_rules.specs.StandsFor.{text_of, page_left}
-use Rattle.core_steps.specs.Sides.{ShowsIn, Shows, characters_left, left_in, left_to_do, standing_of, standing_in, unless_arrived, Standing}
+use Rattle.core_steps.specs.Sides.{ShowsIn, Shows, left_in, left_to_do}
 
 -- ---- what Do leaves alone
 

@@ -1,21 +1,18 @@
 -- What the run of a page comes to, by its journal.
-use Rattle.std.proofs.Common.{◌≡◌, ◌<◌, ℕ, Bool, true, false, List, [], ◌++◌, Option, Some, None, Ok, Err, OnErr, flat_map, refl, sym, ap, subst, ◌∙◌, inl, inr, append_assoc}
+use Rattle.std.proofs.Common.{◌≡◌, ℕ, Bool, List, ◌++◌, Option, Ok, Err, OnErr, flat_map, sym, ap, subst, ◌∙◌, inl, inr, append_assoc}
 use Rattle.std.specs.Prelude.{Result, IfOk}
 use Rattle.std.proofs.lemmas.Grind.{flat_map-append}
-use Rattle.html_types.specs.declared.script.Line.{Line}
 use Rattle.outside.specs.Outside.{Seen}
 use Rattle.standard.specs.Entities.{Entities}
 use Rattle.standard.specs.Output.{line_text, result_with, output_with}
-use Rattle.standard.specs.Page.{Page}
-use Rattle.standard.specs.Scripts.{Fetched}
 use Rattle.standard.specs.Serial.{World, Serial, Outcome, IsSerial}
 use Rattle.standard.specs.Serial as serial
 use Rattle.standard_laws.specs.Laws.{GoesOnFrom}
 use Rattle.standard_laws.proofs.Total.{has_outcome}
-use Rattle.core_rules.specs.Core.{Setup, whole_page}
-use Rattle.core_rules.specs.Desk.{Phase, free, tagged, waits, done, Desk, with_more}
+use Rattle.core_rules.specs.Core.{whole_page}
+use Rattle.core_rules.specs.Desk.{Phase, free, tagged, waits, done, Desk}
 use Rattle.core_laws.proofs.Standing.{ends-as-serial, lines-begin}
-use Rattle.core_steps.specs.Sides.{Shown, ShowsIn, Shows, IsReplayed}
+use Rattle.core_steps.specs.Sides.{Shown, ShowsIn, IsReplayed}
 use Rattle.page_runner.specs.declared.outcome.Outcome.{Outcome as Told}
 use Rattle.page_runner.specs.Taken.{Took, TookFront}
 use Rattle.page_runner.specs.Shown.{result_of}
@@ -105,6 +102,12 @@ pub left_alone : {E : Type 0} (es : Entities) (ahead : ℕ) (dir : List ℕ) (be
     → OnErr r (GivesUp es ahead dir before after t t' s) → LeavesAlone dir before after
 left_alone es ahead dir before after t t' s (Ok o) out gives = out.alone
 left_alone es ahead dir before after t t' s (Err e) out gives = gives.alone
+
+-- and what is in the journal
+pub left_behind : {E : Type 0} (es : Entities) (ahead : ℕ) (dir : List ℕ) (before after : Seen) (t t' : Option (List ℕ)) (s : Shown) (r : Result Told E) → IfOk r (λ o. RunsOut es ahead dir before after t t' s o)
+    → OnErr r (GivesUp es ahead dir before after t t' s) → Leaves es ahead dir before after s
+left_behind es ahead dir before after t t' s (Ok o) out gives = out.leaves
+left_behind es ahead dir before after t t' s (Err e) out gives = gives.left
 
 -- the sink took a front
 pub gave_up : (es : Entities) (ahead : ℕ) (dir : List ℕ) (before after : Seen) (t t' : Option (List ℕ)) (s : Shown) → IsReplayed s → GivesUp es ahead dir before after t t' s → FrontWithScripts es dir before after t t'

@@ -1,19 +1,15 @@
 -- The names of scripts, and what stands in their files.
-use Rattle.std.proofs.Common.{◌≡◌, ◌<◌, ◌≤◌, ◌+◌, ℕ, Bool, true, false, List, [], ◌∷◌, ◌++◌, length, take, Option, Some, None, refl, sym, ap, ◌∙◌, subst, arith, length-take}
-use Rattle.std.specs.Prelude.{◌&&◌, ◌==◌, not, nat_le, is_some, slice_get}
-use Rattle.std.specs.Option.{option_eq}
+use Rattle.std.proofs.Common.{◌≡◌, ◌<◌, ◌≤◌, ◌+◌, ℕ, Bool, true, false, List, [], ◌∷◌, ◌++◌, length, take, None, refl, sym, ap, ◌∙◌, subst, arith, length-take}
+use Rattle.std.specs.Prelude.{◌&&◌, ◌==◌, not, nat_le}
 use Rattle.std.specs.List.{list_all}
-use Rattle.std.specs.Str.{chars, IsUtf8, is_utf8}
-use lib.Dec.{eqb}
+use Rattle.std.specs.Str.{chars, IsUtf8}
 use lib.Utf8.{encodes}
 use Rattle.std.proofs.lemmas.Bool.Decides.{nat_tests}
-use Rattle.std.proofs.lemmas.Bool.{lt-leb, le-leb, leb-true, leb-false}
+use Rattle.std.proofs.lemmas.Bool.{lt-leb, leb-true, leb-false}
 use Rattle.std.proofs.lemmas.List.{take_all}
-use Rattle.std.proofs.lemmas.Str.{encodes-chars, encode_ascii, is_utf8-from_IsUtf8, IsUtf8-from_is_utf8}
-use Rattle.standard.specs.Page.{without_mark}
+use Rattle.std.proofs.lemmas.Str.{encodes-chars, encode_ascii}
 use Rattle.page_runner.specs.Scripts.{path_of}
-use Rattle.standard.specs.Scripts.{is_name_character, is_lawful, statements_if, script_limit, file_statements}
-use Rattle.standard.specs.Statements.{string_value, string_between, statement, statements}
+use Rattle.standard.specs.Scripts.{is_name_character, is_lawful, script_limit, file_statements}
 
 -- ---- names
 

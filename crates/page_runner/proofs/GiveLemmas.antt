@@ -1,39 +1,37 @@
 -- Where a run gives up, or is over, and what is still to come of it.
-use Rattle.std.proofs.Common.{◌≡◌, ℕ, suc, ◌≤◌, ◌<◌, ◌+◌, ◌-◌, ◌*◌, nat_lt, List, [], ◌∷◌, ◌++◌, length, Bool, true, false, true≢false, Option, Some, None, flat_map, refl, sym, ap, subst, ◌∙◌, inl, inr, length-append, arith}
-use Rattle.std.specs.Prelude.{◌⊎◌, IsTrue, not, ◌&&◌, ◌||◌, is_none}
+use Rattle.std.proofs.Common.{◌≡◌, ℕ, suc, ◌≤◌, ◌<◌, ◌+◌, ◌-◌, ◌*◌, nat_lt, List, [], ◌∷◌, length, Bool, true, false, true≢false, Option, Some, None, flat_map, refl, sym, ap, subst, ◌∙◌, inl, inr, length-append, arith}
+use Rattle.std.specs.Prelude.{IsTrue, not, ◌&&◌, ◌||◌, is_none}
 use Rattle.std.proofs.lemmas.Bool.{and_parts, lt-ltb, ltb-false, ltb-true}
 use Rattle.std.proofs.lemmas.Grind.{flat_map-append}
 use Rattle.html_types.specs.declared.script.Ending.{Ending}
-use Rattle.html_types.specs.declared.script.Line.{Line}
 use Rattle.outside.specs.Outside.{Seen, KeepsOthers}
 use Rattle.outside.specs.declared.traits.Port.TheVariants as port
 use Rattle.standard.specs.Entities.{Entities}
 use Rattle.standard.specs.Output.{line_text}
-use Rattle.standard.specs.Scripts.{Fetched, is_lawful, missing}
-use Rattle.standard.specs.Serial.{World}
+use Rattle.standard.specs.Scripts.{is_lawful, missing}
+use Rattle.standard.specs.Serial.{World, Serial}
 use Rattle.core_rules.specs.declared.event.Event.TheVariants as event
 use Rattle.core_rules.specs.Batches.{Piece}
 use Rattle.core_rules.specs.Core.{joined}
-use Rattle.core_rules.specs.Desk.{Phase, free, tagged, waits, done, Desk, with_more, outstanding, is_done, is_free, is_among, has_arrived, can_send, wants_reply, can_do, can_do_in, sends_first, sends, takes, arrives}
+use Rattle.core_rules.specs.Desk.{Phase, free, tagged, waits, done, Desk, outstanding, is_done, is_free, is_among, has_arrived, can_send, wants_reply, can_do, can_do_in, sends_first, sends, takes, arrives}
 use Rattle.core_rules.specs.Settling.{is_empty}
 use Rattle.core_rules.specs.StandsFor.{text_of}
 use Rattle.core_steps.specs.Sides.{Shown, ShowsIn, journaled, with_fetch, IsReplayed, Standing, running, awaiting, over, unless_arrived, standing_in, standing_of, left_to_do}
-use Rattle.page_runner.specs.declared.page.TheConstants.{PAGE_LIMIT}
 use Rattle.page_runner.specs.declared.outcome.Outcome.{Outcome as Told}
 use Rattle.page_runner.specs.declared.reader.PageReader.{PageReader}
-use Rattle.page_runner.specs.Given.{NoFault, KeepsEntities}
+use Rattle.page_runner.specs.Given.{KeepsEntities}
 use Rattle.page_runner.specs.Taken.{Took, TookFront}
-use Rattle.page_runner.specs.Scripts.{Met, BeginsFile, Fetches, AreKnown}
+use Rattle.page_runner.specs.Scripts.{Met, Fetches, AreKnown}
 use Rattle.page_runner.specs.Shown.{result_of}
-use Rattle.page_runner.specs.Pages.{PageFor, PageAt}
-use Rattle.page_runner.specs.Turns.{Load, under_way, weight_of, Answers, while_open, while_awaiting, Handed, ReadsPiece, ReadsInPart, RunsOn, RunsInPart, unwritten, part_written, Arrives, BeginsAwaited, StopsIn, Holds, text_to_come, steps_to_come, turns_to_come, Leaves, LeavesAlone, GivesUp, RunsOut}
+use Rattle.page_runner.specs.Pages.{PageFor}
+use Rattle.page_runner.specs.Turns.{Load, under_way, weight_of, Answers, while_open, while_awaiting, ReadsPiece, ReadsInPart, StaysRead, RunsOn, RunsInPart, unwritten, part_written, Arrives, BeginsAwaited, StopsIn, Holds, text_to_come, steps_to_come, turns_to_come, Leaves, LeavesAlone, GivesUp, RunsOut}
 use Rattle.page_runner.proofs.KeepsLemmas.{later-others, later-entities, entities-then, entities-others}
 use Rattle.page_runner.proofs.PageTakenLemmas.{front_of_all, front_then}
 use Rattle.page_runner.proofs.MeetLemmas.{fetches_as, fetches-then, fetches-past, fetch_cut}
 use Rattle.page_runner.proofs.TextLemmas.{same-refl, none-found}
 use Rattle.page_runner.proofs.DeskLemmas as desk
 use Rattle.page_runner.proofs.ReachLemmas.{reached_whole, knows-met, scripts_with}
-use Rattle.page_runner.proofs.ReadLemmas.{page_for, for_past, open_for}
+use Rattle.page_runner.proofs.ReadLemmas.{page_for, for_past}
 use Rattle.page_runner.proofs.Stuck.{never-free}
 use Rattle.page_runner.proofs.TurnLemmas.{holds_open, holds_sent, holds_took, holds_ran, holds_arrived, awaits-in, not-arrived, keeps-desk, took-desk}
 
@@ -51,6 +49,10 @@ module _ (es : Entities) (ahead : ℕ) (dir : List ℕ) (before : Seen) (t : Opt
 
   front-of : (t' : Option (List ℕ)) (s : Shown) → s.desk.own.side.lines ≡ s.given → Took t t' (flat_map line_text s.given) → TookFront t t' (flat_map line_text s.desk.own.side.lines)
   front-of t' s lines took = subst (λ l. TookFront t t' (flat_map line_text l)) (sym lines) (front_of_all t t' (flat_map line_text s.given) took)
+
+  left-stays : (after : Seen) (s s' : Shown) → StaysRead s s' → Leaves es ahead dir before after s → Leaves es ahead dir before after s'
+  left-stays after s s' stays left =
+      subst (λ z. Leaves es ahead dir before after z) (sym stays) (record { entities = left.entities; ahead_is = left.ahead_is; page = left.page; fetches = left.fetches; known = left.known })
 
   module _ (now : Seen) (t' : Option (List ℕ)) (reader : PageReader) (l : Load) (s : Shown) (h : Holds es ahead dir before now t t' reader l s) where
     pub leaves_now : Leaves es ahead dir before now s
@@ -78,54 +80,60 @@ module _ (es : Entities) (ahead : ℕ) (dir : List ℕ) (before : Seen) (t : Opt
     }
 
     module _ (replayed : IsReplayed s) where
-      -- whatever the document's side has become
-      pub gives_up : (s' : Shown) → GivesUp es ahead dir before now t t' s'
-      gives_up s' = record { shown = s; replayed = λ _. replayed; leaves = leaves_now; alone = alone_now; front = front-of t' s h.inside.lines h.took }
+      -- whatever else the document's side has become
+      pub gives_up : (s' : Shown) → StaysRead s s' → GivesUp es ahead dir before now t t' s'
+      gives_up s' stays = record { left = left-stays now s s' stays leaves_now; shown = s; replayed = λ _. replayed; leaves = leaves_now; alone = alone_now; front = front-of t' s h.inside.lines h.took }
 
       -- while the page was read on
-      pub gives_up_reading : (after : Seen) (s' : Shown) → s.journal.ending ≡ None → ReadsInPart now after reader s.journal.pieces → KeepsOthers port.Page now after → after.begun ≡ now.begun → GivesUp es ahead dir before after t t' s'
+      pub gives_up_reading : (after : Seen) (s' : Shown) → s.journal.ending ≡ None → ReadsInPart now after reader s s' → KeepsOthers port.Page now after → after.begun ≡ now.begun → GivesUp es ahead dir before after t t' s'
       gives_up_reading after s' none part keeps begun =
-          let for : PageFor before after s.journal.pieces s.journal.ending = subst (λ o. PageFor before after s.journal.pieces o) (sym none) (part before (holds_open es ahead dir before t now t' reader l s none h)) in
+          let o = part.others in
+          let fetched : s'.journal.fetches ≡ s.journal.fetches = ap (λ (z : Shown). z.journal.fetches) o in
           let fetches : Fetches false dir before after [] s.journal.fetches =
           fetches-then before now after (later-entities before now h.outside.keeps) (later-others port.Page now after keeps) true false dir [] s.journal.fetches s.journal.fetches refl h.outside.fetches (fetches-past false dir port.Page now after s.journal.fetches (λ e. cc e) keeps) in
+          let left : Leaves es ahead dir before after s' = record {
+            entities = ap (λ (z : Shown). z.entities) o ∙ h.inside.entities;
+            ahead_is = ap (λ (z : Shown). z.ahead) o ∙ h.inside.ahead_is;
+            page = subst (λ e. PageFor before after s'.journal.pieces e) (sym (ap (λ (z : Shown). z.journal.ending) o ∙ none)) (part.at before (holds_open es ahead dir before t now t' reader l s none h));
+            fetches = subst (λ m. Fetches false dir before after [] m) (sym fetched) fetches;
+            known = subst AreKnown (sym fetched) h.inside.known;
+          } in
           record {
-            shown = s;
-            replayed = λ _. replayed;
-            leaves = record { entities = h.inside.entities; ahead_is = h.inside.ahead_is; page = for; fetches = fetches; known = h.inside.known };
-            alone = alone-of after s.journal.fetches s.journal.pieces s.journal.ending (entities-then before now after h.outside.keeps (entities-others port.Page now after (λ e. cc e) keeps)) (ap (λ b. b port.Page) begun ∙ h.outside.begun) for fetches;
-            front = front-of t' s h.inside.lines h.took;
+            left = left;
+            shown = s';
+            replayed = λ r. r;
+            leaves = left;
+            alone = alone-of after s'.journal.fetches s'.journal.pieces s'.journal.ending (entities-then before now after h.outside.keeps (entities-others port.Page now after (λ e. cc e) keeps)) (ap (λ b. b port.Page) begun ∙ h.outside.begun) left.page left.fetches;
+            front = subst (λ (x : Serial). TookFront t t' (flat_map line_text x.side.lines)) (sym part.own) (front-of t' s h.inside.lines h.took);
           }
 
       -- while a script was fetched
-      pub gives_up_fetching : (after : Seen) (s' : Shown) → BeginsAwaited dir now after s.desk → KeepsOthers port.Script now after → GivesUp es ahead dir before after t t' s'
-      gives_up_fetching after s' (name, awaits, begins) keeps =
+      pub gives_up_fetching : (after : Seen) (s' : Shown) → StaysRead s s' → BeginsAwaited dir now after s.desk → KeepsOthers port.Script now after → GivesUp es ahead dir before after t t' s'
+      gives_up_fetching after s' stays (name, awaits, begins) keeps =
           let waits_for = awaits-in es ahead dir before t s.desk.phase s.desk name awaits in
           let parts : (is_lawful name ≡ true) × (is_among name s.desk.arrived ≡ false) = not-arrived es ahead dir before t (is_lawful name) (is_among name s.desk.arrived) waits_for.2 in
           let none = none-found name s.journal.fetches (subst (λ names. is_among name names ≡ false) h.inside.arrived parts.1) in
           let for : PageFor before after s.journal.pieces s.journal.ending = for_past before now after s.journal.pieces s.journal.ending keeps leaves_now.page in
           let fetches : Fetches false dir before after [] s.journal.fetches =
           fetches-then before now after (later-entities before now h.outside.keeps) (later-others port.Script now after keeps) true false dir [] s.journal.fetches s.journal.fetches refl h.outside.fetches (fetch_cut dir name now after parts.0 s.journal.fetches none begins) in
+          let leaves : Leaves es ahead dir before after s = record { entities = h.inside.entities; ahead_is = h.inside.ahead_is; page = for; fetches = fetches; known = h.inside.known } in
           record {
+            left = left-stays after s s' stays leaves;
             shown = s;
             replayed = λ _. replayed;
-            leaves = record { entities = h.inside.entities; ahead_is = h.inside.ahead_is; page = for; fetches = fetches; known = h.inside.known };
+            leaves = leaves;
             alone = alone-of after s.journal.fetches s.journal.pieces s.journal.ending (entities-then before now after h.outside.keeps (entities-others port.Script now after (λ e. cc e) keeps)) (keeps.begun port.Page (λ e. cc e) ∙ h.outside.begun) for fetches;
             front = front-of t' s h.inside.lines h.took;
           }
 
       -- while lines were written
-      pub gives_up_running : (t'' : Option (List ℕ)) (s' : Shown) → RunsInPart t' t'' s s' → GivesUp es ahead dir before now t t'' s'
-      gives_up_running t'' s' (unwritten same) = subst (λ z. GivesUp es ahead dir before now t z s') (sym same) (gives_up s')
-      gives_up_running t'' s' (part_written more o lines took) = record {
+      pub gives_up_running : (t'' : Option (List ℕ)) (s' : Shown) → StaysRead s s' → RunsInPart t' t'' s s' → GivesUp es ahead dir before now t t'' s'
+      gives_up_running t'' s' stays (unwritten same) = subst (λ z. GivesUp es ahead dir before now t z s') (sym same) (gives_up s' stays)
+      gives_up_running t'' s' stays (part_written more o lines took) = record {
+        left = left-stays now s s' stays leaves_now;
         shown = s';
         replayed = λ r. r;
-        leaves = record {
-          entities = ap (λ (z : Shown). z.entities) o ∙ h.inside.entities;
-          ahead_is = ap (λ (z : Shown). z.ahead) o ∙ h.inside.ahead_is;
-          page = subst (λ ps. PageFor before now ps s'.journal.ending) (sym (ap (λ (z : Shown). z.journal.pieces) o)) (subst (λ e. PageFor before now s.journal.pieces e) (sym (ap (λ (z : Shown). z.journal.ending) o)) leaves_now.page);
-          fetches = subst (λ m. Fetches false dir before now [] m) (sym (ap (λ (z : Shown). z.journal.fetches) o)) leaves_now.fetches;
-          known = subst AreKnown (sym (ap (λ (z : Shown). z.journal.fetches) o)) h.inside.known;
-        };
+        leaves = left-stays now s s' stays leaves_now;
         alone = alone_now;
         front = subst (λ x. TookFront t t'' x) (sym (ap (flat_map line_text) lines ∙ flat_map-append line_text s.given more)) (front_then t t' t'' (flat_map line_text s.given) (flat_map line_text more) h.took took);
       }

@@ -37,23 +37,6 @@ read_none most otherwise text none = by_test (is_unsigned_in 1 most text) refl
     by_test true is = absurd (none (accepts-Accepts false (parsers.Unsigned 1 most) text is))
     by_test false is = refl
 
--- The number lies in its range.
-pub number_within : (most otherwise : ℕ) (value : Option Text) → 1 ≤ otherwise → otherwise ≤ most → (1 ≤ number_from most otherwise value) × (number_from most otherwise value ≤ most)
-number_within most otherwise None low high = (low, high)
-number_within most otherwise (Some text) low high = by_test (is_unsigned_in 1 most text) refl
-  where
-    by_test : (b : Bool) → is_unsigned_in 1 most text ≡ b
-        → (1 ≤ (if b then digits_value 10 (without_leading_plus text) else otherwise)) × ((if b then digits_value 10 (without_leading_plus text) else otherwise) ≤ most)
-    by_test true is = let passed = accepts-Accepts false (parsers.Unsigned 1 most) text is in (passed.2, passed.3)
-    by_test false is = (low, high)
-
-pub asked_some : (words : List Text) → AreInGrammar words → asked words ≡ Some (asked_by (subcommand_of specparse words))
-asked_some words taken = by_faults (fault_of specparse words) taken
-  where
-    by_faults : (faults : Kinds) → faults ≡ [] → where_none faults (asked_by (subcommand_of specparse words)) ≡ Some (asked_by (subcommand_of specparse words))
-    by_faults [] is = refl
-    by_faults (f ∷ fs) is = absurd (cc is)
-
 pub asked_none : (words : List Text) → (AreInGrammar words → ⊥) → asked words ≡ None
 asked_none words refused = by_faults (fault_of specparse words) refused
   where

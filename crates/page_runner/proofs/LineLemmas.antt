@@ -1,5 +1,5 @@
 -- What answers owe, and lines that are written one by one.
-use Rattle.std.proofs.Common.{◌≡◌, ℕ, suc, List, [], ◌∷◌, ◌++◌, drop, ◌<◌, ◌+◌, length, take, get_or, drop-cons, add-one, take-append-drop, flat_map, Option, Some, None, Ok, Err, OnErr, refl, sym, ap, ◌∙◌, subst}
+use Rattle.std.proofs.Common.{◌≡◌, ℕ, suc, List, ◌∷◌, ◌++◌, drop, ◌<◌, ◌+◌, length, take, get_or, drop-cons, add-one, take-append-drop, flat_map, Option, Some, None, Ok, Err, OnErr, sym, ap, ◌∙◌, subst}
 use Rattle.std.specs.Prelude.{Result, OnOk, IfOk, IfSome, option_to_list}
 use Rattle.std.proofs.lemmas.Grind.{flat_map-append}
 use Rattle.html_types.specs.declared.script.Line.{Line}
@@ -25,6 +25,10 @@ ok_weaker (Err e) p q h part = part
 pub if_ok : {T E : Type 0} (r : Result T E) {P Q : T → Type 0} → ((x : T) → P x → Q x) → IfOk r P → IfOk r Q
 if_ok (Ok x) turn p = turn x p
 if_ok (Err e) turn p = p
+
+pub if_some : {T : Type 0} (r : Option T) {P Q : T → Type 0} → ((x : T) → P x → Q x) → IfSome r P → IfSome r Q
+if_some None turn p = tt
+if_some (Some x) turn p = turn x p
 
 pub line-front : (t now t' : Option (List ℕ)) (lines : List Line) (i : ℕ) (a : Line) → i < length lines → a ≡ get_or lines i a → Took t now (flat_map line_text (take i lines)) → TookFront now t' (line_text a)
     → TookFront t t' (flat_map line_text lines)

@@ -1,6 +1,6 @@
 -- What fetching does to the scripts that were met.
 use Rattle.std.proofs.Common.{◌≡◌, ℕ, Bool, true, false, true≢false, List, [], ◌∷◌, ◌++◌, Option, Some, None, IfSome, refl, sym, ap, ◌∙◌, subst, inl, inr, cond, take, ◌+◌}
-use Rattle.std.specs.Prelude.{◌⊎◌, ◌≢◌, IsSome, IsSomeAnd, IsErr, is_some, is_ok, Result, Ok, Err}
+use Rattle.std.specs.Prelude.{◌⊎◌, ◌≢◌, IsSome, IsSomeAnd, is_some}
 use Rattle.std.specs.List.{AllByRecursion}
 use Rattle.std.proofs.lemmas.List.{map-append}
 use Rattle.std.specs.Option.{option_map}
@@ -16,11 +16,10 @@ use Rattle.core_steps.specs.Fetches.{fetched_of, names_of}
 use Rattle.core_steps.specs.Journals.{found}
 use Rattle.page_runner.specs.declared.scripts.TheConstants.{SCRIPT_LIMIT}
 use Rattle.page_runner.specs.Given.{given_of, NoFault, AbsencesRose, file_at, MayGive, AreRead, ReadTo, untouched, unbegun, begun}
-use Rattle.page_runner.specs.Scripts.{Met, Alike, path_of, IsAbsent, MayFetch, ReadScriptsTo, none_begun, last, MayMeet, AreDistinct, NamesOnce, BeginsFile, left_alone, begun_once, BeginsNew, Fetches, AreKnown}
-use Rattle.page_runner.proofs.KeepsLemmas.{begun_none, begun_then, rose-on, rose-stays, Later, later-others}
+use Rattle.page_runner.specs.Scripts.{Met, path_of, IsAbsent, MayFetch, ReadScriptsTo, none_begun, last, MayMeet, AreDistinct, NamesOnce, BeginsFile, left_alone, begun_once, BeginsNew, Fetches, AreKnown}
+use Rattle.page_runner.proofs.KeepsLemmas.{begun_none, begun_then, rose-on, rose-stays, Later}
 use Rattle.page_runner.proofs.FetchLemmas.{cut-statements}
-use Rattle.page_runner.proofs.TextLemmas.{same-text, same-refl, none-found, none-there}
-use Rattle.page_runner.proofs.SameWorlds.{alike-refl}
+use Rattle.page_runner.proofs.TextLemmas.{same-text, same-refl, none-there}
 
 -- ---- one fetch
 
@@ -47,11 +46,6 @@ pub unfailed : (limit : ℕ) (path : List ℕ) (before after : Seen) (f : Fetch)
 unfailed limit path before after (fetches.Got bytes) may = inl may.1
 unfailed limit path before after fetches.Missing may = inl may.2
 unfailed limit path before after fetches.Faulted may = inr refl
-
--- what is an error isn't done
-pub never_done : {T E : Type 0} (r : Result T E) → IsErr r → is_ok r ≡ true → ⊥
-never_done (Ok x) err e = absurd (cc err)
-never_done (Err x) err e = absurd (cc e)
 
 -- ---- which were begun
 

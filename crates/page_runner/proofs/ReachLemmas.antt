@@ -6,13 +6,12 @@ use Rattle.html_types.specs.Text.{same_text}
 use Rattle.html_types.specs.declared.script.Ending.{Ending}
 use Rattle.standard.specs.Entities.{Entities}
 use Rattle.standard.specs.Page.{Page}
-use Rattle.standard.specs.Scripts.{Fetched, missing, is_lawful}
-use Rattle.standard.specs.Serial.{World, fetched_if, fetched}
-use Rattle.core_rules.specs.declared.event.Event.{Event}
+use Rattle.standard.specs.Scripts.{Fetched, is_lawful}
+use Rattle.standard.specs.Serial.{World, fetched_if}
 use Rattle.core_rules.specs.Batches.{Piece}
 use Rattle.core_rules.specs.Core.{Setup, joined, whole_page}
 use Rattle.core_rules.specs.Desk.{Desk, first_desk, pieces_with, with_more, MovesBy}
-use Rattle.core_rules.specs.Journal.{Journal, Knows}
+use Rattle.core_rules.specs.Journal.{Knows}
 use Rattle.core_laws.specs.DeskLaws.{IsReached}
 use Rattle.core_laws.proofs.Handing.{more-may_follow}
 use Rattle.core_steps.specs.Fetches.{names_of}

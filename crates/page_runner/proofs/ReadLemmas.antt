@@ -1,6 +1,6 @@
 -- The page as it is read piece by piece.
 use Rattle.std.proofs.Common.{◌≡◌, ℕ, zero, suc, ◌≤◌, ◌<◌, ◌+◌, ◌-◌, ◌*◌, List, [], ◌∷◌, ◌++◌, length, take, Bool, true, false, Option, Some, None, IfSome, refl, sym, ap, subst, ◌∙◌, append_assoc, append-nil, length-append, length-take, min, arith}
-use Rattle.std.specs.Prelude.{nat_lt, unwrap_or, if◌then◌else◌, ◌==◌}
+use Rattle.std.specs.Prelude.{nat_lt, if◌then◌else◌, ◌==◌}
 use Rattle.std.specs.Str.{chars, chars_after, continuation_len, lead_bits}
 use Rattle.std.specs.Str.Lossy.{utf8_valid_len}
 use Rattle.std.proofs.lemmas.Bool.{ltb-false}
@@ -11,20 +11,14 @@ use Rattle.html_types.specs.declared.script.Ending.TheVariants as ending
 use Rattle.outside.specs.Outside.{Rose, Seen, KeepsOthers}
 use Rattle.outside.specs.declared.traits.Port.TheVariants as port
 use Rattle.standard.specs.Page.{Page, front, without_mark, text_of, ending_of, shown, is_text_so_far}
-use Rattle.utf8_pieces.specs.declared.decoder.Decoder.{Decoder}
 use Rattle.utf8_pieces.specs.Decoder.{HasRead}
 use Rattle.utf8_pieces.proofs.DecoderLemmas.{text_is_so_far, not_lt}
 use Rattle.utf8_pieces.proofs.PageLaws.{text_of-nil, text_of-extends, shown-stays}
-use Rattle.core_rules.specs.Batches.{Piece, of_text, of_ending}
 use Rattle.core_rules.specs.Core.{joined}
-use Rattle.core_rules.specs.Desk.{Desk, with_more}
-use Rattle.core_rules.specs.StandsFor.{text_of as pieces_text}
-use Rattle.core_steps.specs.Sides.{Shown, with_piece, with_ending}
 use Rattle.page_runner.specs.declared.page.TheConstants.{PAGE_LIMIT}
 use Rattle.page_runner.specs.declared.reader.PageReader.{PageReader}
 use Rattle.page_runner.specs.Given.{FaultsRose, NoFault}
-use Rattle.page_runner.specs.Pages.{PageRead, page_at, AreTaken, ReadsOn, IsReadFrom, ClosesAt, IsReading, IsUnread, PageOpen, IsPageBehind, PageFor, PageAt}
-use Rattle.page_runner.specs.Turns.{while_open, Handed, ReadsPiece}
+use Rattle.page_runner.specs.Pages.{PageRead, AreTaken, ReadsOn, IsReadFrom, ClosesAt, IsReading, IsUnread, PageOpen, PageFor, PageAt}
 use Rattle.page_runner.proofs.PageTakenLemmas.{taken_none, taken_then, taken_nothing_more, all_bytes, read_whole, read_to_fault, all_read}
 
 -- ---- how long a text is

@@ -1,9 +1,9 @@
 -- What is reported of a page that was run.
-use Rattle.std.proofs.Common.{◌≡◌, ℕ, Bool, true, false, List, [], ◌∷◌, ◌++◌, Option, Some, None, flat_map, refl, sym, ap, subst, ◌∙◌}
+use Rattle.std.proofs.Common.{◌≡◌, ℕ, Bool, false, List, ◌++◌, Option, Some, None, refl, sym, ap, subst, inl, inr, ◌∙◌}
 use Rattle.std.specs.Prelude.{IsTrue}
 use Rattle.html_types.specs.declared.script.Ending.{Ending}
 use Rattle.standard.specs.Entities.{Entities}
-use Rattle.standard.specs.Output.{line_text, result_with}
+use Rattle.standard.specs.Output.{result_with}
 use Rattle.standard.specs.Serial.{Serial}
 use Rattle.core_rules.specs.Batches.{Piece}
 use Rattle.core_rules.specs.Core.{Setup, Core, first_core, Runs}
@@ -13,21 +13,23 @@ use Rattle.core_laws.specs.DeskLaws.{IsReached}
 use Rattle.core_laws.proofs.Handing.{more-may_follow}
 use Rattle.core_laws.proofs.Replaying.{desk-is_core}
 use Rattle.core_steps.specs.Sides.{Shown, ShowsIn, Shows, IsReplayed}
-use Rattle.outside.specs.Outside.{Seen}
+use Rattle.outside.specs.Outside.{Seen, KeepsOthers}
+use Rattle.outside.specs.declared.traits.Port.TheVariants.{Page}
 use Rattle.page_runner.specs.declared.outcome.Outcome.{Outcome as Told}
 use Rattle.page_runner.specs.declared.page.Failure.{Failure}
 use Rattle.page_runner.specs.declared.status.Status.{Status}
 use Rattle.page_runner.specs.declared.status.Status.TheVariants as status
+use Rattle.page_runner.specs.Given.{NoFault}
 use Rattle.page_runner.specs.Taken.{Took}
 use Rattle.page_runner.specs.Shown.{result_of, status_of}
-use Rattle.page_runner.specs.Turns.{RunsOut}
-use Rattle.page_runner.specs.Answers.{status_with, status_for, is_answered, Gives}
-use Rattle.page_runner.specs.Reports.{ReplaysTo, IsWritten, Reports}
+use Rattle.page_runner.specs.Turns.{Leaves, RunsOut}
+use Rattle.page_runner.specs.Answers.{status_for, is_answered, Gives, IsBegun}
+use Rattle.page_runner.specs.Reports.{ReplaysTo, IsMet, IsWritten, Reports}
 use Rattle.page_runner.proofs.PageTakenLemmas.{took_then}
 use Rattle.page_runner.proofs.DeskLemmas.{shows-phase}
 use Rattle.page_runner.proofs.ReachLemmas.{pieces-more}
 use Rattle.page_runner.proofs.EndLemmas.{shown-lines}
-use Rattle.page_runner.proofs.RunLemmas.{status_is, failure_unanswered}
+use Rattle.page_runner.proofs.RunLemmas.{status_is, failure_unanswered, may_page, fetch_since, file_page_since}
 
 shown-doc : (p : Phase) (d v : Desk) → ShowsIn p d v → d.own.side.doc ≡ v.own.side.doc
 shown-doc free d v is = ap (λ (z : Desk). z.own.side.doc) is
@@ -88,28 +90,71 @@ replays-to es ahead s entities credit replayed = record { replays = there }
           ap (λ (z : Desk). z.own.side.lines) is ∙ ap (λ (o : Serial). o.side.lines) to.own ∙ shown-lines s.desk.phase to.replayed s.desk to.shows,
         )
 
--- the parse gave up
-pub reports_failure : (es : Entities) (ahead : ℕ) (dump : Bool) (t t' : Option (List ℕ)) (s : Shown) (f : Failure) → ReplaysTo s.entities s.ahead s → Reports es ahead dump t t' s (status_for f)
-reports_failure es ahead dump t t' s f replays = record { replays = replays; entities = λ e. absurd (failure_unanswered f e); ahead_is = λ e. absurd (failure_unanswered f e); written = λ e. absurd (failure_unanswered f e) }
+-- What was met outside is in the journal.
+is_met : (es : Entities) (ahead : ℕ) (path dir : List ℕ) (before after : Seen) (s : Shown) → IsBegun path before → Leaves es ahead dir before after s → IsMet path dir before after s.journal
+is_met es ahead path dir before after s begun left = record {
+  page = left.page.page;
+  is_page = may_page es false path dir before after begun left.page.page left.page.read_from;
+  front = left.page.is;
+  scripts = λ name f is. elim (left.fetches.fresh name f is) [
+    | inl none ↦ absurd (cc none)
+    | inr may ↦ may
+  ];
+}
 
--- or it is over
-pub reports_end : (es : Entities) (ahead : ℕ) (dir : List ℕ) (dump : Bool) (before after : Seen) (t now' t' : Option (List ℕ)) (s : Shown) (o : Told) (rose : Type 0) (r : Status) → ReplaysTo s.entities s.ahead s → RunsOut es ahead dir before after t now' s o
-    → Gives rose now' t' (status_of o, result_with dump (result_of o) s.desk.own.side.doc.tree) r → Reports es ahead dump t t' s r
-reports_end es ahead dir dump before after t now' t' s o rose r replays out gives = record { replays = replays; entities = λ e. out.leaves.entities; ahead_is = λ e. out.leaves.ahead_is; written = λ e. here (all-of r e gives) }
-  where
-    All : Status → Type 0
-    All r = (r ≡ status_of o) × Took now' t' (result_with dump (result_of o) s.desk.own.side.doc.tree)
+module _ (es : Entities) (ahead : ℕ) (dump : Bool) (path dir : List ℕ) (before after : Seen) (begun : IsBegun path before) (t t' : Option (List ℕ)) (s : Shown) (left : Leaves es ahead dir before after s) (replays : ReplaysTo es ahead s) where
+  -- the parse gave up
+  pub reports_failure : (f : Failure) → Reports es ahead dump path dir before after t t' s (status_for f)
+  reports_failure f = record {
+    entities = left.entities;
+    ahead_is = left.ahead_is;
+    met = is_met es ahead path dir before after s begun left;
+    replays = replays;
+    written = λ e. absurd (failure_unanswered f e);
+  }
 
-    all-of : (r : Status) → IsTrue (is_answered r) → Gives rose now' t' (status_of o, result_with dump (result_of o) s.desk.own.side.doc.tree) r → All r
-    all-of status.WriteFault e gives = absurd (cc e)
-    all-of status.NoMemory e gives = absurd (cc e)
-    all-of status.Done e gives = gives
-    all-of status.Usage e gives = gives
-    all-of status.Entities e gives = gives
-    all-of status.BadUtf8 e gives = gives
-    all-of (status.Limit which) e gives = gives
-    all-of status.ReadFault e gives = gives
-    all-of status.Absent e gives = gives
+  -- or it is over
+  pub reports_end : (now' : Option (List ℕ)) (o : Told) (rose : Type 0) (r : Status) → RunsOut es ahead dir before after t now' s o → Gives rose now' t' (status_of o, result_with dump (result_of o) s.desk.own.side.doc.tree) r
+      → Reports es ahead dump path dir before after t t' s r
+  reports_end now' o rose r out gives = record {
+    entities = left.entities;
+    ahead_is = left.ahead_is;
+    met = is_met es ahead path dir before after s begun left;
+    replays = replays;
+    written = λ e. here (all-of r e gives);
+  }
+    where
+      All : Status → Type 0
+      All r = (r ≡ status_of o) × Took now' t' (result_with dump (result_of o) s.desk.own.side.doc.tree)
 
-    here : All r → IsWritten dump t t' s r
-    here (is, took) = record { result = result_of o; phase = out.phase; outcome_is = is ∙ status_is o; took = took_then t now' t' _ _ out.took took }
+      all-of : (r : Status) → IsTrue (is_answered r) → Gives rose now' t' (status_of o, result_with dump (result_of o) s.desk.own.side.doc.tree) r → All r
+      all-of status.WriteFault e gives = absurd (cc e)
+      all-of status.NoMemory e gives = absurd (cc e)
+      all-of status.Done e gives = gives
+      all-of status.Usage e gives = gives
+      all-of status.Entities e gives = gives
+      all-of status.BadUtf8 e gives = gives
+      all-of (status.Limit which) e gives = gives
+      all-of status.ReadFault e gives = gives
+      all-of status.Absent e gives = gives
+
+      here : All r → IsWritten dump t t' s r
+      here (is, took) = record { result = result_of o; phase = out.phase; outcome_is = is ∙ status_is o; took = took_then t now' t' _ _ out.took took }
+
+-- The page was begun before.
+pub reports_since : (es : Entities) (ahead : ℕ) (dump : Bool) (path dir : List ℕ) (before now after : Seen) (t t' : Option (List ℕ)) (s : Shown) (r : Status) → KeepsOthers Page before now → NoFault Page before now
+    → Reports es ahead dump path dir now after t t' s r → Reports es ahead dump path dir before after t t' s r
+reports_since es ahead dump path dir before now after t t' s r keeps quiet reports =
+    let met = reports.met in
+    record {
+      entities = reports.entities;
+      ahead_is = reports.ahead_is;
+      met = record {
+        page = met.page;
+        is_page = file_page_since Page path before now after met.page keeps quiet met.is_page;
+        front = met.front;
+        scripts = λ name f is. let (g, may, alike) = met.scripts name f is in (g, fetch_since Page dir before now after name g keeps may, alike);
+      };
+      replays = reports.replays;
+      written = reports.written;
+    }

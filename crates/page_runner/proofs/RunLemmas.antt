@@ -9,7 +9,7 @@ use Rattle.outside.specs.declared.traits.Port.{Port}
 use Rattle.outside.specs.declared.traits.Port.TheVariants.{Entities, Page, Script}
 use Rattle.standard.specs.Act.{Doc}
 use Rattle.standard.specs.Entities.{Entities as Table}
-use Rattle.standard.specs.Scripts.{Fetched, is_lawful}
+use Rattle.standard.specs.Scripts.{Fetched}
 use Rattle.standard.specs.Scripts as fetched
 use Rattle.standard.specs.Serial.{World}
 use Rattle.standard.specs.Output.{line_text, result_with, output_with}
@@ -131,7 +131,7 @@ ended_text w page doc t t' o end dump =
     ∙ ap (λ x. flat_map line_text end.outcome.last.side.lines ++ result_with dump (result_of o) x) end.tree
 
 module _ (es : Table) (dump : Bool) (path dir : List ℕ) (before after : Seen) (found : IsBegun path before) where
-  may_page : (page : PageRead) → IsReadFrom before after page → IsPageOf (file_at before path) (after.left Page) (FaultsRose Page before after) (NoFault Page before after) page
+  pub may_page : (page : PageRead) → IsReadFrom before after page → IsPageOf (file_at before path) (after.left Page) (FaultsRose Page before after) (NoFault Page before after) page
   may_page page from = page_of before.files path before after page found from
 
   -- the parse gave up
@@ -186,26 +186,31 @@ absent_since (Some f) file' rose rose' same on none = subst (λ f. IsAbsent f ro
 file_since : (path : List ℕ) (before now : Seen) → now.files ≡ before.files → file_at now path ≡ file_at before path
 file_since path before now same = ap (λ files. option_map (λ map. map path) files) same
 
-fetch_since : (port : Port) (dir : List ℕ) (before now after : Seen) (name : List ℕ) (f : Fetched) → KeepsOthers port before now → MayFetch dir now after name f → MayFetch dir before after name f
+pub fetch_since : (port : Port) (dir : List ℕ) (before now after : Seen) (name : List ℕ) (f : Fetched) → KeepsOthers port before now → MayFetch dir now after name f → MayFetch dir before after name f
 fetch_since port dir before now after name (fetched.got bytes) keeps may = subst (λ file. IfSome file (λ f. f ≡ Some bytes)) (file_since (path_of dir name) before now keeps.files) may
 fetch_since port dir before now after name fetched.missing keeps may =
     absent_since (file_at now (path_of dir name)) (file_at before (path_of dir name)) (AbsencesRose Script now after) (AbsencesRose Script before after)
     (file_since (path_of dir name) before now keeps.files) (λ r. rose-on _ _ _ (keeps.absences Script) r) may
 fetch_since port dir before now after name fetched.faulted keeps may = rose-on _ _ _ (keeps.faults Script) may
 
--- and the page may be given all the same
+-- and so the page is the file's
+pub file_page_since : (port : Port) (path : List ℕ) (before now after : Seen) (page : PageRead) → KeepsOthers port before now → NoFault Page before now → IsPageOf (file_at now path) (after.left Page) (FaultsRose Page now after) (NoFault Page now after) page
+    → IsPageOf (file_at before path) (after.left Page) (FaultsRose Page before after) (NoFault Page before after) page
+file_page_since port path before now after page keeps quiet is = record {
+  whole = λ e. subst (λ file. IfSome file (λ f. f ≡ Some page.bytes)) (file_since path before now keeps.files) (is.whole e);
+  no_fault = λ e. is.no_fault e ∙ quiet;
+  cut = λ e. subst (λ file. IfSome file (λ f. (rest : List ℕ) × (f ≡ Some (page.bytes ++ rest)) × (after.left Page ≡ Some rest))) (file_since path before now keeps.files) (is.cut e);
+  cause = λ e. rose-on _ _ _ (keeps.faults Page) (is.cause e);
+}
+
+-- and may be given all the same
 pub may_since : (port : Port) (path dir : List ℕ) (before now after : Seen) (page : Given PageMet) → KeepsOthers port before now → NoFault Page before now → MayGivePage path dir now after page → MayGivePage path dir before after page
 may_since port path dir before now after unmet keeps quiet may = tt
 may_since port path dir before now after missing keeps quiet may =
     (rose-on _ _ _ (keeps.absences Page) may.0, subst (λ file. IfSome file (λ f. f ≡ None)) (file_since path before now keeps.files) may.1, may.2 ∙ quiet)
 may_since port path dir before now after faulted keeps quiet may = (rose-on _ _ _ (keeps.faults Page) may.0, may.1)
 may_since port path dir before now after (got page) keeps quiet may = record {
-  read = record {
-    whole = λ e. subst (λ file. IfSome file (λ f. f ≡ Some page.read.bytes)) (file_since path before now keeps.files) (may.read.whole e);
-    no_fault = λ e. may.read.no_fault e ∙ quiet;
-    cut = λ e. subst (λ file. IfSome file (λ f. (rest : List ℕ) × (f ≡ Some (page.read.bytes ++ rest)) × (after.left Page ≡ Some rest))) (file_since path before now keeps.files) (may.read.cut e);
-    cause = λ e. rose-on _ _ _ (keeps.faults Page) (may.read.cause e);
-  };
+  read = file_page_since port path before now after page.read keeps quiet may.read;
   scripts = record { each = λ name. fetch_since port dir before now after name (page.scripts name) keeps (may.scripts.each name) };
 }
 

@@ -1,5 +1,5 @@
 -- What reading on and running on come to.
-use Rattle.std.proofs.Common.{◌≡◌, ℕ, ◌≤◌, ◌<◌, ◌+◌, ◌*◌, List, [], ◌∷◌, ◌++◌, length, take, flat_map, Bool, true, false, Option, Some, None, refl, sym, ap, subst, ◌∙◌, append_assoc, append-nil, length-append, length-take, arith}
+use Rattle.std.proofs.Common.{◌≡◌, ℕ, ◌≤◌, ◌<◌, ◌+◌, List, [], ◌∷◌, ◌++◌, length, take, flat_map, Bool, true, Option, Some, None, refl, sym, ap, subst, ◌∙◌, append_assoc, append-nil, length-append, length-take, arith}
 use Rattle.std.proofs.lemmas.List.{take-append-le}
 use Rattle.html_types.specs.declared.script.Ending.{Ending}
 use Rattle.html_types.specs.declared.script.Line.{Line}
@@ -7,21 +7,28 @@ use Rattle.outside.specs.Outside.{Seen}
 use Rattle.outside.specs.declared.traits.Port.TheVariants as port
 use Rattle.standard.specs.Output.{line_text}
 use Rattle.standard.specs.Page.{text_of, shown}
-use Rattle.utf8_pieces.specs.declared.decoder.Decoder.{Decoder}
 use Rattle.utf8_pieces.specs.Decoder.{HasRead}
+use Rattle.core_rules.specs.declared.event.Event.{Event}
 use Rattle.core_rules.specs.declared.event.Event.TheVariants as event
-use Rattle.core_rules.specs.Batches.{Piece, of_text, of_ending}
+use Rattle.core_rules.specs.Batches.{of_text, of_ending}
 use Rattle.core_rules.specs.Core.{joined}
-use Rattle.core_rules.specs.Desk.{Desk, with_more}
-use Rattle.core_rules.specs.StandsFor.{text_of as pieces_text}
+use Rattle.core_rules.specs.Desk.{Desk}
 use Rattle.core_steps.specs.Sides.{Shown, with_piece, with_ending, journaled, DoesShow, left_to_do}
 use Rattle.page_runner.specs.declared.page.TheConstants.{PAGE_LIMIT}
 use Rattle.page_runner.specs.declared.reader.PageReader.{PageReader}
 use Rattle.page_runner.specs.Given.{NoFault}
 use Rattle.page_runner.specs.Taken.{Took, TookFront}
 use Rattle.page_runner.specs.Pages.{AreTaken, ClosesAt, IsReading, PageOpen, PageFor, PageAt}
-use Rattle.page_runner.specs.Turns.{while_open, Handed, ReadsPiece, ReadsInPart, RunsOn, RunsInPart, unwritten, part_written}
-use Rattle.page_runner.proofs.ReadLemmas.{text-le, joined-more, open_for, forget, closed, piece_cut, piece_open, piece_shut}
+use Rattle.page_runner.specs.Turns.{while_open, Handed, ReadsPiece, ReadsInPart, StaysRead, RunsOn, RunsInPart, part_written}
+use Rattle.page_runner.proofs.ReadLemmas.{text-le, joined-more, forget, closed, piece_cut, piece_open, piece_shut}
+
+-- ---- what stays
+
+pub stays_spent : (old new : Shown) → new ≡ record old { spent = true } → StaysRead old new
+stays_spent old new is = subst (λ z. StaysRead old z) (sym is) refl
+
+pub stays_journaled : (v : Event) (d : Desk) (old new : Shown) → new ≡ journaled v d old → StaysRead old new
+stays_journaled v d old new is = subst (λ z. StaysRead old z) (sym is) refl
 
 -- ---- running on
 
@@ -51,6 +58,9 @@ module _ (t t' : Option (List ℕ)) (old mid new : Shown) (lines : List Line) (d
 
   pub ran_cut : TookFront t t' (flat_map line_text lines) → RunsInPart t t' old new
   ran_cut took = part_written lines others_are lines_are took
+
+  pub stays_ran : StaysRead old new
+  stays_ran = subst (λ z. StaysRead old z) (sym others_are) refl
 
 -- ---- reading on
 
@@ -103,6 +113,9 @@ reading-within : (reader : PageReader) (pieces : List (List ℕ)) → IsReading 
 reading-within reader pieces at = let le = text-le PAGE_LIMIT at.read in let is = at.text in omega (arith, le, ap (λ t. length t) is)
 
 module _ (now after : Seen) (reader : PageReader) (old : Shown) (reading : IsReading reader old.journal.pieces) where
+  none_handed : (spent : Bool) (new : Shown) → new ≡ record old { spent = spent } → ((before : Seen) → PageOpen before now reader old.journal.pieces → PageFor before after old.journal.pieces None) → ReadsInPart now after reader old new
+  none_handed spent new is at = subst (λ z. ReadsInPart now after reader old z) (sym is) (record { at = at; own = refl; others = refl })
+
   -- no more bytes came
   module _ (e : Ending) (closes : (read : List ℕ) → HasRead PAGE_LIMIT reader.decoder read → ClosesAt now after read e) where
     pub reads_end : (reader' : PageReader) (new : Shown) → reader'.left ≡ reader.left → new ≡ with_ending e old → ReadsPiece now after reader reader' old new
@@ -111,13 +124,14 @@ module _ (now after : Seen) (reader : PageReader) (old : Shown) (reading : IsRea
       at = λ before at. closed before now after reader old.journal.pieces at e (closes at.reading.read at.reading.decoded);
     })
 
-    pub reads_end_cut : ReadsInPart now after reader old.journal.pieces
-    reads_end_cut = λ before at. forget before after old.journal.pieces e (closed before now after reader old.journal.pieces at e (closes at.reading.read at.reading.decoded))
+    pub reads_end_cut : (new : Shown) → new ≡ record old { spent = true } → ReadsInPart now after reader old new
+    reads_end_cut new is =
+        none_handed true new is (λ before at. forget before after old.journal.pieces e (closed before now after reader old.journal.pieces at e (closes at.reading.read at.reading.decoded)))
 
   -- a piece came
   module _ (n : ℕ) (piece : List ℕ) (some : 0 < n) (size : length piece ≡ n) (fits : n ≤ reader.left) (taken : AreTaken (now.left port.Page) (after.left port.Page) piece) (quiet : NoFault port.Page now after) where
-    pub reads_cut : ReadsInPart now after reader old.journal.pieces
-    reads_cut = λ before at. piece_cut before now after reader old.journal.pieces at n piece size fits taken quiet
+    pub reads_cut : (spent : Bool) (new : Shown) → new ≡ record old { spent = spent } → ReadsInPart now after reader old new
+    reads_cut spent new is = none_handed spent new is (λ before at. piece_cut before now after reader old.journal.pieces at n piece size fits taken quiet)
 
     module _ (text : List ℕ) (gives : (limit : ℕ) (read : List ℕ) → HasRead limit reader.decoder read → text_of limit (read ++ piece) ≡ text_of limit read ++ text) where
       text_within : length (joined (old.journal.pieces ++ text ∷ [])) ≤ PAGE_LIMIT
@@ -146,4 +160,14 @@ module _ (now after : Seen) (reader : PageReader) (old : Shown) (reading : IsRea
           handed = handed_both reader reader' old n text some left text_within ending;
           at = λ before at. piece_shut before now after reader old.journal.pieces at n piece size fits taken quiet text (gives PAGE_LIMIT at.reading.read at.reading.decoded) ending
               (sym (shows PAGE_LIMIT at.reading.read at.reading.decoded) ∙ some_);
+        })
+
+        -- it was handed in, and the ending wasn't
+        pub reads_shut_cut : (new : Shown) (ending : Ending) → e ≡ Some ending → new ≡ record (with_piece text old) { spent = true } → ReadsInPart now after reader old new
+        reads_shut_cut new ending some_ is = subst (λ z. ReadsInPart now after reader old z) (sym is) (record {
+          at = λ before at. forget before after (old.journal.pieces ++ text ∷ []) ending
+              (piece_shut before now after reader old.journal.pieces at n piece size fits taken quiet text (gives PAGE_LIMIT at.reading.read at.reading.decoded) ending
+              (sym (shows PAGE_LIMIT at.reading.read at.reading.decoded) ∙ some_));
+          own = refl;
+          others = refl;
         })

@@ -1,5 +1,5 @@
 -- Where the parse stopped at a script whose fetch failed the serial parse stops at it too.
-use Rattle.std.proofs.Common.{◌≡◌, ℕ, Bool, true, List, [], Some, refl, sym, ap, subst, ◌∙◌}
+use Rattle.std.proofs.Common.{◌≡◌, ℕ, true, List, [], Some, refl, sym, ap, subst, ◌∙◌}
 use Rattle.html_types.specs.declared.operation.NodeId.{NodeId}
 use Rattle.html_types.specs.declared.script.Why.TheVariants as why
 use Rattle.standard.specs.Entities.{Entities}

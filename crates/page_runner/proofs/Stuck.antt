@@ -1,15 +1,13 @@
 -- Where the document's side can do nothing more and nothing is under way, the parse is over or a script is awaited.
-use Rattle.std.proofs.Common.{◌≡◌, ◌<◌, ◌≤◌, ℕ, suc, ◌+◌, ◌-◌, nat_lt, Bool, true, false, true≢false, List, [], ◌∷◌, ◌++◌, length, Option, Some, None, refl, sym, ◌∙◌, ap, subst, length-append, arith}
+use Rattle.std.proofs.Common.{◌≡◌, ◌<◌, ◌≤◌, ◌+◌, true, false, true≢false, List, [], ◌∷◌, ◌++◌, length, Option, Some, None, refl, sym, ◌∙◌, ap, subst, arith}
 use Rattle.std.proofs.lemmas.Bool.{and_parts}
-use Rattle.std.specs.Prelude.{IsTrue, not, ◌&&◌, is_some}
-use Rattle.html_types.specs.declared.script.Ending.{Ending}
+use Rattle.std.specs.Prelude.{not, is_some}
 use Rattle.standard.specs.Entities.{Entities}
-use Rattle.standard.specs.Serial.{World}
 use Rattle.core_rules.specs.declared.event.Event.{Event}
 use Rattle.core_rules.specs.declared.event.Event.TheVariants.{Send, Pick, Give, Take, Do, Arrive}
 use Rattle.core_rules.specs.Settling.{is_empty}
-use Rattle.core_rules.specs.Desk.{Phase, free, tagged, waits, done, Desk, outstanding, can_send, can_do, has_arrived}
-use Rattle.core_rules.specs.Core.{Setup, Request, Reply, Core, first_core, enabled, Runs}
+use Rattle.core_rules.specs.Desk.{Phase, free, Desk, outstanding, can_send, can_do}
+use Rattle.core_rules.specs.Core.{Setup, Request, Core}
 use Rattle.core_rules.specs.Journal.{with_replies}
 use Rattle.core_laws.specs.DeskLaws.{IsReached}
 use Rattle.core_laws.specs.CoreLaws.{IsIdle, IsOverOrAwaits}

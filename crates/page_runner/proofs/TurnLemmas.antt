@@ -1,6 +1,6 @@
 -- What holds between two turns holds after each of them.
-use Rattle.std.proofs.Common.{◌≡◌, ℕ, suc, ◌≤◌, ◌<◌, ◌+◌, ◌-◌, ◌*◌, nat_lt, List, [], ◌∷◌, ◌++◌, length, Bool, true, false, true≢false, Option, Some, None, flat_map, refl, sym, ap, subst, ◌∙◌, inl, inr, append_assoc, length-append, arith}
-use Rattle.std.specs.Prelude.{◌⊎◌, IsTrue, not, ◌&&◌, ◌||◌, is_none}
+use Rattle.std.proofs.Common.{◌≡◌, ℕ, suc, ◌≤◌, ◌<◌, ◌+◌, nat_lt, List, [], ◌∷◌, ◌++◌, length, Bool, true, false, true≢false, Option, Some, None, flat_map, refl, sym, ap, subst, ◌∙◌, inl, inr, length-append, arith}
+use Rattle.std.specs.Prelude.{◌⊎◌, IsTrue, not, ◌&&◌, ◌||◌}
 use Rattle.std.proofs.lemmas.Bool.{and_parts}
 use Rattle.std.proofs.lemmas.Grind.{flat_map-append}
 use Rattle.html_types.specs.declared.script.Ending.{Ending}
@@ -10,27 +10,24 @@ use Rattle.outside.specs.declared.traits.Port.TheVariants as port
 use Rattle.standard.specs.Entities.{Entities}
 use Rattle.standard.specs.Output.{line_text}
 use Rattle.standard.specs.Parser.{Parser}
-use Rattle.standard.specs.Scripts.{Fetched, faulted, missing, is_lawful}
+use Rattle.standard.specs.Scripts.{faulted, missing, is_lawful}
 use Rattle.standard.specs.Serial.{World, fetched_if, fetched}
 use Rattle.core_rules.specs.declared.event.Event.TheVariants as event
 use Rattle.core_rules.specs.Batches.{Piece}
 use Rattle.core_rules.specs.Core.{joined}
-use Rattle.core_rules.specs.Desk.{Phase, free, tagged, waits, done, Desk, first_desk, with_more, outstanding, is_free, is_done, is_among, has_arrived, can_send, wants_reply, can_do, can_do_in, sends_first, sends, takes, arrives, Does}
-use Rattle.core_rules.specs.Journal.{Journal, Knows}
+use Rattle.core_rules.specs.Desk.{Phase, free, tagged, waits, done, Desk, outstanding, is_free, is_done, is_among, has_arrived, can_send, wants_reply, can_do, can_do_in, sends_first, sends, takes, Does}
 use Rattle.core_rules.specs.Settling.{is_empty}
 use Rattle.core_steps.specs.Fetches.{names_of}
 use Rattle.core_steps.specs.Journals.{found}
-use Rattle.core_steps.specs.Sides.{Shown, first_shown, journaled, with_fetch, Shows, DoesShow, IsReplayed, Standing, running, awaiting, over, unless_arrived, standing_in, standing_of, left_to_do}
+use Rattle.core_steps.specs.Sides.{Shown, first_shown, journaled, with_fetch, Shows, DoesShow, IsReplayed, awaiting, unless_arrived, standing_in}
 use Rattle.page_runner.specs.declared.page.TheConstants.{PAGE_LIMIT}
-use Rattle.page_runner.specs.declared.outcome.Outcome.{Outcome as Told}
 use Rattle.page_runner.specs.declared.reader.PageReader.{PageReader}
-use Rattle.page_runner.specs.Given.{NoFault, KeepsEntities}
-use Rattle.page_runner.specs.Taken.{Took, TookFront}
-use Rattle.page_runner.specs.Scripts.{Met, MayMeet, BeginsFile, Fetches, AreKnown}
-use Rattle.page_runner.specs.Shown.{result_of}
-use Rattle.page_runner.specs.Pages.{IsUnread, PageOpen, PageFor, PageAt}
-use Rattle.page_runner.specs.Turns.{Load, no_load, under_way, weight_of, Answers, while_open, Handed, ReadsPiece, RunsOn, Arrives, BeginsAwaited, earlier, StoppedAt, StopsIn, Outside, Inside, Holds}
-use Rattle.page_runner.proofs.KeepsLemmas.{Later, later-others, later-entities, entities-same, entities-then, entities-others}
+use Rattle.page_runner.specs.Given.{NoFault}
+use Rattle.page_runner.specs.Taken.{Took}
+use Rattle.page_runner.specs.Scripts.{BeginsFile, Fetches, AreKnown}
+use Rattle.page_runner.specs.Pages.{IsUnread, PageOpen, PageAt}
+use Rattle.page_runner.specs.Turns.{Load, no_load, under_way, ReadsPiece, RunsOn, Arrives, BeginsAwaited, earlier, StoppedAt, StopsIn, Inside, Holds}
+use Rattle.page_runner.proofs.KeepsLemmas.{later-others, later-entities, entities-same, entities-then, entities-others}
 use Rattle.page_runner.proofs.PageTakenLemmas.{took_nothing, took_then}
 use Rattle.page_runner.proofs.TextLemmas.{none-found, found-first, lawful-found}
 use Rattle.page_runner.proofs.MeetLemmas.{fetches_same, fetches-then, fetches-past, fetch_one, known_more}
@@ -39,9 +36,6 @@ use Rattle.page_runner.proofs.ReachLemmas.{knows-met, found_or, scripts_with}
 use Rattle.page_runner.proofs.ReadLemmas.{first_open, at_past}
 
 -- ---- the first
-
-first-lines : (es : Entities) (ahead : ℕ) (s : Shown) → s ≡ first_shown es ahead → s.given ≡ []
-first-lines es ahead s is = ap (λ (z : Shown). z.given) is
 
 pub holds_first : (es : Entities) (ahead : ℕ) (dir : List ℕ) (before : Seen) (t : Option (List ℕ)) (reader : PageReader) (l : Load) (s : Shown) → s ≡ first_shown es ahead → l ≡ no_load → IsUnread reader → Holds es ahead dir before before t t reader l s
 holds_first es ahead dir before t reader l s is none unread =
@@ -76,10 +70,6 @@ not-so false e = refl
 
 module _ (es : Entities) (ahead : ℕ) (dir : List ℕ) (before : Seen) (t : Option (List ℕ)) where
   -- ---- Send
-
-  some-piece : (d : Desk) (ps : List Piece) → d.to_send ≡ ps → not (is_empty ps) ≡ true → (x : Piece) × (xs : List Piece) × (d.to_send ≡ x ∷ xs)
-  some-piece d [] q some = absurd (true≢false (sym some))
-  some-piece d (x ∷ xs) q some = (x, xs, q)
 
   sent-first : (now : Seen) (t' : Option (List ℕ)) (reader : PageReader) (l : Load) (s : Shown) (ps : List Piece) → is_done s.desk.phase ≡ false → under_way l < ahead → s.desk.to_send ≡ ps → not (is_empty ps) ≡ true → Holds es ahead dir before now t t' reader l s
       → Holds es ahead dir before now t t' reader (record l { requests = suc l.requests }) (journaled event.Send (sends_first ps s.desk) s)

@@ -1,7 +1,7 @@
 -- Scripts that are fetched while a page is read, and a world that has them all.
-use Rattle.std.proofs.Common.{◌≡◌, ℕ, Bool, true, List, [], Option, Some, None, IfSome, refl, sym, ◌∙◌, subst, inl, inr}
+use Rattle.std.proofs.Common.{◌≡◌, ℕ, Bool, List, [], Option, Some, None, IfSome, refl, sym, subst, inl, inr}
 use Rattle.std.specs.Prelude.{◌⊎◌}
-use Rattle.outside.specs.Outside.{Seen, KeepsOthers}
+use Rattle.outside.specs.Outside.{Seen}
 use Rattle.outside.specs.declared.traits.Port.TheVariants as port
 use Rattle.standard.specs.Scripts.{Fetched, got, missing}
 use Rattle.core_steps.specs.Journals.{found}

@@ -1,21 +1,44 @@
--- What is reported of a page that was run: its journal replays in the core, to this document, these lines and this outcome.
-use Rattle.std.specs.Prelude.{◌≡◌, ℕ, Bool, List, ◌++◌, flat_map, Option, IsTrue}
+-- What is reported of a page that was run: its journal is of this run, and replays in the core to this document, these lines and this outcome.
+use Rattle.std.specs.Prelude.{◌≡◌, ℕ, Bool, true, false, List, ◌++◌, flat_map, Option, Some, IsTrue}
+use Rattle.outside.specs.Outside.{Seen}
+use Rattle.outside.specs.declared.traits.Port.TheVariants.{Page}
 use Rattle.standard.specs.Entities.{Entities}
 use Rattle.standard.specs.Output.{line_text, result_with}
+use Rattle.standard.specs.Scripts.{Fetched}
 use Rattle.standard.specs.Serial.{Result}
 use Rattle.core_rules.specs.Core.{Setup, Core, first_core, Runs}
 use Rattle.core_rules.specs.Desk.{done}
-use Rattle.core_rules.specs.Journal.{IsRunOf, with_replies}
+use Rattle.core_rules.specs.Journal.{Journal, IsRunOf, with_replies}
+use Rattle.core_steps.specs.Journals.{found}
 use Rattle.core_steps.specs.Sides.{Shown}
 use Rattle.page_runner.specs.declared.status.Status.{Status}
+use Rattle.page_runner.specs.declared.status.Status.TheVariants as status
+use Rattle.page_runner.specs.Given.{FaultsRose, NoFault, file_at}
 use Rattle.page_runner.specs.Taken.{Took}
-use Rattle.page_runner.specs.Answers.{status_with, is_answered}
+use Rattle.page_runner.specs.Scripts.{MayMeet}
+use Rattle.page_runner.specs.Pages.{PageRead, page_at, IsPageBehind}
+use Rattle.page_runner.specs.Answers.{status_with, is_answered, IsPageOf}
+
+-- the statuses that come only where a page was parsed to its end
+abbrev pub is_parsed : Status → Bool
+is_parsed status.Done = true
+is_parsed status.BadUtf8 = true
+is_parsed (status.Limit which) = true
+is_parsed _ = false
 
 -- In each run in which all is as the journal has it, its events, each of them enabled, lead the core to what is shown.
 pub record ReplaysTo (es : Entities) (ahead : ℕ) (s : Shown) : Type 0 where
   pub replays : (x : Setup) → IsRunOf es ahead s.journal x →
       (c : Core) × Runs x (with_replies s.journal.events) (first_core x) c
       × (c.desk.phase ≡ s.desk.phase) × (c.desk.own.side.doc ≡ s.desk.own.side.doc) × (c.desk.own.side.lines ≡ s.desk.own.side.lines)
+
+-- What the journal has was met outside: its pieces are a front of the page's text, and with the page's ending the whole page; and each thing
+-- that came of a script may have come of it.
+pub record IsMet (path dir : List ℕ) (before after : Seen) (j : Journal) : Type 0 where
+  pub page : PageRead
+  pub is_page : IsPageOf (file_at before path) (after.left Page) (FaultsRose Page before after) (NoFault Page before after) page
+  pub front : IsPageBehind j.ending j.pieces (page_at page)
+  pub scripts : (name : List ℕ) (f : Fetched) → found name j.fetches ≡ Some f → MayMeet dir before after name f
 
 -- what was written is of these lines and this result, with this document
 pub record IsWritten (dump : Bool) (taken taken' : Option (List ℕ)) (s : Shown) (outcome : Status) : Type 0 where
@@ -24,10 +47,11 @@ pub record IsWritten (dump : Bool) (taken taken' : Option (List ℕ)) (s : Shown
   pub outcome_is : outcome ≡ status_with result
   pub took : Took taken taken' (flat_map line_text s.desk.own.side.lines ++ result_with dump result s.desk.own.side.doc.tree)
 
--- Its entities and number of requests ahead are those of the run, and what was written is so, unless memory ran out or the sink failed; the
--- journal then has the events before that.
-pub record Reports (es : Entities) (ahead : ℕ) (dump : Bool) (taken taken' : Option (List ℕ)) (s : Shown) (outcome : Status) : Type 0 where
-  pub replays : ReplaysTo s.entities s.ahead s
-  pub entities : IsTrue (is_answered outcome) → s.entities ≡ es
-  pub ahead_is : IsTrue (is_answered outcome) → s.ahead ≡ ahead
+-- The document's side is of this run, and what was written is so, unless memory ran out or the sink failed; the journal then has the events
+-- before that.
+pub record Reports (es : Entities) (ahead : ℕ) (dump : Bool) (path dir : List ℕ) (before after : Seen) (taken taken' : Option (List ℕ)) (s : Shown) (outcome : Status) : Type 0 where
+  pub entities : s.entities ≡ es
+  pub ahead_is : s.ahead ≡ ahead
+  pub met : IsMet path dir before after s.journal
+  pub replays : ReplaysTo es ahead s
   pub written : IsTrue (is_answered outcome) → IsWritten dump taken taken' s outcome

@@ -17,14 +17,14 @@ use Rattle.core_rules.specs.Journal.{Journal}
 use Rattle.core_rules.specs.StandsFor.{text_of}
 use Rattle.core_steps.specs.Fetches.{names_of}
 use Rattle.core_steps.specs.Journals.{found}
-use Rattle.core_steps.specs.Sides.{Shown, journaled, with_fetch, DoesShow, IsReplayed, Standing, running, awaiting, over, standing_of, left_to_do}
+use Rattle.core_steps.specs.Sides.{Shown, journaled, with_fetch, DoesShow, IsReplayed, Standing, awaiting, standing_of, left_to_do}
 use Rattle.page_runner.specs.declared.page.TheConstants.{PAGE_LIMIT}
 use Rattle.page_runner.specs.declared.outcome.Outcome.{Outcome as Told}
 use Rattle.page_runner.specs.declared.scripts.TheConstants.{SCRIPT_LIMIT}
 use Rattle.page_runner.specs.declared.reader.PageReader.{PageReader}
 use Rattle.page_runner.specs.Given.{NoFault, KeepsEntities}
 use Rattle.page_runner.specs.Taken.{Took, TookFront}
-use Rattle.page_runner.specs.Scripts.{Met, MayMeet, BeginsFile, Fetches, AreKnown, ReadScriptsTo, NamesOnce}
+use Rattle.page_runner.specs.Scripts.{MayMeet, BeginsFile, Fetches, AreKnown, ReadScriptsTo, NamesOnce}
 use Rattle.page_runner.specs.Shown.{result_of}
 use Rattle.page_runner.specs.Pages.{PageOpen, PageFor, PageAt, ReadsOn}
 
@@ -75,9 +75,15 @@ pub record ReadsPiece (now after : Seen) (reader reader' : PageReader) (old new 
   pub handed : Handed reader reader' old new
   pub at : (before : Seen) → PageOpen before now reader old.journal.pieces → PageAt before after reader' new.journal.pieces new.journal.ending
 
--- Memory ran out, wherever the page stood.
-abbrev pub ReadsInPart : Seen → Seen → PageReader → List (List ℕ) → Type 0
-ReadsInPart now after reader pieces = (before : Seen) → PageOpen before now reader pieces → PageFor before after pieces None
+-- Memory ran out: a piece was handed in, or none, and the page goes on from the pieces, wherever it stood.
+pub record ReadsInPart (now after : Seen) (reader : PageReader) (old new : Shown) : Type 0 where
+  pub at : (before : Seen) → PageOpen before now reader old.journal.pieces → PageFor before after new.journal.pieces None
+  pub own : new.desk.own ≡ old.desk.own
+  pub others : new ≡ record old { desk = new.desk; journal = record old.journal { pieces = new.journal.pieces }; spent = new.spent }
+
+-- Nothing was read or fetched: whatever else changed, the journal is as it was but for the events.
+abbrev pub StaysRead : Shown → Shown → Type 0
+StaysRead old new = new ≡ record old { desk = new.desk; given = new.given; journal = record old.journal { events = new.journal.events }; spent = new.spent }
 
 -- ---- running on
 
@@ -196,6 +202,7 @@ pub record LeavesAlone (dir : List ℕ) (before after : Seen) : Type 0 where
 
 -- The sink took a front of the lines of what is shown, or was before the last events.
 pub record GivesUp (es : Entities) (ahead : ℕ) (dir : List ℕ) (before after : Seen) (taken taken' : Option (List ℕ)) (s : Shown) : Type 0 where
+  pub left : Leaves es ahead dir before after s
   pub shown : Shown
   pub replayed : IsReplayed s → IsReplayed shown
   pub leaves : Leaves es ahead dir before after shown

@@ -1,5 +1,5 @@
 // A run, from the words to the status.
-ghost use Rattle.std.specs.Prelude.{◌≡◌, ◌≤◌, ◌<◌, [], ◌∷◌, map, Some, None, Err, IfOk, IfErr, OnOk, OnErr, IsErrOf, IsTrue};
+ghost use Rattle.std.specs.Prelude.{◌≡◌, ◌≤◌, ◌<◌, [], ◌∷◌, map, Some, None, false, Err, IfOk, IfErr, OnOk, OnErr, IsErrOf, IsTrue};
 ghost use Rattle.std.specs.String.{string_bytes};
 ghost use Rattle.standard.specs.Output.{result_with};
 ghost use Rattle.outside.specs.Outside.{Rose, Begun, KeepsOthers};
@@ -7,6 +7,7 @@ ghost use Rattle.page_runner.specs.Words.{asked, shown};
 ghost use Rattle.page_runner.specs.Given.{ReadTo};
 ghost use Rattle.page_runner.specs.Taken.{Took, TookFront};
 ghost use Rattle.page_runner.specs.Shown.{result_of, status_of};
+ghost use Rattle.page_runner.specs.Reports.{is_parsed};
 ghost use Rattle.page_runner.specs.Answers.{status_for, table_of, is_finished, Gives, PageAnswers, ReadsPage, ReadsTable, ReadsNone, answer_without, Answers, RunsTo, StopsAtLimits, BeginsOnce, CompletesRun, Exactly, AbsenceRose, FaultRose};
 
 use crate::fetch::read_whole;
@@ -92,6 +93,7 @@ pub(crate) fn end_page<K: Sink>(
 pub(crate) fn end_at_fault<K: Sink>(out: &mut K) -> Status
     ensures gives { Gives (Rose (K.faults out.old) (K.faults out.new)) (K.taken out.old) (K.taken out.new) (Status.ReadFault, []) result }
     ensures clean { IsTrue (is_finished result) → IsTrue (K.clean out.new) }
+    ensures unparsed { is_parsed result ≡ false }
 {
     match out.finish() {
         Ok(()) => Status::ReadFault,

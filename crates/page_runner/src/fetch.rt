@@ -1,6 +1,6 @@
 // A whole file, up to a limit.
-ghost use Rattle.std.specs.Prelude.{◌≡◌, ◌<◌, ◌^◌, [], ◌∷◌, IfOk};
-ghost use Rattle.outside.specs.Outside.{OthersStay, NeverFall, Begun, KeepsOthers};
+ghost use Rattle.std.specs.Prelude.{◌<◌, ◌^◌, [], ◌∷◌, IfOk};
+ghost use Rattle.outside.specs.Outside.{Begun, KeepsOthers};
 ghost use Rattle.page_runner.specs.Given.{MayGive, given_of, ReadTo};
 
 use core_steps::Fetch;
@@ -8,6 +8,7 @@ use html_types::NoMemory;
 use outside::{Failed, Outside, Port};
 use std::alloc::Global;
 
+// The most bytes of one read.
 const PIECE: usize = 4096;
 
 /// Begins a file and reads it, no further than one byte past the limit: of a longer one its bytes are those up to there.

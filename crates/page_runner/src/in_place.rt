@@ -1,11 +1,11 @@
 // A page is run on the calling thread.
-ghost use Rattle.std.specs.Prelude.{◌≡◌, ◌<◌, ◌≤◌, [], ◌∷◌, length, IfOk, IfSome, OnErr, IsErrOf, IsTrue};
+ghost use Rattle.std.specs.Prelude.{◌≡◌, ◌<◌, ◌≤◌, [], ◌∷◌, length, IfOk, IfSome, OnErr, IsErrOf, IsSome, IsTrue};
 ghost use Rattle.std.specs.String.{string_bytes};
 ghost use Rattle.outside.specs.Outside.{Rose};
 ghost use Rattle.core_steps.specs.Sides.{first_shown};
 ghost use Rattle.page_runner.specs.Pages.{EndsWithScripts, FrontWithScripts};
-ghost use Rattle.page_runner.specs.Turns.{LeavesAlone, RunsOut};
-ghost use Rattle.page_runner.specs.Reports.{ReplaysTo, Reports};
+ghost use Rattle.page_runner.specs.Turns.{LeavesAlone, Leaves, RunsOut};
+ghost use Rattle.page_runner.specs.Reports.{is_parsed, ReplaysTo, Reports};
 ghost use Rattle.page_runner.specs.Answers.{is_finished, IsBegun, PageAnswers, ReadsPage};
 
 use crate::command::{end_at_fault, end_page, status_for};
@@ -43,7 +43,8 @@ fn parse_page<E: InForce, F: Outside, K: Sink>(
         (K.taken out.old) (K.taken out.new)) }
     ensures out { IfOk result (λ outcome. RunsOut job.now.table.now job.now.ahead (string_bytes job.now.dir) (F.seen files.old) (F.seen files.new)
         (K.taken out.old) (K.taken out.new) doc.new outcome) }
-    ensures replays { ReplaysTo doc.new.entities doc.new.ahead doc.new }
+    ensures replays { ReplaysTo job.now.table.now job.now.ahead doc.new }
+    ensures left { Leaves job.now.table.now job.now.ahead (string_bytes job.now.dir) (F.seen files.old) (F.seen files.new) doc.new }
     ensures alone { LeavesAlone (string_bytes job.now.dir) (F.seen files.old) (F.seen files.new) }
     ensures write { IsErrOf result Failure.Write → Rose (K.faults out.old) (K.faults out.new) }
     ensures faults { K.faults out.old ≤ K.faults out.new }
@@ -75,7 +76,8 @@ fn run_with<E: InForce, F: Outside, K: Sink>(
         (F.seen files.old) (F.seen files.new) (K.faults out.old) (K.faults out.new) (K.taken out.old) (K.taken out.new) result }
     ensures reads { ReadsPage (string_bytes job.now.page) (string_bytes job.now.dir) [] (F.seen files.old) (F.seen files.new) }
     ensures clean { IsTrue (is_finished result) → IsTrue (K.clean out.new) }
-    ensures reports { Reports job.now.table.now job.now.ahead job.now.dump (K.taken out.old) (K.taken out.new) doc.new result }
+    ensures reports { Reports job.now.table.now job.now.ahead job.now.dump (string_bytes job.now.page) (string_bytes job.now.dir)
+        (F.seen files.old) (F.seen files.new) (K.taken out.old) (K.taken out.new) doc.new result }
 {
     match parse_page::<E, F, K>(alloc, job, files, out, doc, room) {
         Err(failure) => status_for(failure),
@@ -96,7 +98,7 @@ fn begin_run(alloc: Global, job: &Job<'_>) -> Result<(Vec<u8>, DocSide), NoMemor
     Ok((room, side))
 }
 
-// The same, from what a run begins with.
+// The same of a run that begins now. Where memory doesn't suffice for what it begins with, there is no document's side to report.
 fn run_begun<E: InForce, F: Outside, K: Sink>(
     alloc: Global,
     job: &Job<'_>,
@@ -112,7 +114,9 @@ fn run_begun<E: InForce, F: Outside, K: Sink>(
         (F.seen files.old) (F.seen files.new) (K.faults out.old) (K.faults out.new) (K.taken out.old) (K.taken out.new) result.outcome }
     ensures reads { ReadsPage (string_bytes job.now.page) (string_bytes job.now.dir) [] (F.seen files.old) (F.seen files.new) }
     ensures clean { IsTrue (is_finished result.outcome) → IsTrue (K.clean out.new) }
-    ensures reports { IfSome result.side (λ side. Reports job.now.table.now job.now.ahead job.now.dump (K.taken out.old) (K.taken out.new) side result.outcome) }
+    ensures reports { IfSome result.side (λ side. Reports job.now.table.now job.now.ahead job.now.dump (string_bytes job.now.page) (string_bytes job.now.dir)
+        (F.seen files.old) (F.seen files.new) (K.taken out.old) (K.taken out.new) side result.outcome) }
+    ensures side { IsTrue (is_parsed result.outcome) → IsSome result.side }
 {
     let (mut room, mut side) = match begin_run(alloc, job) {
         Err(NoMemory) => {
@@ -131,6 +135,8 @@ fn run_begun<E: InForce, F: Outside, K: Sink>(
 }
 
 /// Begins the page, parses it and writes what comes of it, all on the calling thread: the document's side and the parser's side take turns.
+/// The page is read ahead of the parse, as long as fewer requests are under way than may be. The sink is finished where the parse came to an
+/// end.
 pub fn page_in_place<F: Outside, K: Sink>(
     alloc: Global,
     job: &Job<'_>,
@@ -143,7 +149,9 @@ pub fn page_in_place<F: Outside, K: Sink>(
         (F.seen files.old) (F.seen files.new) (K.faults out.old) (K.faults out.new) (K.taken out.old) (K.taken out.new) result.outcome }
     ensures reads { ReadsPage (string_bytes job.now.page) (string_bytes job.now.dir) (string_bytes job.now.page ∷ []) (F.seen files.old) (F.seen files.new) }
     ensures clean { IsTrue (is_finished result.outcome) → IsTrue (K.clean out.new) }
-    ensures reports { IfSome result.side (λ side. Reports job.now.table.now job.now.ahead job.now.dump (K.taken out.old) (K.taken out.new) side result.outcome) }
+    ensures reports { IfSome result.side (λ side. Reports job.now.table.now job.now.ahead job.now.dump (string_bytes job.now.page) (string_bytes job.now.dir)
+        (F.seen files.old) (F.seen files.new) (K.taken out.old) (K.taken out.new) side result.outcome) }
+    ensures side { IsTrue (is_parsed result.outcome) → IsSome result.side }
 {
     match files.begin(Port::Page, job.page.as_str()) {
         Err(Failed) => Report {

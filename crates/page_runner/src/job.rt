@@ -26,6 +26,6 @@ pub struct Report {
     /// How the run ended.
     pub outcome: Status,
     /// The document's side as it ended, with the document and the journal: none where the page wasn't begun, or memory ran out before there
-    /// was one.
+    /// was one. Where memory ran out later, or writing failed, the journal has the events before that.
     pub side: Option<DocSide>,
 }

@@ -4,11 +4,11 @@ ghost use Rattle.std.specs.String.{string_bytes};
 ghost use Rattle.outside.specs.Outside.{Rose, KeepsOthers};
 ghost use Rattle.core_rules.specs.declared.event.Event.TheVariants as event;
 ghost use Rattle.core_rules.specs.Desk.{done, is_done, can_do, wants_reply, takes};
-ghost use Rattle.core_steps.specs.Sides.{first_shown, journaled, IsReplayed, Standing, awaiting, standing_of};
+ghost use Rattle.core_steps.specs.Sides.{first_shown, journaled, IsReplayed, awaiting, standing_of};
 ghost use Rattle.page_runner.specs.declared.page.Failure.TheVariants as failures;
 ghost use Rattle.page_runner.specs.Shown.{result_of};
 ghost use Rattle.page_runner.specs.Pages.{IsUnread};
-ghost use Rattle.page_runner.specs.Turns.{no_load, under_way, RunsOn, RunsInPart, Arrives, BeginsAwaited, GivesUp, RunsOut};
+ghost use Rattle.page_runner.specs.Turns.{no_load, under_way, StaysRead, RunsOn, RunsInPart, Arrives, BeginsAwaited, GivesUp, RunsOut};
 
 use crate::job::Job;
 use crate::lanes::Lanes;
@@ -86,6 +86,7 @@ fn take_reply<E: InForce>(doc: &mut DocSide, lanes: &mut Lanes<E>) -> Result<(),
     requires stands { 0 < lanes.old.replies }
     ensures took { OnOk result (doc.new ≡ journaled event.Take (takes doc.old.entities doc.old.desk) doc.old) }
     ensures lanes { OnOk result (lanes.old ≡ record lanes.new { replies = suc lanes.new.replies }) }
+    ensures stays { OnErr result (StaysRead doc.old doc.new) }
 {
     let Some(reply) = lanes.take() else {
         unreachable!()
@@ -99,6 +100,7 @@ fn run_on<K: Sink>(alloc: Global, out: &mut K, doc: &mut DocSide) -> Result<(), 
     requires lines { doc.old.desk.own.side.lines ≡ doc.old.given }
     ensures ok { OnOk result (RunsOn (K.taken out.old) (K.taken out.new) doc.old doc.new) }
     ensures err { OnErr result (RunsInPart (K.taken out.old) (K.taken out.new) doc.old doc.new) }
+    ensures stays { OnErr result (StaysRead doc.old doc.new) }
     ensures write { IsErrOf result Failure.Write → Rose (K.faults out.old) (K.faults out.new) }
     ensures faults { K.faults out.old ≤ K.faults out.new }
 {
@@ -129,6 +131,7 @@ fn fetch_awaited<F: Outside>(
     requires going { doc.old.spent ≡ false }
     requires awaits { (name : _) × (standing_of doc.old.desk ≡ awaiting name) }
     ensures arrives { OnOk result (Arrives dir.now (F.seen files.old) (F.seen files.new) doc.old doc.new) }
+    ensures stays { OnErr result (StaysRead doc.old doc.new) }
     ensures begins { BeginsAwaited dir.now (F.seen files.old) (F.seen files.new) doc.old.desk }
     ensures others { KeepsOthers Port.Script (F.seen files.old) (F.seen files.new) }
 {

@@ -66,7 +66,7 @@ impl PageReader {
         requires reading { IsReading self.old doc.old.journal.pieces }
         requires no_ending { doc.old.journal.ending ≡ None }
         ensures ok { OnOk result (ReadsPiece (F.seen files.old) (F.seen files.new) self.old self.new doc.old doc.new) }
-        ensures err { OnErr result (ReadsInPart (F.seen files.old) (F.seen files.new) self.old doc.old.journal.pieces) }
+        ensures err { OnErr result (ReadsInPart (F.seen files.old) (F.seen files.new) self.old doc.old doc.new) }
         ensures begun { (F.seen files.new).begun ≡ (F.seen files.old).begun }
         ensures others { KeepsOthers Port.Page (F.seen files.old) (F.seen files.new) }
     {

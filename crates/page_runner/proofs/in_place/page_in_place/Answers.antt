@@ -1,6 +1,8 @@
-use Rattle.std.proofs.Common.{refl, inr}
+use Rattle.std.proofs.Common.{true≢false, refl, sym, ◌∙◌, inr}
 use Rattle.std.specs.String.{string_bytes}
 use Rattle.page_runner.proofs.RunLemmas.{page_since, page_faulted, page_absent, page_unbegun, reads_since, found_there}
+use Rattle.page_runner.proofs.LineLemmas.{if_some}
+use Rattle.page_runner.proofs.ReportLemmas.{reports_since}
 use Rattle.page_runner.proofs.in_place.page_in_place.Goals as goal
 
 pub returns-in-Err-clause-answer : goal.returns-in-Err-clause-answer
@@ -33,3 +35,13 @@ returns-in-Ok-true-clause-reads g c =
     let found = found_there _ (at c.args.files.now) (at c.begin.new.self) _ (string_bytes c.args.job.now.page) c.in-Ok-true.field-0-test c.as_str.ensures.value c.in-Ok-true.ensures.found c.begin.ensures.others in
     reads_since (string_bytes c.args.job.now.page) (string_bytes c.args.job.now.dir) _ (at c.args.files.now) (at c.begin.new.self) (at c.run_begun.new.files) c.as_str.ensures.value c.begin.ensures.others
     c.begin.ensures.begun found c.run_begun.ensures.reads
+
+pub returns-in-Ok-true-clause-reports : goal.returns-in-Ok-true-clause-reports
+returns-in-Ok-true-clause-reports g c =
+    let at = g.F.Outside.seen in
+    if_some c.run_begun.result.side
+    (λ side reports. reports_since c.args.job.now.table.now c.args.job.now.ahead c.args.job.now.dump (string_bytes c.args.job.now.page) (string_bytes c.args.job.now.dir) (at c.args.files.now) (at c.begin.new.self) (at c.run_begun.new.files) _ _ side _
+    c.begin.ensures.others c.in-Ok-true.ensures.no_fault reports) c.run_begun.ensures.reports
+
+pub returns-in-Err-clause-side : goal.returns-in-Err-clause-side
+returns-in-Err-clause-side g c e = absurd (true≢false (sym e ∙ c.end_at_fault.ensures.unparsed))

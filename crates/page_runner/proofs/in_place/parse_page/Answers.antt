@@ -1,6 +1,5 @@
-use Rattle.std.proofs.Common.{◌≡◌, refl, ap, sym, ◌∙◌}
 use Rattle.page_runner.proofs.LineLemmas.{if_ok, err_weaker}
-use Rattle.page_runner.proofs.EndLemmas.{left_alone, gave_up, ran_out}
+use Rattle.page_runner.proofs.EndLemmas.{left_alone, left_behind, gave_up, ran_out}
 use Rattle.page_runner.proofs.ReportLemmas.{replays-to}
 use Rattle.page_runner.proofs.in_place.parse_page.Goals as goal
 
@@ -11,7 +10,12 @@ pub returns-clause-err : goal.returns-clause-err
 returns-clause-err g c = err_weaker _ _ _ (λ gives. gave_up _ _ _ _ _ _ _ _ c.journal-journal.ensures.replayed gives) c.take_turns-ended.ensures.err
 
 pub returns-clause-replays : goal.returns-clause-replays
-returns-clause-replays g c = replays-to _ _ _ refl refl c.journal-journal.ensures.replayed
+returns-clause-replays g c =
+    let left = left_behind _ _ _ _ _ _ _ _ _ c.take_turns-ended.ensures.ok c.take_turns-ended.ensures.err in
+    replays-to _ _ _ left.entities left.ahead_is c.journal-journal.ensures.replayed
+
+pub returns-clause-left : goal.returns-clause-left
+returns-clause-left g c = left_behind _ _ _ _ _ _ _ _ _ c.take_turns-ended.ensures.ok c.take_turns-ended.ensures.err
 
 pub returns-clause-alone : goal.returns-clause-alone
 returns-clause-alone g c = left_alone _ _ _ _ _ _ _ _ _ c.take_turns-ended.ensures.ok c.take_turns-ended.ensures.err

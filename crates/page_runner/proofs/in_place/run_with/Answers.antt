@@ -24,7 +24,11 @@ pub returns-in-Err-clause-clean : goal.returns-in-Err-clause-clean
 returns-in-Err-clause-clean g c e = absurd (failure_unfinished c.in-Err.failure (subst (λ s. IsTrue (is_finished s)) c.status_for.ensures e))
 
 pub returns-in-Err-clause-reports : goal.returns-in-Err-clause-reports
-returns-in-Err-clause-reports g c = rw c.status_for.ensures (reports_failure _ _ _ _ _ _ c.in-Err.failure c.parse_page.ensures.replays)
+returns-in-Err-clause-reports g c =
+    let at = g.F.Outside.seen in
+    rw c.status_for.ensures
+    (reports_failure c.args.job.now.table.now c.args.job.now.ahead c.args.job.now.dump (string_bytes c.args.job.now.page) (string_bytes c.args.job.now.dir) (at c.args.files.now) (at c.parse_page.new.files) c.requires.begun _ _ _
+    c.parse_page.ensures.left c.parse_page.ensures.replays c.in-Err.failure)
 
 pub returns-in-Ok-clause-answer : goal.returns-in-Ok-clause-answer
 returns-in-Ok-clause-answer g c =
@@ -40,5 +44,6 @@ returns-in-Ok-clause-reads g c =
 pub returns-in-Ok-clause-reports : goal.returns-in-Ok-clause-reports
 returns-in-Ok-clause-reports g c =
     let at = g.F.Outside.seen in
-    reports_end _ _ (string_bytes c.args.job.now.dir) _ (at c.args.files.now) (at c.parse_page.new.files) _ _ _ _ c.in-Ok.outcome (Rose (g.K.Sink.faults c.parse_page.new.out) (g.K.Sink.faults c.end_page.new.out)) c.end_page.result c.parse_page.ensures.replays c.in-Ok.ensures.out
+    reports_end c.args.job.now.table.now c.args.job.now.ahead c.args.job.now.dump (string_bytes c.args.job.now.page) (string_bytes c.args.job.now.dir) (at c.args.files.now) (at c.parse_page.new.files) c.requires.begun _ _ _
+    c.parse_page.ensures.left c.parse_page.ensures.replays _ c.in-Ok.outcome (Rose (g.K.Sink.faults c.parse_page.new.out) (g.K.Sink.faults c.end_page.new.out)) c.end_page.result c.in-Ok.ensures.out
     (subst (λ d. Gives (Rose (g.K.Sink.faults c.parse_page.new.out) (g.K.Sink.faults c.end_page.new.out)) (g.K.Sink.taken c.parse_page.new.out) (g.K.Sink.taken c.end_page.new.out) (status_of c.in-Ok.outcome, result_with c.args.job.now.dump (result_of c.in-Ok.outcome) d.tree) c.end_page.result) (c.doc.ensures c.in-Ok.ensures.out.going) c.end_page.ensures.gives)

@@ -7,8 +7,9 @@ use Rattle.page_runner.specs.declared.scripts.TheConstants.{SCRIPT_LIMIT}
 use Rattle.page_runner.specs.Given.{MayGive, given_of}
 use Rattle.page_runner.specs.Scripts.{path_of}
 use Rattle.page_runner.specs.Turns.{Arrives}
-use Rattle.page_runner.proofs.LineLemmas.{ok_weaker}
+use Rattle.page_runner.proofs.LineLemmas.{on_err, ok_weaker, err_weaker}
 use Rattle.page_runner.proofs.MeetLemmas.{may_meet, unfailed}
+use Rattle.page_runner.proofs.StepLemmas.{stays_spent}
 use Rattle.page_runner.proofs.page.fetch_awaited.Goals as goal
 
 pub returns-in_err-fetch-clause-begins : goal.returns-in_err-fetch-clause-begins
@@ -31,3 +32,12 @@ returns-clause-arrives g c =
 
 pub returns-clause-begins : goal.returns-clause-begins
 returns-clause-begins g c = (chars c.as_str.result.now, c.in_ok-name.ensures ∙ ap awaiting (sym c.as_str.ensures), c.fetch_script.ensures.begins)
+
+pub returns-in_err-name-clause-stays : goal.returns-in_err-name-clause-stays
+returns-in_err-name-clause-stays g c = on_err _ _ refl
+
+pub returns-in_err-fetch-clause-stays : goal.returns-in_err-fetch-clause-stays
+returns-in_err-fetch-clause-stays g c = on_err _ _ refl
+
+pub returns-clause-stays : goal.returns-clause-stays
+returns-clause-stays g c = err_weaker _ _ _ (λ is. stays_spent c.args.doc.now c.arrive.new.self is) c.arrive.ensures.err

@@ -1,8 +1,11 @@
-use Rattle.std.proofs.Common.{◌≡◌, ◌<◌, ◌≤◌, ◌∙◌, sym, subst, refl, arith}
+use Rattle.std.proofs.Common.{◌∙◌, sym, subst, refl, arith}
+use Rattle.core_rules.specs.declared.event.Event.TheVariants as event
+use Rattle.core_rules.specs.Desk.{sends}
 use Rattle.page_runner.specs.Turns.{Arrives, BeginsAwaited}
 use Rattle.page_runner.proofs.LineLemmas.{on_err}
+use Rattle.page_runner.proofs.StepLemmas.{stays_spent, stays_journaled}
 use Rattle.page_runner.proofs.TurnLemmas.{holds_first, holds_open, holds_read, holds_answered}
-use Rattle.page_runner.proofs.GiveLemmas.{runs_out, gives_up, gives_up_reading, gives_up_fetching, gives_up_running, awaits_name, none-of, answers-as, stands_reply, read_less, answered_less, after_sent, after_sent_less, with_same, after_took, after_took_less, after_ran, after_ran_less, after_arrived, after_arrived_less}
+use Rattle.page_runner.proofs.GiveLemmas.{runs_out, gives_up, gives_up_reading, gives_up_fetching, gives_up_running, awaits_name, none-of, answers-as, stands_reply, read_less, answered_less, after_sent, after_sent_less, after_took, after_took_less, after_ran, after_ran_less, after_arrived, after_arrived_less}
 use Rattle.page_runner.proofs.page.take_turns.Goals as goal
 
 pub turns-init : goal.turns-init
@@ -14,11 +17,11 @@ returns-in-Some-clause-ok g c =
 
 pub returns-in_err-request-clause-err : goal.returns-in_err-request-clause-err
 returns-in_err-request-clause-err g c =
-    on_err _ _ (gives_up _ _ _ _ _ _ _ _ _ _ c.turns.invariant.holds c.may_read-may_read.ensures.replayed _)
+    on_err _ _ (gives_up _ _ _ _ _ _ _ _ _ _ c.turns.invariant.holds c.may_read-may_read.ensures.replayed _ (stays_spent c.turns.doc c.send.new.self c.in_err-request.ensures.err))
 
 pub returns-in_err-ask-clause-err : goal.returns-in_err-ask-clause-err
 returns-in_err-ask-clause-err g c =
-    on_err _ _ (gives_up _ _ _ _ _ _ _ _ _ _ c.turns.invariant.holds c.may_read-may_read.ensures.replayed _)
+    on_err _ _ (gives_up _ _ _ _ _ _ _ _ _ _ c.turns.invariant.holds c.may_read-may_read.ensures.replayed _ (stays_journaled event.Send (sends c.turns.doc.desk) c.turns.doc c.send.new.self c.in_ok-request.ensures.sent))
 
 pub turns-preserved-in-Continue-branch-2 : goal.turns-preserved-in-Continue-branch-2
 turns-preserved-in-Continue-branch-2 g c =
@@ -46,7 +49,7 @@ returns-in_err-read_on-clause-err g c =
 
 pub returns-in_err-answer-clause-err : goal.returns-in_err-answer-clause-err
 returns-in_err-answer-clause-err g c =
-    on_err _ _ (gives_up _ _ _ _ _ _ _ _ _ _ c.turns.invariant.holds c.may_read-may_read.ensures.replayed _)
+    on_err _ _ (gives_up _ _ _ _ _ _ _ _ _ _ c.turns.invariant.holds c.may_read-may_read.ensures.replayed _ refl)
 
 pub turns-preserved-then-branch : goal.turns-preserved-then-branch
 turns-preserved-then-branch g c =
@@ -70,7 +73,7 @@ turns-smaller-in-Continue-branch-5 g c =
 
 pub returns-in_err-take_reply-clause-err : goal.returns-in_err-take_reply-clause-err
 returns-in_err-take_reply-clause-err g c =
-    on_err _ _ (gives_up _ _ _ _ _ _ _ _ _ _ c.turns.invariant.holds c.may_read-may_read.ensures.replayed _)
+    on_err _ _ (gives_up _ _ _ _ _ _ _ _ _ _ c.turns.invariant.holds c.may_read-may_read.ensures.replayed _ c.in_err-take_reply.ensures.stays)
 
 pub turns-preserved-in-Continue-branch-6 : goal.turns-preserved-in-Continue-branch-6
 turns-preserved-in-Continue-branch-6 g c =
@@ -82,7 +85,7 @@ turns-smaller-in-Continue-branch-6 g c =
 
 pub returns-in_err-run_on-clause-err : goal.returns-in_err-run_on-clause-err
 returns-in_err-run_on-clause-err g c =
-    on_err _ _ (gives_up_running _ _ _ _ _ _ _ _ _ _ c.turns.invariant.holds c.may_read-may_read.ensures.replayed _ _ c.in_err-run_on.ensures.err)
+    on_err _ _ (gives_up_running _ _ _ _ _ _ _ _ _ _ c.turns.invariant.holds c.may_read-may_read.ensures.replayed _ _ c.in_err-run_on.ensures.stays c.in_err-run_on.ensures.err)
 
 pub fetch_awaited-requires-clause-awaits : goal.fetch_awaited-requires-clause-awaits
 fetch_awaited-requires-clause-awaits g c =
@@ -98,4 +101,4 @@ turns-smaller g c =
 
 pub returns-in_err-fetch_awaited-clause-err : goal.returns-in_err-fetch_awaited-clause-err
 returns-in_err-fetch_awaited-clause-err g c =
-    on_err _ _ (gives_up_fetching _ _ _ _ _ _ _ _ _ _ c.turns.invariant.holds c.may_read-may_read.ensures.replayed _ _ (subst (λ d. BeginsAwaited d (g.F.Outside.seen c.turns.files) (g.F.Outside.seen c.fetch_awaited.new.files) c.turns.doc.desk) c.as_str.ensures.value c.fetch_awaited.ensures.begins) c.fetch_awaited.ensures.others)
+    on_err _ _ (gives_up_fetching _ _ _ _ _ _ _ _ _ _ c.turns.invariant.holds c.may_read-may_read.ensures.replayed _ _ c.in_err-fetch_awaited.ensures.stays (subst (λ d. BeginsAwaited d (g.F.Outside.seen c.turns.files) (g.F.Outside.seen c.fetch_awaited.new.files) c.turns.doc.desk) c.as_str.ensures.value c.fetch_awaited.ensures.begins) c.fetch_awaited.ensures.others)

@@ -1,10 +1,10 @@
-use Rattle.std.proofs.Common.{◌≡◌, ◌<◌, ◌≤◌, ◌+◌, ◌-◌, ◌∙◌, ◌++◌, length, take, drop, length-take, sym, ap, subst, refl, arith}
+use Rattle.std.proofs.Common.{◌≡◌, ◌≤◌, ◌+◌, ◌-◌, ◌∙◌, ◌++◌, length, take, drop, true, length-take, sym, ap, refl, arith}
 use Rattle.std.specs.Str.{chars}
 use Rattle.standard.specs.Page.{text_of}
-use Rattle.core_steps.specs.Sides.{with_ending}
-use Rattle.page_runner.proofs.LineLemmas.{on_err, ok_weaker}
+use Rattle.core_steps.specs.Sides.{Shown, with_ending}
+use Rattle.page_runner.proofs.LineLemmas.{on_err, ok_weaker, err_weaker}
 use Rattle.page_runner.proofs.ReadLemmas.{has_room}
-use Rattle.page_runner.proofs.StepLemmas.{piece-taken, front-fits, piece-length, reads_end, reads_end_cut, reads_cut, piece_within, reads_open, reads_shut}
+use Rattle.page_runner.proofs.StepLemmas.{piece-taken, front-fits, piece-length, reads_end, reads_end_cut, reads_cut, piece_within, reads_open, reads_shut, reads_shut_cut}
 use Rattle.page_runner.proofs.reader.PageReader.read_on.Goals as goal
 
 pub returns-in-Err-clause-ok : goal.returns-in-Err-clause-ok
@@ -17,7 +17,7 @@ pub returns-in-Err-clause-err : goal.returns-in-Err-clause-err
 returns-in-Err-clause-err g c =
     let at = g.F.Outside.seen in
     let room = has_room c.args.self.now c.args.doc.now.journal.pieces c.args.room.now c.min-most.result c.requires.reading c.requires.room c.min-most.ensures in
-    on_err _ _ (reads_end_cut (at c.args.files.now) (at c.read_piece.new.files) c.args.self.now c.args.doc.now c.requires.reading c.in-Err.ending (c.in-Err.ensures.ending room))
+    err_weaker _ _ _ (λ is. reads_end_cut (at c.args.files.now) (at c.read_piece.new.files) c.args.self.now c.args.doc.now c.requires.reading c.in-Err.ending (c.in-Err.ensures.ending room) c.end.new.self is) c.end.ensures.err
 
 pub overflow_sub-self : goal.overflow_sub-self
 overflow_sub-self g c =
@@ -28,7 +28,7 @@ returns-in_err-fed-in-Ok-clause-err g c =
     let at = g.F.Outside.seen in
     let fits : c.in-Ok.n ≤ length c.read_piece.new.room = omega (arith, c.read_piece.auto.room, c.in-Ok.ensures.count.1) in
     let within : c.in-Ok.n ≤ c.args.self.now.left = omega (arith, c.min-most.ensures, c.in-Ok.ensures.count.1, length-take c.min-most.result c.args.room.now) in
-    on_err _ _ (reads_cut (at c.args.files.now) (at c.read_piece.new.files) c.args.self.now c.args.doc.now c.requires.reading c.in-Ok.n (take c.in-Ok.n (c.read_piece.new.room ++ drop c.min-most.result c.args.room.now)) c.in-Ok.ensures.count.0 (piece-length c.read_piece.new.room (drop c.min-most.result c.args.room.now) (c.read_piece.new.room ++ drop c.min-most.result c.args.room.now) c.in-Ok.n refl fits) within (piece-taken _ _ c.read_piece.new.room (drop c.min-most.result c.args.room.now) (c.read_piece.new.room ++ drop c.min-most.result c.args.room.now) c.in-Ok.n refl fits c.in-Ok.ensures.taken) c.in-Ok.ensures.no_fault)
+    on_err _ _ (reads_cut (at c.args.files.now) (at c.read_piece.new.files) c.args.self.now c.args.doc.now c.requires.reading c.in-Ok.n (take c.in-Ok.n (c.read_piece.new.room ++ drop c.min-most.result c.args.room.now)) c.in-Ok.ensures.count.0 (piece-length c.read_piece.new.room (drop c.min-most.result c.args.room.now) (c.read_piece.new.room ++ drop c.min-most.result c.args.room.now) c.in-Ok.n refl fits) within (piece-taken _ _ c.read_piece.new.room (drop c.min-most.result c.args.room.now) (c.read_piece.new.room ++ drop c.min-most.result c.args.room.now) c.in-Ok.n refl fits c.in-Ok.ensures.taken) c.in-Ok.ensures.no_fault c.args.doc.now.spent c.args.doc.now refl)
 
 pub piece-requires-clause-within : goal.piece-requires-clause-within
 piece-requires-clause-within g c =
@@ -42,7 +42,7 @@ returns-in_err-piece-in-Ok-clause-err g c =
     let at = g.F.Outside.seen in
     let fits : c.in-Ok.n ≤ length c.read_piece.new.room = omega (arith, c.read_piece.auto.room, c.in-Ok.ensures.count.1) in
     let within : c.in-Ok.n ≤ c.args.self.now.left = omega (arith, c.min-most.ensures, c.in-Ok.ensures.count.1, length-take c.min-most.result c.args.room.now) in
-    on_err _ _ (reads_cut (at c.args.files.now) (at c.read_piece.new.files) c.args.self.now c.args.doc.now c.requires.reading c.in-Ok.n (take c.in-Ok.n (c.read_piece.new.room ++ drop c.min-most.result c.args.room.now)) c.in-Ok.ensures.count.0 (piece-length c.read_piece.new.room (drop c.min-most.result c.args.room.now) (c.read_piece.new.room ++ drop c.min-most.result c.args.room.now) c.in-Ok.n refl fits) within (piece-taken _ _ c.read_piece.new.room (drop c.min-most.result c.args.room.now) (c.read_piece.new.room ++ drop c.min-most.result c.args.room.now) c.in-Ok.n refl fits c.in-Ok.ensures.taken) c.in-Ok.ensures.no_fault)
+    on_err _ _ (reads_cut (at c.args.files.now) (at c.read_piece.new.files) c.args.self.now c.args.doc.now c.requires.reading c.in-Ok.n (take c.in-Ok.n (c.read_piece.new.room ++ drop c.min-most.result c.args.room.now)) c.in-Ok.ensures.count.0 (piece-length c.read_piece.new.room (drop c.min-most.result c.args.room.now) (c.read_piece.new.room ++ drop c.min-most.result c.args.room.now) c.in-Ok.n refl fits) within (piece-taken _ _ c.read_piece.new.room (drop c.min-most.result c.args.room.now) (c.read_piece.new.room ++ drop c.min-most.result c.args.room.now) c.in-Ok.n refl fits c.in-Ok.ensures.taken) c.in-Ok.ensures.no_fault true c.piece.new.self c.in_err-piece-in-Ok.ensures.err)
 
 pub returns-in-None-clause-ok : goal.returns-in-None-clause-ok
 returns-in-None-clause-ok g c =
@@ -66,7 +66,8 @@ returns-clause-err g c =
     let at = g.F.Outside.seen in
     let fits : c.in-Ok.n ≤ length c.read_piece.new.room = omega (arith, c.read_piece.auto.room, c.in-Ok.ensures.count.1) in
     let within : c.in-Ok.n ≤ c.args.self.now.left = omega (arith, c.min-most.ensures, c.in-Ok.ensures.count.1, length-take c.min-most.result c.args.room.now) in
-    on_err _ _ (reads_cut (at c.args.files.now) (at c.read_piece.new.files) c.args.self.now c.args.doc.now c.requires.reading c.in-Ok.n (take c.in-Ok.n (c.read_piece.new.room ++ drop c.min-most.result c.args.room.now)) c.in-Ok.ensures.count.0 (piece-length c.read_piece.new.room (drop c.min-most.result c.args.room.now) (c.read_piece.new.room ++ drop c.min-most.result c.args.room.now) c.in-Ok.n refl fits) within (piece-taken _ _ c.read_piece.new.room (drop c.min-most.result c.args.room.now) (c.read_piece.new.room ++ drop c.min-most.result c.args.room.now) c.in-Ok.n refl fits c.in-Ok.ensures.taken) c.in-Ok.ensures.no_fault)
+    err_weaker _ _ _ (λ is. reads_shut_cut (at c.args.files.now) (at c.read_piece.new.files) c.args.self.now c.args.doc.now c.requires.reading c.in-Ok.n (take c.in-Ok.n (c.read_piece.new.room ++ drop c.min-most.result c.args.room.now)) c.in-Ok.ensures.count.0 (piece-length c.read_piece.new.room (drop c.min-most.result c.args.room.now) (c.read_piece.new.room ++ drop c.min-most.result c.args.room.now) c.in-Ok.n refl fits) within (piece-taken _ _ c.read_piece.new.room (drop c.min-most.result c.args.room.now) (c.read_piece.new.room ++ drop c.min-most.result c.args.room.now) c.in-Ok.n refl fits c.in-Ok.ensures.taken) c.in-Ok.ensures.no_fault (chars c.as_str.result.now) (λ limit read has. c.in_ok-fed-in-Ok.ensures.text limit read has ∙ ap (λ t. text_of limit read ++ t) (sym c.as_str.ensures)) c.in_ok-fed-in-Ok.fed.ending c.in_ok-fed-in-Ok.ensures.ending c.end-in-Some.new.self c.in-Some.ending c.in-Some.is
+    (is ∙ ap (λ (z : Shown). record z { spent = true }) c.in_ok-piece-in-Ok.ensures.ok)) c.end-in-Some.ensures.err
 
 pub slice_bounds-read_piece-end-2 : goal.slice_bounds-read_piece-end-2
 slice_bounds-read_piece-end-2 g c = omega (arith, c.min-most.ensures, length-take c.min-most.result c.args.room.now)
