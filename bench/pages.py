@@ -31,10 +31,13 @@ KINDS = {
     "attributes": ("<i-i", " a{n}=1", ">"),
     "html tags": ("", "<html a{n}=1>", ""),
     "scripts": ("<body>", '<script>document.write("<i>x</i>");</script>', ""),
+    # what was parsed ahead is kept at each script, and thrown away at each
+    "kept": ("", '<p><script>document.write("<i>1</i>");</script>' + WORDS + "\n", ""),
+    "failing": ("", '<p><script>document.write("<u>");</script>1</u>' + WORDS * 17 + "\n", ""),
     "writer": ("<body>", '<script>document.write("' + "<i>x</i>" * 100 + '");</script>', ""),
 }
 # as many as the characters that scripts may write allow
-MOST = {"scripts": 100000, "writer": 1300}
+MOST = {"scripts": 100000, "kept": 130000, "failing": 340000, "writer": 1300}
 
 
 def write(kind, size, path, refused=False):
