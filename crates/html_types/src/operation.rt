@@ -177,6 +177,14 @@ impl Ops {
         }
     }
 
+    /// No operations, with room for so many.
+    pub fn with_capacity(alloc: Global, capacity: usize) -> Result<Ops, NoMemory>
+        ensures { IfOk result (λ o. o ≡ []) }
+    {
+        let list = Vec::with_capacity(alloc, capacity)?;
+        Ok(Ops { list })
+    }
+
     /// Adds an operation at the end.
     pub fn push(&mut self, op: Op) -> Result<(), NoMemory>
         ensures ok { OnOk result (self.new ≡ self.old ++ spelled_one op) }

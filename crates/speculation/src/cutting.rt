@@ -15,19 +15,23 @@ use parse_machine::Machine;
 use std::alloc::Global;
 use std::snapshot::Snapshot;
 
-// The batch up to the first stop in a text, which is taken off the text.
+// So many bytes of a page make an operation, where it has much markup.
+const BYTES_OF_AN_OPERATION: usize = 6;
+
+// The batch up to the first stop in a text, which is taken off the text. Room is made for so many operations at once.
 fn next_batch(
     alloc: Global,
     table: &Table,
     machine: &mut Machine,
     text: &mut SharedText,
+    room: usize,
 ) -> Result<Batch, NoMemory>
     ensures batch { IfOk result (λ b. b ≡ first_batch table.now machine.old text.old) }
     ensures machine { OnOk result (machine.new ≡ (parse table.now machine.old text.old).parser) }
     ensures rest { OnOk result (text.new ≡ drop (parse table.now machine.old text.old).used text.old) }
 {
     let start = Snapshot::of(machine);
-    let mut ops = Ops::new(alloc);
+    let mut ops = Ops::with_capacity(alloc, room)?;
     let ran = machine.run(alloc, table, text.as_str(), &mut ops)?;
     let after = Checkpoint::of(alloc, machine)?;
     let used = text.split_front(ran.used)?;
@@ -59,8 +63,11 @@ fn cut_text(
     ensures machine { IfOk result (λ goes_on. (cut (length text) table.now machine.old text).parser ≡ (if goes_on then Some machine.new else None)) }
 {
     let mut rest = text;
+    // The first batch is mostly the only one.
+    let mut room = rest.as_str().len() / BYTES_OF_AN_OPERATION;
     'cuts: while !rest.is_empty() {
-        let batch = next_batch(alloc, table, machine, &mut rest)?;
+        let batch = next_batch(alloc, table, machine, &mut rest, room)?;
+        room = 0;
         let deep = is_deep(&batch);
         batches.push(batch)?;
         if deep {
