@@ -1,8 +1,11 @@
 -- A text from a place to another, and parts of it.
-use Rattle.std.proofs.Common.{◌≡◌, ◌≤◌, ◌+◌, ◌-◌, ℕ, List, ◌++◌, length, take, drop, sym, ◌∙◌, ap, subst, arith}
-use Rattle.std.specs.Str.{chars, IsCharBoundary, IsUtf8, encode_utf8_all}
-use Rattle.std.proofs.lemmas.Str.{IsUtf8-between, IsUtf8-drop, IsUtf8-append, IsCharBoundary-from_drop, IsCharBoundary-start, IsCharBoundary-end, encodes-chars}
-use Rattle.std.proofs.lemmas.List.{take-append-drop, take-take, drop-drop, drop-take, drop-append-le, length-take, length-drop}
+use Rattle.std.proofs.Common.{◌≡◌, ◌≤◌, ◌+◌, ◌-◌, ℕ, Bool, true, false, IsTrue, List, ◌++◌, length, take, drop, sym, ◌∙◌, ap, subst, arith}
+use Rattle.std.specs.Bool.{MatchBool}
+use Rattle.std.specs.List.{slice_range}
+use Rattle.std.specs.Str.{chars, IsCharBoundary, IsUtf8, IsAscii, encode_utf8_all}
+use Rattle.std.proofs.lemmas.Bool.{false≢true}
+use Rattle.std.proofs.lemmas.Str.{IsUtf8-between, IsUtf8-drop, IsUtf8-append, IsCharBoundary-from_drop, IsCharBoundary-start, IsCharBoundary-end, encodes-chars, chars-IsAscii, IsAscii-take, IsAscii-drop}
+use Rattle.std.proofs.lemmas.List.{take-append-drop, take-take, drop-drop, drop-take, drop-append-le, length-take, length-take-le, length-drop}
 
 -- all of a text
 pub whole-text : (w w' : List ℕ) (e : ℕ) → IsUtf8 w' → w ≡ w' → e ≡ length w' → (0 ≤ e) × IsCharBoundary w 0 × IsCharBoundary w e
@@ -11,6 +14,11 @@ whole-text w w' e u is len = (
   subst (λ (x : List ℕ). IsCharBoundary x 0) (sym is) (IsCharBoundary-start w' u),
   subst (λ (x : List ℕ). IsCharBoundary x e) (sym is) (subst (IsCharBoundary w') (sym len) (IsCharBoundary-end w')),
 )
+
+-- whether all of a text is ASCII was asked
+pub whole-ascii : (w v w' : List ℕ) (ascii : Bool) (Other : Type 0) → w ≡ w' → v ≡ w' → MatchBool ascii (IsAscii v) Other → IsTrue ascii → IsAscii w
+whole-ascii w v w' true Other is read asked h = subst IsAscii (read ∙ sym is) asked
+whole-ascii w v w' false Other is read asked h = absurd (false≢true h)
 
 module _ (w : List ℕ) (b e : ℕ) (k : ℕ) (u : IsUtf8 w) (i : (b ≤ e) × IsCharBoundary w b × IsCharBoundary w e) where
   abbrev part : List ℕ
@@ -33,6 +41,13 @@ module _ (w : List ℕ) (b e : ℕ) (k : ℕ) (u : IsUtf8 w) (i : (b ≤ e) × I
   behind =
       let n : b + (e - b) ≡ e = omega (arith, i.0) in
       drop-drop (e - b) b w ∙ ap (λ m. drop m w) n
+
+  ascii-part : IsAscii w → IsAscii part
+  ascii-part a = IsAscii-take (drop b w) (e - b) (IsAscii-drop w b a)
+
+  -- where all of it is ASCII, a character is a byte
+  pub ascii-count : IsAscii w → e - b ≡ length (chars part)
+  ascii-count a = sym (ap length (chars-IsAscii part (ascii-part a)) ∙ as-long)
 
   module _ (h : IsCharBoundary (encode_utf8_all (chars part)) k) where
     at : IsCharBoundary part k
@@ -76,3 +91,21 @@ module _ (w : List ℕ) (b e : ℕ) (k : ℕ) (u : IsUtf8 w) (i : (b ≤ e) × I
 
     pub rest-place : (b + k ≤ e) × IsCharBoundary w (b + k) × IsCharBoundary w e
     rest-place = (onward, middle, i.2)
+
+    pub ascii-count_front : IsAscii w → k ≡ length (chars (take k (encode_utf8_all (chars part))))
+    ascii-count_front a =
+        sym (ap (λ x. length (chars (take k x))) is-part
+        ∙ (ap length (chars-IsAscii (take k part) (IsAscii-take part k (ascii-part a))) ∙ length-take-le k part at.0))
+
+-- the front of a text, read as bytes
+module _ (v text : List ℕ) (k : ℕ) (is : chars v ≡ text) (u : IsUtf8 v) where
+  encoded : encode_utf8_all text ≡ v
+  encoded = ap encode_utf8_all (sym is) ∙ encodes-chars v u
+
+  pub read-boundary : IsCharBoundary (encode_utf8_all text) k → IsCharBoundary v k
+  read-boundary h = subst (λ (x : List ℕ). IsCharBoundary x k) encoded h
+
+  pub read-front : chars (slice_range v 0 k) ≡ chars (take k (encode_utf8_all text))
+  read-front =
+      let all : k - 0 ≡ k = omega arith in
+      ap (λ m. chars (take m v)) all ∙ ap (λ x. chars (take k x)) (sym encoded)

@@ -14,20 +14,21 @@ pub struct SharedText {
     whole: Arc<String, Global>,
     begin: usize,
     end: usize,
-    // Whether a character of the whole text is a byte.
+    // Where it is true each byte of the whole text is a character.
     ascii: bool,
 }
 
 impl Model for SharedText {
-    ghost use Rattle.std.specs.Prelude.{◌≤◌, ◌-◌, List, ℕ, string_bytes, take, drop};
+    ghost use Rattle.std.specs.Prelude.{◌≤◌, ◌-◌, List, ℕ, IsTrue, string_bytes, take, drop};
     ghost use Rattle.std.specs.Arc.{arc_value};
-    ghost use Rattle.std.specs.Str.{chars, IsCharBoundary};
+    ghost use Rattle.std.specs.Str.{chars, IsCharBoundary, IsAscii};
 
     ghost Value = { List ℕ };
 
     ghost view = { λ t. chars (take (t.end - t.begin) (drop t.begin (string_bytes (arc_value t.whole)))) };
 
-    ghost invariant = { λ t. (t.begin ≤ t.end) × IsCharBoundary (string_bytes (arc_value t.whole)) t.begin × IsCharBoundary (string_bytes (arc_value t.whole)) t.end };
+    ghost invariant = { λ t. ((t.begin ≤ t.end) × IsCharBoundary (string_bytes (arc_value t.whole)) t.begin × IsCharBoundary (string_bytes (arc_value t.whole)) t.end)
+        × (IsTrue t.ascii → IsAscii (string_bytes (arc_value t.whole))) };
 }
 
 impl SharedText {

@@ -9,17 +9,17 @@ pub overflow_add-self : goal.overflow_add-self
 overflow_add-self c =
     let i = c.self.inside in
     let h = rw (← c.self.view_is) at c.requires in
-    let n = onward (string_bytes (arc_value i.whole)) i.begin i.end c.args.bytes (IsUtf8-string_bytes (arc_value i.whole)) c.self.invariant h in
+    let n = onward (string_bytes (arc_value i.whole)) i.begin i.end c.args.bytes (IsUtf8-string_bytes (arc_value i.whole)) c.self.invariant.0 h in
     omega (arith, n)
 
 pub invariant_of-self : goal.invariant_of-self
 invariant_of-self c =
     let i = c.self.inside in
     let h = rw (← c.self.view_is) at c.requires in
-    rest-place (string_bytes (arc_value i.whole)) i.begin i.end c.args.bytes (IsUtf8-string_bytes (arc_value i.whole)) c.self.invariant h
+    (rest-place (string_bytes (arc_value i.whole)) i.begin i.end c.args.bytes (IsUtf8-string_bytes (arc_value i.whole)) c.self.invariant.0 h, c.self.invariant.1)
 
 pub returns : goal.returns
 returns c =
     let i = c.self.inside in
     let h = rw (← c.self.view_is) at c.requires in
-    rw (← c.self.view_is) (skipped (string_bytes (arc_value i.whole)) i.begin i.end c.args.bytes (IsUtf8-string_bytes (arc_value i.whole)) c.self.invariant h)
+    rw (← c.self.view_is) (skipped (string_bytes (arc_value i.whole)) i.begin i.end c.args.bytes (IsUtf8-string_bytes (arc_value i.whole)) c.self.invariant.0 h)
