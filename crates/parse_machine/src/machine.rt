@@ -669,7 +669,7 @@ impl Machine {
         ops: &mut Ops,
     ) -> Result<PageEnd, NoMemory>
         // The operations, the next state and the answer are those of the ending.
-        ensures ended { IfOk result (λ end. EndsAs (end_batch table.now self.old ending) ops.old self.new ops.new end) }
+        ensures { IfOk result (λ end. EndsAs (end_batch table.now self.old ending) ops.old self.new ops.new end) }
     {
         match ending {
             Ending::End => {
