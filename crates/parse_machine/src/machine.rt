@@ -641,12 +641,7 @@ impl Machine {
     }
 
     // Takes the end of the input.
-    fn end_input(
-        &mut self,
-        alloc: Global,
-        table: &Table,
-        ops: &mut Ops,
-    ) -> Result<Finish, NoMemory>
+    fn end_input(&mut self, alloc: Global, table: &Table, ops: &mut Ops) -> Result<Finish, NoMemory>
         ensures { IfOk result (λ finish. after_all ops.old (finished table.now self.old) ≡ record { ops = ops.new; parser = self.new; finish = finish }) }
     {
         match end_and_build(alloc, table, &mut self.tokenizer, &mut self.builder, ops) {
