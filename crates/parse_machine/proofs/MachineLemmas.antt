@@ -33,8 +33,7 @@ use Rattle.standard_laws.proofs.Parse.{parse-append}
 use Rattle.html_types.specs.declared.script.Ending.{Ending}
 use Rattle.html_types.specs.declared.script.Ending.TheVariants as ending
 use Rattle.html_types.specs.declared.script.Why.{Why}
-use Rattle.html_types.specs.declared.script.Why.TheVariants as why
-use Rattle.core_rules.specs.Batches.{Batch, finishing, refusing, finish_batch, refusal_batch, end_batch}
+use Rattle.core_rules.specs.Batches.{Batch, finishing, refusal_batch, end_batch}
 use Rattle.parse_machine.specs.declared.machine.PageEnd.{PageEnd}
 use Rattle.parse_machine.specs.declared.machine.PageEnd.TheVariants as page_end
 use Rattle.parse_machine.specs.Machine.{WentTo, EndedTo, finished_as, stops, RanAs, halt_at, EndsAs}
@@ -272,15 +271,24 @@ finished-read es s cr b o f is = is
 
 -- ---- the page's ending
 
-pub ends-well : (p p' : Parser) (o o' : List Op) (f : Finished) (k : Finish) (x : PageEnd) → after_all o f ≡ record { ops = o'; parser = p'; finish = k } → halt_at x ≡ finishing k → EndsAs (finish_batch p f) o p' o' x
-ends-well p p' o o' f k x e is = record {
-  ops = sym (ap (λ (g : Finished). g.ops) e);
-  state = sym (ap (λ (g : Finished). g.parser) e);
-  answer = is ∙ ap (λ (g : Finished). finishing g.finish) (sym e);
-}
+pub ends-well : (es : Entities) (p p' : Parser) (o o' : List Op) (e : Ending) (k : Finish) (x : PageEnd) → e ≡ ending.End → after_all o (finish es p) ≡ finished_as o' p' k → halt_at x ≡ finishing k
+    → EndsAs (end_batch es p e) o p' o' x
+ends-well es p p' o o' e k x at_end run is =
+    subst (λ (y : Ending). EndsAs (end_batch es p y) o p' o' x) (sym at_end)
+    (record {
+      ops = sym (ap (λ (g : Finished). g.ops) run);
+      state = sym (ap (λ (g : Finished). g.parser) run);
+      answer = is ∙ ap (λ (g : Finished). finishing g.finish) (sym run);
+    })
 
-pub ends-refused : (p : Parser) (o : List Op) (w : Why) → EndsAs (refusal_batch p w) o p o (page_end.Refused w)
-ends-refused p o w = record { ops = sym (append-nil o); state = refl; answer = refl }
+pub ends-refused : (p : Parser) (o : List Op) (w : Why) (b : Batch) → b ≡ refusal_batch p w → EndsAs b o p o (page_end.Refused w)
+ends-refused p o w b is =
+    subst (λ (y : Batch). EndsAs y o p o (page_end.Refused w)) (sym is)
+    (record {
+      ops = sym (append-nil o);
+      state = refl;
+      answer = refl;
+    })
 
 -- ---- a text
 

@@ -641,12 +641,7 @@ impl Machine {
     }
 
     // Takes the end of the input.
-    fn end_input(
-        &mut self,
-        alloc: Global,
-        table: &Table,
-        ops: &mut Ops,
-    ) -> Result<Finish, NoMemory>
+    fn end_input(&mut self, alloc: Global, table: &Table, ops: &mut Ops) -> Result<Finish, NoMemory>
         ensures { IfOk result (λ finish. after_all ops.old (finished table.now self.old) ≡ record { ops = ops.new; parser = self.new; finish = finish }) }
     {
         match end_and_build(alloc, table, &mut self.tokenizer, &mut self.builder, ops) {
@@ -669,7 +664,7 @@ impl Machine {
         ops: &mut Ops,
     ) -> Result<PageEnd, NoMemory>
         // The operations, the next state and the answer are those of the ending.
-        ensures ended { IfOk result (λ end. EndsAs (end_batch table.now self.old ending) ops.old self.new ops.new end) }
+        ensures { IfOk result (λ end. EndsAs (end_batch table.now self.old ending) ops.old self.new ops.new end) }
     {
         match ending {
             Ending::End => {
