@@ -1,6 +1,5 @@
 -- So many bytes of the piece in hand are executed.
-use Rattle.std.proofs.Common.{◌≡◌, ◌≤◌, ◌+◌, ◌-◌, ℕ, List, ◌∷◌, ◌++◌, length, take, drop, sym, ◌∙◌, ap, subst, arith, length-append}
-use Rattle.std.specs.List.{slice_range}
+use Rattle.std.proofs.Common.{◌≡◌, ◌≤◌, ◌+◌, ℕ, List, ◌∷◌, ◌++◌, length, take, drop, sym, ◌∙◌, ap, subst, arith, length-append}
 use Rattle.std.specs.Str.{chars, IsUtf8, IsCharBoundary, encode_utf8_all}
 use Rattle.std.proofs.lemmas.Str.{encodes-chars, chars-append, IsUtf8-take}
 use Rattle.std.proofs.lemmas.List.{take-append-drop}
@@ -13,7 +12,7 @@ use Rattle.core_steps.specs.Acting.{used_up, IsFront, UsedUp}
 use Rattle.core_steps.proofs.Events.{front-at}
 
 module _ (left v : List ℕ) (bytes : ℕ) (is : chars v ≡ left) (utf8 : IsUtf8 v) (f : IsFront bytes left) where
-  pub text-boundary : IsCharBoundary v bytes
+  text-boundary : IsCharBoundary v bytes
   text-boundary = (front-at left v bytes f.front f.rest is utf8 f.utf8 f.size f.is).0
 
   encoded : encode_utf8_all left ≡ v
@@ -26,12 +25,12 @@ module _ (left v : List ℕ) (bytes : ℕ) (is : chars v ≡ left) (utf8 : IsUtf
   rest-is front behind u size split = ap (λ x. chars (drop bytes x)) encoded ∙ (front-at left v bytes front behind is utf8 u size split).1
 
   -- how long the two parts are
-  sizes : length left ≡ length (chars (take bytes v)) + length (chars (drop bytes (encode_utf8_all left)))
+  sizes : length left ≡ length (chars (take bytes (encode_utf8_all left))) + length (chars (drop bytes (encode_utf8_all left)))
   sizes =
       let all : left ≡ chars (take bytes v) ++ chars (drop bytes v) =
       sym is ∙ (ap chars (sym (take-append-drop bytes v)) ∙ chars-append (take bytes v) (drop bytes v) (IsUtf8-take v bytes utf8 text-boundary)) in
       ap length all
-      ∙ (length-append (chars (take bytes v)) (chars (drop bytes v)) ∙ ap (λ x. length (chars (take bytes v)) + length (chars (drop bytes x))) (sym encoded))
+      ∙ (length-append (chars (take bytes v)) (chars (drop bytes v)) ∙ ap (λ x. length (chars (take bytes x)) + length (chars (drop bytes x))) (sym encoded))
 
 -- the place behind a part of what is left is in the page
 pub place-fits : (place sent_to n m : ℕ) (k : Kept) (j : Journal) → IsPlaced place sent_to k j → length k.left.text ≡ n + m → place + n ≤ 1073741824
@@ -50,15 +49,13 @@ placed-used place sent_to n k rest j h size =
       within = h.within;
     }
 
-module _ (old : Side) (v : List ℕ) (bytes n : ℕ) (is : chars v ≡ old.ledger.left.text) (utf8 : IsUtf8 v) (f : IsFront bytes old.ledger.left.text) (size : n ≡ length (chars (slice_range v 0 bytes)))
+module _ (old : Side) (v : List ℕ) (bytes n : ℕ) (is : chars v ≡ old.ledger.left.text) (utf8 : IsUtf8 v) (f : IsFront bytes old.ledger.left.text) (size : n ≡ length (chars (take bytes (encode_utf8_all old.ledger.left.text))))
     (placed : IsPlaced old.counts.place old.counts.sent_to old.ledger old.journal) where
   abbrev rest : List ℕ
   rest = chars (drop bytes (encode_utf8_all old.ledger.left.text))
 
   left-size : length old.ledger.left.text ≡ n + length rest
-  left-size =
-      let all : bytes - 0 ≡ bytes = omega arith in
-      sizes old.ledger.left.text v bytes is utf8 f ∙ ap (λ m. m + length rest) (sym (size ∙ ap (λ k. length (chars (take k v))) all))
+  left-size = sizes old.ledger.left.text v bytes is utf8 f ∙ ap (λ m. m + length rest) (sym size)
 
   pub use-fits : old.counts.place + n ≤ 1073741824
   use-fits = place-fits old.counts.place old.counts.sent_to n (length rest) old.ledger old.journal placed left-size

@@ -200,7 +200,14 @@ impl DocSide {
         self.side.status()
     }
 
-    /// The lines that scripts gave since lines were last taken.
+    /// The lines that scripts gave since lines were last taken. After want of memory it tells nothing.
+    pub fn lines(&self) -> &Lines
+        ensures { self.now.spent ≡ false → self.now.desk.own.side.lines ≡ self.now.given ++ result.now }
+    {
+        self.side.lines()
+    }
+
+    /// Takes the lines that scripts gave since lines were last taken.
     pub fn take_lines(&mut self) -> Result<Lines, NoMemory>
         ensures spent { self.old.spent ≡ true → IsErr result }
         ensures lines { IfOk result (λ lines. self.old.desk.own.side.lines ≡ self.old.given ++ lines) }

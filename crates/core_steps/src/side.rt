@@ -260,6 +260,13 @@ impl Side {
     }
 
     /// The lines that scripts gave since lines were last taken.
+    pub fn lines(&self) -> &Lines
+        ensures { result.now ≡ self.now.writer.lines }
+    {
+        self.writer.lines()
+    }
+
+    /// Takes the lines that scripts gave since lines were last taken.
     pub fn take_lines(&mut self) -> Result<Lines, NoMemory>
         requires { IsSound self.old }
         ensures lines { IfOk result (λ lines. self.old.writer.lines ≡ lines) }
@@ -318,7 +325,10 @@ impl Side {
         requires placed { IsPlaced self.old.counts.place self.old.counts.sent_to self.old.ledger self.old.journal }
         ensures { UsedUp bytes self.old self.new }
     {
-        let characters = self.ledger.left().text().count_front(bytes);
+        let left = self.ledger.left().text();
+        // That what is left is UTF-8 is known of its str.
+        let _read = left.as_str();
+        let characters = left.count_front(bytes);
         self.ledger.used(bytes);
         self.counts.place += characters as u64;
     }

@@ -60,6 +60,13 @@ impl Writer {
     }
 
     /// The lines that scripts gave since lines were last taken.
+    pub fn lines(&self) -> &Lines
+        ensures { result.now ≡ self.now.lines }
+    {
+        &self.live.lines
+    }
+
+    /// Takes the lines that scripts gave since lines were last taken.
     pub fn take_lines(&mut self) -> Lines
         ensures lines { result ≡ self.old.lines }
         ensures others { self.new ≡ record self.old { lines = [] } }

@@ -7,4 +7,4 @@ use Rattle.core_steps.proofs.side.Side.send.Goals as goal
 pub returns-clause-sound : goal.returns-clause-sound
 returns-clause-sound c =
     sound-sent c.args.self.now c.keep.new.self _ c.count.result _ c.in_ok-piece.piece c.keep.new.self.to_send c.add_event.new.self c.requires.sound c.in_ok-piece.ensures.piece c.in_ok-piece.ensures.kept refl
-    (c.count.ensures ∙ ap length (c.as_str.ensures ∙ c.text.ensures)) (ap (λ (j : Journal). j.pieces) c.in_ok-add_event.ensures.ok)
+    (c.count.ensures ∙ ap length c.text.ensures) (ap (λ (j : Journal). j.pieces) c.in_ok-add_event.ensures.ok)
