@@ -214,12 +214,7 @@ fn run_in_force<E: InForce>(
 
 /// Runs a page until no event is enabled, each time taking the next event of `order`, which is gone over again and again, or else the first
 /// that is enabled. `NoMemory` also where the page is long.
-pub fn run(
-    alloc: Global,
-    table: &Table,
-    page: Page<'_>,
-    order: &[Kind],
-) -> Result<Told, NoMemory>
+pub fn run(alloc: Global, table: &Table, page: Page<'_>, order: &[Kind]) -> Result<Told, NoMemory>
     requires some { 0 < page.ahead }
     requires few { page.ahead ≤ 64 }
 {
