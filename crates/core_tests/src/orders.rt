@@ -68,7 +68,10 @@ fn each_order_gives_the_serial_parse(rt: HostRuntime) -> Result<(), Fail> {
             let told = run(alloc, &table, Page { text, cut, ahead }, order.as_slice())?;
             assert!(rt; told.done, "page {number}, {ahead} ahead");
             assert!(rt; told.written.same(&wanted), "page {number}, {ahead} ahead");
-            assert!(rt; within_bounds(&told, failed, ahead), "page {number}, {ahead} ahead");
+            assert!(rt;
+                within_bounds(&told, failed, ahead),
+                "page {number}, {ahead} ahead"
+            );
         }
     }
     Ok(())

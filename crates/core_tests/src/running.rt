@@ -105,7 +105,7 @@ fn are_short(pieces: &[Text]) -> bool
 
 // A page that is run.
 #[derive(Drop)]
-struct Run<E: InForce> {
+struct PageRun<E: InForce> {
     alloc: Global,
     pair: Pair<E>,
     events: Vec<Kind>,
@@ -113,8 +113,8 @@ struct Run<E: InForce> {
     dropped: u64,
 }
 
-impl<E: InForce> Run<E> {
-    fn new(alloc: Global, table: &Table, page: Page<'_>) -> Result<Run<E>, NoMemory>
+impl<E: InForce> PageRun<E> {
+    fn new(alloc: Global, table: &Table, page: Page<'_>) -> Result<PageRun<E>, NoMemory>
         requires entities { table.now ≡ E.entities }
         requires some { 0 < page.ahead }
         requires few { page.ahead ≤ 64 }
@@ -133,7 +133,7 @@ impl<E: InForce> Run<E> {
             scripts,
             ahead: page.ahead,
         };
-        Ok(Run {
+        Ok(PageRun {
             alloc,
             pair: Pair::new(alloc, setup)?,
             events: Vec::new(alloc),
@@ -174,7 +174,7 @@ impl<E: InForce> Run<E> {
     }
 
     fn told(self) -> Result<Told, NoMemory> {
-        let Run {
+        let PageRun {
             alloc,
             mut pair,
             events,
@@ -203,7 +203,7 @@ fn run_in_force<E: InForce>(
     requires some { 0 < page.ahead }
     requires few { page.ahead ≤ 64 }
 {
-    let mut run = Run::<E>::new(alloc, table, page)?;
+    let mut run = PageRun::<E>::new(alloc, table, page)?;
     for kind in order.iter().cycle().take(100_000) {
         if !run.take_any(*kind)? {
             break;
@@ -214,12 +214,7 @@ fn run_in_force<E: InForce>(
 
 /// Runs a page until no event is enabled, each time taking the next event of `order`, which is gone over again and again, or else the first
 /// that is enabled. `NoMemory` also where the page is long.
-pub fn run(
-    alloc: Global,
-    table: &Table,
-    page: Page<'_>,
-    order: &[Kind],
-) -> Result<Told, NoMemory>
+pub fn run(alloc: Global, table: &Table, page: Page<'_>, order: &[Kind]) -> Result<Told, NoMemory>
     requires some { 0 < page.ahead }
     requires few { page.ahead ≤ 64 }
 {
