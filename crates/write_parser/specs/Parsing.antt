@@ -1,5 +1,5 @@
 -- What the machine and the document do together.
-use Rattle.std.specs.Prelude.{◌≢◌, ◌<◌, ℕ, List, length, drop}
+use Rattle.std.specs.Prelude.{◌≡◌, ◌≢◌, ◌<◌, ℕ, List, length, drop}
 use Rattle.std.specs.Str.{chars, IsCharBoundary}
 use Rattle.html_types.specs.declared.instruction.Stop.{Stop}
 use Rattle.html_types.specs.declared.instruction.Stop.TheVariants as stop
