@@ -4,7 +4,7 @@ ghost use Rattle.std.specs.Prelude.{◌≡◌, None, IfOk, IsTrue};
 
 use crate::written::{SCRIPT, Written};
 use entity_table::Table;
-use html_types::{NoMemory, Stop};
+use html_types::{Ending, NoMemory, Stop};
 use std::alloc::Global;
 use write_parser::{Left, Writer};
 
@@ -44,7 +44,7 @@ pub fn serial(alloc: Global, table: &Table, text: &str) -> Result<Written, NoMem
             return Err(NoMemory);
         }
     }
-    writer.finish(table)?;
+    writer.finish(table, Ending::End)?;
     let lines = writer.take_lines();
     Written::new(alloc, writer.doc(), &lines)
 }
