@@ -1,6 +1,6 @@
 //! What ids stand for.
 
-ghost use Rattle.std.specs.Prelude.{◌≡◌, ◌<◌, ◌++◌, ◌∷◌, [], length, IsTrue, OnOk, OnErr, None};
+ghost use Rattle.std.specs.Prelude.{◌≡◌, ◌<◌, ◌++◌, ◌∷◌, [], length, IsTrue, OnOk, OnErr, IfOk, None};
 ghost use Rattle.std.specs.Option.{ForSome};
 ghost use Rattle.std.specs.BTreeMap.{insert_entry};
 ghost use Rattle.standard.specs.Tree.{Keeps};
@@ -18,7 +18,14 @@ use std::marker::Model;
 #[derive(Drop)]
 struct Realm {
     realm: u64,
-    nodes: Vec<usize>,
+    nodes: Vec<u32>,
+}
+
+// The number of the tree's next node, for a list: a tree has no more nodes than 32 bits can number.
+fn next_number(tree: &Tree) -> Result<u32, NoMemory>
+    ensures { IfOk result (λ number. number ≡ length tree.now) }
+{
+    u32::try_from(tree.len()).map_err(|_| NoMemory)
 }
 
 // So many realms have a list of their own. Looking through them is then as fast as a search, however many scripts made elements.
@@ -49,7 +56,7 @@ fn listed(realms: &[Realm], id: NodeId) -> Option<usize>
 {
     for realm in realms {
         if realm.realm == id.realm && id.n < realm.nodes.len() as u64 {
-            return Some(realm.nodes[id.n as usize]);
+            return Some(realm.nodes[id.n as usize] as usize);
         }
     }
     None
@@ -78,7 +85,7 @@ fn next_in(realms: &[Realm], id: NodeId) -> Option<usize>
 
 // A new element, which the list names last.
 fn make_in_list(
-    nodes: &mut Vec<usize>,
+    nodes: &mut Vec<u32>,
     tree: &mut Tree,
     name: Name,
     attributes: Attributes,
@@ -89,7 +96,7 @@ fn make_in_list(
     ensures err_made { OnErr result (tree.new ≡ tree.old) }
     ensures keeps { Keeps tree.old tree.new }
 {
-    let number = tree.len();
+    let number = next_number(tree)?;
     nodes.reserve(1)?;
     make_element(tree, name, attributes)?;
     nodes.push(number)?;
@@ -113,7 +120,7 @@ fn make_in_realm(
     ensures keeps { Keeps tree.old tree.new }
 {
     let mut nodes = Vec::new(alloc);
-    nodes.push(tree.len())?;
+    nodes.push(next_number(tree)?)?;
     realms.reserve(1)?;
     make_element(tree, name, attributes)?;
     realms.insert(
