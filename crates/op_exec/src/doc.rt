@@ -6,7 +6,7 @@ ghost use Rattle.html_types.specs.declared.operation.Op.TheVariants as op;
 
 use crate::bound::Bound;
 use crate::script::{ScriptKind, kind_of_script};
-use doc_tree::Tree;
+use doc_tree::{Put, Tree};
 use html_types::{Attributes, Kind, Name, NoMemory, NodeId, Op, Ops, Place, Text};
 use std::alloc::Global;
 use std::marker::Model;
@@ -321,6 +321,19 @@ impl Doc {
         ensures { self.new ≡ record self.old { tree = detached self.old.tree node } }
     {
         self.tree.detach(node);
+    }
+
+    /// Puts the second element at the end of the first one's children, from wherever it stands; a template's are its own, not its contents'.
+    /// Impossible, and then nothing changes, exactly where the second is the first or the first stands under it. Texts that come to stand side
+    /// by side aren't joined, and what ids stand for stays.
+    pub fn move_last(&mut self, first: usize, second: usize) -> Result<Put, NoMemory>
+        requires first_element { is_element_at self.old.tree first ≡ true }
+        requires second_element { is_element_at self.old.tree second ≡ true }
+        ensures answer { IfOk result (λ put. put ≡ (if lies_in self.old.tree first second then Put.Impossible else Put.Done)) }
+        ensures ok { OnOk result (self.new ≡ record self.old { tree = (if lies_in self.old.tree first second then self.old.tree else moved self.old.tree second first None) }) }
+        ensures err { OnErr result (self.new ≡ self.old) }
+    {
+        self.tree.put_last(second, first)
     }
 }
 

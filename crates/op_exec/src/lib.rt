@@ -7,6 +7,7 @@ mod element;
 mod script;
 
 pub use doc::Doc;
+pub use doc_tree::Put;
 pub use script::ScriptKind;
 
 #[cfg(test)]

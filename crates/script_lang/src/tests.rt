@@ -42,11 +42,22 @@ fn form_feed(rt: HostRuntime) -> Result<(), Fail> {
 }
 
 #[test]
-fn four_statements(rt: HostRuntime) -> Result<(), Fail> {
-    let text = "document.write(\"\");document.getElementById(\"a\").remove();\
+fn six_statements(rt: HostRuntime) -> Result<(), Fail> {
+    let text = "document.write(\"\");document.writeln(\"\");document.getElementById(\"a\").remove();\
+        document.getElementById(\"a\").append(document.getElementById(\"b\"));\
         console.log(document.documentElement.outerHTML);\
         console.log(document.getElementById(\"a\").outerHTML);";
-    assert_eq!(rt; count(rt.alloc(), text)?, Some(4));
+    assert_eq!(rt; count(rt.alloc(), text)?, Some(6));
+    Ok(())
+}
+
+#[test]
+fn two_elements_of_a_move(rt: HostRuntime) -> Result<(), Fail> {
+    let text = "document.getElementById(\"a\").append(document.getElementById(\"b\"));";
+    let script = read(rt.alloc(), text)?.unwrap();
+    assert!(rt;
+        matches!(script.as_slice(), [Statement::Append(first, second)] if first.is("a") && second.is("b"))
+    );
     Ok(())
 }
 
