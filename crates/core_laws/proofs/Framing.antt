@@ -12,7 +12,7 @@ use Rattle.html_types.specs.declared.script.Statement.TheVariants as statement
 use Rattle.html_types.specs.declared.instruction.Stop.{Stop}
 use Rattle.html_types.specs.declared.instruction.Stop.TheVariants as stop
 use Rattle.standard.specs.Entities.{Entities}
-use Rattle.standard.specs.Tree.{detached, find_id, first_element}
+use Rattle.standard.specs.Tree.{Nodes, detached, appended, find_id, first_element}
 use Rattle.standard.specs.Outer.{outer_text}
 use Rattle.standard.specs.Act.{Doc, acts, node_of}
 use Rattle.standard.specs.Statements.{statements}
@@ -21,7 +21,7 @@ use Rattle.standard.specs.Prepare.{Prepared, still, inline, external, prepare}
 use Rattle.standard.specs.Parser.{Parser, Took, took, take_character, Parsed, parse}
 use Rattle.rule_laws.specs.Naming.{rename_parser, rename_ops, rename_stop, rename_took}
 use Rattle.standard_laws.specs.Laws.{executed}
-use Rattle.standard.specs.Serial.{World, fetched, Serial, Course, goes, refuses, starved, ◌then◌, advanced, advance, before_point, after_point, moved, tree_of, inside, back_at, insert, awaiting, remove, with_line, read, one_more_executed, prepared, write_limit, execute, run_statements, on_element, write, go_on, stopped, end_of_script, run_prepared, Moment, reading, tag_ended, awaits, over, refusal, after_script, after_fetch, behind_script, unless_pending, read_next, after_character, moment_after}
+use Rattle.standard.specs.Serial.{World, fetched, Serial, Course, goes, refuses, starved, ◌then◌, advanced, advance, before_point, after_point, moved, tree_of, inside, back_at, with_line_feed, may_write, insert, awaiting, with_tree, remove, with_line, read, one_more_executed, prepared, execute, run_statements, on_element, on_move, write, go_on, stopped, end_of_script, run_prepared, Moment, reading, tag_ended, awaits, over, refusal, after_script, after_fetch, behind_script, unless_pending, read_next, after_character, moment_after}
 use Rattle.standard_laws.proofs.Parse.{advance-parse}
 use Rattle.rule_laws.proofs.RenamingTexts.{texts-renamed, characters-renamed}
 use Rattle.core_laws.specs.Alike.{own_of, behind, Okay, Both, ScriptsRename, AreAlike, MomentsRename, FetchesRename}
@@ -90,11 +90,16 @@ module _ (r : NodeId → NodeId) (page : List ℕ) where
       run_statements-both zero k list s d o = refl
       run_statements-both (suc n) k [] s d o = (s, d, refl, refl, o)
       run_statements-both (suc n) k (statement.Write t ∷ list) s d o =
-          both_then _ _ _ _ (write-both n (nat_le (s.side.written + length t) write_limit) t s d o) (λ s' d' o'. run_statements-both n k list s' d' o')
+          both_then _ _ _ _ (write-both n (may_write t s) t s d o) (λ s' d' o'. run_statements-both n k list s' d' o')
+      run_statements-both (suc n) k (statement.WriteLine t ∷ list) s d o =
+          both_then _ _ _ _ (write-both n (may_write (with_line_feed t) s) (with_line_feed t) s d o) (λ s' d' o'. run_statements-both n k list s' d' o')
       run_statements-both (suc n) k (statement.Remove v ∷ list) s d o =
           subst (λ x. Both r page (on_element n w k list remove (find_id (tree_of s) v) (behind page s)) (on_element n w k list remove (find_id x v) (own_of r d s))) (sym o.same.tree)
           (on_element-both n k list remove (find_id (tree_of s) v) s d o
           (λ e. (remove e s, record d { tree = detached d.tree e }, refl, refl, record { same = record { tree = ap (λ x. detached x e) o.same.tree; bound = o.same.bound }; named = o.named; renames = o.renames; served = o.served; serial = o.serial })))
+      run_statements-both (suc n) k (statement.Append v c ∷ list) s d o =
+          subst (λ x. Both r page (on_move n w k list (appended (tree_of s) (find_id (tree_of s) v) (find_id (tree_of s) c)) (behind page s)) (on_move n w k list (appended x (find_id x v) (find_id x c)) (own_of r d s))) (sym o.same.tree)
+          (on_move-both n k list (appended (tree_of s) (find_id (tree_of s) v) (find_id (tree_of s) c)) s d o)
       run_statements-both (suc n) k (statement.LogById v ∷ list) s d o =
           subst (λ x. Both r page (on_element n w k list (read k) (find_id (tree_of s) v) (behind page s)) (on_element n w k list (read k) (find_id x v) (own_of r d s))) (sym o.same.tree)
           (on_element-both n k list (read k) (find_id (tree_of s) v) s d o (λ e. (read k e s, d, refl, reads k e s d o, o)))
@@ -110,6 +115,14 @@ module _ (r : NodeId → NodeId) (page : List ℕ) where
       on_element-both (suc n) k list work (Some e) s d o each =
           subst (λ u. Both r page (run_statements n w k list u) (run_statements n w k list (work e (own_of r d s)))) (sym (each e).2)
           (subst (λ u. Both r page (run_statements n w k list (behind page (each e).0)) (run_statements n w k list u)) (sym (each e).3) (run_statements-both n k list (each e).0 (each e).1 (each e).4))
+
+      on_move-both : (n k : ℕ) (list : List Statement) (left : Option Nodes) (s : Serial) (d : Doc) → Okay r s.parser s.side.doc d →
+          Both r page (on_move n w k list left (behind page s)) (on_move n w k list left (own_of r d s))
+      on_move-both zero k list left s d o = refl
+      on_move-both (suc n) k list None s d o = (with_line (line.Throw k) s, d, refl, refl, o)
+      on_move-both (suc n) k list (Some t) s d o =
+          run_statements-both n k list (with_tree t s) (record d { tree = t })
+          (record { same = record { tree = refl; bound = o.same.bound }; named = o.named; renames = o.renames; served = o.served; serial = o.serial })
 
       write-both : (n : ℕ) (fits : Bool) (t : List ℕ) (s : Serial) (d : Doc) → Okay r s.parser s.side.doc d → Both r page (write n w fits t (behind page s)) (write n w fits t (own_of r d s))
       write-both zero fits t s d o = refl

@@ -39,8 +39,12 @@ pub enum Why {
 pub enum Statement {
     /// `document.write("V");`
     Write(Text),
+    /// `document.writeln("V");`
+    WriteLine(Text),
     /// `document.getElementById("V").remove();`
     Remove(Text),
+    /// `document.getElementById("V").append(document.getElementById("W"));`: the second element comes last among the first one's children.
+    Append(Text, Text),
     /// `console.log(document.getElementById("V").outerHTML);`
     LogById(Text),
     /// `console.log(document.documentElement.outerHTML);`

@@ -15,7 +15,7 @@ use Rattle.html_types.specs.declared.instruction.Stop.TheVariants as stop
 use Rattle.html_types.specs.declared.instruction.Finish.TheVariants as finale
 use Rattle.standard.specs.Page.{Page}
 use Rattle.standard.specs.Entities.{Entities}
-use Rattle.standard.specs.Tree.{Nodes, detached, find_id, first_element}
+use Rattle.standard.specs.Tree.{Nodes, detached, appended, find_id, first_element}
 use Rattle.standard.specs.Act.{Doc, new_doc, acts, node_of}
 use Rattle.standard.specs.Outer.{outer_text}
 use Rattle.standard.specs.Prepare.{Prepared, still, inline, external, prepare}
@@ -127,6 +127,14 @@ write_limit = 1048576
 abbrev pub tree_of : Serial → Nodes
 tree_of s = s.side.doc.tree
 
+-- what document.writeln() writes: the text and a line feed
+abbrev pub with_line_feed : List ℕ → List ℕ
+with_line_feed t = t ++ 10 ∷ []
+
+-- whether scripts may write the text too
+abbrev pub may_write : List ℕ → Serial → Bool
+may_write t s = nat_le (s.side.written + length t) write_limit
+
 -- the text stands in the input just before the insertion point
 abbrev pub insert : List ℕ → Serial → Serial
 insert t s = record s { input = before_point s ++ t ++ after_point s; side = record s.side { written = s.side.written + length t } }
@@ -152,9 +160,13 @@ back_at s t = at_level s.side.level (at_point s.point t)
 abbrev pub inside : Serial → Serial
 inside s = at_level (suc s.side.level) (at_point (length s.input) s)
 
+-- a script changed the tree
+abbrev pub with_tree : Nodes → Serial → Serial
+with_tree t s = record s { side = record s.side { doc = record s.side.doc { tree = t } } }
+
 -- the element is taken out of its parent
 abbrev pub remove : ℕ → Serial → Serial
-remove e s = record s { side = record s.side { doc = record s.side.doc { tree = detached (tree_of s) e } } }
+remove e s = with_tree (detached (tree_of s) e) s
 
 -- script k reads the element
 abbrev pub read : ℕ → ℕ → Serial → Serial
@@ -177,8 +189,11 @@ unfoldable mutual
   run_statements zero w k list s = starved
   run_statements (suc n) w k [] s = goes s
   run_statements (suc n) w k (statement.Write t ∷ list) s =
-      write n w (nat_le (s.side.written + length t) write_limit) t s then λ s'. run_statements n w k list s'
+      write n w (may_write t s) t s then λ s'. run_statements n w k list s'
+  run_statements (suc n) w k (statement.WriteLine t ∷ list) s =
+      write n w (may_write (with_line_feed t) s) (with_line_feed t) s then λ s'. run_statements n w k list s'
   run_statements (suc n) w k (statement.Remove v ∷ list) s = on_element n w k list remove (find_id (tree_of s) v) s
+  run_statements (suc n) w k (statement.Append v c ∷ list) s = on_move n w k list (appended (tree_of s) (find_id (tree_of s) v) (find_id (tree_of s) c)) s
   run_statements (suc n) w k (statement.LogById v ∷ list) s = on_element n w k list (read k) (find_id (tree_of s) v) s
   run_statements (suc n) w k (statement.LogRoot ∷ list) s = on_element n w k list (read k) (first_element (tree_of s)) s
 
@@ -188,7 +203,13 @@ unfoldable mutual
   on_element (suc n) w k list work None s = goes (with_line (line.Throw k) s)
   on_element (suc n) w k list work (Some e) s = run_statements n w k list (work e s)
 
-  -- document.write(): past the limit nothing is inserted
+  -- the tree that a move leaves, or the end of this text where the move can't be made; no script is prepared by it
+  pub on_move : ℕ → World → ℕ → List Statement → Option Nodes → Serial → Course
+  on_move zero w k list t s = starved
+  on_move (suc n) w k list None s = goes (with_line (line.Throw k) s)
+  on_move (suc n) w k list (Some t) s = run_statements n w k list (with_tree t s)
+
+  -- document.write(), and of all that it writes document.writeln(): past the limit nothing is inserted
   pub write : ℕ → World → Bool → List ℕ → Serial → Course
   write zero w fits t s = starved
   write (suc n) w false t s = refuses why.Writes s

@@ -1,4 +1,4 @@
--- The language of scripts: four statements of JavaScript. A script's text is a list of statements, with space, TAB, LF
+-- The language of scripts: six statements of JavaScript. A script's text is a list of statements, with space, TAB, LF
 -- and CR before, between and behind them, and none inside them but in a string. A string with its quotes is a JSON
 -- string (RFC 8259, section 7), in which a surrogate stands only in a pair, and it means that string's value.
 use Rattle.std.specs.Prelude.{ℕ, zero, suc, ◌==◌, ◌||◌, Bool, true, false, List, [], ◌∷◌, length, Option, Some, None, option_map, option_and_then, encode_utf8_all, codes}
@@ -6,7 +6,7 @@ use Rattle.std.specs.Str.{chars}
 use Prim.Native.String.{String}
 use Rattle.json.specs.Text.{content, plain}
 use Rattle.html_types.specs.declared.script.Statement.{Statement}
-use Rattle.html_types.specs.declared.script.Statement.TheVariants.{Write, Remove, LogById, LogRoot}
+use Rattle.html_types.specs.declared.script.Statement.TheVariants.{Write, WriteLine, Remove, Append, LogById, LogRoot}
 
 -- space, TAB, LF and CR
 abbrev pub is_white : ℕ → Bool
@@ -61,6 +61,13 @@ string_between before after t = do
 abbrev pub with_string : (List ℕ → Statement) → String → String → List ℕ → Option (Statement × List ℕ)
 with_string of before after t = option_map (λ string. (of string.0, string.1)) (string_between (codes before) (codes after) t)
 
+-- a statement with two strings, and what stands behind it
+abbrev pub with_strings : (List ℕ → List ℕ → Statement) → String → String → String → List ℕ → Option (Statement × List ℕ)
+with_strings of before between after t = do
+  first ← string_between (codes before) (codes between) t
+  second ← string_between [] (codes after) first.1
+  Some (of first.0 second.0, second.1)
+
 abbrev pub or_else : {A : Type 0} → Option A → Option A → Option A
 or_else (Some a) b = Some a
 or_else None b = b
@@ -69,9 +76,11 @@ or_else None b = b
 unfoldable pub statement : List ℕ → Option (Statement × List ℕ)
 statement t =
     or_else (with_string Write "document.write(" ");" t)
+    (or_else (with_string WriteLine "document.writeln(" ");" t)
     (or_else (with_string Remove "document.getElementById(" ").remove();" t)
+    (or_else (with_strings Append "document.getElementById(" ").append(document.getElementById(" "));" t)
     (or_else (with_string LogById "console.log(document.getElementById(" ").outerHTML);" t)
-    (option_map (λ rest. (LogRoot, rest)) (behind (codes "console.log(document.documentElement.outerHTML);") t))))
+    (option_map (λ rest. (LogRoot, rest)) (behind (codes "console.log(document.documentElement.outerHTML);") t))))))
 
 -- The number bounds the statements. One more than the characters is always enough.
 abbrev pub statements_within : ℕ → List ℕ → Option (List Statement)

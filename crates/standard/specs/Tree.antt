@@ -184,6 +184,13 @@ all_put t (c ∷ cs) p = all_put (put_of t c p None) cs p
 abbrev pub children_moved : Nodes → ℕ → ℕ → Nodes
 children_moved t from p = all_put t (children_of t from) p
 
+-- The tree with the second node last among the first one's children (DOM 4.2.6, append): none where either isn't there, or
+-- where the first is the second or stands under it.
+abbrev pub appended : Nodes → Option ℕ → Option ℕ → Option Nodes
+appended t (Some p) (Some n) = if lies_in t p n then None else Some (moved t n p None)
+appended t (Some p) None = None
+appended t None n = None
+
 -- ---- new nodes, and text that joins a Text (13.2.6.1, insert a character and insert a comment)
 
 -- n, which has no parent, put at a place among p's children

@@ -10,15 +10,15 @@ use Rattle.html_types.specs.declared.instruction.Stop.{Stop}
 use Rattle.html_types.specs.declared.instruction.Stop.TheVariants as stop
 use Rattle.html_types.specs.declared.script.Line.{Line}
 use Rattle.html_types.specs.declared.script.Line.TheVariants as line
-use Rattle.standard.specs.Tree.{detached, find_id, first_element}
+use Rattle.standard.specs.Tree.{Nodes, detached, appended, find_id, first_element}
 use Rattle.standard.specs.Act.{Doc}
 use Rattle.standard.specs.Outer.{outer_text}
 use Rattle.standard.specs.Scripts.{file_statements}
 use Rattle.standard.specs.Statements.{statements}
 use Rattle.standard.specs.Parser.{Parser}
-use Rattle.standard.specs.Serial.{World, Serial, Course, goes, refuses, starved, ◌then◌, advanced, advance, before_point, after_point, moved, inside, back_at, insert, remove, with_line, read, execute, run_statements, on_element, write, go_on, stopped, end_of_script, run_prepared}
+use Rattle.standard.specs.Serial.{World, Serial, Course, goes, refuses, starved, ◌then◌, advanced, advance, before_point, after_point, moved, inside, back_at, with_line_feed, insert, with_tree, remove, with_line, read, execute, run_statements, on_element, on_move, write, go_on, stopped, end_of_script, run_prepared}
 use Rattle.standard_laws.specs.Laws.{HasParsed, HasEnded, EndsIn}
-use Rattle.standard_laws.specs.Frames.{Frame, Nest, rests, state_of, back_in, resume_in, resume, NestComesTo, TagComesTo, FramesEnd, ScriptsEnter, FilesEnter, StillTags, ExternalTags, InlineTags, outside_language, OutsideTexts, TextsBegin, begun, parsed_to, RestsEnd, RestsStop, RestsRefuse, Waits, frame_ended, FrameEnds, wrote, WritesFit, WritesRefuse, Removes, ReadsById, ReadsRoot, LacksElement, thrown, Throws}
+use Rattle.standard_laws.specs.Frames.{Frame, Nest, rests, state_of, back_in, resume_in, resume, NestComesTo, TagComesTo, FramesEnd, ScriptsEnter, FilesEnter, StillTags, ExternalTags, InlineTags, outside_language, OutsideTexts, TextsBegin, begun, parsed_to, RestsEnd, RestsStop, RestsRefuse, Waits, frame_ended, FrameEnds, wrote, WritesFit, WritesRefuse, LinesFit, LinesRefuse, Removes, Appends, ReadsById, ReadsRoot, LacksElement, thrown, Throws}
 use Rattle.standard_laws.proofs.Fuel.{Refines, Refines_refl, Refines_trans, Refines_then, run_statements-more, go_on-more}
 use Rattle.standard_laws.proofs.Parse.{advance-parse}
 use Rattle.standard_laws.proofs.Passing.{parse-left}
@@ -325,6 +325,43 @@ write-refuses w x f fs t list e l h lt = at_frames (λ y. NestComesTo w y (refus
         statements-next 0 w f fs x (statement.Write t ∷ list) h l
         ∙ ap (λ k. (write 1 w k t s then λ u. run_statements 1 w f.number list u) then λ u. resume_in 2 w fs x.behind (back_in fs x.behind u)) (lt-leb _ _ lt)
 
+-- ---- a line written is a write of the text and a line feed
+
+as-write : (n : ℕ) (w : World) (k : ℕ) (t : List ℕ) (list : List Statement) (s : Serial) →
+    run_statements n w k (statement.WriteLine t ∷ list) s ≡ run_statements n w k (statement.Write (with_line_feed t) ∷ list) s
+unfolding execute
+as-write zero w k t list s = refl
+as-write (suc n) w k t list s = refl
+
+then_same : (f : Course) (g h : Serial → Course) → ((s : Serial) → g s ≡ h s) → (f then g) ≡ (f then h)
+then_same starved g h each = refl
+then_same (goes s) g h each = each s
+then_same (refuses w t) g h each = refl
+
+-- the frame with that write in its place
+abbrev writing : List ℕ → List Statement → Frame → Frame
+writing t list f = record f { list = statement.Write (with_line_feed t) ∷ list }
+
+line-is-write : (w : World) (f : Frame) (fs : List Frame) (x : Nest) (t : List ℕ) (list : List Statement) (g : Course) → f.list ≡ statement.WriteLine t ∷ list →
+    NestComesTo w (framed (writing t list f) fs x) g → NestComesTo w (framed f fs x) g
+line-is-write w f fs x t list g l (n, q, ended) =
+    let s : Serial = state_of (framed f fs x) in
+    let after : Serial → Course = λ v. resume_in n w fs x.behind (back_in fs x.behind v) in
+    let is : resume n w (framed f fs x) ≡ resume n w (framed (writing t list f) fs x) =
+    then_same (go_on n w x.pending s) _ _
+    (λ u. ap (λ k. run_statements n w f.number k u then after) l ∙ ap (λ (o : Course). o then after) (as-write n w f.number t list u)) in
+    (n, is ∙ q, ended)
+
+pub line-fits : LinesFit
+line-fits w x f fs t list g e l h le c =
+    at_frames (λ y. NestComesTo w y g) x (f ∷ fs) e
+    (line-is-write w f fs x t list g l (write-fits w (framed (writing t list f) fs x) (writing t list f) fs (with_line_feed t) list g refl refl h le c))
+
+pub line-refuses : LinesRefuse
+line-refuses w x f fs t list e l h lt =
+    at_frames (λ y. NestComesTo w y (refuses why.Writes (state_of y))) x (f ∷ fs) e
+    (line-is-write w f fs x t list _ l (write-refuses w (framed (writing t list f) fs x) (writing t list f) fs (with_line_feed t) list refl refl h lt))
+
 -- ---- statements that look for an element
 
 -- a statement was done that changed these
@@ -364,6 +401,18 @@ removes w x f fs v list e g at_f l h found c =
     statement-done w x f fs (statement.Remove v) list list (record x.doc { tree = detached x.doc.tree e }) x.lines g at_f l h
     (λ n. rw (on_element-next n w f.number list remove e (find_id x.doc.tree v) (state_of (framed f fs x)) found) (Refines_refl _)) c
 
+-- where the move can be made the other statements follow on the tree that it leaves
+on_move-next : (n : ℕ) (w : World) (k : ℕ) (list : List Statement) (left : Option Nodes) (t : Nodes) (s : Serial) → left ≡ Some t →
+    on_move (suc n) w k list left s ≡ run_statements n w k list (with_tree t s)
+unfolding execute
+on_move-next n w k list left t s is = ap (λ o. on_move (suc n) w k list o s) is
+
+pub appends : Appends
+unfolding execute
+appends w x f fs v c list t g at_f l h can come =
+    statement-done w x f fs (statement.Append v c) list list (record x.doc { tree = t }) x.lines g at_f l h
+    (λ n. rw (on_move-next n w f.number list (appended x.doc.tree (find_id x.doc.tree v) (find_id x.doc.tree c)) t (state_of (framed f fs x)) can) (Refines_refl _)) come
+
 pub reads_by_id : ReadsById
 unfolding execute
 reads_by_id w x f fs v list e g at_f l h found c =
@@ -382,6 +431,12 @@ no_element-next : (n : ℕ) (w : World) (k : ℕ) (list : List Statement) (work 
 unfolding execute
 no_element-next n w k list work found s is = ap (λ o. on_element (suc n) w k list work o s) is
 
+-- and where the move can't be made
+no_move-next : (n : ℕ) (w : World) (k : ℕ) (list : List Statement) (left : Option Nodes) (s : Serial) → left ≡ None →
+    on_move (suc n) w k list left s ≡ goes (with_line (line.Throw k) s)
+unfolding execute
+no_move-next n w k list left s is = ap (λ o. on_move (suc n) w k list o s) is
+
 ends-at_once : (n : ℕ) (w : World) (k : ℕ) (s : Serial) → Refines (run_statements n w k [] s) (goes s)
 unfolding execute
 ends-at_once zero w k s = tt
@@ -391,7 +446,10 @@ throws-at : (n : ℕ) (w : World) (a : Statement) (list : List Statement) (f : F
     run_statements (suc (suc n)) w f.number (a ∷ list) (state_of (framed f fs x)) ≡ goes (state_of (thrown f fs x))
 unfolding execute
 throws-at n w (statement.Write t) list f fs x lacks = absurd lacks
+throws-at n w (statement.WriteLine t) list f fs x lacks = absurd lacks
 throws-at n w (statement.Remove v) list f fs x lacks = no_element-next n w f.number list remove (find_id x.doc.tree v) (state_of (framed f fs x)) lacks
+throws-at n w (statement.Append v c) list f fs x lacks =
+    no_move-next n w f.number list (appended x.doc.tree (find_id x.doc.tree v) (find_id x.doc.tree c)) (state_of (framed f fs x)) lacks
 throws-at n w (statement.LogById v) list f fs x lacks = no_element-next n w f.number list (read f.number) (find_id x.doc.tree v) (state_of (framed f fs x)) lacks
 throws-at n w statement.LogRoot list f fs x lacks = no_element-next n w f.number list (read f.number) (first_element x.doc.tree) (state_of (framed f fs x)) lacks
 

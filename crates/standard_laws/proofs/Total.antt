@@ -11,14 +11,14 @@ use Rattle.html_types.specs.declared.script.Statement.{Statement}
 use Rattle.html_types.specs.declared.script.Statement.TheVariants as statement
 use Rattle.html_types.specs.declared.instruction.Stop.TheVariants as stop
 use Rattle.standard.specs.Entities.{Entities}
-use Rattle.standard.specs.Tree.{find_id, first_element}
+use Rattle.standard.specs.Tree.{Nodes, appended, find_id, first_element}
 use Rattle.standard.specs.Act.{Doc, acts}
 use Rattle.standard.specs.Statements.{statements}
 use Rattle.standard.specs.Prepare.{Prepared, still, inline, external}
 use Rattle.standard.specs.Scripts.{Fetched, got, missing, faulted, file_statements}
 use Rattle.standard.specs.Parser.{Parser, Took, took, take_character}
 use Rattle.standard.specs.Page.{Page}
-use Rattle.standard.specs.Serial.{World, fetched, Outcome, Serial, Course, goes, refuses, starved, ◌then◌, Advanced, advanced, advance, done_then, before_point, after_point, moved, tree_of, inside, back_at, insert, remove, read, one_more_executed, prepared, write_limit, execute, run_statements, on_element, write, go_on, stopped, end_of_script, run_prepared, run_text, first, Moment, reading, tag_ended, awaits, over, after_character, unless_pending, after_script, after_fetch, read_next, moment_after, moments_on, IsSerial}
+use Rattle.standard.specs.Serial.{World, fetched, Outcome, Serial, Course, goes, refuses, starved, ◌then◌, Advanced, advanced, advance, done_then, before_point, after_point, moved, tree_of, inside, back_at, with_line_feed, may_write, insert, with_tree, remove, read, one_more_executed, prepared, write_limit, execute, run_statements, on_element, on_move, write, go_on, stopped, end_of_script, run_prepared, run_text, first, Moment, reading, tag_ended, awaits, over, after_character, unless_pending, after_script, after_fetch, read_next, moment_after, moments_on, IsSerial}
 use Rattle.standard_laws.proofs.Fuel.{Refines, Refines-by, run_statements-more, write-more, go_on-more, end_of_script-more, run_prepared-more, moment_after-by, moments_on-by, over-by, over-serial}
 
 -- ---- the parser takes characters
@@ -163,19 +163,39 @@ on_element-ends w k list work (Some e) s same-left same-pending rest =
     let same : left (work e s) ≡ left s = same-left e in
     (suc n, Spends-via s (work e s) _ (omega arith) (same-pending e) p)
 
+on_move-ends : (w : World) (k : ℕ) (list : List Statement) (left-there : Option Nodes) (s : Serial) →
+    ((t : Nodes) → Ends (Spends (with_tree t s)) (λ n. run_statements n w k list (with_tree t s))) → Ends (Spends s) (λ n. on_move n w k list left-there s)
+unfolding execute
+on_move-ends w k list None s rest = (1, (omega arith, inr refl))
+on_move-ends w k list (Some t) s rest =
+    let (n, p) = rest t in
+    (suc n, Spends-via s (with_tree t s) _ (omega arith) refl p)
+
+-- a text is written, and then the other statements run
+written-ends : (t : List ℕ) (list : List Statement) (b : ℕ) (w : World) → GoesOn b w → (k : ℕ) → ((s : Serial) → left s < b → Ends (Spends s) (λ n. run_statements n w k list s)) →
+    (s : Serial) → left s < b → Ends (Spends s) (λ n. write n w (may_write t s) t s then λ s'. run_statements n w k list s')
+written-ends t list b w ih k rest s h =
+    Ends-then (Spends s) (Spends s) (λ x. x) (λ x. x) (λ w t. tt) (λ n. write n w (may_write t s) t s) (λ n s'. run_statements n w k list s')
+    (λ n. write-more n w _ t s) (λ s' n. run_statements-more n w k list s')
+    (write-ends b w ih t s h (may_write t s) refl)
+    (λ s' q. let below : left s' < b = omega (arith, q.0) in
+    let (n, p) = rest s' below in (n, Spends-on s s' _ q p))
+
 run_statements-ends : (list : List Statement) (b : ℕ) (w : World) → GoesOn b w → (k : ℕ) (s : Serial) → left s < b → Ends (Spends s) (λ n. run_statements n w k list s)
 unfolding execute
 run_statements-ends [] b w ih k s h = (1, (omega arith, inr refl))
 run_statements-ends (statement.Write t ∷ list) b w ih k s h =
     later (Spends s) (λ n. run_statements n w k (statement.Write t ∷ list) s)
-    (Ends-then (Spends s) (Spends s) (λ x. x) (λ x. x) (λ w t. tt) (λ n. write n w (nat_le (s.side.written + length t) write_limit) t s) (λ n s'. run_statements n w k list s')
-    (λ n. write-more n w _ t s) (λ s' n. run_statements-more n w k list s')
-    (write-ends b w ih t s h (nat_le (s.side.written + length t) write_limit) refl)
-    (λ s' q. let below : left s' < b = omega (arith, q.0) in
-    let (n, p) = run_statements-ends list b w ih k s' below in (n, Spends-on s s' _ q p)))
+    (written-ends t list b w ih k (λ s' h'. run_statements-ends list b w ih k s' h') s h)
+run_statements-ends (statement.WriteLine t ∷ list) b w ih k s h =
+    later (Spends s) (λ n. run_statements n w k (statement.WriteLine t ∷ list) s)
+    (written-ends (with_line_feed t) list b w ih k (λ s' h'. run_statements-ends list b w ih k s' h') s h)
 run_statements-ends (statement.Remove v ∷ list) b w ih k s h =
     later (Spends s) (λ n. run_statements n w k (statement.Remove v ∷ list) s)
     (on_element-ends w k list remove (find_id (tree_of s) v) s (λ e. refl) (λ e. refl) (λ e. run_statements-ends list b w ih k (remove e s) h))
+run_statements-ends (statement.Append v c ∷ list) b w ih k s h =
+    later (Spends s) (λ n. run_statements n w k (statement.Append v c ∷ list) s)
+    (on_move-ends w k list (appended (tree_of s) (find_id (tree_of s) v) (find_id (tree_of s) c)) s (λ t. run_statements-ends list b w ih k (with_tree t s) h))
 run_statements-ends (statement.LogById v ∷ list) b w ih k s h =
     later (Spends s) (λ n. run_statements n w k (statement.LogById v ∷ list) s)
     (on_element-ends w k list (read k) (find_id (tree_of s) v) s (λ e. refl) (λ e. refl) (λ e. run_statements-ends list b w ih k (read k e s) h))

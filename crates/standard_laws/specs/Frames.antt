@@ -16,8 +16,8 @@
 --     a script's end tag     StillTags, ExternalTags, InlineTags; then of its text OutsideTexts or TextsBegin
 --     the innermost frame f  where f.rest isn't empty and no script is pending, the parser takes f.rest: RestsEnd (all is
 --                            used), RestsStop (at a script's end tag: then as above), RestsRefuse (too deep)
---                            else, by f.list: FrameEnds (no statement is left), WritesFit or WritesRefuse, Removes, ReadsById,
---                            ReadsRoot, Throws
+--                            else, by f.list: FrameEnds (no statement is left), WritesFit or WritesRefuse, LinesFit or
+--                            LinesRefuse, Removes, Appends, ReadsById, ReadsRoot, Throws
 --     no frame               FramesEnd
 --
 -- A program that keeps the innermost frame last has `reverse` of its list here.
@@ -32,14 +32,14 @@ use Rattle.html_types.specs.declared.script.Statement.TheVariants as statement
 use Rattle.html_types.specs.declared.script.Line.{Line}
 use Rattle.html_types.specs.declared.script.Line.TheVariants as line
 use Rattle.html_types.specs.declared.instruction.Stop.TheVariants as stop
-use Rattle.standard.specs.Tree.{Nodes, detached, find_id, first_element}
+use Rattle.standard.specs.Tree.{Nodes, detached, appended, find_id, first_element}
 use Rattle.standard.specs.Act.{Doc, node_of}
 use Rattle.standard.specs.Outer.{outer_text}
 use Rattle.standard.specs.Prepare.{Prepared, still, inline, external, prepare}
 use Rattle.standard.specs.Scripts.{file_statements}
 use Rattle.standard.specs.Statements.{statements}
 use Rattle.standard.specs.Parser.{Parser}
-use Rattle.standard.specs.Serial.{World, Serial, Course, goes, refuses, ◌then◌, at_level, at_point, back_at, inside, write_limit, execute, run_statements, go_on, end_of_script}
+use Rattle.standard.specs.Serial.{World, Serial, Course, goes, refuses, ◌then◌, at_level, at_point, back_at, inside, write_limit, with_line_feed, execute, run_statements, go_on, end_of_script}
 use Rattle.standard_laws.specs.Laws.{HasParsed, EndsIn, ScriptComesTo, FileComesTo}
 
 -- ---- the state
@@ -216,6 +216,18 @@ WritesRefuse = (w : World) (x : Nest) (f : Frame) (fs : List Frame) (t : List �
     x.frames ≡ f ∷ fs → f.list ≡ statement.Write t ∷ list → Waits x.pending f.rest → write_limit < x.written + length t →
     NestComesTo w x (refuses why.Writes (state_of x))
 
+-- document.writeln() writes the text and a line feed
+abbrev pub LinesFit : Type 0
+LinesFit = (w : World) (x : Nest) (f : Frame) (fs : List Frame) (t : List ℕ) (list : List Statement) (g : Course) →
+    x.frames ≡ f ∷ fs → f.list ≡ statement.WriteLine t ∷ list → Waits x.pending f.rest → x.written + length (with_line_feed t) ≤ write_limit →
+    NestComesTo w (wrote (with_line_feed t) list f fs x) g → NestComesTo w x g
+
+-- or neither of them
+abbrev pub LinesRefuse : Type 0
+LinesRefuse = (w : World) (x : Nest) (f : Frame) (fs : List Frame) (t : List ℕ) (list : List Statement) →
+    x.frames ≡ f ∷ fs → f.list ≡ statement.WriteLine t ∷ list → Waits x.pending f.rest → write_limit < x.written + length (with_line_feed t) →
+    NestComesTo w x (refuses why.Writes (state_of x))
+
 -- an element was removed
 abbrev pub removed : ℕ → List Statement → Frame → List Frame → Nest → Nest
 removed e list f fs x = record x { doc = record x.doc { tree = detached x.doc.tree e }; frames = record f { list = list } ∷ fs }
@@ -224,6 +236,15 @@ abbrev pub Removes : Type 0
 Removes = (w : World) (x : Nest) (f : Frame) (fs : List Frame) (v : List ℕ) (list : List Statement) (e : ℕ) (g : Course) →
     x.frames ≡ f ∷ fs → f.list ≡ statement.Remove v ∷ list → Waits x.pending f.rest → find_id x.doc.tree v ≡ Some e →
     NestComesTo w (removed e list f fs x) g → NestComesTo w x g
+
+-- an element was moved, which left this tree
+abbrev pub has_moved : Nodes → List Statement → Frame → List Frame → Nest → Nest
+has_moved t list f fs x = record x { doc = record x.doc { tree = t }; frames = record f { list = list } ∷ fs }
+
+abbrev pub Appends : Type 0
+Appends = (w : World) (x : Nest) (f : Frame) (fs : List Frame) (v c : List ℕ) (list : List Statement) (t : Nodes) (g : Course) →
+    x.frames ≡ f ∷ fs → f.list ≡ statement.Append v c ∷ list → Waits x.pending f.rest → appended x.doc.tree (find_id x.doc.tree v) (find_id x.doc.tree c) ≡ Some t →
+    NestComesTo w (has_moved t list f fs x) g → NestComesTo w x g
 
 -- an element was read
 abbrev pub has_read : ℕ → List Statement → Frame → List Frame → Nest → Nest
@@ -239,10 +260,12 @@ ReadsRoot = (w : World) (x : Nest) (f : Frame) (fs : List Frame) (list : List St
     x.frames ≡ f ∷ fs → f.list ≡ statement.LogRoot ∷ list → Waits x.pending f.rest → first_element x.doc.tree ≡ Some e →
     NestComesTo w (has_read e list f fs x) g → NestComesTo w x g
 
--- the element that the statement names isn't there
+-- an element that the statement names isn't there, or can't be put where it says
 abbrev pub LacksElement : Nodes → Statement → Type 0
 LacksElement t (statement.Write v) = ⊥
+LacksElement t (statement.WriteLine v) = ⊥
 LacksElement t (statement.Remove v) = find_id t v ≡ None
+LacksElement t (statement.Append v c) = appended t (find_id t v) (find_id t c) ≡ None
 LacksElement t (statement.LogById v) = find_id t v ≡ None
 LacksElement t statement.LogRoot = first_element t ≡ None
 
