@@ -5,12 +5,12 @@ use Rattle.html_types.specs.declared.script.Ending.{Ending}
 use Rattle.html_types.specs.declared.script.Statement.{Statement}
 use Rattle.html_types.specs.declared.script.Statement.TheVariants as statement
 use Rattle.html_types.specs.declared.instruction.Stop.TheVariants as stop
-use Rattle.standard.specs.Tree.{find_id, first_element}
+use Rattle.standard.specs.Tree.{Nodes, appended, find_id, first_element}
 use Rattle.standard.specs.Page.{Page}
 use Rattle.standard.specs.Prepare.{Prepared, still, inline, external}
 use Rattle.standard.specs.Scripts.{Fetched, got, missing, faulted, is_lawful, file_statements}
 use Rattle.standard.specs.Statements.{statements}
-use Rattle.standard.specs.Serial.{World, fetched_if, fetched, Serial, Course, goes, refuses, starved, ◌then◌, Advanced, advanced, advance, before_point, moved, insert, tree_of, inside, back_at, remove, read, one_more_executed, write_limit, prepared, execute, run_statements, on_element, write, go_on, stopped, end_of_script, run_prepared, run_text, Outcome, Moment, reading, tag_ended, awaits, over, after_script, after_fetch, outcome_in, moment_after, moments_on, first, serial_with, IsSerial, Passes}
+use Rattle.standard.specs.Serial.{World, fetched_if, fetched, Serial, Course, goes, refuses, starved, ◌then◌, Advanced, advanced, advance, before_point, moved, insert, tree_of, inside, back_at, with_line_feed, may_write, with_tree, remove, read, one_more_executed, prepared, execute, run_statements, on_element, on_move, write, go_on, stopped, end_of_script, run_prepared, run_text, Outcome, Moment, reading, tag_ended, awaits, over, after_script, after_fetch, outcome_in, moment_after, moments_on, first, serial_with, IsSerial, Passes}
 use Rattle.page_runner.specs.Scripts.{Alike}
 
 pub alike-refl : (f : Fetched) → Alike f f
@@ -53,9 +53,13 @@ module _ (w : World) (scripts : List ℕ → Fetched) where
     statements-same zero k list s = refl
     statements-same (suc n) k [] s = refl
     statements-same (suc n) k (statement.Write t ∷ list) s =
-        then-same (write n w (nat_le (s.side.written + length t) write_limit) t s) (write n v (nat_le (s.side.written + length t) write_limit) t s) (λ s'. run_statements n w k list s') (λ s'. run_statements n v k list s')
-        (write-same n (nat_le (s.side.written + length t) write_limit) t s) (λ s'. statements-same n k list s')
+        then-same (write n w (may_write t s) t s) (write n v (may_write t s) t s) (λ s'. run_statements n w k list s') (λ s'. run_statements n v k list s')
+        (write-same n (may_write t s) t s) (λ s'. statements-same n k list s')
+    statements-same (suc n) k (statement.WriteLine t ∷ list) s =
+        then-same (write n w (may_write (with_line_feed t) s) (with_line_feed t) s) (write n v (may_write (with_line_feed t) s) (with_line_feed t) s)
+        (λ s'. run_statements n w k list s') (λ s'. run_statements n v k list s') (write-same n (may_write (with_line_feed t) s) (with_line_feed t) s) (λ s'. statements-same n k list s')
     statements-same (suc n) k (statement.Remove x ∷ list) s = element-same n k list remove (find_id (tree_of s) x) s
+    statements-same (suc n) k (statement.Append x c ∷ list) s = move-same n k list (appended (tree_of s) (find_id (tree_of s) x) (find_id (tree_of s) c)) s
     statements-same (suc n) k (statement.LogById x ∷ list) s = element-same n k list (read k) (find_id (tree_of s) x) s
     statements-same (suc n) k (statement.LogRoot ∷ list) s = element-same n k list (read k) (first_element (tree_of s)) s
 
@@ -63,6 +67,11 @@ module _ (w : World) (scripts : List ℕ → Fetched) where
     element-same zero k list work found s = refl
     element-same (suc n) k list work None s = refl
     element-same (suc n) k list work (Some e) s = statements-same n k list (work e s)
+
+    move-same : (n : ℕ) (k : ℕ) (list : List Statement) (left : Option Nodes) (s : Serial) → on_move n w k list left s ≡ on_move n v k list left s
+    move-same zero k list left s = refl
+    move-same (suc n) k list None s = refl
+    move-same (suc n) k list (Some t) s = statements-same n k list (with_tree t s)
 
     write-same : (n : ℕ) (fits : Bool) (t : List ℕ) (s : Serial) → write n w fits t s ≡ write n v fits t s
     write-same zero fits t s = refl

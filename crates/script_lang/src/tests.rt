@@ -14,6 +14,17 @@ fn writes(alloc: Global, text: &str, value: &str) -> Result<bool, NoMemory> {
     }
 }
 
+/// Whether the text is one move of the second element into the first.
+fn moves(alloc: Global, text: &str, first: &str, second: &str) -> Result<bool, NoMemory> {
+    let Some(script) = read(alloc, text)? else {
+        return Ok(false);
+    };
+    match script.as_slice() {
+        [Statement::Append(into, moved)] => Ok(into.as_str() == first && moved.as_str() == second),
+        _ => Ok(false),
+    }
+}
+
 /// How many statements the text is; none where it is no list of statements.
 fn count(alloc: Global, text: &str) -> Result<Option<usize>, NoMemory> {
     match read(alloc, text)? {
@@ -54,10 +65,7 @@ fn six_statements(rt: HostRuntime) -> Result<(), Fail> {
 #[test]
 fn two_elements_of_a_move(rt: HostRuntime) -> Result<(), Fail> {
     let text = "document.getElementById(\"a\").append(document.getElementById(\"b\"));";
-    let script = read(rt.alloc(), text)?.unwrap();
-    assert!(rt;
-        matches!(script.as_slice(), [Statement::Append(first, second)] if first.is("a") && second.is("b"))
-    );
+    assert!(rt; moves(rt.alloc(), text, "a", "b")?);
     Ok(())
 }
 

@@ -4,10 +4,11 @@ ghost use Rattle.std.specs.Prelude.{◌≡◌, ◌++◌, ◌<◌, ◌≤◌, len
 ghost use Rattle.std.specs.Option.{ForSome};
 ghost use Rattle.std.specs.Str.{chars};
 ghost use Rattle.standard.specs.Act.{is_bound};
-ghost use Rattle.standard.specs.Tree.{find_id};
+ghost use Rattle.standard.specs.Tree.{find_id, appended};
+ghost use Rattle.standard.specs.Serial.{with_line_feed};
 ghost use Rattle.standard_laws.specs.Frames.{Waits};
 ghost use Rattle.write_parser.specs.Parsing.{IsServed, TextParsed, EndParsed};
-ghost use Rattle.write_parser.specs.Steps.{view_of, IsGoing, IsFirst, Begins, Prepares, Continues, HasWritten, HasRemoved, HasRead, DoesMost, Does, Steps, RunsOn, ParsesOn, Moves, frames_of, with_begun, Nests, EndsTag, RunsText, Misses, FeedsOn, IsFed, Fed};
+ghost use Rattle.write_parser.specs.Steps.{view_of, IsGoing, IsFirst, Begins, Prepares, Continues, HasWritten, HasRemoved, HasAppended, HasRead, DoesMost, Does, Steps, RunsOn, ParsesOn, Moves, frames_of, with_begun, Nests, EndsTag, RunsText, Misses, FeedsOn, IsFed, Fed};
 ghost use Rattle.write_parser.specs.Writing.{LeftIs};
 
 use crate::left::{Left, Overrun};
