@@ -1,5 +1,5 @@
 -- Ids and elements stand one to one.
-use Rattle.std.proofs.Common.{◌≡◌, ◌≢◌, ℕ, zero, suc, true, false, cond, List, [], ◌∷◌, length, Some, refl, sym, ap, ◌∙◌, inl, inr, ◌⊎◌}
+use Rattle.std.proofs.Common.{◌≡◌, ◌≢◌, ℕ, zero, suc, true, false, cond, List, [], ◌∷◌, length, Option, Some, refl, sym, ap, ◌∙◌, inl, inr, ◌⊎◌}
 use Rattle.std.specs.Prelude.{unwrap_or, is_some}
 use Rattle.std.specs.BTreeMap.{insert_entry}
 use Rattle.std.proofs.lemmas.Bool.{cases_eq}
@@ -9,12 +9,12 @@ use Rattle.html_types.specs.declared.operation.NodeId.{NodeId}
 use Rattle.html_types.specs.declared.operation.Op.{Op}
 use Rattle.html_types.specs.declared.operation.Op.TheVariants.{Make, Put, Text, Note, Doctype, Detach, MoveChildren, AddAttributes}
 use Rattle.html_types.specs.declared.tree.Kind.TheVariants as kind
-use Rattle.standard.specs.Tree.{Nodes, is_element_at, detached}
+use Rattle.standard.specs.Tree.{Nodes, is_element_at, detached, appended}
 use Rattle.standard.specs.Act.{Bound, Doc, new_doc, id_cmp, bound_to, node_of, is_bound, element_made, spot_of, end_of, act, acts, IsOpBound, AreOpsBound}
 use Rattle.act_laws.specs.Bindings.{IsOneToOne, NamesElements}
 use Rattle.act_laws.proofs.Renamed.{tells, bound_to-insert}
 use Rattle.act_laws.proofs.Known.{AreOpsBound-act}
-use Rattle.act_laws.proofs.Elements.{Alike, Alike-detached, Alike-put_at, Alike-text_at, Alike-new_at, Alike-children_moved, Alike-attributes_added, IsMore, IsMore-element_made, none_past}
+use Rattle.act_laws.proofs.Elements.{Alike, Alike-detached, Alike-appended, Alike-put_at, Alike-text_at, Alike-new_at, Alike-children_moved, Alike-attributes_added, IsMore, IsMore-element_made, none_past}
 
 same_some : (a b : ℕ) → Some a ≡ Some b → a ≡ b
 same_some a b same = ap (λ o. unwrap_or o 0) same
@@ -64,6 +64,9 @@ NamesElements-alike d t names alike = record {
 
 pub NamesElements-detached : (d : Doc) (n : ℕ) → NamesElements d → NamesElements (record d { tree = detached d.tree n })
 NamesElements-detached d n names = NamesElements-alike d (detached d.tree n) names (Alike-detached d.tree n)
+
+pub NamesElements-appended : (d : Doc) (p n : Option ℕ) (t : Nodes) → appended d.tree p n ≡ Some t → NamesElements d → NamesElements (record d { tree = t })
+NamesElements-appended d p n t is names = NamesElements-alike d t names (Alike-appended d.tree p n t is)
 
 module _ (d : Doc) (id : NodeId) (name : Name) (attributes : List Attribute) (names : NamesElements d) (free : is_bound d.bound id ≡ false) where
   abbrev made : Nodes

@@ -1,5 +1,6 @@
 -- Which nodes of a tree are elements, before and behind a change.
-use Rattle.std.proofs.Common.{◌≡◌, ◌≢◌, ℕ, zero, suc, Bool, true, false, List, [], ◌∷◌, ◌++◌, length, get_or, set, Option, Some, None, if◌then◌else◌, refl, sym, ap, ◌∙◌}
+use Rattle.std.proofs.Common.{◌≡◌, ◌≢◌, ℕ, zero, suc, Bool, true, false, List, [], ◌∷◌, ◌++◌, length, get_or, set, Option, Some, None, if◌then◌else◌, refl, sym, ap, subst, ◌∙◌}
+use Rattle.std.proofs.lemmas.Option.{none-some, same_Some}
 use Rattle.std.specs.Prelude.{◌==◌}
 use Rattle.std.proofs.Math.ListN.{get_or-map}
 use Rattle.std.proofs.Math.Seq.{map-set_same, get_or-append_seam}
@@ -10,7 +11,7 @@ use Rattle.html_types.specs.declared.tree.Node.{Node}
 use Rattle.html_types.specs.declared.tree.Kind.{Kind}
 use Rattle.html_types.specs.declared.tree.Kind.TheVariants as kind
 use Rattle.standard.specs.Elements.{is_word}
-use Rattle.standard.specs.Tree.{Nodes, no_node, kind_of, parent_of, children_of, is_document, is_element, is_element_at, lone, with_children, relinked, taken_out, detached, moved, is_impossible, put_of, put_before_of, all_put, children_moved, with_new, with_more, text_before, text_put, text_added, with_lacking, attributes_added, with_template}
+use Rattle.standard.specs.Tree.{Nodes, no_node, kind_of, parent_of, children_of, is_document, is_element, is_element_at, lone, with_children, relinked, taken_out, detached, moved, lies_in, appended, is_impossible, put_of, put_before_of, all_put, children_moved, with_new, with_more, text_before, text_put, text_added, with_lacking, attributes_added, with_template}
 use Rattle.standard.specs.Act.{element_made, put_from, put_at, new_at, text_at, Spot}
 
 abbrev is_one : Node → Bool
@@ -41,9 +42,21 @@ either : (b : Bool) (t s : Nodes) → Alike t s → Alike t (if b then t else s)
 either true t s alike = λ m. refl
 either false t s alike = alike
 
+Alike-moved : (t : Nodes) (n p : ℕ) (before : Option ℕ) → Alike t (moved t n p before)
+Alike-moved t n p before = chain t (detached t n) (moved t n p before) (Alike-detached t n) (Alike-relinked (detached t n) p _ n (Some p))
+
+-- a script's move
+pub Alike-appended : (t : Nodes) (p n : Option ℕ) (s : Nodes) → appended t p n ≡ Some s → Alike t s
+Alike-appended t None n s is = absurd (none-some s is)
+Alike-appended t (Some p) None s is = absurd (none-some s is)
+Alike-appended t (Some p) (Some n) s is = by_test (lies_in t p n) is
+  where
+    by_test : (b : Bool) → (if b then None else Some (moved t n p None)) ≡ Some s → Alike t s
+    by_test true is = absurd (none-some s is)
+    by_test false is = subst (Alike t) (same_Some (moved t n p None) s is) (Alike-moved t n p None)
+
 Alike-put_of : (t : Nodes) (n p : ℕ) (before : Option ℕ) → Alike t (put_of t n p before)
-Alike-put_of t n p before = either (is_impossible t n p) t (moved t n p before)
-    (chain t (detached t n) (moved t n p before) (Alike-detached t n) (Alike-relinked (detached t n) p _ n (Some p)))
+Alike-put_of t n p before = either (is_impossible t n p) t (moved t n p before) (Alike-moved t n p before)
 
 Alike-put_before_of : (t : Nodes) (n b : ℕ) → Alike t (put_before_of t n b)
 Alike-put_before_of t n b = either (n == b) t _ (Alike-put_of t n _ (Some b))

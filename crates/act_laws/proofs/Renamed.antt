@@ -11,6 +11,7 @@ use Rattle.html_types.specs.declared.operation.Place.{Place}
 use Rattle.html_types.specs.declared.operation.Place.TheVariants.{Page, Inside, Contents, Foster}
 use Rattle.html_types.specs.declared.operation.Op.{Op}
 use Rattle.html_types.specs.declared.operation.Op.TheVariants.{Make, Put, Text, Note, Doctype, Detach, MoveChildren, AddAttributes}
+use Rattle.standard.specs.Tree.{Nodes, appended, find_id}
 use Rattle.standard.specs.Act.{Bound, id_cmp, bound_to, node_of}
 use Rattle.standard.specs.Act.{Doc, act, acts, spot_of, rename_place, rename_op, SameUpTo}
 use Rattle.std.proofs.lemmas.Bool.Decides.{nat_tests}
@@ -105,3 +106,8 @@ module _ (r : NodeId → NodeId) (one : (a b : NodeId) → r a ≡ r b → a ≡
   unfolding acts
   acts-renamed d d' same [] = same
   acts-renamed d d' same (o ∷ os) = acts-renamed (act d o) (act d' (rename_op r o)) (act-renamed d d' same o) os
+
+-- a script's move names no id
+pub move-renamed : (r : NodeId → NodeId) (d d' : Doc) → SameUpTo r d d' → (v c : List ℕ) (t : Nodes) → appended d.tree (find_id d.tree v) (find_id d.tree c) ≡ Some t →
+    (appended d'.tree (find_id d'.tree v) (find_id d'.tree c) ≡ Some t) × SameUpTo r (record d { tree = t }) (record d' { tree = t })
+move-renamed r d d' same v c t is = (ap (λ u. appended u (find_id u v) (find_id u c)) same.tree ∙ is, record { tree = refl; bound = same.bound })

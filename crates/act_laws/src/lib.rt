@@ -1,27 +1,31 @@
 //! Laws of operations on a document (13.2.6.1), whoever executes them.
 #![tactic(auto)]
 
-ghost use Rattle.std.specs.Prelude.{◌≡◌, ℕ, List, map};
+ghost use Rattle.std.specs.Prelude.{◌≡◌, ℕ, List, map, Option, Some};
 ghost use Rattle.html_types.specs.declared.operation.NodeId.{NodeId};
 ghost use Rattle.html_types.specs.declared.operation.Op.{Op};
-ghost use Rattle.standard.specs.Tree.{detached};
+ghost use Rattle.standard.specs.Tree.{Nodes, detached, appended, find_id};
 ghost use Rattle.standard.specs.Act.{Doc, new_doc, is_bound, act, acts, IsOpBound, AreOpsBound, rename_op, SameUpTo};
 ghost use Rattle.act_laws.specs.Bindings.{NamesElements};
 
 /// An operation, or a list of them, with every id replaced by another, each by one of its own, makes the same tree, and names the same
-/// nodes in it.
+/// nodes in it. So does an element's move by a script, which names no id.
 pub fn same_up_to_renaming()
     ensures one { (r : NodeId → NodeId) → ((a b : NodeId) → r a ≡ r b → a ≡ b)
         → (d d' : Doc) → SameUpTo r d d' → (op : Op) → SameUpTo r (act d op) (act d' (rename_op r op)) }
     ensures all { (r : NodeId → NodeId) → ((a b : NodeId) → r a ≡ r b → a ≡ b)
         → (d d' : Doc) → SameUpTo r d d' → (ops : List Op) → SameUpTo r (acts d ops) (acts d' (map (rename_op r) ops)) }
+    ensures script_move { (r : NodeId → NodeId) → (d d' : Doc) → SameUpTo r d d'
+        → (v c : List ℕ) (t : Nodes) → appended d.tree (find_id d.tree v) (find_id d.tree c) ≡ Some t
+        → (appended d'.tree (find_id d'.tree v) (find_id d'.tree c) ≡ Some t) × SameUpTo r (record d { tree = t }) (record d' { tree = t }) }
 {}
 
 /// Ids and elements stand one to one: each id stands for an element, no two ids for one, and each element of the tree has its id. So
-/// it is at first, behind operations whose ids are bound before (a new element's is not), and where a script removes a node.
+/// it is at first, behind operations whose ids are bound before (a new element's is not), and where a script removes or moves an element.
 pub fn acts_bind_one_to_one()
     ensures first { NamesElements new_doc }
     ensures one { (d : Doc) → NamesElements d → (op : Op) → IsOpBound (is_bound d.bound) op → NamesElements (act d op) }
     ensures all { (d : Doc) → NamesElements d → (ops : List Op) → AreOpsBound (is_bound d.bound) ops → NamesElements (acts d ops) }
     ensures removal { (d : Doc) → NamesElements d → (n : ℕ) → NamesElements (record d { tree = detached d.tree n }) }
+    ensures script_move { (d : Doc) → NamesElements d → (p n : Option ℕ) (t : Nodes) → appended d.tree p n ≡ Some t → NamesElements (record d { tree = t }) }
 {}

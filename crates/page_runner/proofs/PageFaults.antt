@@ -17,7 +17,7 @@ use Rattle.standard.specs.Parser.{Parser, Took, took, take_character, Finished, 
 use Rattle.standard.specs.Prepare.{Prepared, still, inline, external}
 use Rattle.standard.specs.Scripts.{Fetched, got, missing, faulted, is_lawful, file_statements}
 use Rattle.standard.specs.Statements.{statements}
-use Rattle.standard.specs.Serial.{World, fetched_if, fetched, Serial, Outcome, refused, Course, goes, refuses, starved, ◌then◌, Advanced, advanced, advance, before_point, moved, insert, tree_of, inside, back_at, with_line_feed, may_write, with_tree, remove, read, one_more_executed, prepared, execute, run_statements, on_element, on_move, write, go_on, stopped, end_of_script, run_prepared, run_text, Moment, reading, tag_ended, awaits, over, at_end, after_character, unless_pending, after_script, after_fetch, read_next, moment_after, moments_on, first}
+use Rattle.standard.specs.Serial.{World, fetched_if, fetched, Serial, Outcome, refused, Course, goes, refuses, starved, ◌then◌, Advanced, advanced, advance, before_point, moved, with_line_feed, may_write, insert, tree_of, inside, back_at, with_tree, remove, read, one_more_executed, prepared, execute, run_statements, on_element, on_move, write, go_on, stopped, end_of_script, run_prepared, run_text, Moment, reading, tag_ended, awaits, over, at_end, after_character, unless_pending, after_script, after_fetch, read_next, moment_after, moments_on, first}
 use Rattle.standard_laws.specs.Laws.{outcome_at}
 use Rattle.standard_laws.proofs.Fuel.{serial-over}
 use Rattle.standard_laws.proofs.Passing.{finished-at}
@@ -48,12 +48,14 @@ mutual
   statements-meet_none zero w k list s = tt
   statements-meet_none (suc n) w k [] s = tt
   statements-meet_none (suc n) w k (statement.Write t ∷ list) s =
-      then-meets_none (write n w (may_write t s) t s) (λ s'. run_statements n w k list s') (write-meets_none n w (may_write t s) t s) (λ s'. statements-meet_none n w k list s')
+      then-meets_none (write n w (may_write t s) t s) (λ s'. run_statements n w k list s')
+      (write-meets_none n w (may_write t s) t s) (λ s'. statements-meet_none n w k list s')
   statements-meet_none (suc n) w k (statement.WriteLine t ∷ list) s =
       then-meets_none (write n w (may_write (with_line_feed t) s) (with_line_feed t) s) (λ s'. run_statements n w k list s')
       (write-meets_none n w (may_write (with_line_feed t) s) (with_line_feed t) s) (λ s'. statements-meet_none n w k list s')
   statements-meet_none (suc n) w k (statement.Remove v ∷ list) s = element-meets_none n w k list remove (find_id (tree_of s) v) s
-  statements-meet_none (suc n) w k (statement.Append v c ∷ list) s = move-meets_none n w k list (appended (tree_of s) (find_id (tree_of s) v) (find_id (tree_of s) c)) s
+  statements-meet_none (suc n) w k (statement.Append v c ∷ list) s =
+      move-meets_none n w k list (appended (tree_of s) (find_id (tree_of s) v) (find_id (tree_of s) c)) s
   statements-meet_none (suc n) w k (statement.LogById v ∷ list) s = element-meets_none n w k list (read k) (find_id (tree_of s) v) s
   statements-meet_none (suc n) w k (statement.LogRoot ∷ list) s = element-meets_none n w k list (read k) (first_element (tree_of s)) s
 

@@ -57,9 +57,11 @@ module _ (w : World) (scripts : List ℕ → Fetched) where
         (write-same n (may_write t s) t s) (λ s'. statements-same n k list s')
     statements-same (suc n) k (statement.WriteLine t ∷ list) s =
         then-same (write n w (may_write (with_line_feed t) s) (with_line_feed t) s) (write n v (may_write (with_line_feed t) s) (with_line_feed t) s)
-        (λ s'. run_statements n w k list s') (λ s'. run_statements n v k list s') (write-same n (may_write (with_line_feed t) s) (with_line_feed t) s) (λ s'. statements-same n k list s')
+        (λ s'. run_statements n w k list s') (λ s'. run_statements n v k list s')
+        (write-same n (may_write (with_line_feed t) s) (with_line_feed t) s) (λ s'. statements-same n k list s')
     statements-same (suc n) k (statement.Remove x ∷ list) s = element-same n k list remove (find_id (tree_of s) x) s
-    statements-same (suc n) k (statement.Append x c ∷ list) s = move-same n k list (appended (tree_of s) (find_id (tree_of s) x) (find_id (tree_of s) c)) s
+    statements-same (suc n) k (statement.Append x c ∷ list) s =
+        move-same n k list (appended (tree_of s) (find_id (tree_of s) x) (find_id (tree_of s) c)) s
     statements-same (suc n) k (statement.LogById x ∷ list) s = element-same n k list (read k) (find_id (tree_of s) x) s
     statements-same (suc n) k (statement.LogRoot ∷ list) s = element-same n k list (read k) (first_element (tree_of s)) s
 

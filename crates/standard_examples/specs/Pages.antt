@@ -202,6 +202,43 @@ scripts =
     record { page = "<script>document.write(\"<i\");</script> class=\"k\">z"; text = "tree \"<html><head><script>document.write(\\\"<i\\\");</script></head><body><i class=\\\"k\\\">z</i></body></html>\"\n" } ∷
     []
 
+-- what document.writeln() writes, and moves by a script
+abbrev pub moves : List Example
+moves =
+    -- the foster place is just before the table where a script moved it
+    record { page = "<div id=\"d\"></div><table id=\"t\"><script>document.getElementById(\"d\").append(document.getElementById(\"t\"));</script>x"; text = "tree \"<html><head></head><body><div id=\\\"d\\\">x<table id=\\\"t\\\"><script>document.getElementById(\\\"d\\\").append(document.getElementById(\\\"t\\\"));</script></table></div></body></html>\"\n" } ∷
+    -- an element isn't moved under itself
+    record { page = "<div id=\"a\"><p id=\"b\"><script>document.getElementById(\"b\").append(document.getElementById(\"a\"));</script>"; text = "throw 1\ntree \"<html><head></head><body><div id=\\\"a\\\"><p id=\\\"b\\\"><script>document.getElementById(\\\"b\\\").append(document.getElementById(\\\"a\\\"));</script></p></div></body></html>\"\n" } ∷
+    -- an adoption whose block stands above its ancestor by a move
+    record { page = "<div id=\"z\"></div><div id=\"c\"><b id=\"x\"><p id=\"y\"><script>document.getElementById(\"z\").append(document.getElementById(\"y\"));document.getElementById(\"y\").append(document.getElementById(\"c\"));</script>q</b>"; text = "tree \"<html><head></head><body><div id=\\\"z\\\"><p id=\\\"y\\\"><b id=\\\"x\\\"><script>document.getElementById(\\\"z\\\").append(document.getElementById(\\\"y\\\"));document.getElementById(\\\"y\\\").append(document.getElementById(\\\"c\\\"));</script><div id=\\\"c\\\"><b id=\\\"x\\\"></b></div>q</b></p></div></body></html>\"\n" } ∷
+    -- a line
+    record { page = "<body><script>document.writeln(\"a\");</script>b"; text = "tree \"<html><head></head><body><script>document.writeln(\\\"a\\\");</script>a\\nb</body></html>\"\n" } ∷
+    -- an empty line
+    record { page = "<body>a<script>document.writeln(\"\");</script>b"; text = "tree \"<html><head></head><body>a<script>document.writeln(\\\"\\\");</script>\\nb</body></html>\"\n" } ∷
+    -- a line feed behind pre is left out
+    record { page = "<script>document.writeln(\"<pre>\");</script>x"; text = "tree \"<html><head><script>document.writeln(\\\"<pre>\\\");</script></head><body><pre>x</pre></body></html>\"\n" } ∷
+    -- a line that ends with a return
+    record { page = "<body><script>document.writeln(\"a\\r\");</script>b"; text = "tree \"<html><head></head><body><script>document.writeln(\\\"a\\\\r\\\");</script>a\\nb</body></html>\"\n" } ∷
+    -- no element to move, none to move it into, and one into itself
+    record { page = "<p id=\"a\">x<script>document.getElementById(\"a\").append(document.getElementById(\"no\"));document.write(\"n\");</script><script>document.getElementById(\"no\").append(document.getElementById(\"a\"));</script><script>document.getElementById(\"a\").append(document.getElementById(\"a\"));</script>y"; text = "throw 1\nthrow 2\nthrow 3\ntree \"<html><head></head><body><p id=\\\"a\\\">x<script>document.getElementById(\\\"a\\\").append(document.getElementById(\\\"no\\\"));document.write(\\\"n\\\");</script><script>document.getElementById(\\\"no\\\").append(document.getElementById(\\\"a\\\"));</script><script>document.getElementById(\\\"a\\\").append(document.getElementById(\\\"a\\\"));</script>y</p></body></html>\"\n" } ∷
+    -- the last among the children that are there
+    record { page = "<body><i id=\"k\">a</i><div id=\"d\"><b>c</b>d</div><script>document.getElementById(\"d\").append(document.getElementById(\"k\"));</script>e"; text = "tree \"<html><head></head><body><div id=\\\"d\\\"><b>c</b>d<i id=\\\"k\\\">a</i></div><script>document.getElementById(\\\"d\\\").append(document.getElementById(\\\"k\\\"));</script>e</body></html>\"\n" } ∷
+    -- last among the children where it stands
+    record { page = "<div id=\"d\"><i id=\"k\">a</i>b</div><script>document.getElementById(\"d\").append(document.getElementById(\"k\"));</script>"; text = "tree \"<html><head></head><body><div id=\\\"d\\\">b<i id=\\\"k\\\">a</i></div><script>document.getElementById(\\\"d\\\").append(document.getElementById(\\\"k\\\"));</script></body></html>\"\n" } ∷
+    -- a script moves itself and goes on
+    record { page = "<body><div id=\"d\"></div><script id=\"s\">document.getElementById(\"d\").append(document.getElementById(\"s\"));document.write(\"a\");</script>b"; text = "tree \"<html><head></head><body><div id=\\\"d\\\"><script id=\\\"s\\\">document.getElementById(\\\"d\\\").append(document.getElementById(\\\"s\\\"));document.write(\\\"a\\\");</script></div>ab</body></html>\"\n" } ∷
+    -- into a template's own children, which its text doesn't show
+    record { page = "<body><template id=\"k\">c</template><p id=\"p\">a</p><script>document.getElementById(\"k\").append(document.getElementById(\"p\"));console.log(document.getElementById(\"p\").outerHTML);console.log(document.getElementById(\"k\").outerHTML);</script>"; text = "log 1 \"<p id=\\\"p\\\">a</p>\"\nlog 1 \"<template id=\\\"k\\\">c</template>\"\ntree \"<html><head></head><body><template id=\\\"k\\\">c</template><script>document.getElementById(\\\"k\\\").append(document.getElementById(\\\"p\\\"));console.log(document.getElementById(\\\"p\\\").outerHTML);console.log(document.getElementById(\\\"k\\\").outerHTML);</script></body></html>\"\n" } ∷
+    -- the foster place where a script moved the table into a template
+    record { page = "<body><template id=\"k\">c</template><table id=\"t\"><script>document.getElementById(\"k\").append(document.getElementById(\"t\"));</script>x"; text = "tree \"<html><head></head><body><template id=\\\"k\\\">cx</template></body></html>\"\n" } ∷
+    -- a script under a template's own children runs
+    record { page = "<body><template id=\"k\"></template><p id=\"p\"><script>document.getElementById(\"k\").append(document.getElementById(\"p\"));</script><script>document.write(\"a\");console.log(document.getElementById(\"p\").outerHTML);</script>b"; text = "log 2 \"<p id=\\\"p\\\"><script>document.getElementById(\\\"k\\\").append(document.getElementById(\\\"p\\\"));</script><script>document.write(\\\"a\\\");console.log(document.getElementById(\\\"p\\\").outerHTML);</script>a</p>\"\ntree \"<html><head></head><body><template id=\\\"k\\\"></template></body></html>\"\n" } ∷
+    -- a script that was moved runs once
+    record { page = "<body><div id=\"d\"></div><script id=\"s\">document.write(\"a\");</script><script>document.getElementById(\"d\").append(document.getElementById(\"s\"));</script>b"; text = "tree \"<html><head></head><body><div id=\\\"d\\\"><script id=\\\"s\\\">document.write(\\\"a\\\");</script></div>a<script>document.getElementById(\\\"d\\\").append(document.getElementById(\\\"s\\\"));</script>b</body></html>\"\n" } ∷
+    -- the Document's element stays
+    record { page = "<html id=\"h\"><body><div id=\"d\"><script>document.getElementById(\"d\").append(document.getElementById(\"h\"));</script>"; text = "throw 1\ntree \"<html id=\\\"h\\\"><head></head><body><div id=\\\"d\\\"><script>document.getElementById(\\\"d\\\").append(document.getElementById(\\\"h\\\"));</script></div></body></html>\"\n" } ∷
+    []
+
 abbrev pub formatting : List Example
 formatting =
     -- misnested formatting

@@ -2,7 +2,7 @@
 //! for it, a list a group; what doesn't fit that form stands in `proofs/`.
 #![tactic(auto)]
 
-ghost use Rattle.standard_examples.specs.Pages.{AllWrite, blocks, scripts, formatting, tables, foster_parenting, captions_and_columns, rows_and_cells, selects, templates, framesets, foreign_content};
+ghost use Rattle.standard_examples.specs.Pages.{AllWrite, blocks, scripts, moves, formatting, tables, foster_parenting, captions_and_columns, rows_and_cells, selects, templates, framesets, foreign_content};
 
 /// Text, blocks and lists (13.2.6.4.1 to 13.2.6.4.7).
 pub fn blocks()
@@ -12,6 +12,11 @@ pub fn blocks()
 /// Scripts: what they write, remove and read (the insertion point, 13.2.6.4.8).
 pub fn scripts()
     ensures { AllWrite scripts }
+{}
+
+/// Scripts: the lines that they write, and the elements that they move (DOM 4.2.6, append).
+pub fn moves()
+    ensures { AllWrite moves }
 {}
 
 /// Formatting elements and the adoption agency algorithm (13.2.4.3, 13.2.6.4.7).

@@ -1,4 +1,4 @@
-use Rattle.standard_laws.proofs.Frames.{write-fits, write-refuses, removes, reads_by_id, reads_root, throws, frame-ends, frames-end}
+use Rattle.standard_laws.proofs.Frames.{write-fits, write-refuses, line-fits, line-refuses, removes, appends, reads_by_id, reads_root, throws, frame-ends, frames-end}
 use Rattle.standard_laws.proofs.statements_run.Goals as goal
 
 pub returns-clause-write : goal.returns-clause-write
@@ -7,8 +7,17 @@ returns-clause-write c = write-fits
 pub returns-clause-long : goal.returns-clause-long
 returns-clause-long c = write-refuses
 
+pub returns-clause-line : goal.returns-clause-line
+returns-clause-line c = line-fits
+
+pub returns-clause-long_line : goal.returns-clause-long_line
+returns-clause-long_line c = line-refuses
+
 pub returns-clause-remove : goal.returns-clause-remove
 returns-clause-remove c = removes
+
+pub returns-clause-append : goal.returns-clause-append
+returns-clause-append c = appends
 
 pub returns-clause-read : goal.returns-clause-read
 returns-clause-read c = reads_by_id
