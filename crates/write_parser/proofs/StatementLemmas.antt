@@ -1,5 +1,5 @@
 -- Statements of the innermost script.
-use Rattle.std.proofs.Common.{◌≡◌, ◌<◌, ◌≤◌, ◌+◌, ℕ, suc, true, false, get_or, drop, drop-cons, add-one, Result, Ok, Err, IfOk, OnOk, List, [], ◌∷◌, ◌++◌, length, Option, Some, None, refl, sym, ap, ◌∙◌, subst, append_assoc, length-append, arith, ◌⊎◌, inl, inr}
+use Rattle.std.proofs.Common.{◌≡◌, ◌<◌, ◌≤◌, ◌+◌, ℕ, suc, true, false, get_or, drop, drop-cons, add-one, Result, Ok, Err, IfOk, OnOk, List, [], ◌∷◌, ◌++◌, length, Option, Some, None, Bool, if◌then◌else◌, refl, sym, ap, ◌∙◌, subst, append_assoc, length-append, arith, ◌⊎◌, inl, inr}
 use Rattle.std.specs.Option.{is_some}
 use Rattle.std.proofs.lemmas.Bool.{cases_lt}
 use Rattle.html_types.specs.declared.script.Line.{Line}
@@ -8,7 +8,9 @@ use Rattle.html_types.specs.declared.script.Statement.{Statement}
 use Rattle.html_types.specs.declared.script.Statement.TheVariants as statement
 use Rattle.html_types.specs.declared.script.Why.TheVariants as why
 use Rattle.standard.specs.Outer.{outer_text}
-use Rattle.standard.specs.Tree.{Nodes, find_id, first_element, detached, appended}
+use Rattle.standard.specs.Tree.{Nodes, find_id, first_element, detached, lies_in, moved, appended}
+use Rattle.standard.specs.Act.{Doc}
+use Rattle.doc_tree.specs.declared.tree.Put.TheVariants as put
 use Rattle.standard.specs.Serial.{World, Course, refuses, write_limit, with_line_feed}
 use Rattle.standard_laws.specs.Frames.{Frame, Nest, state_of, NestComesTo, Waits, wrote, LacksElement}
 use Rattle.write_parser.specs.declared.left.Overrun.{Overrun}
@@ -132,6 +134,32 @@ does-remove k v old rest new rest' d going waits same = by_found (find_id old.do
         (subst (λ n. DoesMost k (statement.Remove v) old rest n rest did.All) (sym is) (removed-there k v old rest e going waits there)))
 
 -- ---- a move
+
+-- what a document answers that made it, or couldn't
+module _ (old : Live) (doc : Doc) (v w : Option ℕ) (first second : ℕ) (is_v : v ≡ Some first) (is_w : w ≡ Some second)
+    (left : doc ≡ record old.doc { tree = (if lies_in old.doc.tree first second then old.doc.tree else moved old.doc.tree second first None) }) where
+  pub appended-done : put.Done ≡ (if lies_in old.doc.tree first second then put.Impossible else put.Done) → HasAppended (appended old.doc.tree v w) old (record old { doc = doc }) did.All
+  appended-done answer = rw (is_v, is_w) (by_test (lies_in old.doc.tree first second) answer left)
+    where
+      by_test : (b : Bool) → put.Done ≡ (if b then put.Impossible else put.Done) → doc ≡ record old.doc { tree = (if b then old.doc.tree else moved old.doc.tree second first None) } →
+          HasAppended (if b then None else Some (moved old.doc.tree second first None)) old (record old { doc = doc }) did.All
+      by_test true answer left = absurd (cc)
+      by_test false answer left = (ap (λ (d : Doc). record old { doc = d }) left, refl)
+
+  pub appended-impossible : put.Impossible ≡ (if lies_in old.doc.tree first second then put.Impossible else put.Done) → HasAppended (appended old.doc.tree v w) old (record old { doc = doc }) did.Nothing
+  appended-impossible answer = rw (is_v, is_w) (by_test (lies_in old.doc.tree first second) answer left)
+    where
+      by_test : (b : Bool) → put.Impossible ≡ (if b then put.Impossible else put.Done) → doc ≡ record old.doc { tree = (if b then old.doc.tree else moved old.doc.tree second first None) } →
+          HasAppended (if b then None else Some (moved old.doc.tree second first None)) old (record old { doc = doc }) did.Nothing
+      by_test true answer left = (ap (λ (d : Doc). record old { doc = d }) left, refl)
+      by_test false answer left = absurd (cc)
+
+-- or that lacks an element
+pub lacks-first : (old : Live) (v w : Option ℕ) → v ≡ None → HasAppended (appended old.doc.tree v w) old old did.Nothing
+lacks-first old v w none = rw none (refl, refl)
+
+pub lacks-second : (old : Live) (v w : Option ℕ) (first : ℕ) → v ≡ Some first → w ≡ None → HasAppended (appended old.doc.tree v w) old old did.Nothing
+lacks-second old v w first is none = rw (is, none) (refl, refl)
 
 -- which left this tree
 moved-there : (k : ℕ) (v w : List ℕ) (old : Live) (rest : List ℕ) (t : Nodes) → IsGoing old → Waits old.pending rest →
