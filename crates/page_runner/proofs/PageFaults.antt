@@ -1,6 +1,6 @@
 -- The serial parse of a page meets a fault only where a read of the page failed, or fetching a script did.
-use Rattle.std.proofs.Common.{◌≡◌, ℕ, zero, suc, ◌+◌, Bool, true, false, List, [], ◌∷◌, Option, Some, None, option_and_then, refl, subst, length, inl, inr}
-use Rattle.std.specs.Prelude.{◌⊎◌, nat_le, unwrap_or, if◌then◌else◌}
+use Rattle.std.proofs.Common.{◌≡◌, ℕ, zero, suc, Bool, true, false, List, [], ◌∷◌, Option, Some, None, option_and_then, refl, subst, inl, inr}
+use Rattle.std.specs.Prelude.{◌⊎◌, unwrap_or, if◌then◌else◌}
 use Rattle.html_types.specs.declared.operation.NodeId.{NodeId}
 use Rattle.html_types.specs.declared.script.Ending.{Ending}
 use Rattle.html_types.specs.declared.script.Ending.TheVariants as ending

@@ -24,8 +24,8 @@ unfolding serial_on_literals dump_lines output_with
 a_script_that_removed_itself = refl
 
 -- texts that come to stand side by side stay two
-texts_beside_a_moved_element : option_map (output_with true) (serial_with 10000 (record { text = codes "<body>a<i id=\"k\">b</i>c<div id=\"d\"></div><script>document.getElementById(\"d\").append(document.getElementById(\"k\"));</script>"; ending = ending.End }) (without_files []))
-    ≡ wants "node 0 element \"html\"\nnode 1 element \"head\"\nnode 1 element \"body\"\nnode 2 text \"a\"\nnode 2 text \"c\"\nnode 2 element \"div\" \"id\" \"d\"\nnode 3 element \"i\" \"id\" \"k\"\nnode 4 text \"b\"\nnode 2 element \"script\"\nnode 3 text \"document.getElementById(\\\"d\\\").append(document.getElementById(\\\"k\\\"));\"\nend\n"
+texts_beside_a_moved_element : option_map (output_with true) (serial_with 10000 (record { text = codes "<body>a<x id=\"k\">b</x>c<div id=\"d\"></div><script>document.getElementById(\"d\").append(document.getElementById(\"k\"));</script>"; ending = ending.End }) (without_files []))
+    ≡ wants "node 0 element \"html\"\nnode 1 element \"head\"\nnode 1 element \"body\"\nnode 2 text \"a\"\nnode 2 text \"c\"\nnode 2 element \"div\" \"id\" \"d\"\nnode 3 element \"x\" \"id\" \"k\"\nnode 4 text \"b\"\nnode 2 element \"script\"\nnode 3 text \"document.getElementById(\\\"d\\\").append(document.getElementById(\\\"k\\\"));\"\nend\n"
 unfolding serial_on_literals dump_lines output_with
 texts_beside_a_moved_element = refl
 
