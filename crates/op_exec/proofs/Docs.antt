@@ -1,5 +1,5 @@
 -- What keeps a document one.
-use Rattle.std.proofs.Common.{◌≡◌, ◌≢◌, ℕ, zero, suc, ◌<◌, List, [], ◌∷◌, ◌++◌, length, Option, Some, None, Result, Ok, Err, OnOk, OnErr, IsSome, Bool, true, false, if◌then◌else◌, refl, sym, ap, subst, ◌∙◌, arith, rules, inl, inr}
+use Rattle.std.proofs.Common.{◌≡◌, ◌≢◌, ℕ, ◌<◌, List, [], ◌∷◌, ◌++◌, length, Option, Some, None, Result, Ok, Err, OnOk, OnErr, IsSome, Bool, true, false, if◌then◌else◌, refl, sym, ap, subst, ◌∙◌, arith, rules, inl, inr}
 use Rattle.std.specs.Prelude.{unwrap_or, IfSome, IsTrue, is_some}
 use Rattle.std.specs.Map.{values_of, remove_entry}
 use Rattle.std.specs.BTreeMap.{insert_entry, is_at}
@@ -9,7 +9,7 @@ use Rattle.std.proofs.lemmas.Bool.{cases_eq}
 use Rattle.std.proofs.lemmas.Bool.Decides.{nat_tests}
 use Rattle.std.proofs.lemmas.List.Elements.{All-weaker}
 use Rattle.std.proofs.lemmas.Map.Views.{All-values-insert_entry, IfSome-lookup_from_All}
-use Rattle.standard.specs.Tree.{Nodes, no_node, new_tree, is_element_at, lone, with_template, Keeps}
+use Rattle.standard.specs.Tree.{Nodes, no_node, is_element_at, lone, with_template, Keeps}
 use Rattle.std.proofs.lemmas.List.{length_push, get_or_push}
 use Rattle.html_types.specs.declared.attributes.Attribute.{Attribute}
 use Rattle.html_types.specs.declared.tree.Node.{Node}
@@ -120,11 +120,3 @@ IsDoc-made (Ok x) t s old new id name as' doc bound made kept same keeps =
     subst (IsDoc s) (sym bound)
     (IsDoc-bound t s old id doc keeps (subst (IsMore t) (sym made) (IsMore-element_made t name as')) (IsPlain-element_made t s name as' doc.document made))
 IsDoc-made (Err e) t s old new id name as' doc bound made kept same keeps = subst (IsDoc s) (sym kept) (subst (λ (u : Nodes). IsDoc u old) (sym same) doc)
-
--- a document with nothing in it
-pub IsDoc-new : IsDoc new_tree []
-IsDoc-new = record { document = omega arith; plain = search rules; one_to_one = λ a b n is_a is_b. absurd (cc); elements = none }
-  where
-    none : (n : ℕ) → is_element_at new_tree n ≡ true → IsPlain new_tree n
-    none zero is = absurd (cc)
-    none (suc n) is = absurd (cc)

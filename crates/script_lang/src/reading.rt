@@ -85,7 +85,8 @@ fn append<'a>(alloc: Global, text: &'a str) -> Result<Option<(Statement, &'a str
         text,
         "document.getElementById(",
         ").append(document.getElementById(",
-    )? else {
+    )?
+    else {
         return Ok(None);
     };
     match string_between(alloc, behind, "", "));")? {

@@ -54,7 +54,8 @@ fn form_feed(rt: HostRuntime) -> Result<(), Fail> {
 
 #[test]
 fn six_statements(rt: HostRuntime) -> Result<(), Fail> {
-    let text = "document.write(\"\");document.writeln(\"\");document.getElementById(\"a\").remove();\
+    let text =
+        "document.write(\"\");document.writeln(\"\");document.getElementById(\"a\").remove();\
         document.getElementById(\"a\").append(document.getElementById(\"b\"));\
         console.log(document.documentElement.outerHTML);\
         console.log(document.getElementById(\"a\").outerHTML);";
