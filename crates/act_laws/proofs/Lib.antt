@@ -1,4 +1,4 @@
 pub mod Renamed
 pub mod Known
-mod Elements
+pub mod Elements
 pub mod Bindings

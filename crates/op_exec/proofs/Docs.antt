@@ -1,14 +1,15 @@
 -- What keeps a document one.
-use Rattle.std.proofs.Common.{◌≡◌, ◌≢◌, ℕ, ◌<◌, List, [], ◌∷◌, ◌++◌, length, Option, Some, None, Result, Ok, Err, OnOk, OnErr, IsSome, Bool, true, false, if◌then◌else◌, refl, sym, ap, subst, ◌∙◌, arith, rules}
+use Rattle.std.proofs.Common.{◌≡◌, ◌≢◌, ℕ, ◌<◌, List, [], ◌∷◌, ◌++◌, length, Option, Some, None, Result, Ok, Err, OnOk, OnErr, IsSome, Bool, true, false, if◌then◌else◌, refl, sym, ap, subst, ◌∙◌, arith, rules, inl, inr}
 use Rattle.std.specs.Prelude.{unwrap_or, IfSome, IsTrue, is_some}
 use Rattle.std.specs.Map.{values_of, remove_entry}
 use Rattle.std.specs.BTreeMap.{insert_entry, is_at}
 use Rattle.std.specs.declared.cmp.Ordering.{Ordering}
 use Rattle.std.specs.declared.cmp.Ordering.TheVariants.{Less, Equal, Greater}
+use Rattle.std.proofs.lemmas.Bool.{cases_eq}
 use Rattle.std.proofs.lemmas.Bool.Decides.{nat_tests}
 use Rattle.std.proofs.lemmas.List.Elements.{All-weaker}
 use Rattle.std.proofs.lemmas.Map.Views.{All-values-insert_entry, IfSome-lookup_from_All}
-use Rattle.standard.specs.Tree.{Nodes, no_node, lone, with_template, Keeps}
+use Rattle.standard.specs.Tree.{Nodes, no_node, is_element_at, lone, with_template, Keeps}
 use Rattle.std.proofs.lemmas.List.{length_push, get_or_push}
 use Rattle.html_types.specs.declared.attributes.Attribute.{Attribute}
 use Rattle.html_types.specs.declared.tree.Node.{Node}
@@ -22,16 +23,24 @@ use Rattle.doc_tree.proofs.Trees.{node_at-push}
 use Rattle.op_exec.specs.Docs.{IsPlain, IsDoc}
 use Rattle.act_laws.proofs.Renamed.{id_cmp-same}
 use Rattle.act_laws.proofs.Bindings.{IsOneToOne-insert}
+use Rattle.act_laws.proofs.Elements.{Alike, IsMore, IsMore-element_made}
 
 pub IsPlain-kept : (t s : Nodes) (n : ℕ) → Keeps t s → IsPlain t n → IsPlain s n
 IsPlain-kept t s n kept plain = (omega (arith, kept.nodes, plain.0), plain.1, kept.hosts n plain.0 ∙ plain.2)
 
-pub IsDoc-kept : (t s : Nodes) (bound : Bound) → IsDoc t bound → Keeps t s → IsDoc s bound
-IsDoc-kept t s bound doc kept = record {
+-- the same nodes are elements
+pub IsDoc-kept : (t s : Nodes) (bound : Bound) → IsDoc t bound → Keeps t s → Alike t s → IsDoc s bound
+IsDoc-kept t s bound doc kept alike = record {
   document = omega (arith, kept.nodes, doc.document);
   plain = All-weaker (IsPlain t) (IsPlain s) (λ n plain. IsPlain-kept t s n kept plain) (values_of bound) doc.plain;
   one_to_one = doc.one_to_one;
+  elements = λ n is. IsPlain-kept t s n kept (doc.elements n (sym (alike n) ∙ is));
 }
+
+-- what a call left that did this, or nothing
+pub IsDoc-done : {T E : Type 0} (r : Result T E) (t s made : Nodes) (bound : Bound) → IsDoc t bound → Keeps t s → OnOk r (s ≡ made) → OnErr r (s ≡ t) → Alike t made → IsDoc s bound
+IsDoc-done (Ok x) t s made bound doc kept is same alike = IsDoc-kept t s bound doc kept (λ n. ap (λ (u : Nodes). is_element_at u n) is ∙ alike n)
+IsDoc-done (Err e) t s made bound doc kept is same alike = subst (λ (u : Nodes). IsDoc u bound) (sym same) doc
 
 -- no id stands for the node that comes next
 next_is_free : (t : Nodes) (bound : Bound) → IsDoc t bound → (q : NodeId) → bound_to bound q ≢ Some (length t)
@@ -40,11 +49,17 @@ next_is_free t bound doc q is =
     let here : length t < length t = (subst (λ o. IfSome o (IsPlain t)) is plain).0 in
     absurd (omega (arith, here))
 
-pub IsDoc-bound : (t s : Nodes) (bound : Bound) (id : NodeId) → IsDoc t bound → Keeps t s → IsPlain s (length t) → IsDoc s (insert_entry id_cmp bound id (length t))
-IsDoc-bound t s bound id doc kept plain = record {
+pub IsDoc-bound : (t s : Nodes) (bound : Bound) (id : NodeId) → IsDoc t bound → Keeps t s → IsMore t s → IsPlain s (length t) → IsDoc s (insert_entry id_cmp bound id (length t))
+IsDoc-bound t s bound id doc kept more plain = record {
   document = omega (arith, kept.nodes, doc.document);
-  plain = All-values-insert_entry id_cmp id (length t) (IsPlain s) bound (IsDoc-kept t s bound doc kept).plain plain;
+  plain =
+      All-values-insert_entry id_cmp id (length t) (IsPlain s) bound
+      (All-weaker (IsPlain t) (IsPlain s) (λ n plain. IsPlain-kept t s n kept plain) (values_of bound) doc.plain) plain;
   one_to_one = IsOneToOne-insert bound id (length t) doc.one_to_one (next_is_free t bound doc);
+  elements = λ n is. elim (cases_eq n (length t)) [
+    | inl last ↦ subst (IsPlain s) (sym last) plain
+    | inr other ↦ IsPlain-kept t s n kept (doc.elements n (sym (more.elsewhere n other) ∙ is))
+  ];
 }
 
 at_some : (o : Option ℕ) (P : ℕ → Type 0) → IsSome o → IfSome o P → P (unwrap_or o 0)
@@ -100,7 +115,8 @@ none_from_test (Some n) none = absurd (cc)
 
 -- a document in which an element was made, or wasn't
 pub IsDoc-made : {T E : Type 0} (r : Result T E) (t s : Nodes) (old new : Bound) (id : NodeId) (name : Name) (as' : List Attribute) → IsDoc t old
-    → OnOk r (new ≡ insert_entry id_cmp old id (length t)) → OnOk r (s ≡ element_made t name as') → OnErr r (new ≡ old) → Keeps t s → IsDoc s new
-IsDoc-made (Ok x) t s old new id name as' doc bound made kept keeps =
-    subst (IsDoc s) (sym bound) (IsDoc-bound t s old id doc keeps (IsPlain-element_made t s name as' doc.document made))
-IsDoc-made (Err e) t s old new id name as' doc bound made kept keeps = subst (IsDoc s) (sym kept) (IsDoc-kept t s old doc keeps)
+    → OnOk r (new ≡ insert_entry id_cmp old id (length t)) → OnOk r (s ≡ element_made t name as') → OnErr r (new ≡ old) → OnErr r (s ≡ t) → Keeps t s → IsDoc s new
+IsDoc-made (Ok x) t s old new id name as' doc bound made kept same keeps =
+    subst (IsDoc s) (sym bound)
+    (IsDoc-bound t s old id doc keeps (subst (IsMore t) (sym made) (IsMore-element_made t name as')) (IsPlain-element_made t s name as' doc.document made))
+IsDoc-made (Err e) t s old new id name as' doc bound made kept same keeps = subst (IsDoc s) (sym kept) (subst (λ (u : Nodes). IsDoc u old) (sym same) doc)

@@ -6,3 +6,4 @@ pub mod Scripts
 pub mod Lists
 pub mod Worked
 pub mod Ids
+pub mod Finds

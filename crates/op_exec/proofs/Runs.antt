@@ -12,6 +12,7 @@ use Rattle.doc_tree.proofs.Links.{cases_option}
 use Rattle.doc_tree.proofs.Trees.{parent_below}
 use Rattle.doc_tree.proofs.Folds.{contents_below}
 use Rattle.doc_tree.proofs.Runs.{Step, text_step, text_more}
+use Rattle.act_laws.proofs.Elements.{Alike-text_at}
 use Rattle.op_exec.proofs.Docs.{IsPlain-node_of, IsDoc-kept}
 
 -- a spot on this tree
@@ -79,7 +80,7 @@ module _ (bound : Bound) where
       let is = IsSpot-spot_of t place tree doc there in
       let s = text_at t (c ∷ []) spot in
       let step = text_step t spot.parent spot.before tree is.here is.child (c ∷ []) in
-      let rest = run_is cs s place step.tree (IsDoc-kept t s bound doc step.keeps) there in
+      let rest = run_is cs s place step.tree (IsDoc-kept t s bound doc step.keeps (Alike-text_at t (c ∷ []) spot)) there in
       rest
       ∙ ap (λ (x : Spot). record { tree = text_at s cs x; bound = bound }) (spot_of-step t s place tree doc step there)
       ∙ ap (λ (x : Nodes). record { tree = x; bound = bound }) (text_more t spot.parent spot.before tree is.here is.child c cs)

@@ -3,7 +3,7 @@ use Rattle.std.specs.Prelude.{◌≡◌, ◌≢◌, ◌<◌, ◌++◌, ℕ, Bool
 use Rattle.std.specs.Map.{values_of}
 use Rattle.html_types.specs.declared.operation.Op.{Op}
 use Rattle.html_types.specs.declared.operation.Op.TheVariants.{Text}
-use Rattle.standard.specs.Tree.{Nodes, host_of}
+use Rattle.standard.specs.Tree.{Nodes, host_of, is_element_at}
 use Rattle.standard.specs.Act.{Bound, Doc, acts}
 use Rattle.act_laws.specs.Bindings.{IsOneToOne}
 
@@ -11,11 +11,12 @@ use Rattle.act_laws.specs.Bindings.{IsOneToOne}
 abbrev pub IsPlain : Nodes → ℕ → Type 0
 IsPlain t n = (n < length t) × (n ≢ 0) × (host_of t n ≡ None)
 
--- ids stand for such nodes, no two of them for one
+-- ids stand for such nodes, no two of them for one, and elements are such nodes
 pub record IsDoc (t : Nodes) (bound : Bound) : Type 0 where
   pub document : 0 < length t
   pub plain : All (IsPlain t) (values_of bound)
   pub one_to_one : IsOneToOne bound
+  pub elements : (n : ℕ) → is_element_at t n ≡ true → IsPlain t n
 
 -- whether the operation inserts an empty text
 abbrev pub inserts_nothing : Op → Bool

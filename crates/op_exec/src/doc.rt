@@ -1,12 +1,13 @@
 //! A tree and the ids of its elements.
 
-ghost use Rattle.std.specs.Prelude.{◌≡◌, ◌≢◌, ◌<◌, length, IsTrue, IsSome, OnOk, OnErr, IfOk, Some, None, false};
+ghost use Rattle.std.specs.Prelude.{◌≡◌, ◌≢◌, ◌<◌, length, IsTrue, IsSome, OnOk, OnErr, IfOk, Some, None, true, false, if◌then◌else◌};
 ghost use Rattle.std.specs.Option.{ForSome};
 ghost use Rattle.html_types.specs.declared.operation.Op.TheVariants as op;
+ghost use Rattle.doc_tree.specs.declared.tree.Put.TheVariants as put;
 
 use crate::bound::Bound;
 use crate::script::{ScriptKind, kind_of_script};
-use doc_tree::Tree;
+use doc_tree::{Put, Tree};
 use html_types::{Attributes, Kind, Name, NoMemory, NodeId, Op, Ops, Place, Text};
 use std::alloc::Global;
 use std::marker::Model;
@@ -297,7 +298,7 @@ impl Doc {
 // What a script asks for.
 impl Doc {
     ghost use Rattle.std.specs.Str.{chars};
-    ghost use Rattle.standard.specs.Tree.{detached, find_id, first_element};
+    ghost use Rattle.standard.specs.Tree.{detached, moved, lies_in, is_element_at, find_id, first_element};
 
     /// The Document's element.
     pub fn root(&self) -> Option<usize>
@@ -311,6 +312,7 @@ impl Doc {
     pub fn find_id(&self, id: &str) -> Option<usize>
         ensures found { result ≡ find_id self.now.tree (chars id.now) }
         ensures here { ForSome result (λ k. k < length self.now.tree) }
+        ensures element { ForSome result (λ k. is_element_at self.now.tree k ≡ true) }
     {
         self.tree.find_id(id)
     }
@@ -321,6 +323,19 @@ impl Doc {
         ensures { self.new ≡ record self.old { tree = detached self.old.tree node } }
     {
         self.tree.detach(node);
+    }
+
+    /// Puts the second element at the end of the first one's children, from wherever it stands; a template's are its own, not its contents'.
+    /// Impossible, and then nothing changes, exactly where the second is the first or the first stands under it. Texts that come to stand side
+    /// by side aren't joined, and what ids stand for stays.
+    pub fn move_last(&mut self, first: usize, second: usize) -> Result<Put, NoMemory>
+        requires first_element { is_element_at self.old.tree first ≡ true }
+        requires second_element { is_element_at self.old.tree second ≡ true }
+        ensures answer { IfOk result (λ answer. answer ≡ (if lies_in self.old.tree first second then put.Impossible else put.Done)) }
+        ensures ok { OnOk result (self.new ≡ record self.old { tree = (if lies_in self.old.tree first second then self.old.tree else moved self.old.tree second first None) }) }
+        ensures err { OnErr result (self.new ≡ self.old) }
+    {
+        self.tree.put_last(second, first)
     }
 }
 

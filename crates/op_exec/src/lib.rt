@@ -7,12 +7,14 @@ mod element;
 mod script;
 
 pub use doc::Doc;
+pub use doc_tree::Put;
 pub use script::ScriptKind;
 
 #[cfg(test)]
 mod tests {
     use super::*;
-    use html_types::{Attributes, Name, NoMemory, NodeId, Op, Ops, Place, Space};
+    use html_types::{Attribute, Attributes, Name, NoMemory, NodeId, Op, Ops, Place, Space, Text};
+    use std::alloc::Global;
 
     #[test]
     #[tactic(auto, unfolding(standard::specs::Act::act, standard::specs::Act::acts))]
@@ -58,6 +60,36 @@ mod tests {
         })?;
         assert!(rt; doc.tree().len() == 2);
         assert_eq!(rt; doc.tree().contents(1), None);
+        Ok(())
+    }
+
+    fn with_id(alloc: Global, id: &str) -> Result<Attributes, NoMemory> {
+        let mut attributes = Attributes::new(alloc);
+        let name = Text::from_str(alloc, "id")?;
+        let value = Text::from_str(alloc, id)?;
+        attributes.push(Attribute { name, value })?;
+        Ok(attributes)
+    }
+
+    #[test]
+    #[tactic(auto, unfolding(standard::specs::Act::act, standard::specs::Act::acts))]
+    fn an_element_does_not_move_into_itself(rt: HostRuntime) -> Result<(), NoMemory> {
+        let alloc = rt.alloc();
+        let id = NodeId { realm: 1, n: 0 };
+        let mut doc = Doc::new(alloc)?;
+        doc.apply(Op::Make {
+            id,
+            name: Name::of(alloc, "div")?,
+            attributes: with_id(alloc, "a")?,
+        })?;
+        doc.apply(Op::Put {
+            node: id,
+            place: Place::Page,
+        })?;
+        let Some(found) = doc.find_id("a") else {
+            return Err(NoMemory);
+        };
+        assert!(rt; doc.move_last(found, found)? == Put::Impossible);
         Ok(())
     }
 

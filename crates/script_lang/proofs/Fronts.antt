@@ -1,12 +1,14 @@
 -- The statement at the front of a text, a case at a time.
-use Rattle.std.proofs.Common.{◌≡◌, ℕ, List, Option, Some, None, option_map, MatchOption, true, refl, codes}
+use Rattle.std.proofs.Common.{◌≡◌, ℕ, List, [], Option, Some, None, option_map, MatchOption, true, refl, codes}
 use Rattle.std.specs.Char.{encode_utf8}
 use Rattle.std.specs.Str.{chars, is_utf8, IsUtf8}
 use Rattle.std.specs.Str.Pattern.{FindsTextPrefix, StripsPrefix}
 use Rattle.std.proofs.lemmas.Str.{IsUtf8-from_is_utf8}
 use denote.Ref.{Bor}
-use Rattle.html_types.specs.declared.script.Statement.TheVariants.{Write, Remove, LogById, LogRoot}
+use Rattle.html_types.specs.declared.script.Statement.{Statement}
+use Rattle.html_types.specs.declared.script.Statement.TheVariants.{Write, WriteLine, Remove, Append, LogById, LogRoot}
 use Rattle.standard.specs.Statements.{behind, string_value, string_between, statement}
+use Rattle.script_lang.specs.Parts.{append}
 use Rattle.script_lang.proofs.Words.{behind-stripped}
 
 module _ (before after t : List ℕ) where
@@ -31,6 +33,9 @@ module _ (before after t : List ℕ) where
 abbrev write : List ℕ → Option (List ℕ × List ℕ)
 write t = string_between (codes "document.write(") (codes ");") t
 
+abbrev write_line : List ℕ → Option (List ℕ × List ℕ)
+write_line t = string_between (codes "document.writeln(") (codes ");") t
+
 abbrev remove : List ℕ → Option (List ℕ × List ℕ)
 remove t = string_between (codes "document.getElementById(") (codes ").remove();") t
 
@@ -50,26 +55,48 @@ pub log_root-stripped : (s : List ℕ) (r : Option (Bor (List ℕ))) → IsUtf8 
 unfolding chars
 log_root-stripped s r u h = behind-stripped (codes "console.log(document.documentElement.outerHTML);") s r (IsUtf8-from_is_utf8 _ log_root_is_ascii) u h
 
+-- the two strings of a move
+module _ (t : List ℕ) where
+  pub append-no_first : None ≡ string_between (codes "document.getElementById(") (codes ").append(document.getElementById(") t → None ≡ append t
+  append-no_first e = rw (← e) refl
+
+  module _ (v r : List ℕ) (e : Some (v, r) ≡ string_between (codes "document.getElementById(") (codes ").append(document.getElementById(") t) where
+    pub append-no_second : None ≡ string_between [] (codes "));") r → None ≡ append t
+    append-no_second f = rw (← e, ← f) refl
+
+    pub append-whole : (w rest : List ℕ) → Some (w, rest) ≡ string_between [] (codes "));") r → Some (Append v w, rest) ≡ append t
+    append-whole w rest f = rw (← e, ← f) refl
+
 module _ (t : List ℕ) where
   pub statement-write : (v rest : List ℕ) → Some (v, rest) ≡ write t → Some (Write v, rest) ≡ statement t
   unfolding statement
   statement-write v rest e = rw (← e) refl
 
   module _ (no_write : None ≡ write t) where
-    pub statement-remove : (v rest : List ℕ) → Some (v, rest) ≡ remove t → Some (Remove v, rest) ≡ statement t
+    pub statement-write_line : (v rest : List ℕ) → Some (v, rest) ≡ write_line t → Some (WriteLine v, rest) ≡ statement t
     unfolding statement
-    statement-remove v rest e = rw (← no_write, ← e) refl
+    statement-write_line v rest e = rw (← no_write, ← e) refl
 
-    module _ (no_remove : None ≡ remove t) where
-      pub statement-log_by_id : (v rest : List ℕ) → Some (v, rest) ≡ log_by_id t → Some (LogById v, rest) ≡ statement t
+    module _ (no_line : None ≡ write_line t) where
+      pub statement-remove : (v rest : List ℕ) → Some (v, rest) ≡ remove t → Some (Remove v, rest) ≡ statement t
       unfolding statement
-      statement-log_by_id v rest e = rw (← no_write, ← no_remove, ← e) refl
+      statement-remove v rest e = rw (← no_write, ← no_line, ← e) refl
 
-      module _ (no_log : None ≡ log_by_id t) where
-        pub statement-log_root : (rest : List ℕ) → Some rest ≡ log_root t → Some (LogRoot, rest) ≡ statement t
+      module _ (no_remove : None ≡ remove t) where
+        pub statement-append : (p : Statement × List ℕ) → Some p ≡ append t → Some p ≡ statement t
         unfolding statement
-        statement-log_root rest e = rw (← no_write, ← no_remove, ← no_log, ← e) refl
+        statement-append p e = rw (← no_write, ← no_line, ← no_remove, ← e) refl
 
-        pub statement-none : None ≡ log_root t → None ≡ statement t
-        unfolding statement
-        statement-none e = rw (← no_write, ← no_remove, ← no_log, ← e) refl
+        module _ (no_append : None ≡ append t) where
+          pub statement-log_by_id : (v rest : List ℕ) → Some (v, rest) ≡ log_by_id t → Some (LogById v, rest) ≡ statement t
+          unfolding statement
+          statement-log_by_id v rest e = rw (← no_write, ← no_line, ← no_remove, ← no_append, ← e) refl
+
+          module _ (no_log : None ≡ log_by_id t) where
+            pub statement-log_root : (rest : List ℕ) → Some rest ≡ log_root t → Some (LogRoot, rest) ≡ statement t
+            unfolding statement
+            statement-log_root rest e = rw (← no_write, ← no_line, ← no_remove, ← no_append, ← no_log, ← e) refl
+
+            pub statement-none : None ≡ log_root t → None ≡ statement t
+            unfolding statement
+            statement-none e = rw (← no_write, ← no_line, ← no_remove, ← no_append, ← no_log, ← e) refl

@@ -2,7 +2,7 @@
 use Rattle.std.proofs.Common.{◌≡◌, ℕ, ◌+◌, ◌<◌, ◌≤◌, ◌==◌, Bool, true, false, List, [], ◌∷◌, length, Option, Some, None, option_map, option_and_then, refl, sym, ap, ◌∙◌, arith, codes}
 use Rattle.std.proofs.lemmas.List.{length-append}
 use Rattle.html_types.specs.declared.script.Statement.{Statement}
-use Rattle.html_types.specs.declared.script.Statement.TheVariants.{Write, Remove, LogById}
+use Rattle.html_types.specs.declared.script.Statement.TheVariants.{Write, WriteLine, Remove, Append, LogById}
 use Rattle.json.specs.Text.{content, plain}
 use Rattle.std.specs.Prelude.{encode_utf8_all}
 use Rattle.std.specs.Str.{chars}
@@ -68,11 +68,21 @@ with_string-shorter of before after t p e =
     mapped _ (string_between before after t) p e
     (λ string found is. let rest : length string.1 ≡ length p.1 = ap (λ (r : Statement × List ℕ). length r.1) is in omega (arith, string_between-shorter before after t string found))
 
+with_strings-shorter : (of : List ℕ → List ℕ → Statement) (before between after t : List ℕ) (p : Statement × List ℕ)
+    → option_and_then (λ first. option_and_then (λ second. Some (of first.0 second.0, second.1)) (string_between [] after first.1)) (string_between before between t) ≡ Some p
+    → length p.1 < length t
+with_strings-shorter of before between after t p e =
+    given _ (string_between before between t) p e (λ first begins e1.
+    given _ (string_between [] after first.1) p e1 (λ second ends e2.
+    omega (arith, string_between-shorter before between t first begins, string_between-shorter [] after first.1 second ends, same_rest (of first.0 second.0) second.1 p e2)))
+
 pub statement-shorter : (t : List ℕ) (p : Statement × List ℕ) → statement t ≡ Some p → length p.1 < length t
 unfolding statement
 statement-shorter t p e =
     chosen _ _ p e (with_string-shorter Write _ _ t p) (λ e1.
-    chosen _ _ p e1 (with_string-shorter Remove _ _ t p) (λ e2.
-    chosen _ _ p e2 (with_string-shorter LogById _ _ t p) (λ e3.
-    mapped _ (behind (codes "console.log(document.documentElement.outerHTML);") t) p e3
-    (λ r found is. let rest : length r ≡ length p.1 = ap (λ (q : Statement × List ℕ). length q.1) is in omega (arith, behind-shorter (codes "console.log(document.documentElement.outerHTML);") t r found)))))
+    chosen _ _ p e1 (with_string-shorter WriteLine _ _ t p) (λ e2.
+    chosen _ _ p e2 (with_string-shorter Remove _ _ t p) (λ e3.
+    chosen _ _ p e3 (with_strings-shorter Append _ _ _ t p) (λ e4.
+    chosen _ _ p e4 (with_string-shorter LogById _ _ t p) (λ e5.
+    mapped _ (behind (codes "console.log(document.documentElement.outerHTML);") t) p e5
+    (λ r found is. let rest : length r ≡ length p.1 = ap (λ (q : Statement × List ℕ). length q.1) is in omega (arith, behind-shorter (codes "console.log(document.documentElement.outerHTML);") t r found)))))))

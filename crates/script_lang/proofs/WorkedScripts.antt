@@ -3,7 +3,7 @@ use Rattle.std.proofs.Common.{◌≡◌, [], ◌∷◌, Some, None, refl, codes}
 use Rattle.std.specs.Str.{chars}
 use Rattle.std.specs.Char.{encode_utf8}
 use Rattle.json.proofs.OnLiterals.{json_on_literals}
-use Rattle.html_types.specs.declared.script.Statement.TheVariants.{Write, Remove, LogById, LogRoot}
+use Rattle.html_types.specs.declared.script.Statement.TheVariants.{Write, WriteLine, Remove, Append, LogById, LogRoot}
 use Rattle.standard.specs.Statements.{statements}
 
 empty : statements [] ≡ Some []
@@ -23,6 +23,20 @@ each_statement :
     ≡ Some (Write (codes "a") ∷ Remove (codes "b") ∷ LogRoot ∷ LogById [] ∷ [])
 unfolding statements json_on_literals chars encode_utf8
 each_statement = refl
+
+lines_and_moves :
+    statements (codes "document.writeln(\"a\");\ndocument.getElementById(\"b\").append(document.getElementById(\"c\"));document.writeln(\"\");")
+    ≡ Some (WriteLine (codes "a") ∷ Append (codes "b") (codes "c") ∷ WriteLine [] ∷ [])
+unfolding statements json_on_literals chars encode_utf8
+lines_and_moves = refl
+
+half_a_move : statements (codes "document.getElementById(\"b\").append(document.getElementById(\"c\");") ≡ None
+unfolding statements json_on_literals chars encode_utf8
+half_a_move = refl
+
+move_of_a_text : statements (codes "document.getElementById(\"b\").append(\"c\");") ≡ None
+unfolding statements json_on_literals chars encode_utf8
+move_of_a_text = refl
 
 escapes : statements (codes "document.write(\"\\u0041\\/\\\"\\\\\");") ≡ Some (Write (codes "A/\"\\") ∷ [])
 unfolding statements json_on_literals chars encode_utf8

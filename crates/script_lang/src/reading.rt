@@ -3,18 +3,20 @@
 ghost use Rattle.std.specs.Prelude.{◌≡◌, option_map, IfOk};
 ghost use Rattle.std.specs.Str.{chars};
 ghost use Rattle.standard.specs.Statements.{skip_white, statement, statements, string_between};
-ghost use Rattle.script_lang.specs.Parts.{parted};
+ghost use Rattle.script_lang.specs.Parts.{parted, append};
 
 use crate::script::Script;
 use crate::string::string_value;
 use html_types::{NoMemory, Statement, Text};
 use std::alloc::Global;
 
-/// Reads a script's text: its statements in order, none where the text isn't a list of these four, with space, TAB, LF
+/// Reads a script's text: its statements in order, none where the text isn't a list of these six, with space, TAB, LF
 /// and CR before, between and behind them, and none inside them but in a string. `"V"` is a JSON string, and V its value.
 ///
 /// - `document.write("V");`
+/// - `document.writeln("V");`
 /// - `document.getElementById("V").remove();`
+/// - `document.getElementById("V").append(document.getElementById("W"));`
 /// - `console.log(document.getElementById("V").outerHTML);`
 /// - `console.log(document.documentElement.outerHTML);`
 pub fn read(alloc: Global, text: &str) -> Result<Option<Script>, NoMemory>
@@ -46,6 +48,9 @@ fn statement<'a>(alloc: Global, text: &'a str) -> Result<Option<(Statement, &'a 
     if let Some((value, rest)) = string_between(alloc, text, "document.write(", ");")? {
         return Ok(Some((Statement::Write(value), rest)));
     }
+    if let Some((value, rest)) = string_between(alloc, text, "document.writeln(", ");")? {
+        return Ok(Some((Statement::WriteLine(value), rest)));
+    }
     if let Some((value, rest)) = string_between(
         alloc,
         text,
@@ -53,6 +58,9 @@ fn statement<'a>(alloc: Global, text: &'a str) -> Result<Option<(Statement, &'a 
         ").remove();",
     )? {
         return Ok(Some((Statement::Remove(value), rest)));
+    }
+    if let Some(moved) = append(alloc, text)? {
+        return Ok(Some(moved));
     }
     if let Some((value, rest)) = string_between(
         alloc,
@@ -64,6 +72,25 @@ fn statement<'a>(alloc: Global, text: &'a str) -> Result<Option<(Statement, &'a 
     }
     match text.strip_prefix("console.log(document.documentElement.outerHTML);") {
         Some(rest) => Ok(Some((Statement::LogRoot, rest))),
+        None => Ok(None),
+    }
+}
+
+/// The statement that moves an element, where the text begins with one, and the text behind it.
+fn append<'a>(alloc: Global, text: &'a str) -> Result<Option<(Statement, &'a str)>, NoMemory>
+    ensures { IfOk result (λ found. option_map parted found ≡ append (chars text.now)) }
+{
+    let Some((first, behind)) = string_between(
+        alloc,
+        text,
+        "document.getElementById(",
+        ").append(document.getElementById(",
+    )?
+    else {
+        return Ok(None);
+    };
+    match string_between(alloc, behind, "", "));")? {
+        Some((second, rest)) => Ok(Some((Statement::Append(first, second), rest))),
         None => Ok(None),
     }
 }

@@ -14,6 +14,17 @@ fn writes(alloc: Global, text: &str, value: &str) -> Result<bool, NoMemory> {
     }
 }
 
+/// Whether the text is one move of the second element into the first.
+fn moves(alloc: Global, text: &str, first: &str, second: &str) -> Result<bool, NoMemory> {
+    let Some(script) = read(alloc, text)? else {
+        return Ok(false);
+    };
+    match script.as_slice() {
+        [Statement::Append(into, moved)] => Ok(into.as_str() == first && moved.as_str() == second),
+        _ => Ok(false),
+    }
+}
+
 /// How many statements the text is; none where it is no list of statements.
 fn count(alloc: Global, text: &str) -> Result<Option<usize>, NoMemory> {
     match read(alloc, text)? {
@@ -42,11 +53,20 @@ fn form_feed(rt: HostRuntime) -> Result<(), Fail> {
 }
 
 #[test]
-fn four_statements(rt: HostRuntime) -> Result<(), Fail> {
-    let text = "document.write(\"\");document.getElementById(\"a\").remove();\
+fn six_statements(rt: HostRuntime) -> Result<(), Fail> {
+    let text =
+        "document.write(\"\");document.writeln(\"\");document.getElementById(\"a\").remove();\
+        document.getElementById(\"a\").append(document.getElementById(\"b\"));\
         console.log(document.documentElement.outerHTML);\
         console.log(document.getElementById(\"a\").outerHTML);";
-    assert_eq!(rt; count(rt.alloc(), text)?, Some(4));
+    assert_eq!(rt; count(rt.alloc(), text)?, Some(6));
+    Ok(())
+}
+
+#[test]
+fn two_elements_of_a_move(rt: HostRuntime) -> Result<(), Fail> {
+    let text = "document.getElementById(\"a\").append(document.getElementById(\"b\"));";
+    assert!(rt; moves(rt.alloc(), text, "a", "b")?);
     Ok(())
 }
 

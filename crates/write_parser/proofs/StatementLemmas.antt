@@ -1,5 +1,5 @@
 -- Statements of the innermost script.
-use Rattle.std.proofs.Common.{◌≡◌, ◌<◌, ◌≤◌, ◌+◌, ℕ, suc, true, false, get_or, drop, drop-cons, add-one, Result, Ok, Err, IfOk, OnOk, List, [], ◌∷◌, ◌++◌, length, Option, Some, None, refl, sym, ap, ◌∙◌, subst, append_assoc, length-append, arith, ◌⊎◌, inl, inr}
+use Rattle.std.proofs.Common.{◌≡◌, ◌<◌, ◌≤◌, ◌+◌, ℕ, suc, true, false, get_or, drop, drop-cons, add-one, Result, Ok, Err, IfOk, OnOk, List, [], ◌∷◌, ◌++◌, length, Option, Some, None, Bool, if◌then◌else◌, refl, sym, ap, ◌∙◌, subst, append_assoc, length-append, arith, ◌⊎◌, inl, inr}
 use Rattle.std.specs.Option.{is_some}
 use Rattle.std.proofs.lemmas.Bool.{cases_lt}
 use Rattle.html_types.specs.declared.script.Line.{Line}
@@ -8,16 +8,18 @@ use Rattle.html_types.specs.declared.script.Statement.{Statement}
 use Rattle.html_types.specs.declared.script.Statement.TheVariants as statement
 use Rattle.html_types.specs.declared.script.Why.TheVariants as why
 use Rattle.standard.specs.Outer.{outer_text}
-use Rattle.standard.specs.Tree.{find_id, first_element, detached}
-use Rattle.standard.specs.Serial.{World, Course, refuses, write_limit}
-use Rattle.standard_laws.specs.Frames.{Frame, state_of, NestComesTo, Waits, LacksElement}
+use Rattle.standard.specs.Tree.{Nodes, find_id, first_element, detached, lies_in, moved, appended}
+use Rattle.standard.specs.Act.{Doc}
+use Rattle.doc_tree.specs.declared.tree.Put.TheVariants as put
+use Rattle.standard.specs.Serial.{World, Course, refuses, write_limit, with_line_feed}
+use Rattle.standard_laws.specs.Frames.{Frame, Nest, state_of, NestComesTo, Waits, wrote, LacksElement}
 use Rattle.write_parser.specs.declared.left.Overrun.{Overrun}
 use Rattle.write_parser.specs.declared.left.Overrun.TheVariants as limit
 use Rattle.write_parser.specs.declared.live.Live.{Live}
 use Rattle.write_parser.specs.declared.live.Did.{Did}
 use Rattle.write_parser.specs.declared.live.Did.TheVariants as did
-use Rattle.write_parser.specs.Steps.{IsGoing, framed, nest_of, ThenBy, Then, HasWritten, HasRemoved, HasRead, DoesMost, Does}
-use Rattle.standard_laws.proofs.Frames.{write-fits, write-refuses, removes, reads_by_id, reads_root, throws}
+use Rattle.write_parser.specs.Steps.{IsGoing, framed, nest_of, ThenBy, Then, HasWritten, HasRemoved, HasAppended, HasRead, DoesMost, Does}
+use Rattle.standard_laws.proofs.Frames.{write-fits, write-refuses, line-fits, line-refuses, removes, appends, reads_by_id, reads_root, throws}
 
 -- ---- where the page isn't refused, and where it is
 
@@ -31,47 +33,68 @@ on-then w Of new fs before page on each = subst (λ h. ThenBy h w Of new fs befo
 
 -- ---- a write
 
-wrote-fits : (k : ℕ) (t : List ℕ) (old : Live) (rest : List ℕ) → IsGoing old → Waits old.pending rest → old.written + length t ≤ write_limit →
-    DoesMost k (statement.Write t) old rest (record old { written = old.written + length t }) (rest ++ t) did.All
-wrote-fits k t old rest going waits fits = record {
-  done = λ es list fs. record {
-    turns = λ w before page is.
-        then-on w (NestComesTo w (nest_of old (framed k (statement.Write t ∷ list) rest ∷ fs) before page)) (record old { written = old.written + length t })
-        (framed k list (rest ++ t) ∷ fs) before page going.halted
-        (λ g come. write-fits w (nest_of old (framed k (statement.Write t ∷ list) rest ∷ fs) before page) (framed k (statement.Write t ∷ list) rest) fs t list g
-        refl refl waits fits come);
-  };
-  served = going.served;
-  light = record { light = omega (arith, length-append rest t); behind = refl; pending = refl };
-}
+-- a statement that writes a text, which fits
+abbrev Writes : Statement → List ℕ → Type 0
+Writes a t =
+    (w : World) (x : Nest) (f : Frame) (fs : List Frame) (list : List Statement) (g : Course) →
+    x.frames ≡ f ∷ fs → f.list ≡ a ∷ list → Waits x.pending f.rest → x.written + length t ≤ write_limit → NestComesTo w (wrote t list f fs x) g → NestComesTo w x g
 
-wrote-long : (k : ℕ) (t : List ℕ) (old : Live) (rest : List ℕ) → IsGoing old → Waits old.pending rest → write_limit < old.written + length t →
-    DoesMost k (statement.Write t) old rest (record old { halted = Some limit.Writes }) rest did.All
-wrote-long k t old rest going waits long = record {
-  done = λ es list fs. record {
-    turns = λ w before page is. (
-      refuses why.Writes (state_of (nest_of old (framed k (statement.Write t ∷ list) rest ∷ fs) before page)),
-      record { last = state_of (nest_of old (framed k (statement.Write t ∷ list) rest ∷ fs) before page); is = refl; lines = refl; doc = refl },
-      write-refuses w (nest_of old (framed k (statement.Write t ∷ list) rest ∷ fs) before page) (framed k (statement.Write t ∷ list) rest) fs t list refl refl waits long,
-    );
-  };
-  served = going.served;
-  light = record { light = omega arith; behind = refl; pending = refl };
-}
+-- or doesn't
+abbrev Overruns : Statement → List ℕ → Type 0
+Overruns a t =
+    (w : World) (x : Nest) (f : Frame) (fs : List Frame) (list : List Statement) →
+    x.frames ≡ f ∷ fs → f.list ≡ a ∷ list → Waits x.pending f.rest → write_limit < x.written + length t → NestComesTo w x (refuses why.Writes (state_of x))
+
+module _ (k : ℕ) (a : Statement) (t : List ℕ) (old : Live) (rest : List ℕ) (going : IsGoing old) (waits : Waits old.pending rest) where
+  wrote-fits : Writes a t → old.written + length t ≤ write_limit → DoesMost k a old rest (record old { written = old.written + length t }) (rest ++ t) did.All
+  wrote-fits writes fits = record {
+    done = λ es list fs. record {
+      turns = λ w before page is.
+          then-on w (NestComesTo w (nest_of old (framed k (a ∷ list) rest ∷ fs) before page)) (record old { written = old.written + length t })
+          (framed k list (rest ++ t) ∷ fs) before page going.halted
+          (λ g come. writes w (nest_of old (framed k (a ∷ list) rest ∷ fs) before page) (framed k (a ∷ list) rest) fs list g refl refl waits fits come);
+    };
+    served = going.served;
+    light = record { light = omega (arith, length-append rest t); behind = refl; pending = refl };
+  }
+
+  wrote-long : Overruns a t → write_limit < old.written + length t → DoesMost k a old rest (record old { halted = Some limit.Writes }) rest did.All
+  wrote-long overruns long = record {
+    done = λ es list fs. record {
+      turns = λ w before page is. (
+        refuses why.Writes (state_of (nest_of old (framed k (a ∷ list) rest ∷ fs) before page)),
+        record { last = state_of (nest_of old (framed k (a ∷ list) rest ∷ fs) before page); is = refl; lines = refl; doc = refl },
+        overruns w (nest_of old (framed k (a ∷ list) rest ∷ fs) before page) (framed k (a ∷ list) rest) fs list refl refl waits long,
+      );
+    };
+    served = going.served;
+    light = record { light = omega arith; behind = refl; pending = refl };
+  }
+
+  does-write_of : Writes a t → Overruns a t → (new : Live) (rest' : List ℕ) (d : Did) → HasWritten old rest t new rest' d → DoesMost k a old rest new rest' d
+  does-write_of writes overruns new rest' d has = subst (λ d'. DoesMost k a old rest new rest' d') (sym has.did) (by_limit (cases_lt write_limit (old.written + length t)))
+    where
+      by_limit : (write_limit < old.written + length t) ⊎ (old.written + length t ≤ write_limit) → DoesMost k a old rest new rest' did.All
+      by_limit (inr fits) =
+          let is = has.fits fits in
+          subst (λ n. DoesMost k a old rest n rest' did.All) (sym is.0)
+          (subst (λ r. DoesMost k a old rest (record old { written = old.written + length t }) r did.All) (sym is.1) (wrote-fits writes fits))
+      by_limit (inl long) =
+          let is = has.long long in
+          subst (λ n. DoesMost k a old rest n rest' did.All) (sym is.0)
+          (subst (λ r. DoesMost k a old rest (record old { halted = Some limit.Writes }) r did.All) (sym is.1) (wrote-long overruns long))
 
 pub does-write : (k : ℕ) (t : List ℕ) (old : Live) (rest : List ℕ) (new : Live) (rest' : List ℕ) (d : Did) → IsGoing old → Waits old.pending rest →
     HasWritten old rest t new rest' d → DoesMost k (statement.Write t) old rest new rest' d
-does-write k t old rest new rest' d going waits wrote = subst (λ d'. DoesMost k (statement.Write t) old rest new rest' d') (sym wrote.did) (by_limit (cases_lt write_limit (old.written + length t)))
-  where
-    by_limit : (write_limit < old.written + length t) ⊎ (old.written + length t ≤ write_limit) → DoesMost k (statement.Write t) old rest new rest' did.All
-    by_limit (inr fits) =
-        let is = wrote.fits fits in
-        subst (λ n. DoesMost k (statement.Write t) old rest n rest' did.All) (sym is.0)
-        (subst (λ r. DoesMost k (statement.Write t) old rest (record old { written = old.written + length t }) r did.All) (sym is.1) (wrote-fits k t old rest going waits fits))
-    by_limit (inl long) =
-        let is = wrote.long long in
-        subst (λ n. DoesMost k (statement.Write t) old rest n rest' did.All) (sym is.0)
-        (subst (λ r. DoesMost k (statement.Write t) old rest (record old { halted = Some limit.Writes }) r did.All) (sym is.1) (wrote-long k t old rest going waits long))
+does-write k t old rest new rest' d going waits has =
+    does-write_of k (statement.Write t) t old rest going waits
+    (λ w x f fs list g. write-fits w x f fs t list g) (λ w x f fs list. write-refuses w x f fs t list) new rest' d has
+
+pub does-write_line : (k : ℕ) (t : List ℕ) (old : Live) (rest : List ℕ) (new : Live) (rest' : List ℕ) (d : Did) → IsGoing old → Waits old.pending rest →
+    HasWritten old rest (with_line_feed t) new rest' d → DoesMost k (statement.WriteLine t) old rest new rest' d
+does-write_line k t old rest new rest' d going waits has =
+    does-write_of k (statement.WriteLine t) (with_line_feed t) old rest going waits
+    (λ w x f fs list g. line-fits w x f fs t list g) (λ w x f fs list. line-refuses w x f fs t list) new rest' d has
 
 -- ---- an element that isn't there
 
@@ -109,6 +132,62 @@ does-remove k v old rest new rest' d going waits same = by_found (find_id old.do
         subst (λ d'. DoesMost k (statement.Remove v) old rest new rest' d') (sym all)
         (subst (λ r. DoesMost k (statement.Remove v) old rest new r did.All) (sym same)
         (subst (λ n. DoesMost k (statement.Remove v) old rest n rest did.All) (sym is) (removed-there k v old rest e going waits there)))
+
+-- ---- a move
+
+-- what a document answers that made it, or couldn't
+module _ (old : Live) (doc : Doc) (v w : Option ℕ) (first second : ℕ) (is_v : v ≡ Some first) (is_w : w ≡ Some second)
+    (left : doc ≡ record old.doc { tree = (if lies_in old.doc.tree first second then old.doc.tree else moved old.doc.tree second first None) }) where
+  pub appended-done : put.Done ≡ (if lies_in old.doc.tree first second then put.Impossible else put.Done) → HasAppended (appended old.doc.tree v w) old (record old { doc = doc }) did.All
+  appended-done answer = rw (is_v, is_w) (by_test (lies_in old.doc.tree first second) answer left)
+    where
+      by_test : (b : Bool) → put.Done ≡ (if b then put.Impossible else put.Done) → doc ≡ record old.doc { tree = (if b then old.doc.tree else moved old.doc.tree second first None) } →
+          HasAppended (if b then None else Some (moved old.doc.tree second first None)) old (record old { doc = doc }) did.All
+      by_test true answer left = absurd (cc)
+      by_test false answer left = (ap (λ (d : Doc). record old { doc = d }) left, refl)
+
+  pub appended-impossible : put.Impossible ≡ (if lies_in old.doc.tree first second then put.Impossible else put.Done) → HasAppended (appended old.doc.tree v w) old (record old { doc = doc }) did.Nothing
+  appended-impossible answer = rw (is_v, is_w) (by_test (lies_in old.doc.tree first second) answer left)
+    where
+      by_test : (b : Bool) → put.Impossible ≡ (if b then put.Impossible else put.Done) → doc ≡ record old.doc { tree = (if b then old.doc.tree else moved old.doc.tree second first None) } →
+          HasAppended (if b then None else Some (moved old.doc.tree second first None)) old (record old { doc = doc }) did.Nothing
+      by_test true answer left = (ap (λ (d : Doc). record old { doc = d }) left, refl)
+      by_test false answer left = absurd (cc)
+
+-- or that lacks an element
+pub lacks-first : (old : Live) (v w : Option ℕ) → v ≡ None → HasAppended (appended old.doc.tree v w) old old did.Nothing
+lacks-first old v w none = rw none (refl, refl)
+
+pub lacks-second : (old : Live) (v w : Option ℕ) (first : ℕ) → v ≡ Some first → w ≡ None → HasAppended (appended old.doc.tree v w) old old did.Nothing
+lacks-second old v w first is none = rw (is, none) (refl, refl)
+
+-- which left this tree
+moved-there : (k : ℕ) (v w : List ℕ) (old : Live) (rest : List ℕ) (t : Nodes) → IsGoing old → Waits old.pending rest →
+    appended old.doc.tree (find_id old.doc.tree v) (find_id old.doc.tree w) ≡ Some t →
+    DoesMost k (statement.Append v w) old rest (record old { doc = record old.doc { tree = t } }) rest did.All
+moved-there k v w old rest t going waits there = record {
+  done = λ es list fs. record {
+    turns = λ world before page is.
+        then-on world (NestComesTo world (nest_of old (framed k (statement.Append v w ∷ list) rest ∷ fs) before page)) (record old { doc = record old.doc { tree = t } })
+        (framed k list rest ∷ fs) before page going.halted
+        (λ g come. appends world (nest_of old (framed k (statement.Append v w ∷ list) rest ∷ fs) before page) (framed k (statement.Append v w ∷ list) rest) fs v w list t g
+        refl refl waits there come);
+  };
+  served = going.served;
+  light = record { light = omega arith; behind = refl; pending = refl };
+}
+
+pub does-append : (k : ℕ) (v w : List ℕ) (old : Live) (rest : List ℕ) (new : Live) (rest' : List ℕ) (d : Did) → IsGoing old → Waits old.pending rest → rest' ≡ rest →
+    HasAppended (appended old.doc.tree (find_id old.doc.tree v) (find_id old.doc.tree w)) old new d → DoesMost k (statement.Append v w) old rest new rest' d
+does-append k v w old rest new rest' d going waits same = by_left (appended old.doc.tree (find_id old.doc.tree v) (find_id old.doc.tree w)) refl
+  where
+    by_left : (left : Option Nodes) → appended old.doc.tree (find_id old.doc.tree v) (find_id old.doc.tree w) ≡ left → HasAppended left old new d →
+        DoesMost k (statement.Append v w) old rest new rest' d
+    by_left None none has = lacks k (statement.Append v w) old rest new rest' d going none same has
+    by_left (Some t) there (is, all) =
+        subst (λ d'. DoesMost k (statement.Append v w) old rest new rest' d') (sym all)
+        (subst (λ r. DoesMost k (statement.Append v w) old rest new r did.All) (sym same)
+        (subst (λ n. DoesMost k (statement.Append v w) old rest n rest did.All) (sym is) (moved-there k v w old rest t going waits there)))
 
 -- ---- a reading
 

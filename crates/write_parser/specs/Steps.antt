@@ -7,7 +7,7 @@ use Rattle.html_types.specs.declared.script.Why.{Why}
 use Rattle.html_types.specs.declared.script.Line.{Line}
 use Rattle.html_types.specs.declared.script.Line.TheVariants as line
 use Rattle.standard.specs.Entities.{Entities}
-use Rattle.standard.specs.Tree.{detached}
+use Rattle.standard.specs.Tree.{Nodes, detached}
 use Rattle.standard.specs.Outer.{outer_text}
 use Rattle.standard.specs.Statements.{statements}
 use Rattle.standard.specs.Serial.{World, Course, write_limit}
@@ -158,6 +158,11 @@ abbrev pub HasRemoved : Option ℕ → Live → Live → Did → Type 0
 HasRemoved None old new d = (new ≡ old) × (d ≡ did.Nothing)
 HasRemoved (Some e) old new d = (new ≡ record old { doc = record old.doc { tree = detached old.doc.tree e } }) × (d ≡ did.All)
 
+-- an element was moved, which left this tree, if that can be done
+abbrev pub HasAppended : Option Nodes → Live → Live → Did → Type 0
+HasAppended None old new d = (new ≡ old) × (d ≡ did.Nothing)
+HasAppended (Some t) old new d = (new ≡ record old { doc = record old.doc { tree = t } }) × (d ≡ did.All)
+
 -- the element, if it is there, was read
 abbrev pub HasRead : ℕ → Option ℕ → Live → Live → Did → Type 0
 HasRead k None old new d = (new ≡ old) × (d ≡ did.Nothing)
@@ -168,7 +173,7 @@ abbrev pub left_by : Did → List Statement → List Statement
 left_by did.All list = list
 left_by did.Nothing list = []
 
--- A statement, the first that the innermost script has left, was done, but for the line that says that its element isn't there.
+-- A statement, the first that the innermost script has left, was done, but for the line that says that its element isn't there or can't be moved so.
 abbrev pub DoneBy : Did → ℕ → Statement → Live → List ℕ → Live → List ℕ → Type 0
 DoneBy did.All k a old rest new rest' =
     (es : Entities) (list : List Statement) (fs : List Frame) → Turns es old (framed k (a ∷ list) rest ∷ fs) new (framed k list rest' ∷ fs)

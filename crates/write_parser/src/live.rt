@@ -4,10 +4,11 @@ ghost use Rattle.std.specs.Prelude.{◌≡◌, ◌++◌, ◌<◌, ◌≤◌, len
 ghost use Rattle.std.specs.Option.{ForSome};
 ghost use Rattle.std.specs.Str.{chars};
 ghost use Rattle.standard.specs.Act.{is_bound};
-ghost use Rattle.standard.specs.Tree.{find_id};
+ghost use Rattle.standard.specs.Tree.{find_id, appended};
+ghost use Rattle.standard.specs.Serial.{with_line_feed};
 ghost use Rattle.standard_laws.specs.Frames.{Waits};
 ghost use Rattle.write_parser.specs.Parsing.{IsServed, TextParsed, EndParsed};
-ghost use Rattle.write_parser.specs.Steps.{view_of, IsGoing, IsFirst, Begins, Prepares, Continues, HasWritten, HasRemoved, HasRead, DoesMost, Does, Steps, RunsOn, ParsesOn, Moves, frames_of, with_begun, Nests, EndsTag, RunsText, Misses, FeedsOn, IsFed, Fed};
+ghost use Rattle.write_parser.specs.Steps.{view_of, IsGoing, IsFirst, Begins, Prepares, Continues, HasWritten, HasRemoved, HasAppended, HasRead, DoesMost, Does, Steps, RunsOn, ParsesOn, Moves, frames_of, with_begun, Nests, EndsTag, RunsText, Misses, FeedsOn, IsFed, Fed};
 ghost use Rattle.write_parser.specs.Writing.{LeftIs};
 
 use crate::left::{Left, Overrun};
@@ -15,7 +16,7 @@ use crate::nesting::{Begun, Nesting};
 use crate::rest::{Rest, parse_text};
 use entity_table::Table;
 use html_types::{Ending, Line, Lines, NoMemory, NodeId, Ops, Statement, Stop, Text};
-use op_exec::{Doc, ScriptKind};
+use op_exec::{Doc, Put, ScriptKind};
 use parse_machine::{Machine, PageEnd, Ran};
 use std::alloc::Global;
 use std::mem;
@@ -35,7 +36,7 @@ pub(crate) enum Progress {
 #[derive(Clone, Copy, Debug, PartialEq, Eq)]
 pub(crate) enum Did {
     All,
-    /// The element that it names isn't there.
+    /// An element that it names isn't there, or can't be moved so.
     Nothing,
 }
 
@@ -167,6 +168,15 @@ impl Live {
         Ok(Did::All)
     }
 
+    // `document.writeln()`: one write of the text and a line feed.
+    fn write_line(&mut self, text: &Text, rest: &mut Rest) -> Result<Did, NoMemory>
+        ensures { IfOk result (λ did. HasWritten self.old rest.old (with_line_feed text.now) self.new rest.new did) }
+    {
+        let mut line = text.copy(self.alloc)?;
+        line.push('\n')?;
+        self.write(&line, rest)
+    }
+
     // Takes the element with that id out of its parent.
     fn remove(&mut self, id: &Text) -> Result<Did, NoMemory>
         ensures { IfOk result (λ did. HasRemoved (find_id self.old.doc.tree id.now) self.old self.new did) }
@@ -177,6 +187,22 @@ impl Live {
                 self.doc.remove(node);
                 Ok(Did::All)
             }
+        }
+    }
+
+    // Puts the second element last among the first one's children (DOM 4.2.6, append).
+    fn append(&mut self, first: &Text, second: &Text) -> Result<Did, NoMemory>
+        ensures { IfOk result (λ did. HasAppended (appended self.old.doc.tree (find_id self.old.doc.tree first.now) (find_id self.old.doc.tree second.now)) self.old self.new did) }
+    {
+        let Some(first) = self.doc.find_id(first.as_str()) else {
+            return Ok(Did::Nothing);
+        };
+        let Some(second) = self.doc.find_id(second.as_str()) else {
+            return Ok(Did::Nothing);
+        };
+        match self.doc.move_last(first, second)? {
+            Put::Done => Ok(Did::All),
+            Put::Impossible => Ok(Did::Nothing),
         }
     }
 
@@ -208,7 +234,9 @@ impl Live {
     {
         match statement {
             Statement::Write(text) => self.write(text, rest),
+            Statement::WriteLine(text) => self.write_line(text, rest),
             Statement::Remove(id) => self.remove(id),
+            Statement::Append(first, second) => self.append(first, second),
             Statement::LogById(id) => {
                 let node = self.doc.find_id(id.as_str());
                 self.read(number, node)
@@ -220,7 +248,7 @@ impl Live {
         }
     }
 
-    // The same. Where its element isn't there, that gives a line.
+    // The same. Where an element of its isn't there, or can't be moved so, that gives a line.
     fn run_statement(
         &mut self,
         number: u64,

@@ -2,9 +2,17 @@ use Rattle.std.proofs.Common.{◌≡◌, ℕ, [], ◌∷◌, map, Option, sym, a
 use Rattle.html_types.specs.Numbers.{place_of}
 use Rattle.html_types.specs.declared.operation.Op.TheVariants as op
 use Rattle.standard.specs.Tree.{Nodes, IsTree, children_of, text_added}
-use Rattle.standard.specs.Act.{Doc, acts, is_bound, spot_of, text_at, IsPlaceBound}
+use Rattle.standard.specs.Act.{Spot, Doc, acts, is_bound, spot_of, text_at, IsPlaceBound}
+use Rattle.act_laws.proofs.Elements.{Alike-text_at}
+use Rattle.op_exec.proofs.Docs.{IsDoc-done}
 use Rattle.op_exec.proofs.Runs.{run_is}
 use Rattle.op_exec.proofs.doc.Doc.text.Goals as goal
+
+pub invariant_of-self-2 : goal.invariant_of-self-2
+invariant_of-self-2 c =
+    let spot : Spot = record { parent = c.spot-spot.result.parent; before = c.spot-spot.result.before } in
+    IsDoc-done c.add_text.result c.self.inside.tree c.add_text.new.self (text_at c.self.inside.tree c.args.text spot) c.self.inside.bound c.self.invariant
+    c.add_text.ensures.keeps c.add_text.ensures.ok c.add_text.ensures.err (Alike-text_at c.self.inside.tree c.args.text spot)
 
 pub returns-clause-ok : goal.returns-clause-ok
 returns-clause-ok c =

@@ -1,7 +1,7 @@
 use Rattle.std.proofs.Common.{refl, sym, subst, IfOk, ◌≡◌, ◌∙◌, ap}
 use Rattle.standard.specs.Tree.{find_id, first_element}
 use Rattle.write_parser.specs.Steps.{DoesMost, HasRead}
-use Rattle.write_parser.proofs.StatementLemmas.{if_ok, does-write, does-remove, does-read-by_id, does-read-root}
+use Rattle.write_parser.proofs.StatementLemmas.{if_ok, does-write, does-write_line, does-remove, does-append, does-read-by_id, does-read-root}
 use Rattle.write_parser.proofs.live.Live.try_statement.Goals as goal
 
 pub returns-in-Write : goal.returns-in-Write
@@ -10,11 +10,23 @@ returns-in-Write c =
     (if_ok c.write.result _ _ (λ d has. does-write c.args.number c.in-Write.text c.args.self.now c.args.rest.now c.write.new.self c.write.new.rest d c.requires.going c.requires.waits has)
     c.write.ensures)
 
+pub returns-in-WriteLine : goal.returns-in-WriteLine
+returns-in-WriteLine c =
+    subst (λ a. IfOk c.write_line.result (λ d. DoesMost c.args.number a c.args.self.now c.args.rest.now c.write_line.new.self c.write_line.new.rest d)) (sym c.in-WriteLine.is)
+    (if_ok c.write_line.result _ _ (λ d has. does-write_line c.args.number c.in-WriteLine.text c.args.self.now c.args.rest.now c.write_line.new.self c.write_line.new.rest d c.requires.going c.requires.waits has)
+    c.write_line.ensures)
+
 pub returns-in-Remove : goal.returns-in-Remove
 returns-in-Remove c =
     subst (λ a. IfOk c.remove.result (λ d. DoesMost c.args.number a c.args.self.now c.args.rest.now c.remove.new.self c.args.rest.now d)) (sym c.in-Remove.is)
     (if_ok c.remove.result _ _ (λ d has. does-remove c.args.number c.in-Remove.id c.args.self.now c.args.rest.now c.remove.new.self c.args.rest.now d c.requires.going c.requires.waits refl has)
     c.remove.ensures)
+
+pub returns-in-Append : goal.returns-in-Append
+returns-in-Append c =
+    subst (λ a. IfOk c.append.result (λ d. DoesMost c.args.number a c.args.self.now c.args.rest.now c.append.new.self c.args.rest.now d)) (sym c.in-Append.is)
+    (if_ok c.append.result _ _ (λ d has. does-append c.args.number c.in-Append.first c.in-Append.second c.args.self.now c.args.rest.now c.append.new.self c.args.rest.now d c.requires.going c.requires.waits refl has)
+    c.append.ensures)
 
 pub returns-in-LogById : goal.returns-in-LogById
 returns-in-LogById c =
