@@ -78,19 +78,27 @@ impl Ids {
         self.holders.get(&number_of(id)).copied()
     }
 
-    // The node gets the id.
+    // The node gets the id. Most ids are new, and those are looked for once.
+    #[inline(never)]
     fn note(&mut self, id: &str, node: usize)
         ensures told { MayHold (held self.new (chars id.now)) node }
         ensures kept { KeepsHolders self.old self.new }
     {
         let number = number_of(id);
-        let holder = with_node(self.holders.get(&number).copied(), node);
-        if self.holders.insert(number, holder).is_err() {
+        let Ok(old) = self.holders.insert(number, Holder::One(node)) else {
+            self.lost = true;
+            return;
+        };
+        if old.is_none() {
+            return;
+        }
+        if self.holders.insert(number, with_node(old, node)).is_err() {
             self.lost = true;
         }
     }
 
     /// The node gets the `id` among the attributes, if there is one.
+    #[inline]
     pub fn note_among(&mut self, attributes: &Attributes, node: usize)
         ensures told { IsTold self.new (attribute (codes "id") attributes.now) node }
         ensures kept { KeepsHolders self.old self.new }
@@ -101,6 +109,7 @@ impl Ids {
     }
 
     /// The node is made, with the `id` that an element has, if it has one.
+    #[inline]
     pub fn note_made(&mut self, kind: &Kind, node: usize)
         ensures told { IsTold self.new (attribute (codes "id") (attributes_of kind.now)) node }
         ensures kept { KeepsHolders self.old self.new }
