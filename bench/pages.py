@@ -34,6 +34,9 @@ KINDS = {
     # what was parsed ahead is kept at each script, and thrown away at each
     "kept": ("", '<p><script>document.write("<i>1</i>");</script>' + WORDS + "\n", ""),
     "failing": ("", '<p><script>document.write("<u>");</script>1</u>' + WORDS * 17 + "\n", ""),
+    # a script finds its element, which stands far from the start
+    "read by id": ("", '<i id=e{n}>x</i><script>console.log(document.getElementById("e{n}").outerHTML);</script>', ""),
+    "removed": ("", '<i id=e{n}>x</i><script>document.getElementById("e{n}").remove();</script>', ""),
     "writer": ("<body>", '<script>document.write("' + "<i>x</i>" * 100 + '");</script>', ""),
 }
 # as many as the characters that scripts may write allow

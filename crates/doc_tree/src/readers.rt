@@ -1,12 +1,13 @@
 //! What reads a tree: walks in tree order, texts, and a node's own fields.
 
-ghost use Rattle.std.specs.Prelude.{◌≡◌, ◌≢◌, ◌<◌, ◌≤◌, ◌++◌, ◌∷◌, [], false, if◌then◌else◌, codes, ◌↔◌, ℕ, ◌||◌, ◌&&◌, IsTrue, IsFalse, length, slice_index, reverse, vec_len, IfOk, OnOk, OnErr, IsSome};
+ghost use Rattle.std.specs.Prelude.{◌≡◌, ◌≢◌, ◌<◌, ◌≤◌, ◌++◌, ◌∷◌, [], true, false, if◌then◌else◌, codes, ◌↔◌, ℕ, ◌||◌, ◌&&◌, IsTrue, IsFalse, length, slice_index, reverse, vec_len, IfOk, OnOk, OnErr, IsSome};
 ghost use Rattle.std.specs.Str.{chars};
 ghost use Rattle.std.specs.Option.{ForSome};
 ghost use Rattle.doc_tree.specs.Rows.{next_of};
 ghost use Rattle.standard.specs.Tree.{text_of};
 
 use crate::attributes::value_of;
+use crate::ids::Holder;
 use crate::tree::{Tree, is_element};
 use html_types::{Kind, NoMemory, Text};
 
@@ -45,10 +46,10 @@ fn has_id(kind: &Kind, id: &str) -> bool
 
 // Walks.
 impl Tree {
-    ghost use Rattle.standard.specs.Tree.{kind_of, children_of, find_id, script_text};
+    ghost use Rattle.standard.specs.Tree.{kind_of, children_of, has_id, find_id, script_text};
 
-    /// The first element of the Document, in tree order, with that `id`. An empty one finds nothing. The walk takes no
-    /// memory.
+    /// The first element of the Document, in tree order, with that `id`. An empty one finds nothing. It takes no memory. Where one element alone
+    /// was ever given the id, it is looked up, and its way up is walked; where several were, the Document is.
     pub fn find_id(&self, id: &str) -> Option<usize>
         ensures found { result ≡ find_id self.now (chars id.now) }
         ensures here { ForSome result (λ k. k < length self.now) }
@@ -56,6 +57,35 @@ impl Tree {
         if id.is_empty() {
             return None;
         }
+        match self.nodes.holder(id) {
+            None => None,
+            Some(Holder::One(node)) => self.only_holder(id, node),
+            Some(Holder::Several) => self.walk_to_id(id),
+        }
+    }
+
+    // The node, which alone may have the `id`, where it has it and is in the Document.
+    fn only_holder(&self, id: &str, node: usize) -> Option<usize>
+        requires some { length id.now ≢ 0 }
+        requires only { (n : ℕ) → has_id self.now (chars id.now) n ≡ true → node ≡ n }
+        ensures found { result ≡ find_id self.now (chars id.now) }
+        ensures here { ForSome result (λ k. k < length self.now) }
+    {
+        if node >= self.nodes.len() {
+            return None;
+        }
+        if !has_id(self.nodes.kind(node), id) {
+            return None;
+        }
+        self.connected(node).then_some(node)
+    }
+
+    // The first of several, by a walk in tree order.
+    fn walk_to_id(&self, id: &str) -> Option<usize>
+        requires { length id.now ≢ 0 }
+        ensures found { result ≡ find_id self.now (chars id.now) }
+        ensures here { ForSome result (λ k. k < length self.now) }
+    {
         if self.nodes.len() == 0 {
             return None;
         }
