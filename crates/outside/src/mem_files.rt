@@ -4,7 +4,6 @@ ghost use Rattle.std.specs.Bool.{OnTrue, OnFalse};
 ghost use Rattle.std.specs.Str.{bytes_eq};
 ghost use Rattle.outside.specs.ByPort.{at_port};
 ghost use Rattle.outside.specs.Outside.{Rose, NeverFall, OthersStay, Begun, KeepsOthers};
-ghost use Rattle.outside.specs.MemFiles.{files_in, left_in, begun_in, faults_in, absences_in, shown, failing, number_at, most_in};
 
 use crate::by_port::ByPort;
 use crate::{Failed, NeverFails, Outside, Port};
@@ -36,6 +35,8 @@ fn is_listed(calls: &[(Port, u64)], port: Port, number: u64) -> bool
 }
 
 impl MemFiles {
+    ghost use Rattle.outside.specs.MemFiles.{files_in, begun_in, shown, failing, number_at, most_in};
+
     /// No file, nothing begun, and the list of the calls that are to fail. A read gives as many bytes as its piece takes.
     pub fn new(alloc: Global, fail: &[(Port, u64)]) -> Result<Self, NoMemory>
         ensures files { IfOk result (λ all. (path : _) → files_in all path ≡ None) }
@@ -111,6 +112,8 @@ impl MemFiles {
 }
 
 impl Outside for MemFiles {
+    ghost use Rattle.outside.specs.MemFiles.{files_in, left_in, begun_in, faults_in, absences_in, shown, failing, number_at, most_in};
+
     ghost seen = { shown };
 
     fn begin(&mut self, port: Port, path: &str) -> Result<bool, Failed>
