@@ -31,3 +31,7 @@ failing all = all.fail.items
 -- the number of the next call at a port, counted from 1; it stops at the last value of a u64
 abbrev pub number_at : MemFiles → Port → ℕ
 number_at all port = min (at_port all.calls port + 1) (2 ^ 64 - 1)
+
+-- the most bytes that a read gives
+abbrev pub most_in : MemFiles → ℕ
+most_in all = all.most

@@ -4,7 +4,6 @@ ghost use Rattle.std.specs.Bool.{OnTrue, OnFalse};
 ghost use Rattle.std.specs.Str.{bytes_eq};
 ghost use Rattle.outside.specs.ByPort.{at_port};
 ghost use Rattle.outside.specs.Outside.{Rose, NeverFall, OthersStay, Begun, KeepsOthers};
-ghost use Rattle.outside.specs.MemFiles.{files_in, left_in, begun_in, faults_in, absences_in, shown, failing, number_at};
 
 use crate::by_port::ByPort;
 use crate::{Failed, NeverFails, Outside, Port};
@@ -17,8 +16,11 @@ use std::alloc::Global;
 pub struct MemFiles {
     files: NeverFails,
     fail: Vec<(Port, u64)>,
+    // The most bytes that a read gives.
+    most: usize,
     calls: ByPort<u64>,
     faults: ByPort<u64>,
+    ghost some: { 0 < most },
 }
 
 fn is_listed(calls: &[(Port, u64)], port: Port, number: u64) -> bool
@@ -33,16 +35,20 @@ fn is_listed(calls: &[(Port, u64)], port: Port, number: u64) -> bool
 }
 
 impl MemFiles {
-    /// No file, nothing begun, and the list of the calls that are to fail.
+    ghost use Rattle.outside.specs.MemFiles.{files_in, begun_in, shown, failing, number_at, most_in};
+
+    /// No file, nothing begun, and the list of the calls that are to fail. A read gives as many bytes as its piece takes.
     pub fn new(alloc: Global, fail: &[(Port, u64)]) -> Result<Self, NoMemory>
         ensures files { IfOk result (λ all. (path : _) → files_in all path ≡ None) }
         ensures failing { IfOk result (λ all. failing all ≡ fail.now) }
+        ensures most { IfOk result (λ all. most_in all ≡ usize.MAX) }
         ensures number { IfOk result (λ all. (port : _) → number_at all port ≡ 1) }
         ensures begun { IfOk result (λ all. (port : _) → begun_in all port ≡ Some []) }
     {
         Ok(MemFiles {
             files: NeverFails::new(alloc),
             fail: fail.to_vec(alloc)?,
+            most: usize::MAX,
             calls: ByPort::all(0),
             faults: ByPort::all(0),
         })
@@ -53,8 +59,20 @@ impl MemFiles {
         ensures ok { OnOk result ((other : _) → files_in self.new other
             ≡ (if bytes_eq path.now other then Some bytes.now else files_in self.old other)) }
         ensures err { OnErr result (files_in self.new ≡ files_in self.old) }
+        ensures most { most_in self.new ≡ most_in self.old }
     {
         self.files.add(path, bytes)
+    }
+
+    /// From now on a read gives at most so many bytes, however large its piece is.
+    pub fn limit(&mut self, most: usize)
+        requires { 0 < most }
+        ensures most { most_in self.new ≡ most }
+        ensures failing { failing self.new ≡ failing self.old }
+        ensures number { (port : _) → number_at self.new port ≡ number_at self.old port }
+        ensures shown { shown self.new ≡ shown self.old }
+    {
+        self.most = most;
     }
 
     /// How many calls were made at the port.
@@ -71,6 +89,7 @@ impl MemFiles {
         ensures number { number_at self.new port ≡ min (number_at self.old port + 1) (2 ^ 64 - 1) }
         ensures other_numbers { OthersStay port (number_at self.old) (number_at self.new) }
         ensures files { self.new.files ≡ self.old.files }
+        ensures most { most_in self.new ≡ most_in self.old }
         ensures faults { self.new.faults ≡ self.old.faults }
     {
         let number = self.calls.get(port).saturating_add(1);
@@ -82,6 +101,7 @@ impl MemFiles {
         ensures failing { failing self.new ≡ failing self.old }
         ensures number { self.new.calls ≡ self.old.calls }
         ensures files { self.new.files ≡ self.old.files }
+        ensures most { most_in self.new ≡ most_in self.old }
         ensures rose { Rose (at_port self.old.faults port) (at_port self.new.faults port) }
         ensures others { OthersStay port (at_port self.old.faults) (at_port self.new.faults) }
         ensures faults { NeverFall (at_port self.old.faults) (at_port self.new.faults) }
@@ -92,6 +112,8 @@ impl MemFiles {
 }
 
 impl Outside for MemFiles {
+    ghost use Rattle.outside.specs.MemFiles.{files_in, left_in, begun_in, faults_in, absences_in, shown, failing, number_at, most_in};
+
     ghost seen = { shown };
 
     fn begin(&mut self, port: Port, path: &str) -> Result<bool, Failed>
@@ -100,6 +122,7 @@ impl Outside for MemFiles {
         ensures failing { failing self.new ≡ failing self.old }
         ensures number { number_at self.new port ≡ min (number_at self.old port + 1) (2 ^ 64 - 1) }
         ensures other_numbers { OthersStay port (number_at self.old) (number_at self.new) }
+        ensures most { most_in self.new ≡ most_in self.old }
 
         ensures found { IfOk result (λ there. OnTrue there (
             IsSome (files_in self.old path.now) × (Some (left_in self.new port) ≡ files_in self.old path.now))) }
@@ -126,7 +149,10 @@ impl Outside for MemFiles {
         ensures failing { failing self.new ≡ failing self.old }
         ensures number { number_at self.new port ≡ min (number_at self.old port + 1) (2 ^ 64 - 1) }
         ensures other_numbers { OthersStay port (number_at self.old) (number_at self.new) }
+        ensures most { most_in self.new ≡ most_in self.old }
 
+        // It gives no more than the limit lets through.
+        ensures limited { IfOk result (λ n. n ≤ most_in self.old) }
         ensures count { IfOk result (λ n. n ≤ length into.old) }
         ensures moved { IfOk result (λ n. (n ≤ length (left_in self.old port))
             × (take n into.new ≡ take n (left_in self.old port)) × (left_in self.new port ≡ drop n (left_in self.old port))) }
@@ -142,6 +168,7 @@ impl Outside for MemFiles {
             self.count_fault(port);
             return Err(Failed);
         }
-        self.files.read(port, into)
+        let most = into.len().min(self.most);
+        self.files.read(port, &mut into[..most])
     }
 }

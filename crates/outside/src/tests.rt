@@ -30,6 +30,31 @@ fn the_second_call_fails(rt: HostRuntime) -> Result<(), Fail> {
 }
 
 #[test]
+fn a_read_gives_no_more_than_the_limit(rt: HostRuntime) -> Result<(), Fail> {
+    let mut files = MemFiles::new(rt.alloc(), [].as_slice())?;
+    files.add("p", b"abc".as_slice())?;
+    files.limit(2);
+    let mut piece = [0u8; 4];
+    assert_eq!(rt; files.begin(Port::Page, "p"), Ok(true));
+    assert_eq!(rt; files.read(Port::Page, &mut piece), Ok(2));
+    assert_eq!(rt; files.read(Port::Page, &mut piece), Ok(1));
+    assert_eq!(rt; piece[0], b'c');
+    Ok(())
+}
+
+#[test]
+fn a_sink_that_fails_at_its_end(rt: HostRuntime) -> Result<(), Fail> {
+    let mut sink = MemSink::new(rt.alloc(), 3)?;
+    assert_eq!(rt; sink.finish(), Ok(()));
+    sink.fail_finish();
+    assert_eq!(rt; sink.write(b"ab".as_slice()), Ok(2));
+    assert_eq!(rt; sink.finish(), Err(Failed));
+    assert_eq!(rt; sink.finish(), Err(Failed));
+    assert_eq!(rt; sink.bytes(), b"ab".as_slice());
+    Ok(())
+}
+
+#[test]
 fn a_full_sink(rt: HostRuntime) -> Result<(), Fail> {
     let mut sink = MemSink::new(rt.alloc(), 3)?;
     assert_eq!(rt; sink.write(b"ab".as_slice()), Ok(2));
