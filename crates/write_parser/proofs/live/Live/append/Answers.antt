@@ -8,22 +8,22 @@ returns-in_default c =
     let tree = c.args.self.now.doc.tree in
     lacks-first c.args.self.now (find_id tree c.args.first.now) (find_id tree c.args.second.now) (sym (c.in_default.ensures.found ∙ ap (find_id tree) c.as_str.ensures))
 
-pub returns-in_default-2 : goal.returns-in_default-2
-returns-in_default-2 c =
+pub returns-in_default-find_id : goal.returns-in_default-find_id
+returns-in_default-find_id c =
     let tree = c.args.self.now.doc.tree in
     lacks-second c.args.self.now (find_id tree c.args.first.now) (find_id tree c.args.second.now) c.in-Some.first (sym (c.in-Some.ensures.found ∙ ap (find_id tree) c.as_str.ensures))
-    (sym (c.in_default-2.ensures.found ∙ ap (find_id tree) c.as_str-2.ensures))
+    (sym (c.in_default-find_id.ensures.found ∙ ap (find_id tree) c.as_str-2.ensures))
 
 pub returns-in-Done : goal.returns-in-Done
 returns-in-Done c =
     let tree = c.args.self.now.doc.tree in
-    appended-done c.args.self.now c.move_last.new.self (find_id tree c.args.first.now) (find_id tree c.args.second.now) c.in-Some.first c.in-Some-2.second
-    (sym (c.in-Some.ensures.found ∙ ap (find_id tree) c.as_str.ensures)) (sym (c.in-Some-2.ensures.found ∙ ap (find_id tree) c.as_str-2.ensures))
-    c.in-Done.ensures.ok c.in-Done.ensures.answer
+    appended-done c.args.self.now c.move_last.new.self (find_id tree c.args.first.now) (find_id tree c.args.second.now) c.in-Some.first c.in-Some-find_id.second
+    (sym (c.in-Some.ensures.found ∙ ap (find_id tree) c.as_str.ensures)) (sym (c.in-Some-find_id.ensures.found ∙ ap (find_id tree) c.as_str-2.ensures))
+    c.in_ok-move_last.ensures.ok (sym c.in-Done.is ∙ c.in_ok-move_last.ensures.answer)
 
 pub returns-in-Impossible : goal.returns-in-Impossible
 returns-in-Impossible c =
     let tree = c.args.self.now.doc.tree in
-    appended-impossible c.args.self.now c.move_last.new.self (find_id tree c.args.first.now) (find_id tree c.args.second.now) c.in-Some.first c.in-Some-2.second
-    (sym (c.in-Some.ensures.found ∙ ap (find_id tree) c.as_str.ensures)) (sym (c.in-Some-2.ensures.found ∙ ap (find_id tree) c.as_str-2.ensures))
-    c.in-Impossible.ensures.ok c.in-Impossible.ensures.answer
+    appended-impossible c.args.self.now c.move_last.new.self (find_id tree c.args.first.now) (find_id tree c.args.second.now) c.in-Some.first c.in-Some-find_id.second
+    (sym (c.in-Some.ensures.found ∙ ap (find_id tree) c.as_str.ensures)) (sym (c.in-Some-find_id.ensures.found ∙ ap (find_id tree) c.as_str-2.ensures))
+    c.in_ok-move_last.ensures.ok (sym c.in-Impossible.is ∙ c.in_ok-move_last.ensures.answer)
