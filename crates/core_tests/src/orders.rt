@@ -1,7 +1,7 @@
 //! Events in many orders: each gives the lines and the tree that were worked out, and stays within the bounds.
 
 use crate::events::{KINDS, Kind};
-use crate::running::{Page, Told, run, table};
+use crate::running::{Page, Told, entities, run};
 use entity_table::Table;
 use html_types::NoMemory;
 use rand_core::utils::NextWord;
@@ -96,7 +96,7 @@ struct Whole {
     failed: u64,
 }
 
-fn whole(alloc: Global, front: Part, back: Part) -> Result<Whole, NoMemory> {
+fn join_parts(alloc: Global, front: Part, back: Part) -> Result<Whole, NoMemory> {
     Ok(Whole {
         text: format!(in alloc; "<body>{}{}", front.text, back.text)?,
         tree: format!(in alloc;
@@ -112,7 +112,7 @@ fn whole(alloc: Global, front: Part, back: Part) -> Result<Whole, NoMemory> {
 fn page_of(alloc: Global, number: u32) -> Result<Whole, NoMemory> {
     let front = (number % 10) as usize;
     let back = (number / 10 % 9) as usize;
-    whole(alloc, PARTS[front], PARTS[(front + 1 + back) % 10])
+    join_parts(alloc, PARTS[front], PARTS[(front + 1 + back) % 10])
 }
 
 fn draw_order(alloc: Global, random: &mut Pcg32) -> Result<Vec<Kind>, NoMemory> {
@@ -154,7 +154,7 @@ fn gives(
 #[test]
 fn each_order_gives_the_serial_parse(rt: HostRuntime) -> Result<(), Fail> {
     let alloc = rt.alloc();
-    let table = table(alloc)?;
+    let table = entities(alloc)?;
     let mut random = Pcg32::new(2026, 54);
     for number in 0..50u32 {
         let wanted = page_of(alloc, number)?;

@@ -52,11 +52,11 @@ fn read_table(alloc: Global, entities: &str) -> Result<Table, TableFault> {
 }
 
 /// The entities in force.
-pub fn table(alloc: Global) -> Result<Table, TableFault> {
+pub fn entities(alloc: Global) -> Result<Table, TableFault> {
     read_table(alloc, ENTITIES)
 }
 
-fn scripts(alloc: Global) -> Result<Scripts, NoMemory> {
+fn script_files(alloc: Global) -> Result<Scripts, NoMemory> {
     let mut scripts = Scripts::new(alloc);
     let script = Vec::from_slice(alloc, SCRIPT.as_bytes())?;
     scripts.add(Text::from_str(alloc, "a")?, Fetch::Got(script))?;
@@ -137,7 +137,7 @@ impl<E: InForce> PageRun<E> {
         requires { table.now ≡ E.entities }
     {
         let pieces = cut_page(alloc, page)?;
-        let scripts = scripts(alloc)?;
+        let scripts = script_files(alloc)?;
         if page.ahead == 0 || page.ahead > 64 || !is_short(pieces.as_slice()) {
             return Err(NoMemory);
         }

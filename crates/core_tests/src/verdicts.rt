@@ -1,7 +1,7 @@
 //! Pages whose scripts are known to keep what was parsed ahead of them, or to fail.
 
 use crate::events::Kind;
-use crate::running::{Page, Told, run, table};
+use crate::running::{Page, Told, entities, run};
 use entity_table::Table;
 use html_types::NoMemory;
 use std::alloc::Global;
@@ -96,7 +96,7 @@ fn gives_row(alloc: Global, table: &Table, row: Row) -> Result<bool, NoMemory> {
 #[test]
 fn scripts_are_kept_or_fail(rt: HostRuntime) -> Result<(), Fail> {
     let alloc = rt.alloc();
-    let table = table(alloc)?;
+    let table = entities(alloc)?;
     for row in &ROWS {
         assert!(rt; gives_row(alloc, &table, *row)?, "{}", row.text);
     }
@@ -122,6 +122,6 @@ fn a_refusal_that_was_made_ahead_is_thrown_away(rt: HostRuntime) -> Result<(), F
         "<html><head><script>document.write(\"<!--\");</script><!--",
         "--></head><body></body></html>",
     )?;
-    assert!(rt; gives(alloc, &table(alloc)?, page.as_str(), tree.as_str(), 1)?);
+    assert!(rt; gives(alloc, &entities(alloc)?, page.as_str(), tree.as_str(), 1)?);
     Ok(())
 }

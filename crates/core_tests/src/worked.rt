@@ -1,7 +1,7 @@
 //! A page event by event, with the numbers of requests and of dropped replies that were worked out for it.
 
 use crate::events::Kind;
-use crate::running::{Page, run, table};
+use crate::running::{Page, entities, run};
 use std::test::Fail;
 
 // The page is the 42 characters up to the script's end tag, and a letter; then it ends.
@@ -45,7 +45,7 @@ const EVENTS: [Kind; 21] = [
 #[test]
 fn four_requests_are_sent_and_one_reply_is_dropped(rt: HostRuntime) -> Result<(), Fail> {
     let alloc = rt.alloc();
-    let told = run(alloc, &table(alloc)?, PAGE, &EVENTS)?;
+    let told = run(alloc, &entities(alloc)?, PAGE, &EVENTS)?;
     assert!(rt; told.done && told.written.is("", TREE));
     // No other events are enabled.
     assert!(rt; told.events == 21 && told.others == 0);
