@@ -87,7 +87,11 @@ fn sit<R: Wait + Copy, E: InForce, G: Gate + Drop>(
 }
 
 // The seat of a closure that was called here.
-fn seat_here<E: InForce>(alloc: Global, parting: Parting<E>, was: Snapshot<ParserLanes<E>>) -> Seat<E>
+fn seat_here<E: InForce>(
+    alloc: Global,
+    parting: Parting<E>,
+    was: Snapshot<ParserLanes<E>>,
+) -> Seat<E>
     requires kept { Kept E.InForce was.value parting }
     requires first { (was.value.asked.taken ≡ []) × (was.value.answers.put ≡ []) }
     ensures asked { asked_lane E.InForce result ≡ was.value.asked.lane }
@@ -108,12 +112,7 @@ pub(crate) fn take_seat<
     R: Threads + Wait + Copy + Send + Sync + 'static,
     E: InForce + Send + 'static,
     G: Gate + Drop + Send + Sync + 'static,
->(
-    rt: &R,
-    alloc: Global,
-    outfit: Outfit<E, G>,
-    refused: &AtomicU64,
-) -> Seat<E>
+>(rt: &R, alloc: Global, outfit: Outfit<E, G>, refused: &AtomicU64) -> Seat<E>
     requires table { outfit.table ≡ E.entities }
     requires first { (outfit.lanes.asked.taken ≡ []) × (outfit.lanes.answers.put ≡ []) }
     ensures asked { asked_lane E.InForce result ≡ outfit.lanes.asked.lane }
@@ -150,13 +149,7 @@ pub(crate) fn take_seat<
 
 impl<E: InForce> Seat<E> {
     /// Where the parser's side is in this thread, it answers one message.
-    pub(crate) fn step<R: Wait, G: Gate>(
-        &mut self,
-        rt: &R,
-        alloc: Global,
-        table: &Table,
-        gate: &G,
-    )
+    pub(crate) fn step<R: Wait, G: Gate>(&mut self, rt: &R, alloc: Global, table: &Table, gate: &G)
         requires table { table.now ≡ E.entities }
         requires seated { IsSeated E.InForce self.old }
         ensures asked { asked_lane E.InForce self.new ≡ asked_lane E.InForce self.old }

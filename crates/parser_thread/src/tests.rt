@@ -87,10 +87,7 @@ fn both<R: Threads + Wait + Sync, E: InForce>(
 }
 
 // In a thread of its own.
-fn there<
-    R: Threads + Wait + Copy + Send + Sync + 'static,
-    E: InForce + Send + 'static,
->(
+fn there<R: Threads + Wait + Copy + Send + Sync + 'static, E: InForce + Send + 'static>(
     rt: &R,
     alloc: Global,
     table: &Table,
