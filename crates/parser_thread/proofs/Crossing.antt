@@ -25,19 +25,19 @@ use Rattle.parser_thread.specs.contracts.seat.ParserLanes as ParserLanes
 use Rattle.parser_thread.specs.contracts.seat.Parting as Parting
 
 checkpoint_send : IsSend Checkpoint.the_field.row
-checkpoint_send = search (machine.the_field_send, sendable, crosses) depth 20
+checkpoint_send = search (machine.the_send, sendable, crosses) depth 20
 
 batch_send : IsSend Batch.the_field.row
-batch_send = search (text.the_field_send, ops.the_field_send, halt.the_field_send, checkpoint_send, sendable, crosses) depth 20
+batch_send = search (text.the_send, ops.the_send, halt.the_field_send, checkpoint_send, sendable, crosses) depth 20
 
 batches_send : IsSend Batches.the_field.row
 batches_send = search (batch_send, sendable, crosses) depth 20
 
 said_send : IsSend Said.the_field.row
-said_send = search (checkpoint_send, piece.the_field_send, batches_send, sendable, crosses) depth 20
+said_send = search (checkpoint_send, piece.the_send, batches_send, sendable, crosses) depth 20
 
 to_parser_send : IsSend ToParser.the_field.row
-to_parser_send = search (request.the_field_send, sendable, crosses) depth 20
+to_parser_send = search (request.the_send, sendable, crosses) depth 20
 
 module _ (E : RattleType) (g : InForce.Ghosts E.Denot) where
   reply_send : IsSend (Reply.the_field E g).row
@@ -47,10 +47,10 @@ module _ (E : RattleType) (g : InForce.Ghosts E.Denot) where
   from_parser_send = let r = reply_send in search (sendable, crosses) depth 20
 
   pub lanes_send : IsSend (ParserLanes.the_field E g).row
-  lanes_send = let f = from_parser_send in search (take.the_field_send, put.the_field_send, to_parser_send, sendable, crosses) depth 20
+  lanes_send = let f = from_parser_send in search (take.the_send, put.the_send, to_parser_send, sendable, crosses) depth 20
 
   ends_send : IsSend (Ends.the_field E g).row
-  ends_send = let f = from_parser_send in search (take_end.the_field_send, put_end.the_field_send, to_parser_send, sendable, crosses) depth 20
+  ends_send = let f = from_parser_send in search (take_end.the_send, put_end.the_send, to_parser_send, sendable, crosses) depth 20
 
   pub parting_send : IsSend (Parting.the_field E g).row
   parting_send = let l = lanes_send in let e = ends_send in search (sendable, crosses) depth 20

@@ -7,7 +7,7 @@ use Rattle.parser_thread.proofs.seat.take_seat.Goals as goal
 pub spawn_with-requires-send-F : goal.spawn_with-requires-send-F
 spawn_with-requires-send-F g c κs within =
     let r = c.type_bounds.send-R in let s = c.type_bounds.send-G in let y = c.type_bounds.sync-G in
-    search (table.the_field_send, lanes_send, sendable, crosses) depth 40
+    search (table.the_send, lanes_send, sendable, crosses) depth 40
 
 pub spawn_with-requires-send-T : goal.spawn_with-requires-send-T
 spawn_with-requires-send-T g c κs within = search (parting_send, sendable, crosses) depth 20
