@@ -1,0 +1,231 @@
+//! Pages that both sides of the core run, event by event.
+
+ghost use Rattle.std.specs.Prelude.{◌≡◌, ◌<◌, ◌≤◌, length, IsTrue};
+ghost use Rattle.core_rules.specs.Core.{joined};
+ghost use Rattle.speculation.specs.Asking.{page_limit};
+
+use crate::events::{KINDS, Kind, event_of};
+use crate::written::Written;
+use core_pair::{Event, Fetch, Pair, Scripts, Setup, State};
+use entity_table::{Table, TableFault};
+use html_types::{Ending, NoMemory, Text};
+use speculation::InForce;
+use std::alloc::Global;
+use std::marker::Brand;
+use std::mem;
+
+const ENTITIES: &str = "{\"&amp;\":{\"codepoints\":[38]}}";
+
+// The script of the name `a`; no other is there.
+const SCRIPT: &str = "document.write(\"Q\");";
+
+// More events than a page of the tests has.
+const MANY: u32 = 10_000;
+
+/// A page, and how it is sent.
+#[derive(Clone, Copy)]
+pub struct Page<'a> {
+    pub text: &'a str,
+    /// The characters of a piece.
+    pub cut: usize,
+    /// The most requests that are sent ahead of their replies: 1 to 64.
+    pub ahead: usize,
+}
+
+/// What came of a page.
+#[derive(Drop)]
+pub struct Told {
+    pub written: Written,
+    /// The events that were taken, and how many of them weren't the order's.
+    pub events: u64,
+    pub others: u64,
+    /// The requests that were sent, and the replies that were dropped.
+    pub sent: u64,
+    pub dropped: u64,
+    /// The pieces of the page.
+    pub pieces: u64,
+    pub done: bool,
+}
+
+fn read_table(alloc: Global, entities: &str) -> Result<Table, TableFault> {
+    Table::read(alloc, entities.as_bytes())
+}
+
+/// The entities in force.
+pub fn entities(alloc: Global) -> Result<Table, TableFault> {
+    read_table(alloc, ENTITIES)
+}
+
+fn script_files(alloc: Global) -> Result<Scripts, NoMemory> {
+    let mut scripts = Scripts::new(alloc);
+    let script = Vec::from_slice(alloc, SCRIPT.as_bytes())?;
+    scripts.add(Text::from_str(alloc, "a")?, Fetch::Got(script))?;
+    Ok(scripts)
+}
+
+fn cut_page(alloc: Global, page: Page<'_>) -> Result<Vec<Text>, NoMemory> {
+    let mut pieces = Vec::new(alloc);
+    let mut piece = Text::new(alloc);
+    for c in page.text.chars() {
+        piece.push(c)?;
+        if piece.len() >= page.cut {
+            pieces.push(mem::replace(&mut piece, Text::new(alloc)))?;
+        }
+    }
+    if !piece.is_empty() {
+        pieces.push(piece)?;
+    }
+    Ok(pieces)
+}
+
+// Whether the pieces are those of a small page.
+fn is_short(pieces: &[Text]) -> bool
+    ensures { IsTrue result → length (joined pieces.now) ≤ page_limit }
+{
+    let mut total = 0;
+    let mut rest = pieces;
+    'pieces: while let Some((first, behind)) = rest.split_first() {
+        let len = first.len();
+        if len > 10_000 || total > 10_000 {
+            return false;
+        }
+        total += len;
+        rest = behind;
+    }
+    true
+}
+
+// Takes the event where it is enabled, and says whether it is.
+fn step<E: InForce>(pair: &mut Pair<E>, event: Event) -> Result<bool, NoMemory> {
+    if !pair.enabled(&event) {
+        return Ok(false);
+    }
+    pair.step(event)?;
+    Ok(true)
+}
+
+fn can_do<E: InForce>(pair: &Pair<E>) -> bool {
+    pair.enabled(&Event::Do)
+}
+
+fn is_done<E: InForce>(pair: &Pair<E>) -> bool {
+    matches!(pair.status(), State::Done)
+}
+
+fn count_pieces<E: InForce>(pair: &Pair<E>) -> u64 {
+    pair.journal().pieces().len() as u64
+}
+
+fn written_of<E: InForce>(alloc: Global, pair: &mut Pair<E>) -> Result<Written, NoMemory> {
+    let lines = pair.take_lines()?;
+    Written::new(alloc, pair.doc(), &lines)
+}
+
+// A page that is run.
+#[derive(Drop)]
+struct PageRun<E: InForce> {
+    alloc: Global,
+    pair: Pair<E>,
+    events: u64,
+    others: u64,
+    sent: u64,
+    dropped: u64,
+}
+
+impl<E: InForce> PageRun<E> {
+    fn new(alloc: Global, table: &Table, page: Page<'_>) -> Result<PageRun<E>, NoMemory>
+        requires { table.now ≡ E.entities }
+    {
+        let pieces = cut_page(alloc, page)?;
+        let scripts = script_files(alloc)?;
+        if page.ahead == 0 || page.ahead > 64 || !is_short(pieces.as_slice()) {
+            return Err(NoMemory);
+        }
+        let setup = Setup {
+            table,
+            pieces,
+            ending: Ending::End,
+            scripts,
+            ahead: page.ahead,
+        };
+        Ok(PageRun {
+            alloc,
+            pair: Pair::new(alloc, setup)?,
+            events: 0,
+            others: 0,
+            sent: 0,
+            dropped: 0,
+        })
+    }
+
+    // Takes an event of that kind where it is enabled, and says whether it is.
+    fn take(&mut self, kind: Kind) -> Result<bool, NoMemory> {
+        let event = event_of(self.alloc, kind)?;
+        if !step(&mut self.pair, event)? {
+            return Ok(false);
+        }
+        self.events = self.events.saturating_add(1);
+        match kind {
+            Kind::Send => self.sent = self.sent.saturating_add(1),
+            // Behind a reply that wasn't dropped there is something to do.
+            Kind::Take if !can_do(&self.pair) => self.dropped = self.dropped.saturating_add(1),
+            _ => {}
+        }
+        Ok(true)
+    }
+
+    // Takes the first event that is enabled, and says whether any is.
+    fn take_first(&mut self) -> Result<bool, NoMemory> {
+        for kind in &KINDS {
+            if self.take(*kind)? {
+                self.others = self.others.saturating_add(1);
+                return Ok(true);
+            }
+        }
+        Ok(false)
+    }
+
+    // Takes the events of `order` over and over, in the place of one that isn't enabled the first that is, until none is.
+    fn take_all(&mut self, order: &[Kind]) -> Result<(), NoMemory> {
+        let mut rest = order;
+        for _ in 0..MANY {
+            let (kind, behind) = rest.split_first().unwrap_or((&Kind::Send, order));
+            rest = behind;
+            if !self.take(*kind)? && !self.take_first()? {
+                break;
+            }
+        }
+        Ok(())
+    }
+
+    fn told(mut self) -> Result<Told, NoMemory> {
+        Ok(Told {
+            written: written_of(self.alloc, &mut self.pair)?,
+            events: self.events,
+            others: self.others,
+            sent: self.sent,
+            dropped: self.dropped,
+            pieces: count_pieces(&self.pair),
+            done: is_done(&self.pair),
+        })
+    }
+}
+
+fn run_in_force<E: InForce>(
+    alloc: Global,
+    table: &Table,
+    page: Page<'_>,
+    order: &[Kind],
+) -> Result<Told, NoMemory>
+    requires { table.now ≡ E.entities }
+{
+    let mut run = PageRun::<E>::new(alloc, table, page)?;
+    run.take_all(order)?;
+    run.told()
+}
+
+/// Runs a page until no event is enabled, each time taking the next event of `order`, behind whose last the first comes again, or where that one
+/// isn't enabled the first that is. `NoMemory` also where the page is long, or no such number of requests may be ahead.
+pub fn run(alloc: Global, table: &Table, page: Page<'_>, order: &[Kind]) -> Result<Told, NoMemory> {
+    run_in_force::<Brand>(alloc, table, page, order)
+}
