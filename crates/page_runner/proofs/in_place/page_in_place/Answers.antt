@@ -1,7 +1,7 @@
 use Rattle.std.proofs.Common.{true≢false, refl, sym, ◌∙◌, inr}
 use Rattle.std.specs.String.{string_bytes}
 use Rattle.page_runner.proofs.RunLemmas.{page_since, page_faulted, page_absent, page_unbegun, reads_since, found_there}
-use Rattle.page_runner.proofs.LineLemmas.{if_some}
+use Rattle.page_turns.proofs.LineLemmas.{if_some}
 use Rattle.page_runner.proofs.ReportLemmas.{reports_since}
 use Rattle.page_runner.proofs.in_place.page_in_place.Goals as goal
 
