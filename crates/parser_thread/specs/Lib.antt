@@ -1,2 +1,5 @@
 pub mod Answers
 pub mod Sides
+pub mod Parts
+pub mod Seats
+pub mod Running

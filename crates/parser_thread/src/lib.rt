@@ -1,8 +1,14 @@
-//! The parser's side behind two lanes: it takes requests from one and puts its replies into the other, in order.
+//! The parser's side in a thread of its own: it takes requests from one lane and puts its replies into another, in order. Where no thread
+//! starts, the same steps run over the same lanes in the calling thread.
 #![tactic(auto)]
 
 mod messages;
+mod running;
+mod seat;
 mod side;
+#[cfg(test)]
+mod tests;
 
 pub use messages::{FromParser, ToParser};
+pub use running::{Lanes, ParserThread, start};
 pub use side::{Ends, work};

@@ -87,7 +87,13 @@ impl<E: InForce> ParserSide<E> {
     }
 
     /// Takes one message, and answers it. Nothing where it has ended.
-    pub(crate) fn step<R: Wait, G: Gate>(&mut self, rt: &R, alloc: Global, table: &Table, gate: &G)
+    pub(crate) fn step<R: Wait, G: Gate>(
+        &mut self,
+        rt: &R,
+        alloc: Global,
+        table: &Table,
+        gate: &G,
+    )
         requires table { table.now ≡ E.entities }
         requires stands { Stands E.InForce self.old }
         ensures asked { self.new.asked.lane ≡ self.old.asked.lane }
