@@ -61,11 +61,11 @@ turns-preserved-then-branch g c =
 
 pub turns-smaller-then-branch : goal.turns-smaller-then-branch
 turns-smaller-then-branch g c =
-    answered_less c.turns.reader c.turns.lanes c.answer.new.self c.turns.doc (answers-as _ _ _ _ c.if-branch.true c.in_ok-answer.ensures.load).1
+    answered_less c.turns.reader (g.L.Counterpart.load c.turns.lanes) (g.L.Counterpart.load c.answer.new.self) c.turns.doc (answers-as _ _ _ _ c.if-branch.true c.in_ok-answer.ensures.load).1
 
 pub take_reply-requires-clause-stands : goal.take_reply-requires-clause-stands
 take_reply-requires-clause-stands g c =
-    stands_reply c.turns.lanes c.answer.new.self c.turns.doc.desk c.turns.invariant.holds.inside.count (answers-as _ _ _ _ c.if-branch.false c.in_ok-answer.ensures.load) (sym (c.wants_reply.ensures c.turns.invariant.holds.inside.going) ∙ c.if-wants_reply.true)
+    stands_reply (g.L.Counterpart.load c.turns.lanes) (g.L.Counterpart.load c.answer.new.self) c.turns.doc.desk c.turns.invariant.holds.inside.count (answers-as _ _ _ _ c.if-branch.false c.in_ok-answer.ensures.load) (sym (c.wants_reply.ensures c.turns.invariant.holds.inside.going) ∙ c.if-wants_reply.true)
 
 pub turns-preserved-in-Continue-branch-5 : goal.turns-preserved-in-Continue-branch-5
 turns-preserved-in-Continue-branch-5 g c =
