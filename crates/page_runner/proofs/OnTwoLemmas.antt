@@ -1,28 +1,28 @@
 -- What went through both lanes, beside the journal.
-use Rattle.std.proofs.Common.{◌≡◌, ℕ, suc, ◌+◌, List, [], ◌∷◌, ◌++◌, length, map, Option, Some, None, refl, sym, ◌∙◌, ap, subst, inl, inr, length-append, arith}
-use Rattle.std.specs.Prelude.{◌⊎◌, IfSome}
-use Rattle.std.specs.Option.{option_map}
+use Rattle.std.proofs.Common.{◌≡◌, ℕ, List, [], ◌∷◌, ◌++◌, length, map, Option, Some, None, refl, sym, ◌∙◌, ap, subst, inl, inr}
+use Rattle.std.specs.Prelude.{IfSome}
 use Rattle.std.proofs.lemmas.List.{map-append}
 use Rattle.standard.specs.Entities.{Entities}
 use Rattle.core_rules.specs.declared.event.Event.{Event}
-use Rattle.core_rules.specs.declared.event.Event.TheVariants.{Send, Pick, Give, Take, Do, Arrive}
-use Rattle.core_rules.specs.Journal.{Journal}
+use Rattle.core_rules.specs.Core.{Setup}
+use Rattle.core_rules.specs.Desk.{Desk}
 use Rattle.speculation.specs.declared.in_force.InForce as InForce
-use Rattle.speculation.specs.Asking.{Asked, Told}
+use Rattle.speculation.specs.Asking.{Asked}
 use Rattle.core_steps.specs.Sides.{Shown}
 use Rattle.parser_thread.specs.declared.messages.ToParser.{ToParser}
 use Rattle.parser_thread.specs.declared.messages.ToParser.TheVariants.{Ask, Stop}
 use Rattle.parser_thread.specs.declared.running.Lanes.{Lanes}
 use Rattle.parser_thread.specs.Answers.{said}
+use Rattle.run_laws.specs.Along.{HoldsAlong, takes_in, SendsOf, LooksAhead}
+use Rattle.run_laws.proofs.Dropping.{drops-are_over}
 use Rattle.page_turns.specs.declared.page.Failure.{Failure}
 use Rattle.page_turns.specs.declared.page.Failure.TheVariants.{Memory, Write}
+use Rattle.page_turns.specs.Along.{requests_of, Goes}
+use Rattle.page_turns.specs.Messages.{Message, TakenSoFar, MayTakeMore}
+use Rattle.page_turns.proofs.AlongLemmas.{looks_along, sends_along}
 use Rattle.page_runner.specs.declared.status.Status.{Status}
 use Rattle.page_runner.specs.Answers.{status_for}
-use Rattle.run_laws.specs.Along.{HoldsAlong, takes_in, SendsOf, DropsOver}
-use Rattle.run_laws.proofs.Dropping.{drops-are_over}
-use Rattle.page_turns.specs.Along.{MayDo, requests_of, Goes}
-use Rattle.page_runner.specs.OnTwo.{asks_in, requests_in, AreTaken, TakesOne, TakesLast, TakenSoFar, MayTakeMore, AreTakenAt, IsJournaled, DropsFailed, IsLookingAhead}
-use Rattle.page_turns.proofs.AlongLemmas.{looks_along, sends_along}
+use Rattle.page_runner.specs.OnTwo.{asks_in, requests_in, AreRepliesAt, IsJournaled, DropsFailed, IsLookingAhead}
 
 -- ---- the messages to the parser's side
 
@@ -55,7 +55,7 @@ module _ {E : Type 0} (g : InForce.Ghosts E) (es : Entities) (ahead : ℕ) (s : 
   requests-are : requests_in l.asked.put ≡ goes.requests
   requests-are = ap requests_in stopped ∙ (ap requests_of (asks-stopped asks) ∙ goes.told)
 
-  along-here : (P : _) → HoldsAlong P s.entities s.ahead s.journal → HoldsAlong P es ahead s.journal
+  along-here : (P : Setup → Event → Desk → Type 0) → HoldsAlong P s.entities s.ahead s.journal → HoldsAlong P es ahead s.journal
   along-here P h = subst (λ n. HoldsAlong P es n s.journal) credit (subst (λ e. HoldsAlong P e s.ahead s.journal) entities h)
 
   sent-here : HoldsAlong (λ x. SendsOf (requests_in l.asked.put)) es ahead s.journal
@@ -73,4 +73,4 @@ module _ {E : Type 0} (g : InForce.Ghosts E) (es : Entities) (ahead : ℕ) (s : 
   drops_failed = record { dropped = drops-are_over (requests_in l.asked.put) es ahead s.journal sent-here }
 
 pub is_looking_ahead : (es : Entities) (ahead : ℕ) (s : Shown) (asks : Option (List Asked)) → Goes asks s → s.entities ≡ es → s.ahead ≡ ahead → IsLookingAhead es ahead s.journal
-is_looking_ahead es ahead s asks goes entities credit = record { looks = subst (λ n. HoldsAlong _ es n s.journal) credit (subst (λ e. HoldsAlong _ e s.ahead s.journal) entities (looks_along asks s goes)) }
+is_looking_ahead es ahead s asks goes entities credit = record { looks = subst (λ n. HoldsAlong (λ x. LooksAhead x.ahead) es n s.journal) credit (subst (λ e. HoldsAlong (λ x. LooksAhead x.ahead) e s.ahead s.journal) entities (looks_along asks s goes)) }
