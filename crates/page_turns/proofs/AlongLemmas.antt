@@ -112,8 +112,8 @@ looks-whole ahead o (Arrive name) d l = ahead-of ahead o d l
 -- ---- counts
 
 sends-then : (vs : List Event) (v : Event) → sends_in (vs ++ v ∷ []) ≡ sends_in vs + sends_in (v ∷ [])
-sends-then [] v = refl
-sends-then (Send ∷ vs) v = ap suc (sends-then vs v)
+sends-then [] v = omega arith
+sends-then (Send ∷ vs) v = let rest = sends-then vs v in omega (arith, rest)
 sends-then (Pick ∷ vs) v = sends-then vs v
 sends-then (Give ∷ vs) v = sends-then vs v
 sends-then (Take ∷ vs) v = sends-then vs v
@@ -255,6 +255,9 @@ did_given old mid new lines does did is = subst (MayDo old) (sym is) (did_one ol
 pub stays_spent : (old new : Shown) → new ≡ record old { spent = true } → Stays old new
 stays_spent old new is = subst (Stays old) (sym is) refl
 
+pub stays_same : (s : Shown) → Stays s s
+stays_same s = refl
+
 pub stays_read : (old new : Shown) → Stays old new → StaysRead old new
 stays_read old new is = subst (λ z. StaysRead old z) (sym is) refl
 
@@ -360,7 +363,7 @@ module _ (asks : Option (List Asked)) (s : Shown) (g : Goes asks s) where
   Said ahead v d = SendsOf g.requests v d × LooksAhead ahead v d
 
   goes-along : HoldsAlong (λ x. Said x.ahead) s.entities s.ahead s.journal
-  goes-along x run = by s.journal.ending run.page (g.along x.world run.entities run.fetches).1.0
+  goes-along x run = by s.journal.ending run.page (g.along x.world run.entities run.fetches).1
     where
       d : Desk
       d = (g.along x.world run.entities run.fetches).0

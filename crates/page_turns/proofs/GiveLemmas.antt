@@ -291,7 +291,7 @@ stands_reply l l' d count (same, requests, hand) wants =
     omega (arith, count, requests, hand, some, replies)
 
 module _ (es : Entities) (ahead : ℕ) (dir : List ℕ) (before : Seen) (t : Option (List ℕ)) (now : Seen) (t' : Option (List ℕ)) (reader : PageReader) (l : Load) (s : Shown) (h : Holds es ahead dir before now t t' reader l s) where
-  one_more : Load
+  abbrev one_more : Load
   one_more = record l { requests = suc l.requests }
 
   pub after_sent : (l' : Load) (s' : Shown) → IsTrue (can_send s.ahead s.desk) → s' ≡ journaled event.Send (sends s.desk) s → Asks l l' → Holds es ahead dir before now t t' reader l' s'

@@ -42,7 +42,7 @@ line-front t now t' lines i a within is took front =
     subst (λ x. TookFront t t' x) (sym text) (front_then t now t' (flat_map line_text (take i lines)) (line_text a ++ flat_map line_text (drop (i + 1) lines)) took (front_longer now t' (line_text a) (flat_map line_text (drop (i + 1) lines)) front))
 
 -- the reply that was taken stood before the others
-pub took_one : {A : Type 0} (r : Option A) (now : Load) (requests hand : ℕ) (xs ys : List A) → record { requests = requests; hand = hand; replies = length xs } ≡ now → xs ≡ option_to_list r ++ ys
-    → IfSome r (λ _. now ≡ record { requests = requests; hand = hand; replies = suc (length ys) })
-took_one None now requests hand xs ys is all = tt
-took_one (Some x) now requests hand xs ys is all = sym is ∙ ap (λ zs. record { requests = requests; hand = hand; replies = length zs }) all
+pub took_one : {A : Type 0} (r : Option A) (x : A) (now : Load) (requests hand : ℕ) (xs ys : List A) → record { requests = requests; hand = hand; replies = length xs } ≡ now → xs ≡ option_to_list r ++ ys → r ≡ Some x
+    → now ≡ record { requests = requests; hand = hand; replies = suc (length ys) }
+took_one None x now requests hand xs ys is all one = absurd (cc one)
+took_one (Some y) x now requests hand xs ys is all one = sym is ∙ ap (λ zs. record { requests = requests; hand = hand; replies = length zs }) all

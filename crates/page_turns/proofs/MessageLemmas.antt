@@ -10,11 +10,11 @@ use Rattle.page_turns.specs.Along.{MayDo}
 use Rattle.page_turns.specs.Messages.{Message, AreReplies, TakesOne, TakesLast, TakenSoFar, MayTakeMore}
 
 takes-then : (vs : List Event) (v : Event) → takes_in (vs ++ v ∷ []) ≡ takes_in vs + takes_in (v ∷ [])
-takes-then [] v = refl
+takes-then [] v = omega arith
 takes-then (Send ∷ vs) v = takes-then vs v
 takes-then (Pick ∷ vs) v = takes-then vs v
 takes-then (Give ∷ vs) v = takes-then vs v
-takes-then (Take ∷ vs) v = ap suc (takes-then vs v)
+takes-then (Take ∷ vs) v = let rest = takes-then vs v in omega (arith, rest)
 takes-then (Do ∷ vs) v = takes-then vs v
 takes-then (Arrive name ∷ vs) v = takes-then vs v
 
