@@ -1,5 +1,5 @@
 -- What went through both lanes of a run, and its journal.
-use Rattle.std.specs.Prelude.{◌≡◌, ◌⊎◌, ℕ, List, [], ◌∷◌, ◌++◌, length, map, Option, Some, IfSome}
+use Rattle.std.specs.Prelude.{◌≡◌, ◌⊎◌, ℕ, List, [], ◌∷◌, ◌++◌, length, map, Option, IfSome}
 use mathlib.Core.List.{IsPrefix}
 use Rattle.standard.specs.Entities.{Entities}
 use Rattle.core_rules.specs.Core.{Request}

@@ -34,7 +34,7 @@ pub(crate) struct OverLanes<'a, R, E: InForce, G> {
 }
 
 impl<'a, R, E: InForce, G> Model for OverLanes<'a, R, E, G> {
-    ghost use Rattle.std.specs.Prelude.{map};
+    ghost use Rattle.std.specs.Prelude.{◌≡◌, map};
     ghost use Rattle.parser_thread.specs.declared.messages.ToParser.TheVariants as message;
     ghost use Rattle.parser_thread.specs.Answers.{said};
     ghost use Rattle.parser_thread.specs.Running.{IsRunning};
@@ -94,8 +94,8 @@ impl<'a, R: Threads + Wait, E: InForce, G: Gate + Drop> OverLanes<'a, R, E, G> {
 
     // Tells the parser's side to stop, and waits until it has.
     fn finish(self) -> Lanes<E>
-        ensures stopped { result.asked.put ≡ map message.Ask self.asks ++ message.Stop ∷ [] }
-        ensures messages { map (said E.InForce) result.answers.taken ≡ self.messages }
+        ensures stopped { result.asked.put ≡ map message.Ask self.entry.asks ++ message.Stop ∷ [] }
+        ensures messages { map (said E.InForce) result.answers.taken ≡ self.entry.messages }
         ensures in_order { InOrder E.InForce result }
         ensures answered { IsAnswered E.InForce result }
     {

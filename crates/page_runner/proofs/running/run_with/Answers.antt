@@ -51,7 +51,7 @@ returns-in-Ok-clause-reports g c =
     (subst (λ d. Gives (Rose (g.K.Sink.faults c.parse_page.new.out) (g.K.Sink.faults c.end_page.new.out)) (g.K.Sink.taken c.parse_page.new.out) (g.K.Sink.taken c.end_page.new.out) (status_of c.in-Ok.outcome, result_with c.args.job.now.dump (result_of c.in-Ok.outcome) d.tree) c.end_page.result) (c.doc.ensures c.in-Ok.ensures.out.going) c.end_page.ensures.gives)
 
 pub returns-in-Err-clause-messages : goal.returns-in-Err-clause-messages
-returns-in-Err-clause-messages g c = rw c.status_for.ensures (taken_at_err c.in-Err.failure _ _ (λ is. c.parse_page.ensures.write_taken (c.in-Err.is ∙ ap Err is)) c.parse_page.ensures.more_taken)
+returns-in-Err-clause-messages g c = rw c.status_for.ensures (taken_at_err c.in-Err.failure (g.L.Counterpart.taken c.parse_page.new.lanes) c.parse_page.new.doc.journal.events (λ is. c.parse_page.ensures.write_taken (c.in-Err.is ∙ ap Err is)) c.parse_page.ensures.more_taken)
 
 pub returns-in-Ok-clause-messages : goal.returns-in-Ok-clause-messages
-returns-in-Ok-clause-messages g c = taken_at_ok _ _ _ c.in-Ok.ensures.taken
+returns-in-Ok-clause-messages g c = taken_at_ok c.end_page.result (g.L.Counterpart.taken c.parse_page.new.lanes) c.parse_page.new.doc.journal.events c.in-Ok.ensures.taken
