@@ -11,9 +11,9 @@ use Rattle.page_runner.specs.declared.command.TheConstants.{ENTITIES_LIMIT}
 use Rattle.page_runner.specs.declared.status.Status.{Status}
 use Rattle.page_runner.specs.declared.status.Status.TheVariants as status
 use Rattle.page_runner.specs.Words.{Asked}
-use Rattle.page_runner.specs.Given.{Given, unmet, missing, faulted, got, MayGive}
-use Rattle.page_runner.specs.Scripts.{MayFetch}
-use Rattle.page_runner.specs.Pages.{world_of}
+use Rattle.page_turns.specs.Given.{Given, unmet, missing, faulted, got, MayGive}
+use Rattle.page_turns.specs.Scripts.{MayFetch}
+use Rattle.page_turns.specs.Pages.{world_of}
 use Rattle.page_runner.specs.Answers.{PageMet, MayGivePage, IsParsed, status_with, answer_to_page, answer_over, answer_to, table_of, Gives, RunsTo, Exactly, AbsenceRose, FaultRose}
 use Rattle.page_runner.proofs.PageFaults.{fault_met}
 

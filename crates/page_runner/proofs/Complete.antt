@@ -17,10 +17,10 @@ use Rattle.page_runner.specs.declared.command.TheConstants.{ENTITIES_LIMIT}
 use Rattle.page_runner.specs.declared.status.Status.{Status}
 use Rattle.page_runner.specs.declared.status.Status.TheVariants as status
 use Rattle.page_runner.specs.Words.{Asked}
-use Rattle.page_runner.specs.Given.{Given, unmet, missing, faulted, got, FaultsRose, NoFault, AbsencesRose, file_at, MayGive}
-use Rattle.page_runner.specs.Taken.{Took}
-use Rattle.page_runner.specs.Scripts.{path_of, IsAbsent, MayFetch, AreScriptsOf, fetched_of, world_in}
-use Rattle.page_runner.specs.Pages.{page_at, world_of, ComesTo}
+use Rattle.page_turns.specs.Given.{Given, unmet, missing, faulted, got, FaultsRose, NoFault, AbsencesRose, file_at, MayGive}
+use Rattle.page_turns.specs.Taken.{Took}
+use Rattle.page_turns.specs.Scripts.{path_of, IsAbsent, MayFetch, AreScriptsOf, fetched_of, world_in}
+use Rattle.page_turns.specs.Pages.{page_at, world_of, ComesTo}
 use Rattle.page_runner.specs.Answers.{IsPageOf, PageMet, MayGivePage, IsParsed, Answer, status_with, answer_to_page, answer_over, answer_to, table_of, Gives, RunsTo, CompletesRun}
 
 abbrev Only : Option (List ℕ) → Option (List ℕ) → Answer → Status → Type 0

@@ -21,8 +21,8 @@ use Rattle.standard.specs.Serial.{World, fetched_if, fetched, Serial, Outcome, r
 use Rattle.standard_laws.specs.Laws.{outcome_at}
 use Rattle.standard_laws.proofs.Fuel.{serial-over}
 use Rattle.standard_laws.proofs.Passing.{finished-at}
-use Rattle.page_runner.specs.declared.page.TheConstants.{PAGE_LIMIT}
-use Rattle.page_runner.specs.Pages.{PageRead, page_at, ComesTo}
+use Rattle.page_turns.specs.declared.page.TheConstants.{PAGE_LIMIT}
+use Rattle.page_turns.specs.Pages.{PageRead, page_at, ComesTo}
 
 -- ---- a script that runs meets none
 

@@ -17,26 +17,27 @@ use Rattle.standard_laws.proofs.Total.{has_outcome}
 use Rattle.page_runner.specs.declared.command.TheConstants.{ENTITIES_LIMIT}
 use Rattle.page_runner.specs.declared.command.Unread.{Unread}
 use Rattle.page_runner.specs.declared.command.Unread.TheVariants as unread
-use Rattle.page_runner.specs.declared.page.TheConstants.{PAGE_LIMIT}
-use Rattle.page_runner.specs.declared.scripts.TheConstants.{SCRIPT_LIMIT}
-use Rattle.page_runner.specs.declared.outcome.Outcome.{Outcome as Told}
-use Rattle.page_runner.specs.declared.outcome.Outcome.TheVariants as told
-use Rattle.page_runner.specs.declared.page.Failure.{Failure}
-use Rattle.page_runner.specs.declared.page.Failure.TheVariants as failures
+use Rattle.page_turns.specs.declared.page.TheConstants.{PAGE_LIMIT}
+use Rattle.page_turns.specs.declared.scripts.TheConstants.{SCRIPT_LIMIT}
+use Rattle.page_turns.specs.declared.outcome.Outcome.{Outcome as Told}
+use Rattle.page_turns.specs.declared.outcome.Outcome.TheVariants as told
+use Rattle.page_turns.specs.declared.page.Failure.{Failure}
+use Rattle.page_turns.specs.declared.page.Failure.TheVariants as failures
 use Rattle.page_runner.specs.declared.status.Status.{Status}
 use Rattle.page_runner.specs.declared.status.Status.TheVariants as status
 use Rattle.page_runner.specs.Words.{Asked}
-use Rattle.page_runner.specs.Given.{Given, unmet, missing, faulted, got, FaultsRose, NoFault, AbsencesRose, file_at, MayGive, AreRead, ReadTo, untouched, unbegun, begun, KeepsEntities}
-use Rattle.page_runner.specs.Taken.{Took, TookFront}
-use Rattle.page_runner.specs.Scripts.{path_of, IsAbsent, MayFetch, ReadScriptsTo, NamesOnce, none_begun, last}
-use Rattle.page_runner.specs.Shown.{result_of, status_of}
-use Rattle.page_runner.specs.Pages.{PageRead, page_at, world_of, AreTaken, ReadsOn, IsReadFrom, Ended, EndsWithScripts, FrontWithScripts}
-use Rattle.page_runner.specs.Turns.{LeavesAlone}
+use Rattle.page_turns.specs.Given.{Given, unmet, missing, faulted, got, FaultsRose, NoFault, AbsencesRose, file_at, MayGive, AreRead, ReadTo, untouched, unbegun, begun, KeepsEntities}
+use Rattle.page_turns.specs.Taken.{Took, TookFront}
+use Rattle.page_turns.specs.Scripts.{path_of, IsAbsent, MayFetch, ReadScriptsTo, NamesOnce, none_begun, last}
+use Rattle.page_turns.specs.Shown.{result_of}
+use Rattle.page_runner.specs.Shown.{status_of}
+use Rattle.page_turns.specs.Pages.{PageRead, page_at, world_of, AreTaken, ReadsOn, IsReadFrom, Ended, EndsWithScripts, FrontWithScripts}
+use Rattle.page_turns.specs.Turns.{LeavesAlone}
 use Rattle.page_runner.specs.Answers.{IsPageOf, PageMet, MayGivePage, FaultsOver, FaultsMet, IsParsed, Answer, status_with, answer_to_page, answer_over, answer_to, table_of, status_for, Gives, is_answered, IsBegun, PageAnswers, ReadsPage, ReadsTable, ReadsNone, answer_without, Answers, RunsTo, StopsAtEach, StopsAtLimits, BeginsEach, BeginsOnce, is_finished}
 use Rattle.outside.proofs.KeepsLemmas.{keeps-same}
-use Rattle.page_runner.proofs.KeepsLemmas.{begun_none, begun_then, begun_stays, begun_since, begun_is, rose-on, rose-stays, entities-same, entities-then, entities-others}
-use Rattle.page_runner.proofs.MeetLemmas.{names_none}
-use Rattle.page_runner.proofs.PageTakenLemmas.{took_nothing, front_nothing, took_then, front_then}
+use Rattle.page_turns.proofs.KeepsLemmas.{begun_none, begun_then, begun_stays, begun_since, begun_is, rose-on, rose-stays, entities-same, entities-then, entities-others}
+use Rattle.page_turns.proofs.MeetLemmas.{names_none}
+use Rattle.page_turns.proofs.PageTakenLemmas.{took_nothing, front_nothing, took_then, front_then}
 
 -- ---- a status and what was written
 

@@ -10,18 +10,18 @@ use Rattle.standard.specs.Output.{output_with}
 use Rattle.page_runner.specs.declared.command.TheConstants.{ENTITIES_LIMIT}
 use Rattle.page_runner.specs.declared.command.Unread.{Unread}
 use Rattle.page_runner.specs.declared.command.Unread.TheVariants as unread
-use Rattle.page_runner.specs.declared.page.TheConstants.{PAGE_LIMIT}
-use Rattle.page_runner.specs.declared.page.Failure.{Failure}
-use Rattle.page_runner.specs.declared.page.Failure.TheVariants as failures
-use Rattle.page_runner.specs.declared.scripts.TheConstants.{SCRIPT_LIMIT}
+use Rattle.page_turns.specs.declared.page.TheConstants.{PAGE_LIMIT}
+use Rattle.page_turns.specs.declared.page.Failure.{Failure}
+use Rattle.page_turns.specs.declared.page.Failure.TheVariants as failures
+use Rattle.page_turns.specs.declared.scripts.TheConstants.{SCRIPT_LIMIT}
 use Rattle.page_runner.specs.declared.status.Limit.TheVariants as limits
 use Rattle.page_runner.specs.declared.status.Status.{Status}
 use Rattle.page_runner.specs.declared.status.Status.TheVariants as status
 use Rattle.page_runner.specs.Words.{Asked}
-use Rattle.page_runner.specs.Given.{Given, unmet, missing, faulted, got, FaultsRose, NoFault, AbsencesRose, file_at, MayGive, ReadTo, BegunOnce, KeepsEntities}
-use Rattle.page_runner.specs.Taken.{Took, TookFront}
-use Rattle.page_runner.specs.Scripts.{AreScriptsOf, ReadScriptsTo, NamesOnce, world_in}
-use Rattle.page_runner.specs.Pages.{PageRead, MeetsFaults, world_of, ComesTo}
+use Rattle.page_turns.specs.Given.{Given, unmet, missing, faulted, got, FaultsRose, NoFault, AbsencesRose, file_at, MayGive, ReadTo, BegunOnce, KeepsEntities}
+use Rattle.page_turns.specs.Taken.{Took, TookFront}
+use Rattle.page_turns.specs.Scripts.{AreScriptsOf, ReadScriptsTo, NamesOnce, world_in}
+use Rattle.page_turns.specs.Pages.{PageRead, MeetsFaults, world_of, ComesTo}
 
 -- ---- what the outside may give of the page
 

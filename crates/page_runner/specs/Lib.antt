@@ -1,10 +1,7 @@
 pub mod Status
-pub mod Taken
-pub mod Given
 pub mod Words
-pub mod Scripts
 pub mod Shown
-pub mod Pages
-pub mod Turns
 pub mod Answers
 pub mod Reports
+pub mod Exchanges
+pub mod OnTwo

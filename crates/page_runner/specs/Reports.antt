@@ -6,17 +6,17 @@ use Rattle.standard.specs.Entities.{Entities}
 use Rattle.standard.specs.Output.{line_text, result_with}
 use Rattle.standard.specs.Scripts.{Fetched}
 use Rattle.standard.specs.Serial.{Result}
-use Rattle.core_rules.specs.Core.{Setup, Core, first_core, Runs}
 use Rattle.core_rules.specs.Desk.{done}
-use Rattle.core_rules.specs.Journal.{Journal, IsRunOf, with_replies}
+use Rattle.core_rules.specs.Journal.{Journal}
 use Rattle.core_steps.specs.Journals.{found}
 use Rattle.core_steps.specs.Sides.{Shown}
 use Rattle.page_runner.specs.declared.status.Status.{Status}
 use Rattle.page_runner.specs.declared.status.Status.TheVariants as status
-use Rattle.page_runner.specs.Given.{FaultsRose, NoFault, file_at}
-use Rattle.page_runner.specs.Taken.{Took}
-use Rattle.page_runner.specs.Scripts.{MayMeet}
-use Rattle.page_runner.specs.Pages.{PageRead, page_at, IsPageBehind}
+use Rattle.page_turns.specs.Given.{FaultsRose, NoFault, file_at}
+use Rattle.page_turns.specs.Taken.{Took}
+use Rattle.page_turns.specs.Scripts.{MayMeet}
+use Rattle.page_turns.specs.Pages.{PageRead, page_at, IsPageBehind}
+use Rattle.page_turns.specs.Replaying.{ReplaysTo}
 use Rattle.page_runner.specs.Answers.{status_with, is_answered, IsPageOf}
 
 -- the statuses that come only where a page was parsed to its end
@@ -25,12 +25,6 @@ is_parsed status.Done = true
 is_parsed status.BadUtf8 = true
 is_parsed (status.Limit which) = true
 is_parsed _ = false
-
--- In each run in which all is as the journal has it, its events, each of them enabled, lead the core to what is shown.
-pub record ReplaysTo (es : Entities) (ahead : ℕ) (s : Shown) : Type 0 where
-  pub replays : (x : Setup) → IsRunOf es ahead s.journal x →
-      (c : Core) × Runs x (with_replies s.journal.events) (first_core x) c
-      × (c.desk.phase ≡ s.desk.phase) × (c.desk.own.side.doc ≡ s.desk.own.side.doc) × (c.desk.own.side.lines ≡ s.desk.own.side.lines)
 
 -- What the journal has was met outside: its pieces are a front of the page's text, and with the page's ending the whole page; and each thing
 -- that came of a script may have come of it.

@@ -1,16 +1,10 @@
--- What a parse comes to, and the status of a run with it.
+-- The status of a run, by what its parse comes to.
 use Rattle.html_types.specs.declared.script.Why.TheVariants as why
-use Rattle.standard.specs.Serial.{Result, finished, refused}
-use Rattle.page_runner.specs.declared.outcome.Outcome.{Outcome}
-use Rattle.page_runner.specs.declared.outcome.Outcome.TheVariants.{Finished, Refused}
+use Rattle.page_turns.specs.declared.outcome.Outcome.{Outcome}
+use Rattle.page_turns.specs.declared.outcome.Outcome.TheVariants.{Finished, Refused}
 use Rattle.page_runner.specs.declared.status.Limit.TheVariants as limits
 use Rattle.page_runner.specs.declared.status.Status.{Status}
 use Rattle.page_runner.specs.declared.status.Status.TheVariants as status
-
--- the serial parse's result
-abbrev pub result_of : Outcome → Result
-result_of Finished = finished
-result_of (Refused reason) = refused reason
 
 -- the status with which a run of that outcome ends
 abbrev pub status_of : Outcome → Status

@@ -4,27 +4,25 @@ ghost use Rattle.std.specs.String.{string_bytes};
 ghost use Rattle.standard.specs.Output.{result_with};
 ghost use Rattle.outside.specs.Outside.{Rose, Begun, KeepsOthers};
 ghost use Rattle.page_runner.specs.Words.{asked, shown};
-ghost use Rattle.page_runner.specs.Given.{ReadTo};
-ghost use Rattle.page_runner.specs.Taken.{Took, TookFront};
-ghost use Rattle.page_runner.specs.Shown.{result_of, status_of};
+ghost use Rattle.page_turns.specs.Given.{ReadTo};
+ghost use Rattle.page_turns.specs.Taken.{Took, TookFront};
+ghost use Rattle.page_turns.specs.Shown.{result_of};
+ghost use Rattle.page_runner.specs.Shown.{status_of};
 ghost use Rattle.page_runner.specs.Reports.{is_parsed};
 ghost use Rattle.page_runner.specs.Answers.{status_for, table_of, is_finished, Gives, PageAnswers, ReadsPage, ReadsTable, ReadsNone, answer_without, Answers, RunsTo, StopsAtLimits, BeginsOnce, CompletesRun, Exactly, AbsenceRose, FaultRose};
 
-use crate::fetch::read_whole;
-use crate::in_place::page_in_place;
-use crate::job::Job;
-use crate::outcome::{Outcome, status_at};
-use crate::output::show_outcome;
-use crate::page::Failure;
-use crate::status::Status;
+use crate::on_two::page_on_two;
+use crate::status::{Limit, Status};
 use crate::words::{PageWords, Refused, read_words};
-use crate::write::write_all;
 use core_steps::Fetch;
 use entity_table::{Table, TableFault};
-use html_types::NoMemory;
+use html_types::{NoMemory, Why};
 use op_exec::Doc;
 use outside::{Failed, Gate, Outside, Port, Sink};
+use page_turns::{Failure, Job, Outcome, read_whole, show_outcome, write_all};
+use speculation::InForce;
 use std::alloc::Global;
+use std::marker::Brand;
 use std::sync::{Arc, Wait};
 use std::thread::Threads;
 
@@ -49,6 +47,20 @@ pub(crate) fn status_for(failure: Failure) -> Status
     match failure {
         Failure::Memory => Status::NoMemory,
         Failure::Write => Status::WriteFault,
+    }
+}
+
+// The status with which a run of that outcome ends.
+fn status_at(outcome: Outcome) -> Status
+    ensures { result ≡ status_of outcome }
+{
+    match outcome {
+        Outcome::Finished => Status::Done,
+        Outcome::Refused(Why::BadUtf8) => Status::BadUtf8,
+        Outcome::Refused(Why::Depth) => Status::Limit(Limit::Depth),
+        Outcome::Refused(Why::Writes) => Status::Limit(Limit::Writes),
+        Outcome::Refused(Why::Page) => Status::Limit(Limit::Page),
+        Outcome::Refused(Why::Fault) => Status::ReadFault,
     }
 }
 
@@ -114,12 +126,38 @@ fn end_without<K: Sink>(out: &mut K, unread: Unread) -> Status
     }
 }
 
+// Runs the page with the entities in force. The report, whose type names them, ends here.
+fn by_table<
+    R: Threads + Wait + Copy + Send + Sync + 'static,
+    E: InForce + Send + 'static,
+    F: Outside,
+    K: Sink,
+    G: Gate + Drop + Send + Sync + 'static,
+>(rt: &R, alloc: Global, job: &Job<'_>, files: &mut F, out: &mut K, gate: &Arc<G, Global>) -> Status
+    requires table { job.now.table.now ≡ E.entities }
+    requires piece { (0 < job.now.piece) × (job.now.piece ≤ 65536) }
+    requires ahead { (0 < job.now.ahead) × (job.now.ahead ≤ 64) }
+    ensures answer { PageAnswers job.now.table.now job.now.dump (string_bytes job.now.page) (string_bytes job.now.dir)
+        (F.seen files.old) (F.seen files.new) (K.faults out.old) (K.faults out.new) (K.taken out.old) (K.taken out.new) result }
+    ensures reads { ReadsPage (string_bytes job.now.page) (string_bytes job.now.dir) (string_bytes job.now.page ∷ []) (F.seen files.old) (F.seen files.new) }
+    ensures clean { IsTrue (is_finished result) → IsTrue (K.clean out.new) }
+{
+    page_on_two::<R, E, F, K, G>(rt, alloc, job, files, out, gate).outcome
+}
+
 // Runs the page over the table.
-fn run_page<F: Outside, K: Sink>(
+fn run_page<
+    R: Threads + Wait + Copy + Send + Sync + 'static,
+    F: Outside,
+    K: Sink,
+    G: Gate + Drop + Send + Sync + 'static,
+>(
+    rt: &R,
     alloc: Global,
     table: &Table,
     files: &mut F,
     out: &mut K,
+    gate: &Arc<G, Global>,
     words: PageWords,
 ) -> Status
     requires piece { (0 < words.piece) × (words.piece ≤ 65536) }
@@ -137,7 +175,7 @@ fn run_page<F: Outside, K: Sink>(
         ahead: words.ahead,
         dump: words.dump,
     };
-    page_in_place(alloc, &job, files, out).outcome
+    by_table::<R, Brand, F, K, G>(rt, alloc, &job, files, out, gate)
 }
 
 // The table that the file lists. One that is too long is none.
@@ -173,10 +211,17 @@ fn read_entities<F: Outside>(alloc: Global, files: &mut F, path: &str) -> Result
 }
 
 // Reads the entities, and runs the page over them.
-fn run_files<F: Outside, K: Sink>(
+fn run_files<
+    R: Threads + Wait + Copy + Send + Sync + 'static,
+    F: Outside,
+    K: Sink,
+    G: Gate + Drop + Send + Sync + 'static,
+>(
+    rt: &R,
     alloc: Global,
     files: &mut F,
     out: &mut K,
+    gate: &Arc<G, Global>,
     words: PageWords,
 ) -> Status
     requires piece { (0 < words.piece) × (words.piece ≤ 65536) }
@@ -189,16 +234,23 @@ fn run_files<F: Outside, K: Sink>(
 {
     match read_entities(alloc, files, words.entities.as_str()) {
         Err(unread) => end_without(out, unread),
-        Ok(table) => run_page(alloc, &table, files, out, words),
+        Ok(table) => run_page(rt, alloc, &table, files, out, gate, words),
     }
 }
 
 // Reads the words, and runs what they ask for.
-fn run_words<F: Outside, K: Sink>(
+fn run_words<
+    R: Threads + Wait + Copy + Send + Sync + 'static,
+    F: Outside,
+    K: Sink,
+    G: Gate + Drop + Send + Sync + 'static,
+>(
+    rt: &R,
     alloc: Global,
     words: &[String],
     files: &mut F,
     out: &mut K,
+    gate: &Arc<G, Global>,
 ) -> Status
     ensures answer { RunsTo (asked (map string_bytes words.now)) (F.seen files.old) (F.seen files.new)
         (K.faults out.old) (K.faults out.new) (K.taken out.old) (K.taken out.new) result }
@@ -209,7 +261,7 @@ fn run_words<F: Outside, K: Sink>(
     match read_words(alloc, words) {
         Err(Refused::Usage) => Status::Usage,
         Err(Refused::NoMemory) => Status::NoMemory,
-        Ok(words) => run_files(alloc, files, out, words),
+        Ok(words) => run_files(rt, alloc, files, out, gate, words),
     }
 }
 
@@ -221,12 +273,12 @@ pub fn run<
     K: Sink,
     G: Gate + Drop + Send + Sync + 'static,
 >(
-    _rt: &R,
+    rt: &R,
     alloc: Global,
     words: &[String],
     files: &mut F,
     out: &mut K,
-    _gate: &Arc<G, Global>,
+    gate: &Arc<G, Global>,
 ) -> Status
     // The status and the bytes that the sink took are the answer to what the run met, and the text is that of the serial parse.
     ensures answer { RunsTo (asked (map string_bytes words.now)) (F.seen files.old) (F.seen files.new)
@@ -247,5 +299,5 @@ pub fn run<
     ensures read_fault { result ≡ Status.ReadFault → FaultRose (F.seen files.old) (F.seen files.new) }
     ensures write_fault { result ≡ Status.WriteFault → Rose (K.faults out.old) (K.faults out.new) }
 {
-    run_words(alloc, words, files, out)
+    run_words(rt, alloc, words, files, out, gate)
 }

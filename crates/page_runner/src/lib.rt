@@ -2,28 +2,19 @@
 #![tactic(auto)]
 
 mod command;
-mod fetch;
 mod in_place;
-mod job;
-mod lanes;
-mod outcome;
-mod output;
-mod page;
-mod reader;
-mod scripts;
+mod on_two;
+mod report;
+mod running;
 mod status;
 #[cfg(test)]
 mod tests;
 mod words;
-mod write;
 
 pub use command::{ENTITIES_LIMIT, run};
-pub use core_steps::Fetch;
-pub use fetch::read_whole;
 pub use in_place::page_in_place;
-pub use job::{Job, Report};
-pub use page::PAGE_LIMIT;
-pub use scripts::SCRIPT_LIMIT;
+pub use on_two::page_on_two;
+pub use page_turns::Job;
+pub use report::Report;
 pub use status::{Limit, Status};
 pub use words::{PageWords, Refused, read_words};
-pub use write::write_all;

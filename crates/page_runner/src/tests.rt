@@ -1,5 +1,4 @@
-use crate::{Fetch, Refused, read_whole, read_words, write_all};
-use outside::{Failed, MemFiles, MemSink, Port};
+use crate::{Refused, read_words};
 use std::alloc::{AllocError, Global};
 use std::test::Fail;
 
@@ -24,25 +23,5 @@ fn words_are_read(rt: HostRuntime) -> Result<(), Fail> {
     assert_eq!(rt; read.ahead, 8);
     let given = words(alloc, &["specparse", "--help"])?;
     assert_eq!(rt; read_words(alloc, &given).err(), Some(Refused::Usage));
-    Ok(())
-}
-
-#[test]
-fn a_sink_takes_a_front(rt: HostRuntime) -> Result<(), Fail> {
-    let mut sink = MemSink::new(rt.alloc(), 3)?;
-    assert_eq!(rt; write_all(&mut sink, b"abcd"), Err(Failed));
-    assert_eq!(rt; sink.bytes(), b"abc".as_slice());
-    Ok(())
-}
-
-#[test]
-fn a_file_is_read_to_the_limit(rt: HostRuntime) -> Result<(), Fail> {
-    let alloc = rt.alloc();
-    let mut files = MemFiles::new(alloc, &[])?;
-    files.add("s", b"abcd".as_slice())?;
-    let fetch = read_whole(alloc, &mut files, Port::Script, "s", 2)?;
-    assert!(rt; matches!(&fetch, Fetch::Got(bytes) if bytes.as_slice() == b"abc".as_slice()));
-    let fetch = read_whole(alloc, &mut files, Port::Script, "t", 2)?;
-    assert!(rt; matches!(&fetch, Fetch::Missing));
     Ok(())
 }

@@ -1,7 +1,7 @@
 use Rattle.std.proofs.Common.{true≢false, refl, sym, ◌∙◌, inr}
 use Rattle.std.specs.String.{string_bytes}
 use Rattle.page_runner.proofs.RunLemmas.{page_since, page_faulted, page_absent, page_unbegun, reads_since, found_there}
-use Rattle.page_runner.proofs.LineLemmas.{if_some}
+use Rattle.page_turns.proofs.LineLemmas.{if_some}
 use Rattle.page_runner.proofs.ReportLemmas.{reports_since}
 use Rattle.page_runner.proofs.in_place.page_in_place.Goals as goal
 
@@ -27,21 +27,21 @@ pub returns-in-Ok-true-clause-answer : goal.returns-in-Ok-true-clause-answer
 returns-in-Ok-true-clause-answer g c =
     let at = g.F.Outside.seen in
     page_since c.args.job.now.table.now c.args.job.now.dump (string_bytes c.args.job.now.page) (string_bytes c.args.job.now.dir)
-    (at c.args.files.now) (at c.begin.new.self) (at c.run_begun.new.files) _ _ _ _ _ c.begin.ensures.others c.in-Ok-true.ensures.no_fault c.run_begun.ensures.answer
+    (at c.args.files.now) (at c.begin.new.self) (at c.run_begun-outcome.new.files) _ _ _ _ _ c.begin.ensures.others c.in-Ok-true.ensures.no_fault c.run_begun-outcome.ensures.answer
 
 pub returns-in-Ok-true-clause-reads : goal.returns-in-Ok-true-clause-reads
 returns-in-Ok-true-clause-reads g c =
     let at = g.F.Outside.seen in
     let found = found_there _ (at c.args.files.now) (at c.begin.new.self) _ (string_bytes c.args.job.now.page) c.in-Ok-true.field-0-test c.as_str.ensures.value c.in-Ok-true.ensures.found c.begin.ensures.others in
-    reads_since (string_bytes c.args.job.now.page) (string_bytes c.args.job.now.dir) _ (at c.args.files.now) (at c.begin.new.self) (at c.run_begun.new.files) c.as_str.ensures.value c.begin.ensures.others
-    c.begin.ensures.begun found c.run_begun.ensures.reads
+    reads_since (string_bytes c.args.job.now.page) (string_bytes c.args.job.now.dir) _ (at c.args.files.now) (at c.begin.new.self) (at c.run_begun-outcome.new.files) c.as_str.ensures.value c.begin.ensures.others
+    c.begin.ensures.begun found c.run_begun-outcome.ensures.reads
 
 pub returns-in-Ok-true-clause-reports : goal.returns-in-Ok-true-clause-reports
 returns-in-Ok-true-clause-reports g c =
     let at = g.F.Outside.seen in
-    if_some c.run_begun.result.side
-    (λ side reports. reports_since c.args.job.now.table.now c.args.job.now.ahead c.args.job.now.dump (string_bytes c.args.job.now.page) (string_bytes c.args.job.now.dir) (at c.args.files.now) (at c.begin.new.self) (at c.run_begun.new.files) _ _ side _
-    c.begin.ensures.others c.in-Ok-true.ensures.no_fault reports) c.run_begun.ensures.reports
+    if_some c.run_begun-outcome.result.side
+    (λ side reports. reports_since c.args.job.now.table.now c.args.job.now.ahead c.args.job.now.dump (string_bytes c.args.job.now.page) (string_bytes c.args.job.now.dir) (at c.args.files.now) (at c.begin.new.self) (at c.run_begun-outcome.new.files) _ _ side _
+    c.begin.ensures.others c.in-Ok-true.ensures.no_fault reports) c.run_begun-outcome.ensures.reports
 
 pub returns-in-Err-clause-side : goal.returns-in-Err-clause-side
 returns-in-Err-clause-side g c e = absurd (true≢false (sym e ∙ c.end_at_fault.ensures.unparsed))

@@ -1,0 +1,19 @@
+use Rattle.std.proofs.Common.{Some}
+use Rattle.page_runner.proofs.OnTwoLemmas.{is_journaled, drops_failed, is_looking_ahead}
+use Rattle.page_runner.proofs.on_two.run_on_two.Goals as goal
+
+pub returns-clause-journaled : goal.returns-clause-journaled
+returns-clause-journaled g c =
+    let ran = c.run_with-outcome in
+    is_journaled g.E.InForce _ _ ran.new.doc _ ran.new.lanes.asks ran.ensures.goes ran.ensures.reports.entities ran.ensures.reports.ahead_is c.finish-ends.ensures.stopped
+    ran.result ran.new.lanes.messages c.finish-ends.ensures.messages ran.ensures.messages
+
+pub returns-clause-dropped : goal.returns-clause-dropped
+returns-clause-dropped g c =
+    let ran = c.run_with-outcome in
+    drops_failed g.E.InForce _ _ ran.new.doc _ ran.new.lanes.asks ran.ensures.goes ran.ensures.reports.entities ran.ensures.reports.ahead_is c.finish-ends.ensures.stopped
+
+pub returns-clause-looks_ahead : goal.returns-clause-looks_ahead
+returns-clause-looks_ahead g c =
+    let ran = c.run_with-outcome in
+    is_looking_ahead _ _ ran.new.doc (Some ran.new.lanes.asks) ran.ensures.goes ran.ensures.reports.entities ran.ensures.reports.ahead_is

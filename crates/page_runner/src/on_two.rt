@@ -1,0 +1,246 @@
+// A page is run with the parser's side in a thread of its own.
+ghost use Rattle.std.specs.Prelude.{◌≡◌, ◌<◌, ◌≤◌, [], ◌∷◌, ◌++◌, length, map, Some, None, IfOk, IfSome, IsSome, IsTrue};
+ghost use Rattle.std.specs.String.{string_bytes};
+ghost use Rattle.parser_thread.specs.declared.messages.ToParser.TheVariants as message;
+ghost use Rattle.parser_thread.specs.Answers.{said};
+ghost use Rattle.parser_thread.specs.Running.{IsRunning};
+ghost use Rattle.core_steps.specs.Sides.{first_shown};
+ghost use Rattle.page_runner.specs.Reports.{is_parsed, Reports};
+ghost use Rattle.page_runner.specs.Answers.{is_finished, IsBegun, PageAnswers, ReadsPage};
+ghost use Rattle.page_runner.specs.OnTwo.{IfBoth, InOrder, IsAnswered, IsJournaled, DropsFailed, IsLookingAhead};
+
+use crate::command::end_at_fault;
+use crate::report::Report;
+use crate::running::{begin_run, run_with};
+use crate::status::Status;
+use core_steps::DocSide;
+use entity_table::Table;
+use html_types::NoMemory;
+use outside::{Failed, Gate, Outside, Port, Sink};
+use page_turns::{Counterpart, Job};
+use parser_thread::{FromParser, Lanes, ParserThread, start};
+use speculation::{InForce, Reply, Request};
+use std::alloc::Global;
+use std::marker::Model;
+use std::sync::{Arc, Wait};
+use std::thread::Threads;
+
+/// The parser's side over two lanes. A contract sees what went through them.
+pub(crate) struct OverLanes<'a, R, E: InForce, G> {
+    rt: &'a R,
+    running: ParserThread<E, G>,
+    // How many requests were put whose replies weren't taken.
+    under_way: usize,
+}
+
+impl<'a, R, E: InForce, G> Model for OverLanes<'a, R, E, G> {
+    ghost use Rattle.std.specs.Prelude.{◌≡◌, map};
+    ghost use Rattle.parser_thread.specs.declared.messages.ToParser.TheVariants as message;
+    ghost use Rattle.parser_thread.specs.Answers.{said};
+    ghost use Rattle.parser_thread.specs.Running.{IsRunning};
+    ghost use Rattle.page_runner.specs.Exchanges.{Exchange};
+    ghost use Rattle.page_runner.specs.OnTwo.{asks_in};
+
+    ghost Value = { Exchange };
+
+    ghost view = { λ o. record { asks = asks_in o.running.ask.put; messages = map (said E.InForce) o.running.replies.taken; under_way = o.under_way } };
+
+    ghost invariant = { λ o. IsRunning E.InForce o.running × (o.running.ask.put ≡ map message.Ask (asks_in o.running.ask.put)) };
+}
+
+impl<'a, R: Wait, E: InForce, G: Gate + Drop> Counterpart<E> for OverLanes<'a, R, E, G> {
+    ghost load = { λ o. record { requests = 0; hand = 0; replies = o.under_way } };
+
+    ghost put = { λ o. Some o.asks };
+
+    ghost taken = { λ o. Some o.messages };
+
+    fn has_room(&self, ahead: usize) -> bool {
+        self.under_way < ahead
+    }
+
+    fn ask(&mut self, request: Request) -> Result<(), NoMemory> {
+        self.running.send(self.rt, request);
+        self.under_way += 1;
+        Ok(())
+    }
+
+    fn answer(&mut self, _table: &Table) -> Result<bool, NoMemory> {
+        Ok(false)
+    }
+
+    fn take(&mut self) -> Result<Reply<E>, NoMemory> {
+        self.under_way -= 1;
+        match self.running.take(self.rt) {
+            FromParser::Answer(reply) => Ok(reply),
+            FromParser::NoMemory => Err(NoMemory),
+        }
+    }
+}
+
+impl<'a, R: Threads + Wait, E: InForce, G: Gate + Drop> OverLanes<'a, R, E, G> {
+    // Over lanes through which nothing went.
+    fn new(rt: &'a R, running: ParserThread<E, G>) -> OverLanes<'a, R, E, G>
+        requires running { IsRunning E.InForce running }
+        requires first { (running.ask.put ≡ []) × (running.replies.taken ≡ []) }
+        ensures { result ≡ record { asks = []; messages = []; under_way = 0 } }
+    {
+        OverLanes {
+            rt,
+            running,
+            under_way: 0,
+        }
+    }
+
+    // Tells the parser's side to stop, and waits until it has.
+    fn finish(self) -> Lanes<E>
+        ensures stopped { result.asked.put ≡ map message.Ask self.entry.asks ++ message.Stop ∷ [] }
+        ensures messages { map (said E.InForce) result.answers.taken ≡ self.entry.messages }
+        ensures in_order { InOrder E.InForce result }
+        ensures answered { IsAnswered E.InForce result }
+    {
+        let OverLanes {
+            rt,
+            running,
+            under_way: _under_way,
+        } = self;
+        running.finish(rt)
+    }
+}
+
+// No memory for what a run begins with.
+fn without_memory<E: InForce>() -> Report<E>
+    ensures { result ≡ record { outcome = Status.NoMemory; side = None; ends = None } }
+{
+    Report {
+        outcome: Status::NoMemory,
+        side: None,
+        ends: None,
+    }
+}
+
+// What a run on two threads begins with, all memory that the lanes and the parser's side need: room for a read of the page, a document's side, and
+// the parser's side at work.
+fn begin_on_two<
+    R: Threads + Wait + Copy + Send + Sync + 'static,
+    E: InForce + Send + 'static,
+    G: Gate + Drop + Send + Sync + 'static,
+>(
+    rt: &R,
+    alloc: Global,
+    job: &Job<'_>,
+    gate: &Arc<G, Global>,
+) -> Result<(Vec<u8>, DocSide, ParserThread<E, G>), NoMemory>
+    requires table { job.now.table.now ≡ E.entities }
+    requires piece { 0 < job.now.piece }
+    requires some { 0 < job.now.ahead }
+    requires few { job.now.ahead ≤ 64 }
+    ensures room { IfOk result (λ begun. 0 < length begun.0.items) }
+    ensures side { IfOk result (λ begun. begun.1 ≡ first_shown job.now.table.now job.now.ahead) }
+    ensures running { IfOk result (λ begun. IsRunning E.InForce begun.2) }
+    ensures first { IfOk result (λ begun. (begun.2.ask.put ≡ []) × (begun.2.replies.taken ≡ [])) }
+{
+    let (room, side) = begin_run(alloc, job)?;
+    let running = start::<R, E, G>(rt, alloc, job.table, job.ahead, gate)?;
+    Ok((room, side, running))
+}
+
+// Runs the page that was begun, and then has the parser's side stop.
+fn run_on_two<
+    R: Threads + Wait + Copy + Send + Sync + 'static,
+    E: InForce + Send + 'static,
+    F: Outside,
+    K: Sink,
+    G: Gate + Drop + Send + Sync + 'static,
+>(
+    rt: &R,
+    alloc: Global,
+    job: &Job<'_>,
+    files: &mut F,
+    out: &mut K,
+    gate: &Arc<G, Global>,
+) -> Report<E>
+    requires table { job.now.table.now ≡ E.entities }
+    requires begun { IsBegun (string_bytes job.now.page) (F.seen files.old) }
+    requires piece { 0 < job.now.piece }
+    requires some { 0 < job.now.ahead }
+    requires few { job.now.ahead ≤ 64 }
+    ensures answer { PageAnswers job.now.table.now job.now.dump (string_bytes job.now.page) (string_bytes job.now.dir)
+        (F.seen files.old) (F.seen files.new) (K.faults out.old) (K.faults out.new) (K.taken out.old) (K.taken out.new) result.outcome }
+    ensures reads { ReadsPage (string_bytes job.now.page) (string_bytes job.now.dir) [] (F.seen files.old) (F.seen files.new) }
+    ensures clean { IsTrue (is_finished result.outcome) → IsTrue (K.clean out.new) }
+    ensures reports { IfSome result.side (λ side. Reports job.now.table.now job.now.ahead job.now.dump (string_bytes job.now.page) (string_bytes job.now.dir)
+        (F.seen files.old) (F.seen files.new) (K.taken out.old) (K.taken out.new) side result.outcome) }
+    ensures side { IsTrue (is_parsed result.outcome) → IsSome result.side }
+    ensures in_order { IfSome result.ends (λ ends. InOrder E.InForce ends) }
+    ensures answered { IfSome result.ends (λ ends. IsAnswered E.InForce ends) }
+    ensures journaled { IfBoth result.side result.ends (λ side ends. IsJournaled E.InForce job.now.table.now job.now.ahead side.journal result.outcome ends) }
+    ensures dropped { IfBoth result.side result.ends (λ side ends. DropsFailed E.InForce job.now.table.now job.now.ahead side.journal ends) }
+    ensures looks_ahead { IfSome result.side (λ side. IsLookingAhead job.now.table.now job.now.ahead side.journal) }
+    ensures ends { IfSome result.side (λ _. IsSome result.ends) }
+{
+    let Ok((mut room, mut side, running)) = begin_on_two::<R, E, G>(rt, alloc, job, gate) else {
+        return without_memory();
+    };
+    let mut lanes = OverLanes::new(rt, running);
+    let outcome = run_with::<E, _, F, K>(alloc, job, files, out, &mut side, &mut lanes, &mut room);
+    let ends = lanes.finish();
+    Report {
+        outcome,
+        side: Some(side),
+        ends: Some(ends),
+    }
+}
+
+/// Begins the page, parses it and writes what comes of it, with the parser's side in a thread of its own, which begins before the page's first
+/// read. Where no thread can be made it is in the calling thread, over the same lanes, and nothing else differs. The parser's side is told to
+/// stop in every case before it is joined. The sink is finished where the parse came to an end.
+pub fn page_on_two<
+    R: Threads + Wait + Copy + Send + Sync + 'static,
+    E: InForce + Send + 'static,
+    F: Outside,
+    K: Sink,
+    G: Gate + Drop + Send + Sync + 'static,
+>(
+    rt: &R,
+    alloc: Global,
+    job: &Job<'_>,
+    files: &mut F,
+    out: &mut K,
+    gate: &Arc<G, Global>,
+) -> Report<E>
+    requires table { job.now.table.now ≡ E.entities }
+    requires piece { (0 < job.now.piece) × (job.now.piece ≤ 65536) }
+    requires ahead { (0 < job.now.ahead) × (job.now.ahead ≤ 64) }
+
+    // What was written is the serial parse's text, as of `page_in_place`; the journal replays to this very document, these lines and this outcome.
+    ensures answer { PageAnswers job.now.table.now job.now.dump (string_bytes job.now.page) (string_bytes job.now.dir)
+        (F.seen files.old) (F.seen files.new) (K.faults out.old) (K.faults out.new) (K.taken out.old) (K.taken out.new) result.outcome }
+    ensures reads { ReadsPage (string_bytes job.now.page) (string_bytes job.now.dir) (string_bytes job.now.page ∷ []) (F.seen files.old) (F.seen files.new) }
+    ensures clean { IsTrue (is_finished result.outcome) → IsTrue (K.clean out.new) }
+    ensures reports { IfSome result.side (λ side. Reports job.now.table.now job.now.ahead job.now.dump (string_bytes job.now.page) (string_bytes job.now.dir)
+        (F.seen files.old) (F.seen files.new) (K.taken out.old) (K.taken out.new) side result.outcome) }
+    ensures side { IsTrue (is_parsed result.outcome) → IsSome result.side }
+
+    // What went through both lanes.
+    ensures in_order { IfSome result.ends (λ ends. InOrder E.InForce ends) }
+    ensures answered { IfSome result.ends (λ ends. IsAnswered E.InForce ends) }
+    ensures journaled { IfBoth result.side result.ends (λ side ends. IsJournaled E.InForce job.now.table.now job.now.ahead side.journal result.outcome ends) }
+    ensures dropped { IfBoth result.side result.ends (λ side ends. DropsFailed E.InForce job.now.table.now job.now.ahead side.journal ends) }
+    ensures looks_ahead { IfSome result.side (λ side. IsLookingAhead job.now.table.now job.now.ahead side.journal) }
+    ensures ends { IfSome result.side (λ _. IsSome result.ends) }
+{
+    match files.begin(Port::Page, job.page.as_str()) {
+        Err(Failed) => Report {
+            outcome: end_at_fault(out),
+            side: None,
+            ends: None,
+        },
+        Ok(false) => Report {
+            outcome: Status::Absent,
+            side: None,
+            ends: None,
+        },
+        Ok(true) => run_on_two::<R, E, F, K, G>(rt, alloc, job, files, out, gate),
+    }
+}

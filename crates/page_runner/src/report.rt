@@ -1,0 +1,24 @@
+// What came of a page.
+use crate::status::Status;
+use core_steps::DocSide;
+use parser_thread::Lanes;
+use speculation::InForce;
+
+/// What came of a page that was run on the calling thread.
+#[derive(Drop)]
+pub(crate) struct Run {
+    pub(crate) outcome: Status,
+    pub(crate) side: Option<DocSide>,
+}
+
+/// What came of a page.
+#[derive(Drop)]
+pub struct Report<E: InForce> {
+    /// How the run ended.
+    pub outcome: Status,
+    /// The document's side as it ended, with the document and the journal: none where the page wasn't begun, or memory ran out before there
+    /// was one. Where memory ran out later, or writing failed, the journal has the events before that.
+    pub side: Option<DocSide>,
+    /// What went through both lanes between the document's side and the parser's side: none where there were no lanes.
+    pub ends: Option<Lanes<E>>,
+}

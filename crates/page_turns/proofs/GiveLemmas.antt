@@ -1,0 +1,380 @@
+-- Where a run gives up, or is over, and what is still to come of it.
+use Rattle.std.proofs.Common.{◌≡◌, ℕ, suc, ◌≤◌, ◌<◌, ◌+◌, ◌-◌, ◌*◌, nat_lt, List, [], ◌∷◌, length, Bool, true, false, true≢false, Option, Some, None, flat_map, refl, sym, ap, subst, ◌∙◌, inl, inr, length-append, arith}
+use Rattle.std.specs.Prelude.{IsTrue, not, ◌&&◌, ◌||◌, is_none, is_some}
+use Rattle.std.proofs.lemmas.Bool.{and_parts, lt-ltb, ltb-false, ltb-true}
+use Rattle.std.proofs.lemmas.Grind.{flat_map-append}
+use Rattle.html_types.specs.declared.script.Ending.{Ending}
+use Rattle.outside.specs.Outside.{Seen, KeepsOthers}
+use Rattle.outside.specs.declared.traits.Port.TheVariants as port
+use Rattle.standard.specs.Entities.{Entities}
+use Rattle.standard.specs.Output.{line_text}
+use Rattle.standard.specs.Scripts.{is_lawful, missing}
+use Rattle.standard.specs.Serial.{World, Serial}
+use Rattle.core_rules.specs.declared.event.Event.TheVariants as event
+use Rattle.core_rules.specs.Batches.{Piece}
+use Rattle.core_rules.specs.Core.{joined}
+use Rattle.core_rules.specs.Desk.{Phase, free, tagged, waits, done, Desk, outstanding, is_done, is_free, is_among, has_arrived, can_send, wants_reply, can_do, can_do_in, can_arrive, sends_first, sends, takes, arrives}
+use Rattle.core_rules.specs.Settling.{is_empty}
+use Rattle.core_rules.specs.StandsFor.{text_of}
+use Rattle.speculation.specs.Asking.{Asked}
+use Rattle.core_steps.specs.Sides.{Shown, ShowsIn, journaled, with_fetch, IsReplayed, Standing, running, awaiting, over, unless_arrived, standing_in, standing_of, left_to_do}
+use Rattle.page_turns.specs.declared.outcome.Outcome.{Outcome as Told}
+use Rattle.page_turns.specs.declared.reader.PageReader.{PageReader}
+use Rattle.page_turns.specs.Given.{KeepsEntities}
+use Rattle.page_turns.specs.Taken.{Took, TookFront}
+use Rattle.page_turns.specs.Scripts.{Met, Fetches, AreKnown}
+use Rattle.page_turns.specs.Shown.{result_of}
+use Rattle.page_turns.specs.Pages.{PageFor}
+use Rattle.page_turns.specs.Turns.{Load, under_way, weight_of, Asks, Answers, while_open, while_awaiting, ReadsPiece, ReadsInPart, StaysRead, RunsOn, RunsInPart, unwritten, part_written, Arrives, BeginsAwaited, StopsIn, Holds, text_to_come, steps_to_come, turns_to_come, Leaves, LeavesAlone, GivesUp, RunsOut}
+use Rattle.page_turns.proofs.KeepsLemmas.{later-others, later-entities, entities-then, entities-others}
+use Rattle.page_turns.proofs.PageTakenLemmas.{front_of_all, front_then}
+use Rattle.page_turns.proofs.MeetLemmas.{fetches_as, fetches-then, fetches-past, fetch_cut}
+use Rattle.page_turns.proofs.TextLemmas.{same-refl, none-found}
+use Rattle.page_turns.proofs.DeskLemmas as desk
+use Rattle.page_turns.proofs.ReachLemmas.{reached_whole, knows-met, scripts_with}
+use Rattle.page_turns.proofs.ReadLemmas.{page_for, for_past}
+use Rattle.page_turns.proofs.Stuck.{never-free}
+use Rattle.page_turns.specs.Along.{IsSentSoFar, MayDo, Goes}
+use Rattle.page_turns.proofs.AlongLemmas.{goes_stays, goes_did, goes_arrived}
+use Rattle.page_turns.proofs.TurnLemmas.{holds_open, holds_sent, holds_answered, holds_took, holds_ran, holds_arrived, awaits-in, not-arrived, keeps-desk, took-desk}
+
+none-left : (n taken sent : ℕ) → n + taken ≡ sent → nat_lt 0 (sent - taken) ≡ false → n ≡ 0
+none-left n taken sent count quiet = let le = ltb-false 0 (sent - taken) quiet in omega (arith, count, le)
+
+module _ (es : Entities) (ahead : ℕ) (dir : List ℕ) (before : Seen) (t : Option (List ℕ)) where
+  -- ---- giving up
+
+  alone-of : (after : Seen) (met : Met) (ps : List (List ℕ)) (o : Option Ending) → KeepsEntities before after → after.begun port.Page ≡ before.begun port.Page → PageFor before after ps o → Fetches false dir before after [] met → LeavesAlone dir before after
+  alone-of after met ps o keeps begun for fetches = record { keeps = keeps; read = for.read; begun = begun; scripts = fetches.no_further; names = fetches.begins.which }
+
+  unmet : (now : Seen) (met : Met) → Fetches true dir before now [] met → Fetches false dir before now [] met
+  unmet now met fetches = fetches_as true false dir before now [] met (λ e. refl) fetches
+
+  front-of : (t' : Option (List ℕ)) (s : Shown) → s.desk.own.side.lines ≡ s.given → Took t t' (flat_map line_text s.given) → TookFront t t' (flat_map line_text s.desk.own.side.lines)
+  front-of t' s lines took = subst (λ l. TookFront t t' (flat_map line_text l)) (sym lines) (front_of_all t t' (flat_map line_text s.given) took)
+
+  left-stays : (after : Seen) (s s' : Shown) → StaysRead s s' → Leaves es ahead dir before after s → Leaves es ahead dir before after s'
+  left-stays after s s' stays left =
+      subst (λ z. Leaves es ahead dir before after z) (sym stays) (record { entities = left.entities; ahead_is = left.ahead_is; page = left.page; fetches = left.fetches; known = left.known })
+
+  module _ (now : Seen) (t' : Option (List ℕ)) (reader : PageReader) (l : Load) (s : Shown) (h : Holds es ahead dir before now t t' reader l s) where
+    pub leaves_now : Leaves es ahead dir before now s
+    leaves_now = record {
+      entities = h.inside.entities;
+      ahead_is = h.inside.ahead_is;
+      page = page_for before now reader s.journal.pieces s.journal.ending h.outside.page;
+      fetches = unmet now s.journal.fetches h.outside.fetches;
+      known = h.inside.known;
+    }
+
+    pub alone_now : LeavesAlone dir before now
+    alone_now = alone-of now s.journal.fetches s.journal.pieces s.journal.ending h.outside.keeps h.outside.begun leaves_now.page leaves_now.fetches
+
+    -- ---- the end
+
+    pub runs_out : (o : Told) → s.desk.phase ≡ done (result_of o) → RunsOut es ahead dir before now t t' s o
+    runs_out o q = record {
+      leaves = leaves_now;
+      alone = alone_now;
+      phase = q;
+      going = h.inside.going;
+      faults = elim h.faults [ inl none ↦ inl none | inr stops ↦ inr (subst (λ p. StopsIn p s) q stops) ];
+      took = subst (λ g. Took t t' (flat_map line_text g)) (sym h.inside.lines) h.took;
+    }
+
+    module _ (replayed : IsReplayed s) where
+      -- whatever else the document's side has become
+      pub gives_up : (s' : Shown) → StaysRead s s' → GivesUp es ahead dir before now t t' s'
+      gives_up s' stays = record { left = left-stays now s s' stays leaves_now; shown = s; replayed = λ _. replayed; leaves = leaves_now; alone = alone_now; front = front-of t' s h.inside.lines h.took }
+
+      -- while the page was read on
+      pub gives_up_reading : (after : Seen) (s' : Shown) → s.journal.ending ≡ None → ReadsInPart now after reader s s' → KeepsOthers port.Page now after → after.begun ≡ now.begun → GivesUp es ahead dir before after t t' s'
+      gives_up_reading after s' none part keeps begun =
+          let o = part.others in
+          let fetched : s'.journal.fetches ≡ s.journal.fetches = ap (λ (z : Shown). z.journal.fetches) o in
+          let fetches : Fetches false dir before after [] s.journal.fetches =
+          fetches-then before now after (later-entities before now h.outside.keeps) (later-others port.Page now after keeps) true false dir [] s.journal.fetches s.journal.fetches refl h.outside.fetches (fetches-past false dir port.Page now after s.journal.fetches (λ e. cc e) keeps) in
+          let left : Leaves es ahead dir before after s' = record {
+            entities = ap (λ (z : Shown). z.entities) o ∙ h.inside.entities;
+            ahead_is = ap (λ (z : Shown). z.ahead) o ∙ h.inside.ahead_is;
+            page = subst (λ e. PageFor before after s'.journal.pieces e) (sym (ap (λ (z : Shown). z.journal.ending) o ∙ none)) (part.at before (holds_open es ahead dir before t now t' reader l s none h));
+            fetches = subst (λ m. Fetches false dir before after [] m) (sym fetched) fetches;
+            known = subst AreKnown (sym fetched) h.inside.known;
+          } in
+          record {
+            left = left;
+            shown = s';
+            replayed = λ r. r;
+            leaves = left;
+            alone = alone-of after s'.journal.fetches s'.journal.pieces s'.journal.ending (entities-then before now after h.outside.keeps (entities-others port.Page now after (λ e. cc e) keeps)) (ap (λ b. b port.Page) begun ∙ h.outside.begun) left.page left.fetches;
+            front = subst (λ (x : Serial). TookFront t t' (flat_map line_text x.side.lines)) (sym part.own) (front-of t' s h.inside.lines h.took);
+          }
+
+      -- while a script was fetched
+      pub gives_up_fetching : (after : Seen) (s' : Shown) → StaysRead s s' → BeginsAwaited dir now after s.desk → KeepsOthers port.Script now after → GivesUp es ahead dir before after t t' s'
+      gives_up_fetching after s' stays (name, awaits, begins) keeps =
+          let waits_for = awaits-in es ahead dir before t s.desk.phase s.desk name awaits in
+          let parts : (is_lawful name ≡ true) × (is_among name s.desk.arrived ≡ false) = not-arrived es ahead dir before t (is_lawful name) (is_among name s.desk.arrived) waits_for.2 in
+          let none = none-found name s.journal.fetches (subst (λ names. is_among name names ≡ false) h.inside.arrived parts.1) in
+          let for : PageFor before after s.journal.pieces s.journal.ending = for_past before now after s.journal.pieces s.journal.ending keeps leaves_now.page in
+          let fetches : Fetches false dir before after [] s.journal.fetches =
+          fetches-then before now after (later-entities before now h.outside.keeps) (later-others port.Script now after keeps) true false dir [] s.journal.fetches s.journal.fetches refl h.outside.fetches (fetch_cut dir name now after parts.0 s.journal.fetches none begins) in
+          let leaves : Leaves es ahead dir before after s = record { entities = h.inside.entities; ahead_is = h.inside.ahead_is; page = for; fetches = fetches; known = h.inside.known } in
+          record {
+            left = left-stays after s s' stays leaves;
+            shown = s;
+            replayed = λ _. replayed;
+            leaves = leaves;
+            alone = alone-of after s.journal.fetches s.journal.pieces s.journal.ending (entities-then before now after h.outside.keeps (entities-others port.Script now after (λ e. cc e) keeps)) (keeps.begun port.Page (λ e. cc e) ∙ h.outside.begun) for fetches;
+            front = front-of t' s h.inside.lines h.took;
+          }
+
+      -- while lines were written
+      pub gives_up_running : (t'' : Option (List ℕ)) (s' : Shown) → StaysRead s s' → RunsInPart t' t'' s s' → GivesUp es ahead dir before now t t'' s'
+      gives_up_running t'' s' stays (unwritten same) = subst (λ z. GivesUp es ahead dir before now t z s') (sym same) (gives_up s' stays)
+      gives_up_running t'' s' stays (part_written more o lines took) = record {
+        left = left-stays now s s' stays leaves_now;
+        shown = s';
+        replayed = λ r. r;
+        leaves = left-stays now s s' stays leaves_now;
+        alone = alone_now;
+        front = subst (λ x. TookFront t t'' x) (sym (ap (flat_map line_text) lines ∙ flat_map-append line_text s.given more)) (front_then t t' t'' (flat_map line_text s.given) (flat_map line_text more) h.took took);
+      }
+
+      -- ---- never stuck
+
+      empty-of : {A : Type 0} (xs : List A) → not (is_empty xs) ≡ false → is_empty xs ≡ true
+      empty-of [] e = refl
+      empty-of (x ∷ xs) e = absurd (true≢false e)
+
+      some-ending : (o : Option Ending) → is_none o ≡ false → (e : Ending) × (o ≡ Some e)
+      some-ending None q = absurd (true≢false q)
+      some-ending (Some e) q = (e, refl)
+
+      module _ (some : 0 < ahead) (going : is_done s.desk.phase ≡ false) (may : (nat_lt (under_way l) ahead && is_none s.journal.ending) ≡ false) (send : can_send s.ahead s.desk ≡ false) (reply : wants_reply s.desk ≡ false) (acts : can_do s.desk ≡ false) where
+        stuck : s.desk.phase ≡ free → ⊥
+        stuck q =
+            let hand : is_empty s.desk.hand ≡ true = empty-of s.desk.hand (sym (ap (λ p. can_do_in p s.desk) q) ∙ acts) in
+            let quiet : nat_lt 0 (outstanding s.desk) ≡ false = sym (ap (λ b. (b && is_empty s.desk.hand) && nat_lt 0 (outstanding s.desk)) (ap is_free q) ∙ ap (λ b. b && nat_lt 0 (outstanding s.desk)) hand) ∙ reply in
+            let count = h.inside.count in
+            let none : under_way l ≡ 0 = none-left (under_way l) s.desk.taken s.desk.sent count quiet in
+            let room : nat_lt (under_way l) ahead ≡ true = ap (λ n. nat_lt n ahead) none ∙ lt-ltb 0 ahead some in
+            let ended : (e : Ending) × (s.journal.ending ≡ Some e) = some-ending s.journal.ending (sym (ap (λ b. b && is_none s.journal.ending) room) ∙ may) in
+            let w : World = record { entities = s.entities; scripts = scripts_with s.journal.fetches (λ name. missing) } in
+            let (d, reached, shows) = reached_whole w s ended.0 ended.1 refl (knows-met s.entities s.journal.fetches (λ name. missing) h.inside.known) replayed in
+            let is : d ≡ s.desk = subst (λ p. ShowsIn p d s.desk) q shows in
+            never-free (record { world = w; pieces = s.journal.pieces; ending = ended.0; ahead = s.ahead }) s.journal.events d (subst (λ n. 0 < n) (sym h.inside.ahead_is) some) reached
+            (ap (can_send s.ahead) is ∙ send) (ap can_do is ∙ acts) (subst (λ (z : Desk). z.taken ≡ z.sent) (sym is) (omega (arith, count, none))) (ap (λ (z : Desk). z.phase) is ∙ q)
+
+        pub awaits_name : (name : List ℕ) × (standing_of s.desk ≡ awaiting name)
+        awaits_name = by s.desk.phase refl
+          where
+            by : (p : Phase) → s.desk.phase ≡ p → (name : List ℕ) × (standing_of s.desk ≡ awaiting name)
+            by free q = absurd (stuck q)
+            by (tagged i held) q = absurd (true≢false (sym (ap (λ p. can_do_in p s.desk) q) ∙ acts))
+            by (waits name held) q = (name, ap (λ p. standing_in p s.desk) q ∙ ap (λ b. unless_arrived b name) (sym (ap (λ p. can_do_in p s.desk) q) ∙ acts))
+            by (done r) q = absurd (true≢false (sym (ap is_done q) ∙ going))
+
+-- ---- a measure
+
+standing-same : (p : Phase) (d d' : Desk) → d'.arrived ≡ d.arrived → standing_in p d' ≡ standing_in p d
+standing-same free d d' e = refl
+standing-same (tagged i held) d d' e = refl
+standing-same (waits name held) d d' e = ap (λ names. unless_arrived (not (is_lawful name) || is_among name names) name) e
+standing-same (done r) d d' e = refl
+
+awaiting-same : (d d' : Desk) → d'.phase ≡ d.phase → d'.arrived ≡ d.arrived → while_awaiting (standing_of d') ≡ while_awaiting (standing_of d)
+awaiting-same d d' p e = ap while_awaiting (ap (λ x. standing_in x d') p ∙ standing-same d.phase d d' e)
+
+awaiting-le : (st : Standing) → while_awaiting st ≤ 1
+awaiting-le running = omega arith
+awaiting-le (awaiting name) = omega arith
+awaiting-le (over r) = omega arith
+
+-- what is to be written isn't more, and all else is less
+less-steps : (a a' b b' : ℕ) → a' ≤ a → b' < b → 300 * a' + b' < 300 * a + b
+less-steps a a' b b' p q = omega arith
+
+less-text : (a a' b b' : ℕ) → a' < a → b' ≤ b + 270 → 300 * a' + b' < 300 * a + b
+less-text a a' b b' p q = omega arith
+
+sent-first-less : (reader : PageReader) (l : Load) (s : Shown) (ps : List Piece) → s.desk.to_send ≡ ps → not (is_empty ps) ≡ true
+    → turns_to_come reader (record l { requests = suc l.requests }) (journaled event.Send (sends_first ps s.desk) s) < turns_to_come reader l s
+sent-first-less reader l s [] q some = absurd (true≢false (sym some))
+sent-first-less reader l s (x ∷ xs) q some =
+    let s' : Shown = journaled event.Send (sends_first (x ∷ xs) s.desk) s in
+    let one : length s.desk.to_send ≡ suc (length xs) = ap (λ ys. length ys) q in
+    let left : left_to_do s'.desk ≡ left_to_do s.desk = ap (λ ps. left_to_do (sends_first ps s.desk)) (sym q) ∙ desk.sends-left s.desk in
+    let still : while_awaiting (standing_of s'.desk) ≡ while_awaiting (standing_of s.desk) = awaiting-same s.desk s'.desk refl refl in
+    less-steps (text_to_come s) (text_to_come s') (steps_to_come reader l s) (steps_to_come reader (record l { requests = suc l.requests }) s') (omega (arith, left)) (omega (arith, one, still))
+
+pub sent_less : (reader : PageReader) (l : Load) (s : Shown) → IsTrue (can_send s.ahead s.desk) → turns_to_come reader (record l { requests = suc l.requests }) (journaled event.Send (sends s.desk) s) < turns_to_come reader l s
+sent_less reader l s can = sent-first-less reader l s s.desk.to_send refl (and_parts _ _ can).1
+
+pub read_less : (now after : Seen) (reader reader' : PageReader) (l : Load) (s s' : Shown) → s.journal.ending ≡ None → ReadsPiece now after reader reader' s s' → turns_to_come reader' l s' < turns_to_come reader l s
+read_less now after reader reader' l s s' none reads =
+    let x = reads.handed in
+    let open_ : while_open s.journal.ending ≡ 9 = ap while_open none in
+    let longer : length (joined s'.journal.pieces) ≡ length (joined s.journal.pieces) + length (text_of x.pieces) = ap (λ t. length t) x.text ∙ length-append (joined s.journal.pieces) (text_of x.pieces) in
+    let within = x.within in
+    let less = x.less in
+    let left : left_to_do s'.desk ≤ left_to_do s.desk + 3 * length (text_of x.pieces) = subst (λ d. left_to_do d ≤ left_to_do s.desk + 3 * length (text_of x.pieces)) (sym x.desk) (desk.more-left x.pieces s.desk) in
+    let more : length s'.desk.to_send ≡ length s.desk.to_send + length x.pieces = ap (λ (z : Desk). length z.to_send) x.desk ∙ length-append s.desk.to_send x.pieces in
+    let still : while_awaiting (standing_of s'.desk) ≡ while_awaiting (standing_of s.desk) = awaiting-same s.desk s'.desk (ap (λ (z : Desk). z.phase) x.desk) (ap (λ (z : Desk). z.arrived) x.desk) in
+    less-steps (text_to_come s) (text_to_come s') (steps_to_come reader l s) (steps_to_come reader' l s') (omega (arith, longer, within, left)) (omega (arith, open_, less, more, still))
+
+pub answered_less : (reader : PageReader) (l l' : Load) (s : Shown) → weight_of l' < weight_of l → turns_to_come reader l' s < turns_to_come reader l s
+answered_less reader l l' s less = less-steps (text_to_come s) (text_to_come s) (steps_to_come reader l s) (steps_to_come reader l' s) (omega arith) (omega (arith, less))
+
+pub took_less : (reader : PageReader) (l l' : Load) (s : Shown) → l ≡ record l' { replies = suc l'.replies } → desk.Took s.desk (takes s.entities s.desk) → turns_to_come reader l' (journaled event.Take (takes s.entities s.desk) s) < turns_to_come reader l s
+took_less reader l l' s one k =
+    let s' : Shown = journaled event.Take (takes s.entities s.desk) s in
+    let left = k.left in
+    let weight : weight_of l ≡ suc (weight_of l') = ap weight_of one ∙ omega arith in
+    let more : length s'.desk.to_send ≡ length s.desk.to_send = ap (λ ys. length ys) k.to_send in
+    let still : while_awaiting (standing_of s'.desk) ≡ while_awaiting (standing_of s.desk) = awaiting-same s.desk s'.desk k.phase k.arrived in
+    less-steps (text_to_come s) (text_to_come s') (steps_to_come reader l s) (steps_to_come reader l' s') (omega (arith, left)) (omega (arith, weight, more, still))
+
+pub ran_less : (t t' : Option (List ℕ)) (reader : PageReader) (l : Load) (s s' : Shown) → RunsOn t t' s s' → desk.Keeps s.desk s'.desk → length s.desk.asked ≤ 64 → turns_to_come reader l s' < turns_to_come reader l s
+ran_less t t' reader l s s' ran k asked =
+    let o = ran.others in
+    let pieces : length (joined s'.journal.pieces) ≡ length (joined s.journal.pieces) = ap (λ (z : Shown). length (joined z.journal.pieces)) o in
+    let open_ : while_open s'.journal.ending ≡ while_open s.journal.ending = ap (λ (z : Shown). while_open z.journal.ending) o in
+    let left = ran.less in
+    let again = k.to_send in
+    let one = awaiting-le (standing_of s'.desk) in
+    less-text (text_to_come s) (text_to_come s') (steps_to_come reader l s) (steps_to_come reader l s') (omega (arith, pieces, left)) (omega (arith, open_, again, one, asked))
+
+arrived-standing : (p : Phase) (d : Desk) (name : List ℕ) → standing_in p d ≡ awaiting name → while_awaiting (standing_in p (arrives name d)) ≡ 0
+arrived-standing free d name is = absurd (cc is)
+arrived-standing (tagged i held) d name is = absurd (cc is)
+arrived-standing (waits n held) d name is = by (has_arrived n d) refl is
+  where
+    either : (a b : Bool) → b ≡ true → (not a || b) ≡ true
+    either true b e = e
+    either false b e = refl
+
+    by : (b : Bool) → has_arrived n d ≡ b → unless_arrived b n ≡ awaiting name → while_awaiting (unless_arrived (has_arrived n (arrives name d)) n) ≡ 0
+    by true q e = absurd (cc e)
+    by false q e =
+        let same : n ≡ name = cc in
+        let among : is_among n (name ∷ d.arrived) ≡ true = subst (λ x. is_among x (name ∷ d.arrived) ≡ true) (sym same) (ap (λ b. b || is_among name d.arrived) (same-refl name)) in
+        ap (λ b. while_awaiting (unless_arrived b n)) (either (is_lawful n) (is_among n (name ∷ d.arrived)) among)
+arrived-standing (done r) d name is = absurd (cc is)
+
+pub arrived_less : (dir : List ℕ) (now after : Seen) (reader : PageReader) (l : Load) (s s' : Shown) → Arrives dir now after s s' → turns_to_come reader l s' < turns_to_come reader l s
+arrived_less dir now after reader l s s' arr =
+    let z : Shown = with_fetch arr.name arr.fetch s in
+    let left : left_to_do z.desk ≡ left_to_do s.desk = desk.arrives-left arr.name s.desk in
+    let was : while_awaiting (standing_of s.desk) ≡ 1 = ap while_awaiting arr.awaits in
+    let is : while_awaiting (standing_of z.desk) ≡ 0 = arrived-standing s.desk.phase s.desk arr.name arr.awaits in
+    subst (λ x. turns_to_come reader l x < turns_to_come reader l s) (sym arr.arrived)
+    (less-steps (text_to_come s) (text_to_come z) (steps_to_come reader l s) (steps_to_come reader l z) (omega (arith, left)) (omega (arith, was, is)))
+
+-- ---- as the calls answer
+
+pub none-of : (a b : Bool) (o : Option Ending) → b ≡ (a && is_none o) → b ≡ true → o ≡ None
+none-of a b o is true_ = by o (and_parts a (is_none o) (sym is ∙ true_)).1
+  where
+    by : (o : Option Ending) → is_none o ≡ true → o ≡ None
+    by None e = refl
+    by (Some x) e = absurd (true≢false (sym e))
+
+pub answers-as : (a b : Bool) (l l' : Load) → a ≡ b → Answers a l l' → Answers b l l'
+answers-as a b l l' same h = subst (λ x. Answers x l l') same h
+
+-- a reply stands, where one is wanted and nothing else is under way
+pub stands_reply : (l l' : Load) (d : Desk) → under_way l + d.taken ≡ d.sent → Answers false l l' → wants_reply d ≡ true → 0 < l'.replies
+stands_reply l l' d count (same, requests, hand) wants =
+    let some = ltb-true 0 (outstanding d) (and_parts (is_free d.phase && is_empty d.hand) (nat_lt 0 (outstanding d)) wants).1 in
+    let replies : l'.replies ≡ l.replies = ap (λ (x : Load). x.replies) same in
+    omega (arith, count, requests, hand, some, replies)
+
+module _ (es : Entities) (ahead : ℕ) (dir : List ℕ) (before : Seen) (t : Option (List ℕ)) (now : Seen) (t' : Option (List ℕ)) (reader : PageReader) (l : Load) (s : Shown) (h : Holds es ahead dir before now t t' reader l s) where
+  abbrev one_more : Load
+  one_more = record l { requests = suc l.requests }
+
+  pub after_sent : (l' : Load) (s' : Shown) → IsTrue (can_send s.ahead s.desk) → s' ≡ journaled event.Send (sends s.desk) s → Asks l l' → Holds es ahead dir before now t t' reader l' s'
+  after_sent l' s' can is asks =
+      let one = asks.one in
+      let more : under_way l' ≡ under_way one_more = omega (arith, one) in
+      holds_answered es ahead dir before t now t' reader one_more l' s' more
+      (subst (λ x. Holds es ahead dir before now t t' reader one_more x) (sym is) (holds_sent es ahead dir before t now t' reader l s can h))
+
+  pub after_sent_less : (l' : Load) (s' : Shown) → IsTrue (can_send s.ahead s.desk) → s' ≡ journaled event.Send (sends s.desk) s → Asks l l' → turns_to_come reader l' s' < turns_to_come reader l s
+  after_sent_less l' s' can is asks =
+      let less : turns_to_come reader one_more s' < turns_to_come reader l s = subst (λ x. turns_to_come reader one_more x < turns_to_come reader l s) (sym is) (sent_less reader l s can) in
+      let weight = asks.weight in
+      omega (arith, less, weight)
+
+  -- before a Do, and before a script that is awaited is fetched, as much is sent as may be
+  pub sent_so_far : is_done s.desk.phase ≡ false → (nat_lt (under_way l) ahead && is_none s.journal.ending) ≡ false → can_send s.ahead s.desk ≡ false → IsSentSoFar s.ahead s.journal.ending s.desk
+  sent_so_far going may send = by (nat_lt (under_way l) ahead) refl
+    where
+      count : under_way l + s.desk.taken ≡ s.desk.sent
+      count = h.inside.count
+
+      is : nat_lt (outstanding s.desk) s.ahead ≡ nat_lt (under_way l) ahead
+      is = let there : outstanding s.desk ≡ under_way l = omega (arith, count) in ap (λ n. nat_lt n s.ahead) there ∙ ap (λ n. nat_lt (under_way l) n) h.inside.ahead_is
+
+      nil-of : (ps : List Piece) → not (is_empty ps) ≡ false → ps ≡ []
+      nil-of [] e = refl
+      nil-of (x ∷ xs) e = absurd (true≢false e)
+
+      read-of : (o : Option Ending) → is_none o ≡ false → is_some o ≡ true
+      read-of None e = absurd (true≢false e)
+      read-of (Some x) e = refl
+
+      by : (b : Bool) → nat_lt (under_way l) ahead ≡ b → IsSentSoFar s.ahead s.journal.ending s.desk
+      by false q = inl (is ∙ q)
+      by true q = inr (
+        read-of s.journal.ending (sym (ap (λ b. b && is_none s.journal.ending) q) ∙ may),
+        nil-of s.desk.to_send (sym (ap (λ b. (not b && nat_lt (outstanding s.desk) s.ahead) && not (is_empty s.desk.to_send)) going ∙ ap (λ b. b && not (is_empty s.desk.to_send)) (is ∙ q)) ∙ send),
+      )
+
+  module _ (m : Load) (none : Answers false l m) where
+    pub with_same : Holds es ahead dir before now t t' reader m s
+    with_same = subst (λ x. Holds es ahead dir before now t t' reader x s) (sym none.0) h
+
+    same-turns : turns_to_come reader m s ≡ turns_to_come reader l s
+    same-turns = ap (λ x. turns_to_come reader x s) none.0
+
+    pub after_took : (l' : Load) (s' : Shown) → IsTrue (wants_reply s.desk) → m ≡ record l' { replies = suc l'.replies } → s' ≡ journaled event.Take (takes s.entities s.desk) s → Holds es ahead dir before now t t' reader l' s'
+    after_took l' s' wants one is = subst (λ x. Holds es ahead dir before now t t' reader l' x) (sym is) (holds_took es ahead dir before t now t' reader m l' s wants one with_same)
+
+    pub after_took_less : (l' : Load) (s' : Shown) → m ≡ record l' { replies = suc l'.replies } → s' ≡ journaled event.Take (takes s.entities s.desk) s → turns_to_come reader l' s' < turns_to_come reader l s
+    after_took_less l' s' one is =
+        subst (λ n. turns_to_come reader l' s' < n) same-turns
+        (subst (λ x. turns_to_come reader l' x < turns_to_come reader m s) (sym is) (took_less reader m l' s one (took-desk es ahead dir before t m l' s one with_same.inside)))
+
+    pub took_sent : (l' : Load) → m ≡ record l' { replies = suc l'.replies } → (takes s.entities s.desk).sent ≡ s.desk.sent
+    took_sent l' one = (took-desk es ahead dir before t m l' s one with_same.inside).sent
+
+    -- what was put, and that it goes on so
+    pub goes_may_do : (asks : Option (List Asked)) (s' : Shown) → Goes asks s → IsTrue (can_do s.desk) → IsSentSoFar s.ahead s.journal.ending s.desk → MayDo s s' → Goes asks s'
+    goes_may_do asks s' g can looks (inl stays) = goes_stays asks s s' stays g
+    goes_may_do asks s' g can looks (inr did) = goes_did asks s g s' can looks did.does (keeps-desk es ahead dir before t l s s' h.inside did.does).sent did.others
+
+    pub goes_fetched : (asks : Option (List Asked)) (after : Seen) (s' : Shown) → Goes asks s → is_done s.desk.phase ≡ false → IsSentSoFar s.ahead s.journal.ending s.desk → Arrives dir now after s s' → Goes asks s'
+    goes_fetched asks after s' g going looks arr =
+        let waits_for = awaits-in es ahead dir before t s.desk.phase s.desk arr.name arr.awaits in
+        let parts : (is_lawful arr.name ≡ true) × (is_among arr.name s.desk.arrived ≡ false) = not-arrived es ahead dir before t (is_lawful arr.name) (is_among arr.name s.desk.arrived) waits_for.2 in
+        let can : can_arrive arr.name s.desk ≡ true = ap (λ b. b && not (is_among arr.name s.desk.arrived)) parts.0 ∙ ap not parts.1 in
+        goes_arrived asks s g arr.name arr.fetch s' going can looks arr.arrived
+
+    pub after_ran : (t'' : Option (List ℕ)) (s' : Shown) → IsReplayed s → IsTrue (can_do s.desk) → RunsOn t' t'' s s' → Holds es ahead dir before now t t'' reader m s'
+    after_ran t'' s' replayed can ran = holds_ran es ahead dir before t now t' t'' reader m s s' replayed can ran with_same
+
+    pub after_ran_less : (t'' : Option (List ℕ)) (s' : Shown) → ahead ≤ 64 → RunsOn t' t'' s s' → turns_to_come reader m s' < turns_to_come reader l s
+    after_ran_less t'' s' few ran =
+        let i = with_same.inside in
+        let asked = i.asked in
+        let credit = i.credit in
+        subst (λ n. turns_to_come reader m s' < n) same-turns
+        (ran_less t' t'' reader m s s' ran (keeps-desk es ahead dir before t m s s' i ran.does) (omega (arith, asked, credit, few)))
+
+    pub after_arrived : (after : Seen) (s' : Shown) → Arrives dir now after s s' → BeginsAwaited dir now after s.desk → KeepsOthers port.Script now after → Holds es ahead dir before after t t' reader m s'
+    after_arrived after s' arr begins keeps = holds_arrived es ahead dir before t now after t' reader m s s' arr begins keeps with_same
+
+    pub after_arrived_less : (after : Seen) (s' : Shown) → Arrives dir now after s s' → turns_to_come reader m s' < turns_to_come reader l s
+    after_arrived_less after s' arr = subst (λ n. turns_to_come reader m s' < n) same-turns (arrived_less dir now after reader m s s' arr)

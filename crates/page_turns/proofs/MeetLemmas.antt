@@ -1,0 +1,251 @@
+-- What fetching does to the scripts that were met.
+use Rattle.std.proofs.Common.{◌≡◌, ℕ, Bool, true, false, true≢false, List, [], ◌∷◌, ◌++◌, Option, Some, None, IfSome, refl, sym, ap, ◌∙◌, subst, inl, inr, cond, take, ◌+◌}
+use Rattle.std.specs.Prelude.{◌⊎◌, ◌≢◌, IsSome, IsSomeAnd, is_some}
+use Rattle.std.specs.List.{AllByRecursion}
+use Rattle.std.proofs.lemmas.List.{map-append}
+use Rattle.std.specs.Option.{option_map}
+use Rattle.html_types.specs.Text.{same_text}
+use Rattle.outside.specs.Outside.{Seen, Paths, Begun, KeepsOthers}
+use Rattle.outside.specs.declared.traits.Port.{Port}
+use Rattle.outside.specs.declared.traits.Port.TheVariants as port
+use Rattle.standard.specs.Scripts.{Fetched, got, missing, faulted, is_lawful, file_statements}
+use Rattle.core_rules.specs.Desk.{is_among}
+use Rattle.core_steps.specs.declared.fetch.Fetch.{Fetch}
+use Rattle.core_steps.specs.declared.fetch.Fetch.TheVariants as fetches
+use Rattle.core_steps.specs.Fetches.{fetched_of, names_of}
+use Rattle.core_steps.specs.Journals.{found}
+use Rattle.page_turns.specs.declared.scripts.TheConstants.{SCRIPT_LIMIT}
+use Rattle.page_turns.specs.Given.{given_of, NoFault, AbsencesRose, file_at, MayGive, AreRead, ReadTo, untouched, unbegun, begun}
+use Rattle.page_turns.specs.Scripts.{Met, path_of, IsAbsent, MayFetch, ReadScriptsTo, none_begun, last, MayMeet, AreDistinct, NamesOnce, BeginsFile, left_alone, begun_once, BeginsNew, Fetches, AreKnown}
+use Rattle.page_turns.proofs.KeepsLemmas.{begun_none, begun_then, rose-on, rose-stays, Later}
+use Rattle.page_turns.proofs.FetchLemmas.{cut-statements}
+use Rattle.page_turns.proofs.TextLemmas.{same-text, same-refl, none-there}
+
+-- ---- one fetch
+
+absent_at : (file : Option (Option (List ℕ))) (rose : Type 0) → rose → IfSome file (λ f. f ≡ None) → IsAbsent file rose
+absent_at None rose cause none = cause
+absent_at (Some f) rose cause none = none
+
+got_at : (file : Option (Option (List ℕ))) (limit : ℕ) (bytes : List ℕ) → limit ≡ SCRIPT_LIMIT → IfSome file (λ f. IsSomeAnd f (λ whole. bytes ≡ take (limit + 1) whole))
+    → (whole : List ℕ) × IfSome file (λ f. f ≡ Some whole) × (file_statements bytes ≡ file_statements whole)
+got_at None limit bytes is read = (bytes, tt, refl)
+got_at (Some None) limit bytes is read = absurd read
+got_at (Some (Some whole)) limit bytes is read = (whole, refl, ap file_statements read ∙ cut-statements limit whole is)
+
+-- what fetching gave of a name may be met
+pub may_meet : (dir : List ℕ) (before after : Seen) (name : List ℕ) (limit : ℕ) (fetch : Fetch) → limit ≡ SCRIPT_LIMIT → MayGive limit port.Script (path_of dir name) before after (given_of fetch)
+    → MayMeet dir before after name (fetched_of fetch)
+may_meet dir before after name limit (fetches.Got bytes) is may =
+    let there = got_at (file_at before (path_of dir name)) limit bytes.items is may.0 in (got there.0, there.1, there.2)
+may_meet dir before after name limit fetches.Missing is may = (missing, absent_at (file_at before (path_of dir name)) (AbsencesRose port.Script before after) may.0 may.1, tt)
+may_meet dir before after name limit fetches.Faulted is may = (faulted, may, tt)
+
+-- no call failed, or the script is faulted
+pub unfailed : (limit : ℕ) (path : List ℕ) (before after : Seen) (f : Fetch) → MayGive limit port.Script path before after (given_of f) → NoFault port.Script before after ⊎ (fetched_of f ≡ faulted)
+unfailed limit path before after (fetches.Got bytes) may = inl may.1
+unfailed limit path before after fetches.Missing may = inl may.2
+unfailed limit path before after fetches.Faulted may = inr refl
+
+-- ---- which were begun
+
+each_then : {X : Type 0} (P : X → Type 0) (xs ys : List X) → AllByRecursion P xs → AllByRecursion P ys → AllByRecursion P (xs ++ ys)
+each_then P [] ys first second = second
+each_then P (x ∷ xs) ys first second = (first.0, each_then P xs ys first.1 second)
+
+each_still : {X : Type 0} (P Q : X → Type 0) (xs : List X) → ((x : X) → P x → Q x) → AllByRecursion P xs → AllByRecursion Q xs
+each_still P Q [] on all = tt
+each_still P Q (x ∷ xs) on all = (on x all.0, each_still P Q xs on all.1)
+
+abbrev pub names_none : (dir : List ℕ) (b a : Paths) → a ≡ b → NamesOnce dir b a
+names_none dir b a e = record { names = []; begun = begun_none b a e; lawful = tt; once = tt }
+
+begins_none : (done : Bool) (dir : List ℕ) (b a : Paths) (old new : Met) → a ≡ b → BeginsNew done dir b a old new
+begins_none done dir b a old new e = record { which = names_none dir b a e; fresh = tt; met = λ _. tt }
+
+pub begins_one : (done : Bool) (dir : List ℕ) (b a : Paths) (old new : Met) (name : List ℕ) → Begun b a (path_of dir name ∷ []) → is_lawful name ≡ true → found name old ≡ None → (done ≡ true → IsSome (found name new))
+    → BeginsNew done dir b a old new
+begins_one done dir b a old new name paths lawful fresh met = record {
+  which = record { names = name ∷ []; begun = paths; lawful = (lawful, tt); once = (tt, tt) };
+  fresh = (fresh, tt);
+  met = λ e. (met e, tt);
+}
+
+-- nothing is met anew
+pub fetches_none : (done : Bool) (dir : List ℕ) (before after : Seen) (s : Met) → after.begun port.Script ≡ before.begun port.Script → ReadScriptsTo SCRIPT_LIMIT dir before after → Fetches done dir before after s s
+fetches_none done dir before after s same reads = record {
+  kept = λ name script is. is;
+  fresh = λ name script is. inl is;
+  no_further = reads;
+  begins = begins_none done dir _ _ s s same;
+}
+
+pub fetches_same : (done : Bool) (dir : List ℕ) (before : Seen) (s : Met) → Fetches done dir before before s s
+fetches_same done dir before s = fetches_none done dir before before s refl (none_begun refl)
+
+-- where it is done is what counts
+pub fetches_as : (done done' : Bool) (dir : List ℕ) (before after : Seen) (old new : Met) → (done' ≡ true → done ≡ true) → Fetches done dir before after old new → Fetches done' dir before after old new
+fetches_as done done' dir before after old new on fetches = record {
+  kept = fetches.kept;
+  fresh = fetches.fresh;
+  no_further = fetches.no_further;
+  begins = record { which = fetches.begins.which; fresh = fetches.begins.fresh; met = λ e. fetches.begins.met (on e) };
+}
+
+-- ---- a file was begun
+
+module _ (dir name : List ℕ) (before after : Seen) (lawful : is_lawful name ≡ true) (met : Met) (fresh : found name met ≡ None) where
+  -- and memory ran out before it was met
+  pub fetch_cut : BeginsFile dir name before after → Fetches false dir before after met met
+  fetch_cut (left_alone same) = subst (λ z. Fetches false dir before z met met) (sym same) (fetches_same false dir before met)
+  fetch_cut (begun_once paths reads) = record {
+    kept = λ n f is. is;
+    fresh = λ n f is. inl is;
+    no_further = last name lawful reads;
+    begins = begins_one false dir _ _ met met name paths lawful fresh (λ e. absurd (true≢false (sym e)));
+  }
+
+  abbrev more : Fetched → Met
+  more f = (name, f) ∷ met
+
+  kept-by : (f : Fetched) (n : List ℕ) (g : Fetched) → found n met ≡ Some g → (b : Bool) → same_text name n ≡ b → cond b (Some f) (found n met) ≡ Some g
+  kept-by f n g is true e = let none : found n met ≡ None = subst (λ x. found x met ≡ None) (same-text name n e) fresh in absurd (cc (sym none ∙ is))
+  kept-by f n g is false e = is
+
+  fresh-by : (f : Fetched) (may : MayMeet dir before after name f) (n : List ℕ) (g : Fetched) (b : Bool) → same_text name n ≡ b → cond b (Some f) (found n met) ≡ Some g → (found n met ≡ Some g) ⊎ MayMeet dir before after n g
+  fresh-by f may n g true e is =
+      let same : f ≡ g = cc in inr (subst (λ k. MayMeet dir before after n k) same (subst (λ x. MayMeet dir before after x f) (same-text name n e) may))
+  fresh-by f may n g false e is = inl is
+
+  found-more : (f : Fetched) → IsSome (found name (more f))
+  found-more f = ap (λ b. is_some (cond b (Some f) (found name met))) (same-refl name)
+
+  -- and it is met
+  pub fetch_one : (f : Fetched) → MayMeet dir before after name f → BeginsFile dir name before after → Fetches true dir before after met (more f)
+  fetch_one f may begins = record {
+    kept = λ n g is. kept-by f n g is (same_text name n) refl;
+    fresh = λ n g is. fresh-by f may n g (same_text name n) refl is;
+    no_further = reads_to begins;
+    begins = begins_new begins;
+  }
+    where
+      reads_to : BeginsFile dir name before after → ReadScriptsTo SCRIPT_LIMIT dir before after
+      reads_to (left_alone same) = subst (λ z. ReadScriptsTo SCRIPT_LIMIT dir before z) (sym same) (none_begun refl)
+      reads_to (begun_once paths reads) = last name lawful reads
+
+      begins_new : BeginsFile dir name before after → BeginsNew true dir (before.begun port.Script) (after.begun port.Script) met (more f)
+      begins_new (left_alone same) = begins_none true dir _ _ met (more f) (ap (λ (z : Seen). z.begun port.Script) same)
+      begins_new (begun_once paths reads) = begins_one true dir _ _ met (more f) name paths lawful fresh (λ e. found-more f)
+
+pub known_more : (name : List ℕ) (f : Fetched) (met : Met) → is_lawful name ≡ true → is_among name (names_of met) ≡ false → AreKnown met → AreKnown ((name, f) ∷ met)
+known_more name f met lawful none known = record { lawful = (lawful, known.lawful); once = (none-there name met none, known.once) }
+
+-- ---- over two calls
+
+module _ (before now after : Seen) (first : Later before now) (second : Later now after) where
+  absent-stays : (file : Option (Option (List ℕ))) → IsAbsent file (AbsencesRose port.Script before now) → IsAbsent file (AbsencesRose port.Script before after)
+  absent-stays None rose = rose-stays _ _ _ rose (second.absences port.Script)
+  absent-stays (Some f) none = none
+
+  absent-since : (file : Option (Option (List ℕ))) → IsAbsent file (AbsencesRose port.Script now after) → IsAbsent file (AbsencesRose port.Script before after)
+  absent-since None rose = rose-on _ _ _ (first.absences port.Script) rose
+  absent-since (Some f) none = none
+
+  -- what could be fetched before still can
+  fetch-stays : (dir name : List ℕ) (f : Fetched) → MayFetch dir before now name f → MayFetch dir before after name f
+  fetch-stays dir name (got bytes) may = may
+  fetch-stays dir name missing may = absent-stays (file_at before (path_of dir name)) may
+  fetch-stays dir name faulted may = rose-stays _ _ _ may (second.faults port.Script)
+
+  -- and what can be fetched later
+  pub fetch-since : (dir name : List ℕ) (f : Fetched) → MayFetch dir now after name f → MayFetch dir before after name f
+  fetch-since dir name (got bytes) may = subst (λ files. IfSome (option_map (λ map. map (path_of dir name)) files) (λ file. file ≡ Some bytes)) first.files may
+  fetch-since dir name missing may = absent-since (file_at before (path_of dir name)) (subst (λ files. IsAbsent (option_map (λ map. map (path_of dir name)) files) (AbsencesRose port.Script now after)) first.files may)
+  fetch-since dir name faulted may = rose-on _ _ _ (first.faults port.Script) may
+
+  -- how far scripts were read
+  read-stays : (path : List ℕ) → after.left port.Script ≡ now.left port.Script → ReadTo SCRIPT_LIMIT port.Script path before now → ReadTo SCRIPT_LIMIT port.Script path before after
+  read-stays path same (untouched e) = untouched (same ∙ e)
+  read-stays path same (unbegun nothing (inl absence)) = unbegun (subst (λ l. IfSome l (λ rest. rest ≡ [])) (sym same) nothing) (inl (rose-stays _ _ _ absence (second.absences port.Script)))
+  read-stays path same (unbegun nothing (inr fault)) = unbegun (subst (λ l. IfSome l (λ rest. rest ≡ [])) (sym same) nothing) (inr (rose-stays _ _ _ fault (second.faults port.Script)))
+  read-stays path same (begun read are most) = begun read (subst (λ l. AreRead (file_at before path) l read) (sym same) are) most
+
+  scripts-stay : (dir : List ℕ) → after.left port.Script ≡ now.left port.Script → ReadScriptsTo SCRIPT_LIMIT dir before now → ReadScriptsTo SCRIPT_LIMIT dir before after
+  scripts-stay dir same (none_begun e) = none_begun (same ∙ e)
+  scripts-stay dir same (last name lawful reads) = last name lawful (read-stays (path_of dir name) same reads)
+
+  scripts-since : (dir name : List ℕ) → is_lawful name ≡ true → ReadScriptsTo SCRIPT_LIMIT dir before now → ReadTo SCRIPT_LIMIT port.Script (path_of dir name) now after → ReadScriptsTo SCRIPT_LIMIT dir before after
+  scripts-since dir name lawful reads (untouched e) = scripts-stay dir e reads
+  scripts-since dir name lawful reads (unbegun nothing (inl absence)) = last name lawful (unbegun nothing (inl (rose-on _ _ _ (first.absences port.Script) absence)))
+  scripts-since dir name lawful reads (unbegun nothing (inr fault)) = last name lawful (unbegun nothing (inr (rose-on _ _ _ (first.faults port.Script) fault)))
+  scripts-since dir name lawful reads (begun read are most) = last name lawful (begun read (subst (λ files. AreRead (option_map (λ map. map (path_of dir name)) files) (after.left port.Script) read) first.files are) most)
+
+  pub scripts-then : (dir : List ℕ) → ReadScriptsTo SCRIPT_LIMIT dir before now → ReadScriptsTo SCRIPT_LIMIT dir now after → ReadScriptsTo SCRIPT_LIMIT dir before after
+  scripts-then dir reads (none_begun e) = scripts-stay dir e reads
+  scripts-then dir reads (last name lawful reads') = scripts-since dir name lawful reads reads'
+
+  -- names that are met, and names that weren't yet
+  apart : (files : Met) (x y : List ℕ) → IsSome (found x files) → found y files ≡ None → y ≢ x
+  apart files x y some none same = let there : is_some (found y files) ≡ true = subst (λ n. IsSome (found n files)) (sym same) some in cc (sym there ∙ ap is_some none)
+
+  distinct-then : (files : Met) (xs ys : List (List ℕ)) → AreDistinct xs → AreDistinct ys → AllByRecursion (λ x. IsSome (found x files)) xs → AllByRecursion (λ y. found y files ≡ None) ys
+      → AreDistinct (xs ++ ys)
+  distinct-then files [] ys first second met fresh = second
+  distinct-then files (x ∷ xs) ys first second met fresh = (
+    each_then (λ y. y ≢ x) xs ys first.0 (each_still (λ y. found y files ≡ None) (λ y. y ≢ x) ys (λ y none. apart files x y met.0 none) fresh),
+    distinct-then files xs ys first.1 second met.1 fresh,
+  )
+
+  none-before : (old mid : Met) (name : List ℕ) → ((s : Fetched) → found name old ≡ Some s → found name mid ≡ Some s) → found name mid ≡ None → found name old ≡ None
+  none-before old mid name kept none = by_met (found name old) refl
+    where
+      by_met : (o : Option Fetched) → found name old ≡ o → found name old ≡ None
+      by_met None e = e
+      by_met (Some s) e = absurd (cc (sym (kept s e) ∙ none))
+
+  some-after : (mid new : Met) (name : List ℕ) → ((s : Fetched) → found name mid ≡ Some s → found name new ≡ Some s) → IsSome (found name mid) → IsSome (found name new)
+  some-after mid new name kept some = by_met (found name mid) refl some
+    where
+      by_met : (o : Option Fetched) → found name mid ≡ o → IsSome o → IsSome (found name new)
+      by_met None e some = absurd (cc some)
+      by_met (Some s) e some = subst IsSome (sym (kept s e)) refl
+
+  abbrev names-then : (dir : List ℕ) (b n a : Paths) (files : Met) (first : NamesOnce dir b n) (second : NamesOnce dir n a) → AllByRecursion (λ x. IsSome (found x files)) first.names
+      → AllByRecursion (λ y. found y files ≡ None) second.names → NamesOnce dir b a
+  names-then dir b n a files first second met fresh = record {
+    names = first.names ++ second.names;
+    begun = subst (λ paths. Begun b a paths) (sym (map-append (path_of dir) first.names second.names)) (begun_then b n a _ _ first.begun second.begun);
+    lawful = each_then (λ name. is_lawful name ≡ true) first.names second.names first.lawful second.lawful;
+    once = distinct-then files first.names second.names first.once second.once met fresh;
+  }
+
+  begins-then : (da db : Bool) (dir : List ℕ) (b n a : Paths) (old mid new : Met) → da ≡ true → ((name : List ℕ) (s : Fetched) → found name old ≡ Some s → found name mid ≡ Some s)
+      → ((name : List ℕ) (s : Fetched) → found name mid ≡ Some s → found name new ≡ Some s) → BeginsNew da dir b n old mid → BeginsNew db dir n a mid new → BeginsNew db dir b a old new
+  begins-then da db dir b n a old mid new done kept kept' first second = record {
+    which = names-then dir b n a mid first.which second.which (first.met done) second.fresh;
+    fresh = each_then (λ name. found name old ≡ None) first.which.names second.which.names first.fresh
+        (each_still (λ name. found name mid ≡ None) (λ name. found name old ≡ None) second.which.names (λ name none. none-before old mid name (kept name) none) second.fresh);
+    met = λ e. each_then (λ name. IsSome (found name new)) first.which.names second.which.names
+        (each_still (λ name. IsSome (found name mid)) (λ name. IsSome (found name new)) first.which.names (λ name some. some-after mid new name (kept' name) some) (first.met done)) (second.met e);
+  }
+
+  pub fetches-then : (da db : Bool) (dir : List ℕ) (old mid new : Met) → da ≡ true → Fetches da dir before now old mid → Fetches db dir now after mid new → Fetches db dir before after old new
+  fetches-then da db dir old mid new done a b = record {
+    kept = λ name script is. b.kept name script (a.kept name script is);
+    fresh = λ name script is. fresh_of name script (b.fresh name script is);
+    no_further = scripts-then dir a.no_further b.no_further;
+    begins = begins-then da db dir _ _ _ old mid new done a.kept b.kept a.begins b.begins;
+  }
+    where
+      stay_of : (name : List ℕ) (script : Fetched) → (found name old ≡ Some script) ⊎ MayMeet dir before now name script → (found name old ≡ Some script) ⊎ MayMeet dir before after name script
+      stay_of name script (inl is) = inl is
+      stay_of name script (inr may) = inr (may.0, fetch-stays dir name may.0 may.1, may.2)
+
+      fresh_of : (name : List ℕ) (script : Fetched) → (found name mid ≡ Some script) ⊎ MayMeet dir now after name script → (found name old ≡ Some script) ⊎ MayMeet dir before after name script
+      fresh_of name script (inl is) = stay_of name script (a.fresh name script is)
+      fresh_of name script (inr may) =
+          inr (may.0, fetch-since dir name may.0 may.1, may.2)
+
+-- other ports were read
+pub fetches-past : (done : Bool) (dir : List ℕ) (p : Port) (before after : Seen) (s : Met) → (port.Script ≡ p → ⊥) → KeepsOthers p before after → Fetches done dir before after s s
+fetches-past done dir p before after s other keeps = fetches_none done dir before after s (keeps.begun port.Script other) (none_begun (keeps.left port.Script other))

@@ -1,0 +1,54 @@
+-- The messages that are taken, beside the journal's Takes.
+use Rattle.std.proofs.Common.{◌≡◌, ℕ, ◌+◌, List, [], ◌∷◌, ◌++◌, length, map, Option, Some, None, refl, sym, ◌∙◌, ap, subst, inl, inr, length-append, arith}
+use Rattle.std.specs.Prelude.{IfSome}
+use Rattle.std.proofs.lemmas.List.{map-append}
+use Rattle.core_rules.specs.declared.event.Event.{Event}
+use Rattle.core_rules.specs.declared.event.Event.TheVariants.{Send, Pick, Give, Take, Do, Arrive}
+use Rattle.core_steps.specs.Sides.{Shown}
+use Rattle.run_laws.specs.Along.{takes_in}
+use Rattle.page_turns.specs.Along.{MayDo}
+use Rattle.page_turns.specs.Messages.{Message, AreReplies, TakesOne, TakesLast, TakenSoFar, MayTakeMore}
+
+takes-then : (vs : List Event) (v : Event) → takes_in (vs ++ v ∷ []) ≡ takes_in vs + takes_in (v ∷ [])
+takes-then [] v = omega arith
+takes-then (Send ∷ vs) v = takes-then vs v
+takes-then (Pick ∷ vs) v = takes-then vs v
+takes-then (Give ∷ vs) v = takes-then vs v
+takes-then (Take ∷ vs) v = let rest = takes-then vs v in omega (arith, rest)
+takes-then (Do ∷ vs) v = takes-then vs v
+takes-then (Arrive name ∷ vs) v = takes-then vs v
+
+pub taken_first : (taken : Option (List Message)) (s : Shown) → IfSome taken (λ messages. messages ≡ []) → s.journal.events ≡ [] → TakenSoFar taken s.journal.events
+taken_first None s none is = tt
+taken_first (Some ms) s none is = subst (λ vs. AreReplies (takes_in vs) ms) (sym is) ([], none, refl)
+
+-- an event that is no Take
+pub taken_same : (old new : Option (List Message)) (vs us : List Event) (v : Event) → takes_in (v ∷ []) ≡ 0 → new ≡ old → us ≡ vs ++ v ∷ [] → TakenSoFar old vs → TakenSoFar new us
+taken_same None new vs us v none same is h = subst (λ o. TakenSoFar o us) (sym same) tt
+taken_same (Some ms) new vs us v none same is (rs, all, count) =
+    let more = takes-then vs v in
+    subst (λ o. TakenSoFar o us) (sym same) (subst (λ e. AreReplies (takes_in e) ms) (sym is) (rs, all, omega (arith, count, more, none)))
+
+-- a Take, whose reply was taken
+pub taken_one : (old new : Option (List Message)) (vs us : List Event) → TakesOne old new → us ≡ vs ++ Take ∷ [] → TakenSoFar old vs → TakenSoFar new us
+taken_one None new vs us (r, one) is h = subst (λ o. TakenSoFar o us) (sym one) tt
+taken_one (Some ms) new vs us (r, one) is (rs, all, count) =
+    let more = takes-then vs Take in
+    let longer = length-append rs (r ∷ []) in
+    subst (λ o. TakenSoFar o us) (sym one) (subst (λ e. AreReplies (takes_in e) (ms ++ Some r ∷ [])) (sym is) (rs ++ r ∷ [], ap (λ l. l ++ Some r ∷ []) all ∙ sym (map-append Some rs (r ∷ [])), omega (arith, count, more, longer)))
+
+pub taken_kept : (old new : Option (List Message)) (vs us : List Event) → new ≡ old → us ≡ vs → TakenSoFar old vs → TakenSoFar new us
+taken_kept old new vs us same is h = subst (λ o. TakenSoFar o us) (sym same) (subst (λ e. TakenSoFar old e) (sym is) h)
+
+pub taken_did : (taken : Option (List Message)) (s s' : Shown) → MayDo s s' → TakenSoFar taken s.journal.events → TakenSoFar taken s'.journal.events
+taken_did taken s s' (inl stays) h = taken_kept taken taken s.journal.events s'.journal.events refl (ap (λ (z : Shown). z.journal.events) stays) h
+taken_did taken s s' (inr did) h = taken_same taken taken s.journal.events s'.journal.events Do refl refl (ap (λ (z : Shown). z.journal.events) did.others) h
+
+-- perhaps with one more
+pub more_none : (taken : Option (List Message)) (vs : List Event) → TakenSoFar taken vs → MayTakeMore taken vs
+more_none None vs h = tt
+more_none (Some ms) vs h = inl h
+
+pub more_last : (old new : Option (List Message)) (vs us : List Event) → TakesLast old new → us ≡ vs → TakenSoFar old vs → MayTakeMore new us
+more_last None new vs us (last, one) is h = subst (λ o. MayTakeMore o us) (sym one) tt
+more_last (Some ms) new vs us (last, one) is h = subst (λ o. MayTakeMore o us) (sym one) (subst (λ e. MayTakeMore (Some (ms ++ last ∷ [])) e) (sym is) (inr (ms, last, refl, h)))

@@ -1,0 +1,55 @@
+use Rattle.std.proofs.Common.{◌≤◌, ◌+◌, ◌++◌, length, take, drop, arith, refl, ap, ◌∙◌, length-take, length-append}
+use Rattle.page_turns.specs.Given.{AreRead, file_at, begun}
+use Rattle.outside.proofs.KeepsLemmas.{keeps-then}
+use Rattle.page_turns.proofs.KeepsLemmas.{begun_stays}
+use Rattle.page_turns.proofs.RunReads.{read_more, read_none, read_failed, piece_front}
+use Rattle.page_turns.proofs.fetch.read_whole.Goals as goal
+use Rattle.page_turns.proofs.fetch.read_whole.Goals.{else-reads-test, then-reads-test+in-Ok-eq0}
+
+pub returns-in-Err-read-clause-no_further : goal.returns-in-Err-read-clause-no_further
+returns-in-Err-read-clause-no_further g c = begun c.reads.bytes.items (read_failed _ _ _ _ c.reads.invariant.read c.in-Err-read.ensures.failed) (omega (arith, c.reads.bytes.ok.0, c.reads.invariant.bound))
+
+pub reads-preserved : goal.reads-preserved
+reads-preserved g c =
+    let fits : c.in-Ok.n ≤ length c.read.new.into = omega (arith, c.read.auto.into, c.in-Ok.ensures.count) in
+    let len = c.in_ok-extend_from_slice.ensures.len in
+    let most = length-take c.in-Ok.n (c.read.new.into ++ drop c.min-room.result c.reads.piece) in
+    let room = length-take c.min-room.result c.reads.piece in
+    record {
+      bound = omega (arith, len, most, room, c.read.auto.into, c.in-Ok.ensures.count, c.min-room.ensures, c.len-in-reads.ensures);
+      others = keeps-then _ _ _ _ c.reads.invariant.others c.read.ensures.others;
+      begun = begun_stays _ _ _ _ c.reads.invariant.begun (ap (λ begun. begun c.args.port) c.read.ensures.begun);
+      no_fault = c.in-Ok.ensures.no_fault ∙ c.reads.invariant.no_fault;
+      read = rw c.in_ok-extend_from_slice.ensures.items
+          (read_more _ _ _ c.reads.bytes.items c.read.new.into (take c.in-Ok.n (c.read.new.into ++ drop c.min-room.result c.reads.piece)) c.in-Ok.n c.reads.invariant.read c.in-Ok.ensures.moved
+          (piece_front c.read.new.into (drop c.min-room.result c.reads.piece) c.in-Ok.n fits));
+    }
+
+pub returns-in_err-extend_from_slice-clause-no_further : goal.returns-in_err-extend_from_slice-clause-no_further
+returns-in_err-extend_from_slice-clause-no_further g c =
+    let most = length-take c.in-Ok.n c.read.new.into in
+    let room = length-take c.min-room.result c.reads.piece in
+    begun (c.reads.bytes.items ++ take c.in-Ok.n c.read.new.into) (read_more _ _ _ c.reads.bytes.items c.read.new.into _ c.in-Ok.n c.reads.invariant.read c.in-Ok.ensures.moved refl)
+    (omega (arith, most, room, length-append c.reads.bytes.items (take c.in-Ok.n c.read.new.into), c.reads.bytes.ok.0, c.read.auto.into, c.in-Ok.ensures.count, c.min-room.ensures, c.len-in-reads.ensures))
+
+pub returns-clause-no_further : goal.returns-clause-no_further
+returns-clause-no_further g c =
+    let at = g.F.Outside.seen in
+    let small : length c.reads.bytes.items ≤ c.args.limit + 1 = omega (arith, c.reads.bytes.ok.0, c.reads.invariant.bound) in
+    let here : AreRead (file_at (at c.args.files.now) c.args.path.now) ((at c.reads-test.files).left c.args.port) c.reads.bytes.items = elim c.reads-test.branch [
+      | else-reads-test w ↦ rw w.files-is c.reads.invariant.read
+      | then-reads-test+in-Ok-eq0 w ↦ rw w.files-is (read_none _ _ _ _ _ _ c.reads.invariant.read w.in-Ok-eq0.ensures.moved w.in-Ok-eq0.field-0-test)
+    ] in
+    begun c.reads.bytes.items here small
+
+pub returns-in-Err-read-clause-begun : goal.returns-in-Err-read-clause-begun
+returns-in-Err-read-clause-begun g c = begun_stays _ _ _ _ c.reads.invariant.begun (ap (λ begun. begun c.args.port) c.read.ensures.begun)
+
+pub returns-in_err-extend_from_slice-clause-begun : goal.returns-in_err-extend_from_slice-clause-begun
+returns-in_err-extend_from_slice-clause-begun g c = begun_stays _ _ _ _ c.reads.invariant.begun (ap (λ begun. begun c.args.port) c.read.ensures.begun)
+
+pub returns-clause-begun : goal.returns-clause-begun
+returns-clause-begun g c = elim c.reads-test.branch [
+  | else-reads-test w ↦ rw w.files-is c.reads.invariant.begun
+  | then-reads-test+in-Ok-eq0 w ↦ rw w.files-is (begun_stays _ _ _ _ c.reads.invariant.begun (ap (λ begun. begun c.args.port) w.read.ensures.begun))
+]

@@ -1,0 +1,21 @@
+use Rattle.std.proofs.Common.{◌≤◌}
+use Rattle.std.specs.String.{string_bytes}
+use Rattle.page_turns.specs.Along.{Goes}
+use Rattle.page_turns.specs.Messages.{TakenSoFar}
+use Rattle.page_turns.specs.Turns.{Holds, turns_to_come}
+use Rattle.page_turns.proofs.page.take_turns.Given as goal
+
+abbrev pub invariant-turns : goal.invariant-turns
+invariant-turns g l =
+    let sink = g.K.Sink in
+    let now = g.F.Outside.seen in
+    let other = g.L.Counterpart in
+    record {
+      holds : Holds l.job.table.now l.job.ahead (string_bytes l.job.dir) (now l.fn.files) (now l.files) (sink.taken l.fn.out) (sink.taken l.out) l.reader (other.load l.lanes) l.doc;
+      goes : Goes (other.put l.lanes) l.doc;
+      taken : TakenSoFar (other.taken l.lanes) l.doc.journal.events;
+      faults : sink.faults l.fn.out ≤ sink.faults l.out;
+    }
+
+abbrev pub decreases-turns : goal.decreases-turns
+decreases-turns g l = turns_to_come l.reader (g.L.Counterpart.load l.lanes) l.doc

@@ -1,0 +1,9 @@
+pub mod Taken
+pub mod Given
+pub mod Scripts
+pub mod Shown
+pub mod Pages
+pub mod Turns
+pub mod Along
+pub mod Messages
+pub mod Replaying

@@ -1,0 +1,28 @@
+//! A page is parsed from its files to the lines of its scripts: its pieces are read, the document's side and the parser's side of the core take
+//! turns over them, the scripts that are awaited are fetched, and the lines are written.
+#![tactic(auto)]
+
+mod counterpart;
+mod fetch;
+mod in_place;
+mod job;
+mod outcome;
+mod output;
+mod page;
+mod parse;
+mod reader;
+mod scripts;
+#[cfg(test)]
+mod tests;
+mod write;
+
+pub use counterpart::Counterpart;
+pub use fetch::read_whole;
+pub use in_place::InPlace;
+pub use job::Job;
+pub use outcome::Outcome;
+pub use output::show_outcome;
+pub use page::{Failure, PAGE_LIMIT};
+pub use parse::parse_page;
+pub use scripts::SCRIPT_LIMIT;
+pub use write::write_all;

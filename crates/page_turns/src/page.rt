@@ -1,0 +1,202 @@
+// A page is parsed: its document's side takes turns with the parser's side, which is in this thread or in one of its own.
+ghost use Rattle.std.specs.Prelude.{◌≡◌, ◌<◌, ◌≤◌, [], length, suc, nat_lt, ◌&&◌, is_none, false, IfOk, IfSome, IfNone, OnOk, OnErr, IsErrOf, IsTrue};
+ghost use Rattle.std.specs.String.{string_bytes};
+ghost use Rattle.outside.specs.Outside.{Rose, KeepsOthers};
+ghost use Rattle.core_rules.specs.declared.event.Event.TheVariants as event;
+ghost use Rattle.core_rules.specs.Desk.{done, is_done, can_do, wants_reply, takes};
+ghost use Rattle.core_steps.specs.Sides.{first_shown, journaled, IsReplayed, awaiting, standing_of};
+ghost use Rattle.page_turns.specs.declared.page.Failure.TheVariants as failures;
+ghost use Rattle.page_turns.specs.Shown.{result_of};
+ghost use Rattle.page_turns.specs.Pages.{IsUnread};
+ghost use Rattle.page_turns.specs.Along.{Stays, MayDo, Goes};
+ghost use Rattle.page_turns.specs.Messages.{TakesOne, TakesLast, TakenSoFar, MayTakeMore};
+ghost use Rattle.page_turns.specs.Turns.{no_load, under_way, StaysRead, RunsOn, RunsInPart, Arrives, BeginsAwaited, GivesUp, RunsOut};
+
+use crate::counterpart::Counterpart;
+use crate::job::Job;
+use crate::outcome::Outcome;
+use crate::output::write_lines;
+use crate::reader::PageReader;
+use crate::scripts::fetch_script;
+use core_steps::{DocSide, State};
+use html_types::{NoMemory, Text};
+use outside::{Failed, Outside, Port, Sink};
+use speculation::InForce;
+use std::alloc::{AllocError, Global};
+
+/// Why a call that was going on gave up.
+#[derive(Clone, Copy, Debug, PartialEq, Eq)]
+pub enum Failure {
+    /// Memory ran out.
+    Memory,
+    /// The sink failed.
+    Write,
+}
+
+impl From<AllocError> for Failure {
+    ghost from_gives = { λ _ e. e ≡ failures.Memory };
+
+    fn from(_error: AllocError) -> Failure {
+        Failure::Memory
+    }
+}
+
+impl From<NoMemory> for Failure {
+    ghost from_gives = { λ _ e. e ≡ failures.Memory };
+
+    fn from(_error: NoMemory) -> Failure {
+        Failure::Memory
+    }
+}
+
+impl From<Failed> for Failure {
+    ghost from_gives = { λ _ e. e ≡ failures.Write };
+
+    fn from(_error: Failed) -> Failure {
+        Failure::Write
+    }
+}
+
+/// The most bytes of a page.
+pub const PAGE_LIMIT: usize = 1_073_741_824;
+
+// What the parse came to, where it is over.
+fn outcome_of(doc: &DocSide) -> Option<Outcome>
+    requires { doc.now.spent ≡ false }
+    ensures over { IfSome result (λ o. doc.now.desk.phase ≡ done (result_of o)) }
+    ensures on { IfNone result (is_done doc.now.desk.phase ≡ false) }
+{
+    match doc.status() {
+        State::Done => Some(Outcome::Finished),
+        State::Refused(why) => Some(Outcome::Refused(why)),
+        _ => None,
+    }
+}
+
+// Whether the page is read on, where nothing of it is to be sent: credit is left, and its ending wasn't read.
+fn may_read<E: InForce, L: Counterpart<E>>(doc: &DocSide, lanes: &L, ahead: usize) -> bool
+    requires { under_way (L.load lanes.now) ≤ 64 }
+    ensures may { result ≡ (nat_lt (under_way (L.load lanes.now)) ahead && is_none doc.now.journal.ending) }
+    ensures replayed { IsReplayed doc.now }
+{
+    let open = doc.journal().ending().is_none();
+    lanes.has_room(ahead) && open
+}
+
+// Takes the reply that is given next.
+fn take_reply<E: InForce, L: Counterpart<E>>(
+    doc: &mut DocSide,
+    lanes: &mut L,
+) -> Result<(), NoMemory>
+    requires entities { doc.old.entities ≡ E.entities }
+    requires wanted { IsTrue (wants_reply doc.old.desk) }
+    requires stands { 0 < (L.load lanes.old).replies }
+    ensures took { OnOk result (doc.new ≡ journaled event.Take (takes doc.old.entities doc.old.desk) doc.old) }
+    ensures load { OnOk result (L.load lanes.old ≡ record (L.load lanes.new) { replies = suc (L.load lanes.new).replies }) }
+    ensures stays { OnErr result (Stays doc.old doc.new) }
+    ensures put { L.put lanes.new ≡ L.put lanes.old }
+    ensures reply { OnOk result (TakesOne (L.taken lanes.old) (L.taken lanes.new)) }
+    ensures last { OnErr result (TakesLast (L.taken lanes.old) (L.taken lanes.new)) }
+{
+    let reply = lanes.take()?;
+    doc.take(reply)
+}
+
+// Executes a batch, or runs the script that is in hand, and writes the lines that it gave.
+fn run_on<K: Sink>(alloc: Global, out: &mut K, doc: &mut DocSide) -> Result<(), Failure>
+    requires can { IsTrue (can_do doc.old.desk) }
+    requires lines { doc.old.desk.own.side.lines ≡ doc.old.given }
+    ensures ok { OnOk result (RunsOn (K.taken out.old) (K.taken out.new) doc.old doc.new) }
+    ensures err { OnErr result (RunsInPart (K.taken out.old) (K.taken out.new) doc.old doc.new) }
+    ensures stays { OnErr result (StaysRead doc.old doc.new) }
+    ensures did { MayDo doc.old doc.new }
+    ensures write { IsErrOf result Failure.Write → Rose (K.faults out.old) (K.faults out.new) }
+    ensures faults { K.faults out.old ≤ K.faults out.new }
+{
+    doc.act()?;
+    let lines = doc.take_lines()?;
+    write_lines(alloc, out, lines.as_slice())
+}
+
+// The name of the script that is awaited.
+fn awaited_name(alloc: Global, doc: &DocSide) -> Result<Text, NoMemory>
+    requires going { doc.now.spent ≡ false }
+    requires awaits { (name : _) × (standing_of doc.now.desk ≡ awaiting name) }
+    ensures { IfOk result (λ name. standing_of doc.now.desk ≡ awaiting name) }
+{
+    match doc.status() {
+        State::Awaits(name) => name.copy(alloc),
+        _ => unreachable!(),
+    }
+}
+
+// Fetches the script that is awaited.
+fn fetch_awaited<F: Outside>(
+    alloc: Global,
+    dir: &str,
+    files: &mut F,
+    doc: &mut DocSide,
+) -> Result<(), NoMemory>
+    requires going { doc.old.spent ≡ false }
+    requires awaits { (name : _) × (standing_of doc.old.desk ≡ awaiting name) }
+    ensures arrives { OnOk result (Arrives dir.now (F.seen files.old) (F.seen files.new) doc.old doc.new) }
+    ensures stays { OnErr result (Stays doc.old doc.new) }
+    ensures begins { BeginsAwaited dir.now (F.seen files.old) (F.seen files.new) doc.old.desk }
+    ensures others { KeepsOthers Port.Script (F.seen files.old) (F.seen files.new) }
+{
+    let name = awaited_name(alloc, doc)?;
+    let fetch = fetch_script(alloc, files, dir, name.as_str())?;
+    doc.arrive(name, fetch)
+}
+
+// Takes turns until the parse is over: Send and reading on come first, then the events of the parser's side, then Take, then Do, and where
+// nothing else can be done the script that is awaited is fetched.
+pub(crate) fn take_turns<E: InForce, L: Counterpart<E>, F: Outside, K: Sink>(
+    alloc: Global,
+    job: &Job<'_>,
+    files: &mut F,
+    out: &mut K,
+    doc: &mut DocSide,
+    lanes: &mut L,
+    reader: &mut PageReader,
+    room: &mut [u8],
+) -> Result<Outcome, Failure>
+    requires room { 0 < length room.old }
+    requires table { job.now.table.now ≡ E.entities }
+    requires first { doc.old ≡ first_shown job.now.table.now job.now.ahead }
+    requires load { L.load lanes.old ≡ no_load }
+    requires put { IfSome (L.put lanes.old) (λ asks. asks ≡ []) }
+    requires taken { IfSome (L.taken lanes.old) (λ messages. messages ≡ []) }
+    requires reader { IsUnread reader.old }
+    requires some { 0 < job.now.ahead }
+    requires few { job.now.ahead ≤ 64 }
+    ensures ok { IfOk result (λ o. RunsOut job.now.table.now job.now.ahead (string_bytes job.now.dir) (F.seen files.old) (F.seen files.new) (K.taken out.old) (K.taken out.new) doc.new o) }
+    ensures err { OnErr result (GivesUp job.now.table.now job.now.ahead (string_bytes job.now.dir) (F.seen files.old) (F.seen files.new) (K.taken out.old) (K.taken out.new) doc.new) }
+    ensures goes { Goes (L.put lanes.new) doc.new }
+    ensures taken { OnOk result (TakenSoFar (L.taken lanes.new) doc.new.journal.events) }
+    ensures write_taken { IsErrOf result Failure.Write → TakenSoFar (L.taken lanes.new) doc.new.journal.events }
+    ensures more_taken { MayTakeMore (L.taken lanes.new) doc.new.journal.events }
+    ensures write { IsErrOf result Failure.Write → Rose (K.faults out.old) (K.faults out.new) }
+    ensures faults { K.faults out.old ≤ K.faults out.new }
+{
+    'turns: loop {
+        if let Some(outcome) = outcome_of(doc) {
+            return Ok(outcome);
+        }
+        let may_read = may_read::<E, L>(doc, lanes, job.ahead);
+        if doc.can_send() {
+            let request = doc.send()?;
+            lanes.ask(request)?;
+        } else if may_read {
+            reader.read_on(alloc, files, doc, room)?;
+        } else if lanes.answer(job.table)? {
+            continue;
+        } else if doc.wants_reply() {
+            take_reply::<E, L>(doc, lanes)?;
+        } else if doc.can_do() {
+            run_on(alloc, out, doc)?;
+        } else {
+            fetch_awaited(alloc, job.dir.as_str(), files, doc)?;
+        }
+    }
+}

@@ -1,0 +1,62 @@
+// A page is parsed from where it is begun.
+ghost use Rattle.std.specs.Prelude.{◌≡◌, ◌<◌, ◌≤◌, [], length, IfOk, IfSome, OnOk, OnErr, IsErrOf};
+ghost use Rattle.std.specs.String.{string_bytes};
+ghost use Rattle.outside.specs.Outside.{Rose};
+ghost use Rattle.core_steps.specs.Sides.{first_shown};
+ghost use Rattle.page_turns.specs.Pages.{EndsWithScripts, FrontWithScripts};
+ghost use Rattle.page_turns.specs.Turns.{no_load, LeavesAlone, Leaves, RunsOut};
+ghost use Rattle.page_turns.specs.Along.{Goes};
+ghost use Rattle.page_turns.specs.Messages.{TakenSoFar, MayTakeMore};
+ghost use Rattle.page_turns.specs.Replaying.{ReplaysTo};
+
+use crate::counterpart::Counterpart;
+use crate::job::Job;
+use crate::outcome::Outcome;
+use crate::page::{Failure, take_turns};
+use crate::reader::PageReader;
+use core_steps::DocSide;
+use outside::{Outside, Sink};
+use speculation::InForce;
+use std::alloc::Global;
+
+/// Parses the page that was begun, with this counterpart, and writes its lines. Where memory runs out or the sink fails it has taken a front of
+/// what is written of the page. The document's side and the counterpart were just made.
+pub fn parse_page<E: InForce, L: Counterpart<E>, F: Outside, K: Sink>(
+    alloc: Global,
+    job: &Job<'_>,
+    files: &mut F,
+    out: &mut K,
+    doc: &mut DocSide,
+    lanes: &mut L,
+    room: &mut [u8],
+) -> Result<Outcome, Failure>
+    requires table { job.now.table.now ≡ E.entities }
+    requires first { doc.old ≡ first_shown job.now.table.now job.now.ahead }
+    requires load { L.load lanes.old ≡ no_load }
+    requires put { IfSome (L.put lanes.old) (λ asks. asks ≡ []) }
+    requires taken { IfSome (L.taken lanes.old) (λ messages. messages ≡ []) }
+    requires room { 0 < length room.old }
+    requires some { 0 < job.now.ahead }
+    requires few { job.now.ahead ≤ 64 }
+    ensures ok { IfOk result (λ outcome. EndsWithScripts job.now.table.now (string_bytes job.now.dir) (F.seen files.old) (F.seen files.new)
+        doc.new.desk.own.side.doc (K.taken out.old) (K.taken out.new) outcome) }
+    ensures err { OnErr result (FrontWithScripts job.now.table.now (string_bytes job.now.dir) (F.seen files.old) (F.seen files.new)
+        (K.taken out.old) (K.taken out.new)) }
+    ensures out { IfOk result (λ outcome. RunsOut job.now.table.now job.now.ahead (string_bytes job.now.dir) (F.seen files.old) (F.seen files.new)
+        (K.taken out.old) (K.taken out.new) doc.new outcome) }
+    ensures replays { ReplaysTo job.now.table.now job.now.ahead doc.new }
+    ensures left { Leaves job.now.table.now job.now.ahead (string_bytes job.now.dir) (F.seen files.old) (F.seen files.new) doc.new }
+    ensures alone { LeavesAlone (string_bytes job.now.dir) (F.seen files.old) (F.seen files.new) }
+    ensures goes { Goes (L.put lanes.new) doc.new }
+    ensures taken { OnOk result (TakenSoFar (L.taken lanes.new) doc.new.journal.events) }
+    ensures write_taken { IsErrOf result Failure.Write → TakenSoFar (L.taken lanes.new) doc.new.journal.events }
+    ensures more_taken { MayTakeMore (L.taken lanes.new) doc.new.journal.events }
+    ensures write { IsErrOf result Failure.Write → Rose (K.faults out.old) (K.faults out.new) }
+    ensures faults { K.faults out.old ≤ K.faults out.new }
+{
+    let mut reader = PageReader::new(alloc);
+    let ended = take_turns::<E, L, F, K>(alloc, job, files, out, doc, lanes, &mut reader, room);
+    // What the journal replays to is known from here on.
+    let _journal = doc.journal();
+    ended
+}
