@@ -1,13 +1,13 @@
-use Rattle.std.proofs.Common.{◌-◌, length}
-use Rattle.std.specs.Str.{IsCharBoundary}
-use Rattle.serialiser.proofs.AddedRuns.{Added}
+use Rattle.std.proofs.Common.{◌≡◌, ◌++◌, ◌-◌, length, take, flat_map}
+use Rattle.std.specs.Str.{chars, IsCharBoundary}
+use Rattle.serialiser.specs.Plain.{escaped_for}
 use Rattle.serialiser.proofs.escapes.push_runs.Given as goal
 
 -- the characters up to `at` were added
 abbrev pub invariant-runs : goal.invariant-runs
 invariant-runs l = record {
   boundary : IsCharBoundary l.text l.at;
-  added : Added l.in_value l.initial.out l.out l.text l.at;
+  added : l.out ≡ l.initial.out ++ flat_map (escaped_for l.in_value) (chars (take l.at l.text));
 }
 
 abbrev pub decreases-runs : goal.decreases-runs
