@@ -4,11 +4,12 @@ ghost use Rattle.std.specs.Prelude.{◌≡◌, ◌≤◌, ◌↔◌, ◌++◌, l
 ghost use Rattle.std.specs.Str.{chars};
 ghost use Rattle.standard.specs.Instructions.{config, on, here, reconstruct, run, texts, body_character};
 ghost use Rattle.standard.specs.Foreign as foreign;
-ghost use Rattle.standard.specs.Rules.{answer, answer_of, next_of, rules_for};
+ghost use Rattle.standard.specs.Rules.{answer, answer_of, rules_for};
 ghost use Rattle.standard.specs.Parser.{opening};
 ghost use Rattle.builder_state.specs.Push.{opened};
 ghost use Rattle.builder_state.specs.Texts.{takes_characters as mode_takes_characters, TakesText, behind_text};
 
+use crate::at_once::{answer_row, asked};
 use crate::foreign::{goes_foreign, is_foreign};
 use crate::formatting::none_lost;
 use crate::insert::{LIMIT, place_now, reopen_lost};
@@ -107,8 +108,7 @@ impl Builder {
     ) -> Result<Next, NoMemory>
         ensures { IfOk result (λ next. answer self.new ops.new next ≡ answer_of (run token.now (on self.old ops.old) program.now)) }
     {
-        let flow = self.run(alloc, program, token, ops)?;
-        Ok(asked(flow))
+        answer_row(alloc, &mut self.state, program, token, ops)
     }
 
     /// Inserts a character by the rules of "in body" (13.2.6.4.7), which are the same for each character but U+0000, and says
@@ -302,16 +302,6 @@ fn takes_characters(mode: Mode) -> bool
     ensures { result ≡ mode_takes_characters mode }
 {
     matches!(&mode, Mode::InBody | Mode::InCell | Mode::InText)
-}
-
-/// What a row asks of its caller.
-fn asked(flow: Flow) -> Next
-    ensures { result ≡ next_of flow }
-{
-    match flow {
-        Flow::On | Flow::Skip => Next::Done,
-        Flow::Leave(next) => next,
-    }
 }
 
 /// Whether the element pointers are the same.
