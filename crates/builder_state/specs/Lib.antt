@@ -5,3 +5,4 @@ pub mod Texts
 pub mod ForeignEnds
 pub mod Pairs
 pub mod AtOnce
+pub mod Latest

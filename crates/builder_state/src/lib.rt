@@ -3,6 +3,7 @@
 
 mod at_once;
 mod checks;
+mod closing;
 mod foreign;
 mod foreign_end;
 mod formatting;
