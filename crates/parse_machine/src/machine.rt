@@ -22,8 +22,8 @@ use builder_state::Builder;
 use char_class::{class_of, first_mark};
 use entity_table::{Characters, Table};
 use html_types::{
-    Ending, Finish, Name, Next, NoMemory, NodeId, Ops, RawText, Stop, Text, TextState, TokState,
-    Token, TokenizerSwitch, Why, Word, char_at,
+    Ending, Finish, Name, Next, NoMemory, NodeId, Ops, RawText, Stop, TextState, TokState, Token,
+    TokenizerSwitch, Why, Word, char_at,
 };
 use std::alloc::Global;
 use std::marker::Model;
@@ -114,6 +114,7 @@ pub(crate) enum Went {
 }
 
 // Processes a token, with others waiting behind it. The tokenizer may then read on in another way.
+#[inline]
 fn process(
     alloc: Global,
     tokenizer: &mut Tokenizer,
@@ -266,6 +267,7 @@ fn plain_token(tokenizer: &Tokenizer, c: char) -> Option<Token>
 }
 
 // Processes the only token that a character makes.
+#[inline]
 fn process_alone(
     alloc: Global,
     tokenizer: &mut Tokenizer,
@@ -363,18 +365,6 @@ fn has_nul(characters: Characters) -> bool
     characters.first == '\0' || characters.second == Some('\0')
 }
 
-// What a reference stands for.
-fn text_of(alloc: Global, characters: Characters) -> Result<Text, NoMemory>
-    ensures { IfOk result (λ t. t ≡ characters_in characters) }
-{
-    let mut text = Text::new(alloc);
-    text.push(characters.first)?;
-    if let Some(second) = characters.second {
-        text.push(second)?;
-    }
-    Ok(text)
-}
-
 impl Machine {
     /// The parser at the beginning of a page. Its elements are of that realm. It takes no memory.
     pub fn new(alloc: Global, realm: u64) -> Machine
@@ -388,6 +378,7 @@ impl Machine {
     }
 
     // Takes one character.
+    #[inline(never)]
     fn take(
         &mut self,
         alloc: Global,
@@ -434,6 +425,24 @@ impl Machine {
         self.builder.insert_body_text(alloc, run, ops)
     }
 
+    // Inserts what a reference stands for, as it is.
+    #[tactic(auto, using(std::proofs::lemmas::Grind::common_steps, crate::proofs::Runs::behind_second))]
+    fn insert_characters(
+        &mut self,
+        alloc: Global,
+        characters: Characters,
+        ops: &mut Ops,
+    ) -> Result<(), NoMemory>
+        ensures inserted { IfOk result (λ _. ops.new ≡ ops.old ++ texts (here self.old.open_state) (characters_in characters)) }
+        ensures done { IfOk result (λ _. self.new ≡ record self.old { open_state = behind_text (characters_in characters) self.old.open_state }) }
+    {
+        self.builder.insert_body_one(alloc, characters.first, ops)?;
+        match characters.second {
+            None => Ok(()),
+            Some(second) => self.builder.insert_body_one(alloc, second, ops),
+        }
+    }
+
     // Takes the characters from a place on that are inserted as they are, and gives the place behind them.
     fn take_run(
         &mut self,
@@ -466,6 +475,7 @@ impl Machine {
     }
 
     // Processes a token that the tokenizer makes of some characters, and stays in its state.
+    #[inline]
     fn take_token(&mut self, alloc: Global, token: &Token, ops: &mut Ops) -> Result<Stop, NoMemory>
         ensures { IfOk result (λ stop. after_ops ops.old (build self.old.tokenizer self.old.after_cr (token.now ∷ []) self.old.open_state) ≡ took ops.new self.new stop) }
     {
@@ -538,8 +548,7 @@ impl Machine {
         if has_nul(characters) {
             return Ok(None);
         }
-        let inserted = text_of(alloc, characters)?;
-        self.insert_run(alloc, inserted.as_str(), ops)?;
+        self.insert_characters(alloc, characters, ops)?;
         Ok(Some(reference.end))
     }
 
