@@ -1,7 +1,8 @@
 //! The machine.
 
-ghost use Rattle.std.specs.Prelude.{◌≡◌, ◌↔◌, ◌==◌, ◌≢◌, ◌&&◌, ◌<◌, ◌≤◌, ◌+◌, ◌++◌, [], ◌∷◌, Bool, length, take, if◌then◌else◌, IfOk, IfSome, IsTrue};
+ghost use Rattle.std.specs.Prelude.{◌≡◌, ◌↔◌, ◌==◌, ◌≢◌, ◌&&◌, ◌<◌, ◌≤◌, ◌+◌, ◌++◌, [], ◌∷◌, Bool, List, length, take, if◌then◌else◌, IfOk, IfSome, IsTrue};
 ghost use Rattle.std.specs.Str.{chars};
+ghost use Rattle.html_types.specs.declared.operation.Op.{Op};
 ghost use Rattle.standard.specs.Entities.{Entities};
 ghost use Rattle.standard.specs.Foreign.{is_foreign};
 ghost use Rattle.standard.specs.Tokenizer.{Reached, read, read_end};
@@ -434,7 +435,21 @@ impl Machine {
         self.builder.insert_body_text(alloc, run, ops)
     }
 
-    // Takes the characters from a place on that are inserted as they are, and gives the place behind them.
+    // Takes the characters from a place on that the tokenizer only adds to what it holds, or drops, and gives the place behind them.
+    fn append_run(&mut self, text: &str, from: usize) -> Result<usize, NoMemory>
+        requires { IsCharBoundary text.now from }
+        ensures onward { IfOk result (λ end. from ≤ end) }
+        ensures boundary { IfOk result (λ end. IsCharBoundary text.now end) }
+        ensures parsed { IfOk result (λ end. (ops : List Op) → TakesRun text.now from end self.old ops self.new ops) }
+    {
+        if self.after_cr {
+            return Ok(from);
+        }
+        self.tokenizer.append(text, from)
+    }
+
+    // Takes the characters from a place on that are inserted as they are, or that the tokenizer only adds to what it holds, and gives the place
+    // behind them.
     fn take_run(
         &mut self,
         alloc: Global,
@@ -448,7 +463,7 @@ impl Machine {
         ensures parsed { IfOk result (λ end. TakesRun text.now from end self.old ops.old self.new ops.new) }
     {
         if !self.takes_runs() {
-            return Ok(from);
+            return self.append_run(text, from);
         }
         let run = plain_run(text, from);
         if run.is_empty() {

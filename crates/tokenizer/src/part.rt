@@ -101,6 +101,7 @@ fn in_identifier(quote: Quote, class: Class) -> bool
 }
 
 /// Whether this part goes on over a character, and gets it as it is.
+#[inline(always)]
 pub(crate) fn is_of(part: Part, c: char) -> bool
     ensures { result ≡ parts.is_of part c }
 {
@@ -119,6 +120,7 @@ pub(crate) fn is_of(part: Part, c: char) -> bool
 }
 
 // Whether a run of this part ends before a byte.
+#[inline(always)]
 fn ends(part: Part, byte: u8) -> bool
     ensures { result ≡ parts.ends part byte }
 {
@@ -126,6 +128,7 @@ fn ends(part: Part, byte: u8) -> bool
 }
 
 // How many bytes stand before the first that ends a run of this part.
+#[inline]
 fn run_len(bytes: &[u8], part: Part) -> usize
     ensures first { result ≡ position_or_len (parts.ends part) bytes.now }
     ensures within { result ≤ length bytes.now }
@@ -156,6 +159,7 @@ fn gap_end(text: &str, from: usize) -> usize
 }
 
 /// The end of what is left of a part. A CR ends it, whatever the part.
+#[inline]
 pub(crate) fn rest_of(text: &str, from: usize, part: Part) -> usize
     requires { IsCharBoundary text.now from }
     ensures boundary { IsCharBoundary text.now result }
