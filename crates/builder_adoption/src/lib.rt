@@ -123,6 +123,9 @@ pub fn adopt(
 ) -> Result<Adopted, NoMemory>
     ensures { IfOk result (λ a. adopted builder.new ops.new (is_other a) ≡ adopt name builder.old ops.old) }
 {
+    if builder.close_latest(name) {
+        return Ok(Adopted::Done);
+    }
     let mut state = builder.take(alloc);
     let adopted = adopt_in(alloc, &mut state, name, ops)?;
     builder.put(state);

@@ -5,3 +5,4 @@ pub mod Lowered
 pub mod Characters
 pub mod ForeignEnds
 pub mod Pairs
+pub mod Latest

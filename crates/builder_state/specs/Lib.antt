@@ -4,3 +4,5 @@ pub mod Adopted
 pub mod Texts
 pub mod ForeignEnds
 pub mod Pairs
+pub mod AtOnce
+pub mod Latest

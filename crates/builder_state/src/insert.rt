@@ -1,12 +1,12 @@
 //! Insertions (13.2.6.1), and reconstructing the active formatting elements (13.2.4.3).
 
-ghost use Rattle.std.specs.Prelude.{◌≡◌, ◌≤◌, ◌++◌, ◌∷◌, [], length, IfOk};
+ghost use Rattle.std.specs.Prelude.{◌≡◌, ◌<◌, ◌≤◌, ◌++◌, ◌∷◌, [], length, IfOk};
 ghost use Rattle.html_types.specs.Operations.{later};
 ghost use Rattle.html_types.specs.declared.word.Word.TheVariants as word;
 ghost use Rattle.html_types.specs.declared.operation.Op.TheVariants as op;
 ghost use Rattle.standard.specs.Foreign.{adjusted as adjusted_of};
 ghost use Rattle.standard.specs.Stack.{first_open, second_open};
-ghost use Rattle.standard.specs.Instructions.{on, config, made, insert_at, insert, insert_root, void, void_as, tag_of, named, for_tag, here, reopen, reconstruct, insert_foreign, insert_in, space_or_html, insert_text, insert_replacement, insert_comment, append_doctype, add_attributes, detach_second, push_head};
+ghost use Rattle.standard.specs.Instructions.{on, config, made, pushed, insert_at, insert, insert_root, void, void_as, tag_of, named, for_tag, here, reopen, reconstruct, insert_foreign, insert_in, space_or_html, insert_text, insert_replacement, insert_comment, append_doctype, add_attributes, detach_second, push_head};
 
 use crate::foreign::{adjusted, foreign_tag, opened, tag_in};
 use crate::formatting::take_lost;
@@ -21,6 +21,7 @@ use std::alloc::Global;
 pub const LIMIT: usize = 512;
 
 /// The appropriate place for inserting a node.
+#[inline]
 pub fn place_now(state: &Open) -> Place
     ensures { result ≡ here state.now }
 {
@@ -41,6 +42,7 @@ pub fn take_id(next: &mut NodeId) -> Result<NodeId, NoMemory>
 }
 
 /// Asks for an element at a place, and takes the next id for it.
+#[inline]
 fn make(
     alloc: Global,
     state: &mut Open,
@@ -80,9 +82,25 @@ fn insert_element(
     if state.stack.len() >= LIMIT {
         return Ok(Flow::Leave(Next::Deep));
     }
-    let id = make(alloc, state, place, tag, ops)?;
-    state.stack.push(opened(id, tag)?)?;
+    push_made(alloc, state, place, tag, ops)?;
     Ok(Flow::On)
+}
+
+/// Makes an element for a tag at a place, and pushes it.
+pub fn push_made(
+    alloc: Global,
+    state: &mut Open,
+    place: Place,
+    tag: &Tag,
+    ops: &mut Ops,
+) -> Result<(), NoMemory>
+    requires { length state.old.stack < 512 }
+    ensures state { IfOk result (λ _. state.new ≡ pushed tag.now state.old) }
+    ensures ops { IfOk result (λ _. ops.new ≡ made place tag.now state.old ops.old) }
+    ensures bounded { length state.new.stack ≤ 512 }
+{
+    let id = make(alloc, state, place, tag, ops)?;
+    state.stack.push(opened(id, tag)?)
 }
 
 /// Inserts an element for the token's tag at the appropriate place.

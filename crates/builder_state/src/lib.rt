@@ -1,7 +1,9 @@
 //! The open state of tree construction (13.2.4), and what the instructions of a row do to it (13.2.6).
 #![tactic(auto)]
 
+mod at_once;
 mod checks;
+mod closing;
 mod foreign;
 mod foreign_end;
 mod formatting;

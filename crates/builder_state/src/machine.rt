@@ -53,6 +53,7 @@ fn restore(state: &mut Open)
 }
 
 /// Resets the insertion mode appropriately (13.2.4.1).
+#[inline(never)]
 fn reset(state: &mut Open)
     ensures { state.new ≡ record state.old { mode = reset_mode state.old.stack state.old.head state.old.template_modes } }
 {
@@ -80,7 +81,13 @@ fn stop_at(state: &mut Open, ops: &Ops) -> Flow
 }
 
 /// The current node becomes an entry of the list of active formatting elements, with the token's tag.
-fn list_current(alloc: Global, state: &mut Open, token: &Token, ops: &Ops) -> Result<(), NoMemory>
+#[inline(never)]
+pub fn list_current(
+    alloc: Global,
+    state: &mut Open,
+    token: &Token,
+    ops: &Ops,
+) -> Result<(), NoMemory>
     ensures done { IfOk result (λ _. on state.new ops.now ≡ for_tag enlist token.now state.old ops.now) }
     ensures stack { state.new.stack ≡ state.old.stack }
 {

@@ -1,6 +1,6 @@
 //! The pending table character tokens (13.2.6.4.10).
 
-ghost use Rattle.std.specs.Prelude.{◌≡◌, ◌≤◌, ◌++◌, ◌&&◌, ◌||◌, length, IfOk};
+ghost use Rattle.std.specs.Prelude.{◌≡◌, ◌≤◌, ◌++◌, ◌∷◌, [], ◌&&◌, ◌||◌, length, IfOk};
 ghost use Rattle.std.specs.Str.{chars};
 ghost use Rattle.standard.specs.Instructions.{config, on, append_pending, all_space, texts, here, body_character, body_characters, insert_pending};
 ghost use Rattle.builder_state.specs.Texts.{keeps_ok as mode_keeps_ok, behind_text};
@@ -77,6 +77,22 @@ pub fn insert_body_text(
     Ok(())
 }
 
+/// Inserts a character in the same way.
+pub fn insert_body_one(
+    alloc: Global,
+    state: &mut Open,
+    c: char,
+    ops: &mut Ops,
+) -> Result<(), NoMemory>
+    ensures inserted { IfOk result (λ _. ops.new ≡ ops.old ++ texts (here state.old) (c ∷ [])) }
+    ensures done { IfOk result (λ _. state.new ≡ behind_text (c ∷ []) state.old) }
+    ensures stack { state.new.stack ≡ state.old.stack }
+{
+    ops.push_character(alloc, place_now(state), c)?;
+    state.frameset_ok = stays_ok_behind(state.mode, state.frameset_ok, c);
+    Ok(())
+}
+
 /// Whether a character doesn't matter to a frameset in the mode.
 fn keeps_ok(mode: Mode) -> bool
     ensures { result ≡ mode_keeps_ok mode }
@@ -89,6 +105,13 @@ fn stays_ok(mode: Mode, ok: bool, text: &str) -> bool
     ensures { result ≡ ((mode_keeps_ok mode || all_space (chars text.now)) && ok) }
 {
     ok && (keeps_ok(mode) || is_all_space(text))
+}
+
+/// Whether it may behind a character.
+fn stays_ok_behind(mode: Mode, ok: bool, c: char) -> bool
+    ensures { result ≡ ((mode_keeps_ok mode || all_space (c ∷ [])) && ok) }
+{
+    ok && (keeps_ok(mode) || is_space(c))
 }
 
 /// Inserts characters by the rules of "in body", up to one at which an element more than 512 would be open.

@@ -9,13 +9,20 @@ use html_types::{Group, OpenElement, Place, Stack, Word};
 use tag_sets::{is_any, is_the as is_word_of};
 
 /// The appropriate place for inserting a node.
+#[inline]
 pub fn appropriate(foster: bool, stack: &Stack) -> Place
     ensures { result ≡ place foster stack.now }
 {
-    place_for_last(foster, stack.as_slice(), stack)
+    match stack.as_slice().split_last() {
+        Some((last, _)) if !foster && !is_word_of(Word::Template, &last.name) => {
+            Place::Inside(last.id)
+        }
+        _ => place_for_last(foster, stack.as_slice(), stack),
+    }
 }
 
 /// The appropriate place where the target is the last of these elements.
+#[inline(never)]
 pub fn place_for_last(foster: bool, items: &[OpenElement], stack: &Stack) -> Place
     ensures { result ≡ place_for foster (reverse items.now) stack.now }
 {

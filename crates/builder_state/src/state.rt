@@ -1,23 +1,27 @@
 //! The builder of a tree: the open state with at most 512 open elements.
 
-ghost use Rattle.std.specs.Prelude.{◌≡◌, ◌≤◌, ◌↔◌, ◌++◌, length, IsTrue, IfOk, false};
+ghost use Rattle.std.specs.Prelude.{◌≡◌, ◌≤◌, ◌↔◌, ◌++◌, ◌∷◌, [], List, length, IsTrue, IsFalse, IfOk, false};
 ghost use Rattle.std.specs.Str.{chars};
 ghost use Rattle.standard.specs.Instructions.{config, on, here, reconstruct, run, texts, body_character};
 ghost use Rattle.standard.specs.Foreign as foreign;
-ghost use Rattle.standard.specs.Rules.{answer, answer_of, next_of, rules_for};
+ghost use Rattle.standard.specs.Adoption.{adopted, adopt};
+ghost use Rattle.html_types.specs.declared.operation.Op.{Op};
+ghost use Rattle.standard.specs.Rules.{answer, answer_of, rules_for};
 ghost use Rattle.standard.specs.Parser.{opening};
 ghost use Rattle.builder_state.specs.Push.{opened};
 ghost use Rattle.builder_state.specs.Texts.{takes_characters as mode_takes_characters, TakesText, behind_text};
 
+use crate::at_once::{answer_row, asked};
+use crate::closing::close_latest;
 use crate::foreign::{goes_foreign, is_foreign};
 use crate::formatting::none_lost;
 use crate::insert::{LIMIT, place_now, reopen_lost};
 use crate::machine::run_row;
-use crate::pending::{insert_body_character, insert_body_text};
+use crate::pending::{insert_body_character, insert_body_one, insert_body_text};
 use crate::weight::is_light;
 use html_types::{
     Flow, Formats, Instr, Mode, Modes, Next, NoMemory, NodeId, Open, OpenElement, Ops, Place,
-    Stack, Text, Token,
+    Stack, Text, Token, Word,
 };
 use std::alloc::Global;
 use std::marker::Model;
@@ -107,8 +111,7 @@ impl Builder {
     ) -> Result<Next, NoMemory>
         ensures { IfOk result (λ next. answer self.new ops.new next ≡ answer_of (run token.now (on self.old ops.old) program.now)) }
     {
-        let flow = self.run(alloc, program, token, ops)?;
-        Ok(asked(flow))
+        answer_row(alloc, &mut self.state, program, token, ops)
     }
 
     /// Inserts a character by the rules of "in body" (13.2.6.4.7), which are the same for each character but U+0000, and says
@@ -147,6 +150,23 @@ impl Builder {
         ensures done { IfOk result (λ _. self.new ≡ behind_text (chars text.now) self.old) }
     {
         insert_body_text(alloc, &mut self.state, text, ops)
+    }
+
+    /// Inserts a character in the same way.
+    pub fn insert_body_one(&mut self, alloc: Global, c: char, ops: &mut Ops) -> Result<(), NoMemory>
+        ensures inserted { IfOk result (λ _. ops.new ≡ ops.old ++ texts (here self.old) (c ∷ [])) }
+        ensures done { IfOk result (λ _. self.new ≡ behind_text (c ∷ []) self.old) }
+    {
+        insert_body_one(alloc, &mut self.state, c, ops)
+    }
+
+    /// The adoption agency algorithm (13.2.6.4.7) for an end tag of that name, where it only pops the current node and takes its entry off, as
+    /// at nearly each such end tag: the current node is the element of the latest entry, which has the name. Else nothing changes.
+    pub fn close_latest(&mut self, word: Word) -> bool
+        ensures closed { IsTrue result → (o : List Op) → adopted self.new o false ≡ adopt word self.old o }
+        ensures kept { IsFalse result → self.new ≡ self.old }
+    {
+        close_latest(&mut self.state, word)
     }
 
     /// Reconstructs the active formatting elements (13.2.4.3).
@@ -302,16 +322,6 @@ fn takes_characters(mode: Mode) -> bool
     ensures { result ≡ mode_takes_characters mode }
 {
     matches!(&mode, Mode::InBody | Mode::InCell | Mode::InText)
-}
-
-/// What a row asks of its caller.
-fn asked(flow: Flow) -> Next
-    ensures { result ≡ next_of flow }
-{
-    match flow {
-        Flow::On | Flow::Skip => Next::Done,
-        Flow::Leave(next) => next,
-    }
 }
 
 /// Whether the element pointers are the same.

@@ -1,10 +1,11 @@
 -- A tag that is parsed at once.
-use Rattle.std.proofs.Common.{◌≡◌, ℕ, ◌+◌, ◌-◌, ◌≤◌, ◌==◌, ◌||◌, Bool, true, false, List, [], ◌∷◌, ◌++◌, length, take, drop, refl, sym, ap, ◌∙◌, subst, append_assoc, append-nil, arith}
+use Rattle.std.proofs.Common.{◌≡◌, ℕ, ◌+◌, ◌-◌, ◌≤◌, ◌==◌, ◌||◌, Bool, true, false, List, [], ◌∷◌, ◌++◌, length, take, drop, refl, sym, ap, ◌∙◌, subst, append_assoc, append-nil, arith, Result, Ok, Err, IfOk}
 use Rattle.std.specs.Prelude.{Option, Some, None, if◌then◌else◌}
 use Rattle.std.specs.Str.{chars, IsUtf8, IsCharBoundary}
 use Rattle.std.proofs.Math.Seq.{take-add}
 use Rattle.std.proofs.lemmas.List.{length-append}
 use Rattle.std.proofs.lemmas.Str.{chars-append, IsUtf8-take}
+use Rattle.html_types.specs.declared.memory.NoMemory.{NoMemory}
 use Rattle.html_types.specs.declared.operation.Op.{Op}
 use Rattle.html_types.specs.declared.token.Token.{Token}
 use Rattle.html_types.specs.declared.state.TokState.{TokState}
@@ -19,9 +20,10 @@ use Rattle.standard.specs.Parser.{Parser, parser, Took, took, after_ops, build, 
 use Rattle.standard_laws.specs.Laws.{joined, unless_stopped}
 use Rattle.tokenizer_laws.proofs.FeedLemmas.{feed-append, onward-one}
 use Rattle.standard_laws.proofs.Parse.{parse-append}
+use Rattle.tokenizer.specs.Runs.{LeadsTo}
 use Rattle.tokenizer.specs.Whole.{has_cr, piece, MakesAlone}
 use Rattle.parse_machine.specs.Machine.{stops}
-use Rattle.parse_machine.specs.Runs.{IsSomeText, ReadsTags, Takes}
+use Rattle.parse_machine.specs.Runs.{IsSomeText, ReadsTags, Takes, TakesRun}
 use Rattle.parse_machine.specs.declared.machine.Ran.{Ran}
 use Rattle.parse_machine.proofs.MachineLemmas.{IsOver, one-character, over-more, not_stopped, none-waited, taken-read}
 
@@ -178,3 +180,30 @@ over-same {r} {o0} {n} {p} {p'} {o} {o'} {s} e f over = record { ops = f ∙ ove
 pub no_some : (r : Option Ran) → ((ran : Ran) → r ≡ Some ran → ⊥) → r ≡ None
 no_some None h = refl
 no_some (Some ran) h = absurd (h ran refl)
+
+-- ---- characters that the tokenizer only adds to what it holds
+
+pub appended : (text : List ℕ) (from end : ℕ) (p : Parser) (s : TokState) (o : List Op) → IsUtf8 text → IsCharBoundary text from → from ≤ end → p.after_cr ≡ false
+    → LeadsTo p.tokenizer (piece text from end) s → has_cr (piece text from end) ≡ false → TakesRun text from end p o (record p { tokenizer = s }) o
+appended text from end p s o u b h after leads no_cr = record {
+  run = piece text from end;
+  added = [];
+  front = piece-front text from end u b h;
+  ops = sym (append-nil o);
+  parsed = λ es.
+      let q : Parser = parser p.tokenizer false p.open_state in
+      let same : p ≡ q = ap (λ cr. parser p.tokenizer cr p.open_state) after in
+      let run : List ℕ = piece text from end in
+      let fed : feed es (is_foreign p.open_state) p.tokenizer run ≡ record { tokens = []; state = s } = leads es (is_foreign p.open_state) in
+      ap (λ (v : Parser). parse es v run) same
+      ∙ silent_parsed es p.tokenizer p.open_state run no_cr (ap (λ (m : Reached). m.tokens) fed)
+      ∙ ap (λ (m : Reached). record { ops = []; parser = parser m.state false p.open_state; used = length run; stop = stop.InputEnd }) fed
+      ∙ ap (λ cr. record { ops = []; parser = parser s cr p.open_state; used = length run; stop = stop.InputEnd }) (sym after);
+}
+
+-- the same of what a function came to
+pub appended-if : (text : List ℕ) (from : ℕ) (p : Parser) (s : TokState) (r : Result ℕ NoMemory) → IsUtf8 text → IsCharBoundary text from → p.after_cr ≡ false
+    → IfOk r (λ end. from ≤ end) → IfOk r (λ end. LeadsTo p.tokenizer (piece text from end) s) → IfOk r (λ end. has_cr (piece text from end) ≡ false)
+    → IfOk r (λ end. (o : List Op) → TakesRun text from end p o (record p { tokenizer = s }) o)
+appended-if text from p s (Ok end) u b after onward leads no_cr = λ o. appended text from end p s o u b onward after leads no_cr
+appended-if text from p s (Err e) u b after onward leads no_cr = tt

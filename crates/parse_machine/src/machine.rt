@@ -1,7 +1,8 @@
 //! The machine.
 
-ghost use Rattle.std.specs.Prelude.{◌≡◌, ◌↔◌, ◌==◌, ◌≢◌, ◌&&◌, ◌<◌, ◌≤◌, ◌+◌, ◌++◌, [], ◌∷◌, Bool, length, take, if◌then◌else◌, IfOk, IfSome, IsTrue};
+ghost use Rattle.std.specs.Prelude.{◌≡◌, ◌↔◌, ◌==◌, ◌≢◌, ◌&&◌, ◌<◌, ◌≤◌, ◌+◌, ◌++◌, [], ◌∷◌, Bool, List, length, take, if◌then◌else◌, IfOk, IfSome, IsTrue};
 ghost use Rattle.std.specs.Str.{chars};
+ghost use Rattle.html_types.specs.declared.operation.Op.{Op};
 ghost use Rattle.standard.specs.Entities.{Entities};
 ghost use Rattle.standard.specs.Foreign.{is_foreign};
 ghost use Rattle.standard.specs.Tokenizer.{Reached, read, read_end};
@@ -22,8 +23,8 @@ use builder_state::Builder;
 use char_class::{class_of, first_mark};
 use entity_table::{Characters, Table};
 use html_types::{
-    Ending, Finish, Name, Next, NoMemory, NodeId, Ops, RawText, Stop, Text, TextState, TokState,
-    Token, TokenizerSwitch, Why, Word, char_at,
+    Ending, Finish, Name, Next, NoMemory, NodeId, Ops, RawText, Stop, TextState, TokState, Token,
+    TokenizerSwitch, Why, Word, char_at,
 };
 use std::alloc::Global;
 use std::marker::Model;
@@ -114,6 +115,7 @@ pub(crate) enum Went {
 }
 
 // Processes a token, with others waiting behind it. The tokenizer may then read on in another way.
+#[inline]
 fn process(
     alloc: Global,
     tokenizer: &mut Tokenizer,
@@ -266,6 +268,7 @@ fn plain_token(tokenizer: &Tokenizer, c: char) -> Option<Token>
 }
 
 // Processes the only token that a character makes.
+#[inline]
 fn process_alone(
     alloc: Global,
     tokenizer: &mut Tokenizer,
@@ -363,18 +366,6 @@ fn has_nul(characters: Characters) -> bool
     characters.first == '\0' || characters.second == Some('\0')
 }
 
-// What a reference stands for.
-fn text_of(alloc: Global, characters: Characters) -> Result<Text, NoMemory>
-    ensures { IfOk result (λ t. t ≡ characters_in characters) }
-{
-    let mut text = Text::new(alloc);
-    text.push(characters.first)?;
-    if let Some(second) = characters.second {
-        text.push(second)?;
-    }
-    Ok(text)
-}
-
 impl Machine {
     /// The parser at the beginning of a page. Its elements are of that realm. It takes no memory.
     pub fn new(alloc: Global, realm: u64) -> Machine
@@ -388,6 +379,7 @@ impl Machine {
     }
 
     // Takes one character.
+    #[inline(never)]
     fn take(
         &mut self,
         alloc: Global,
@@ -434,7 +426,39 @@ impl Machine {
         self.builder.insert_body_text(alloc, run, ops)
     }
 
-    // Takes the characters from a place on that are inserted as they are, and gives the place behind them.
+    // Inserts what a reference stands for, as it is.
+    #[tactic(auto, using(std::proofs::lemmas::Grind::common_steps, crate::proofs::Runs::behind_second))]
+    fn insert_characters(
+        &mut self,
+        alloc: Global,
+        characters: Characters,
+        ops: &mut Ops,
+    ) -> Result<(), NoMemory>
+        ensures inserted { IfOk result (λ _. ops.new ≡ ops.old ++ texts (here self.old.open_state) (characters_in characters)) }
+        ensures done { IfOk result (λ _. self.new ≡ record self.old { open_state = behind_text (characters_in characters) self.old.open_state }) }
+    {
+        self.builder.insert_body_one(alloc, characters.first, ops)?;
+        match characters.second {
+            None => Ok(()),
+            Some(second) => self.builder.insert_body_one(alloc, second, ops),
+        }
+    }
+
+    // Takes the characters from a place on that the tokenizer only adds to what it holds, or drops, and gives the place behind them.
+    fn append_run(&mut self, text: &str, from: usize) -> Result<usize, NoMemory>
+        requires { IsCharBoundary text.now from }
+        ensures onward { IfOk result (λ end. from ≤ end) }
+        ensures boundary { IfOk result (λ end. IsCharBoundary text.now end) }
+        ensures parsed { IfOk result (λ end. (ops : List Op) → TakesRun text.now from end self.old ops self.new ops) }
+    {
+        if self.after_cr {
+            return Ok(from);
+        }
+        self.tokenizer.append(text, from)
+    }
+
+    // Takes the characters from a place on that are inserted as they are, or that the tokenizer only adds to what it holds, and gives the place
+    // behind them.
     fn take_run(
         &mut self,
         alloc: Global,
@@ -448,7 +472,7 @@ impl Machine {
         ensures parsed { IfOk result (λ end. TakesRun text.now from end self.old ops.old self.new ops.new) }
     {
         if !self.takes_runs() {
-            return Ok(from);
+            return self.append_run(text, from);
         }
         let run = plain_run(text, from);
         if run.is_empty() {
@@ -466,6 +490,7 @@ impl Machine {
     }
 
     // Processes a token that the tokenizer makes of some characters, and stays in its state.
+    #[inline]
     fn take_token(&mut self, alloc: Global, token: &Token, ops: &mut Ops) -> Result<Stop, NoMemory>
         ensures { IfOk result (λ stop. after_ops ops.old (build self.old.tokenizer self.old.after_cr (token.now ∷ []) self.old.open_state) ≡ took ops.new self.new stop) }
     {
@@ -538,8 +563,7 @@ impl Machine {
         if has_nul(characters) {
             return Ok(None);
         }
-        let inserted = text_of(alloc, characters)?;
-        self.insert_run(alloc, inserted.as_str(), ops)?;
+        self.insert_characters(alloc, characters, ops)?;
         Ok(Some(reference.end))
     }
 

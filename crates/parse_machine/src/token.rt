@@ -59,6 +59,7 @@ fn by_mode(
 
 // The adoption agency algorithm (13.2.6.4.7), and the rest of the row that asked for it.
 #[tactic(auto, unfolding(standard::specs::Rules::adopting))]
+#[inline(never)]
 fn by_adoption(
     alloc: Global,
     builder: &mut Builder,
@@ -142,6 +143,7 @@ fn by_all_rules(
 
 // A character by the rules of "in body", as most of a page's are: what its row comes to, at once.
 #[tactic(auto, using(std::proofs::lemmas::Grind::common_steps, crate::proofs::Characters::character_in_body))]
+#[inline(never)]
 fn by_body_row(
     alloc: Global,
     builder: &mut Builder,

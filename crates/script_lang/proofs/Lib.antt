@@ -3,6 +3,7 @@ pub mod Words
 pub mod Ends
 pub mod Utf8Ends
 pub mod JsonStrings
+pub mod PlainStrings
 pub mod Values
 pub mod Fronts
 pub mod Shorter

@@ -93,3 +93,10 @@ module _ (t inside : List ℕ) (end : ℕ) (u : IsUtf8 t) (e : t ≡ 34 ∷ insi
       ∙ twice (chars rest) (content plain (take end inside))
       ∙ ap (λ r. option_map (λ v. (chars v, chars r)) (content plain (take end inside))) rest_is
       ∙ sym by_content
+
+  -- where the content means itself
+  pub string_value-plain : (front rest : List ℕ) → content plain (take end inside) ≡ Some front → rest ≡ drop end inside → Some (chars front, chars rest) ≡ string_value (chars t)
+  string_value-plain front rest value back =
+      ap (λ bytes. Some (chars front, chars bytes)) back
+      ∙ sym (ap (option_map (λ (v : List ℕ). (chars v, chars (drop end inside)))) value)
+      ∙ sym by_content

@@ -1,11 +1,11 @@
 //! The strings of a script, which are JSON strings.
 
-ghost use Rattle.std.specs.Prelude.{◌≡◌, option_map, option_and_then, IfOk, IfSome, false};
+ghost use Rattle.std.specs.Prelude.{◌≡◌, ◌+◌, ◌∷◌, option_map, option_and_then, IfOk, IfSome, false};
 ghost use Rattle.std.specs.Str.{chars, IsCharBoundary, IsUtf8};
 ghost use Rattle.serde_json.specs.Find.{as_str};
 ghost use Rattle.serde_json.specs.Read.{read};
 ghost use Rattle.standard.specs.Statements.{string_end, string_value};
-ghost use Rattle.script_lang.specs.Parts.{cut, parted};
+ghost use Rattle.script_lang.specs.Parts.{IsPlainTo, cut, is_special, parted};
 
 use html_types::{NoMemory, Text};
 use serde_json::Value;
@@ -29,6 +29,28 @@ fn string_end(text: &str) -> Option<usize>
     None
 }
 
+/// Whether the byte ends a string, or the part of it that means itself: a quote, a backslash or a control character.
+fn is_special(byte: u8) -> bool
+    ensures { result ≡ is_special byte }
+{
+    byte == b'"' || byte == b'\\' || byte < b' '
+}
+
+/// The place of the quote that ends a string in which no backslash and no control character stands: all before it is the
+/// string's value. `text` begins behind the quote that begins it.
+fn plain_end(text: &str) -> Option<usize>
+    ensures found { IfSome result (λ end. IsPlainTo text.now end) }
+    ensures boundary { IfSome result (λ end. IsCharBoundary text.now end) }
+    ensures behind { IfSome result (λ end. IsCharBoundary text.now (end + 1)) }
+{
+    for (place, byte) in text.as_bytes().iter().enumerate() {
+        if is_special(*byte) {
+            return if *byte == b'"' { Some(place) } else { None };
+        }
+    }
+    None
+}
+
 /// The value of a JSON string, which is given with its quotes; none where it is no JSON string.
 fn json_value(alloc: Global, quoted: &str) -> Result<Option<Text>, NoMemory>
     ensures { IfOk result
@@ -44,6 +66,27 @@ fn json_value(alloc: Global, quoted: &str) -> Result<Option<Text>, NoMemory>
     }
 }
 
+/// The value of the string with which the text begins, read as JSON; `inside` is the text behind its first quote.
+fn escaped_value<'a>(
+    alloc: Global,
+    text: &'a str,
+    inside: &str,
+) -> Result<Option<(Text, &'a str)>, NoMemory>
+    requires { text.now ≡ 34 ∷ inside.now }
+    ensures value { IfOk result
+        (λ found. option_map parted found ≡ string_value (chars text.now)) }
+    ensures rest_is_text { IfOk result (λ found. IfSome found (λ string. IsUtf8 string.1.now)) }
+{
+    let Some(end) = string_end(inside) else {
+        return Ok(None);
+    };
+    let (quoted, rest) = text.split_at(end + 1);
+    match json_value(alloc, quoted)? {
+        Some(value) => Ok(Some((value, rest))),
+        None => Ok(None),
+    }
+}
+
 /// The value of the string with which the text begins, and the text behind that string; none where it begins with none.
 pub(crate) fn string_value<'a>(
     alloc: Global,
@@ -56,12 +99,11 @@ pub(crate) fn string_value<'a>(
     let Some(inside) = text.strip_prefix('"') else {
         return Ok(None);
     };
-    let Some(end) = string_end(inside) else {
-        return Ok(None);
-    };
-    let (quoted, rest) = text.split_at(end + 1);
-    match json_value(alloc, quoted)? {
-        Some(value) => Ok(Some((value, rest))),
-        None => Ok(None),
+    match plain_end(inside) {
+        Some(end) => {
+            let value = Text::from_str(alloc, &inside[..end])?;
+            Ok(Some((value, &inside[end + 1..])))
+        }
+        None => escaped_value(alloc, text, inside),
     }
 }

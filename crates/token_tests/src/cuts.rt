@@ -59,7 +59,8 @@ fn begin(alloc: Global, start: Start) -> Tokenizer {
     tokenizer
 }
 
-// Adds the tokens of a piece, of which there are few.
+// Adds the tokens of a piece, of which there are few. What the state only adds to what it holds is taken at once at the beginning of the piece
+// and behind each token, so that cut texts are read so from every place, and whole ones character by character.
 fn read(
     alloc: Global,
     table: &Table,
@@ -70,11 +71,15 @@ fn read(
 ) -> Result<(), NoMemory> {
     let mut place = 0;
     for _ in 0..MANY {
-        let Some((_, rest)) = piece.split_at_checked(place) else {
+        let Some((_, ahead)) = piece.split_at_checked(place) else {
+            break;
+        };
+        let added = tokenizer.append(ahead, 0)?;
+        let Some((_, rest)) = ahead.split_at_checked(added) else {
             break;
         };
         let Paused { pause, used } = tokenizer.run(alloc, table, foreign, rest)?;
-        place = place.saturating_add(used);
+        place = place.saturating_add(added).saturating_add(used);
         match pause {
             Pause::Token(token) => tokens.push(token)?,
             Pause::InputEnd => break,

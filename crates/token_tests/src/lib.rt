@@ -4,6 +4,8 @@
 #[cfg(test)]
 mod cuts;
 #[cfg(test)]
+mod marks;
+#[cfg(test)]
 mod spelling;
 #[cfg(test)]
 mod tests;

@@ -120,6 +120,36 @@ fn marks() -> [Row; 22] {
     ]
 }
 
+// Runs of characters that a state only adds to what it holds or drops, with those among them at which one ends.
+fn runs() -> [Row; 9] {
+    [
+        data(
+            "<!--ab\rc\0d-e<f--g->h\u{E9}-->",
+            "<!--ab\rc\u{FFFD}d-e<f--g->h\u{E9}-->$",
+        ),
+        data("<!xy\rz\0-<w\u{E9}>", "<!--xy\rz\u{FFFD}-<w\u{E9}-->$"),
+        data("<!DOCTYPE h\rt\0M-l<\u{E9}>", "<!h\rt\u{FFFD}m-l<\u{E9}!>$"),
+        data(
+            "<!DOCTYPE a PUBLIC \"x\ry\0-<'\u{E9}\" '-\r\0<\"'>",
+            "<!a!>$",
+        ),
+        data("<!DOCTYPE a b\rc\0-<\"\u{E9}>", "<!a?>$"),
+        data(
+            "<aB\rc\0-<\u{E9} dE\rf\0-<\u{E9}>",
+            "<ab\rc\u{FFFD}-<\u{E9} de\rf\u{FFFD}-<\u{E9}=\"\">$",
+        ),
+        data(
+            "<a b=\"x\ry\0z-<'\u{E9}&\">",
+            "<a b=\"x\ry\u{FFFD}z-<'\u{E9}&\">$",
+        ),
+        data(
+            "<a b='x\ry\0-<\"' c=x\ry\0-<\"'\u{E9}>",
+            "<a b=\"x\ry\u{FFFD}-<\"\" c=\"x\ry\u{FFFD}-<\"'\u{E9}\">$",
+        ),
+        data("<a b=x b=\"y\r\0-<\" b='\r-' b=\r\0-<>", "<a b=\"x\">$"),
+    ]
+}
+
 // The text of a title, a style and a script.
 fn texts() -> [Row; 11] {
     [
@@ -176,13 +206,14 @@ fn sections() -> [Row; 13] {
 fn texts_give_their_tokens(rt: HostRuntime) -> Result<(), Fail> {
     let table = Table::read(rt.alloc(), ENTITIES)?;
     let (tags, references, marks, texts) = (tags(), references(), marks(), texts());
-    let sections = sections();
+    let (sections, runs) = (sections(), runs());
     for rows in [
         &tags[..],
         &references[..],
         &marks[..],
         &texts[..],
         &sections[..],
+        &runs[..],
     ] {
         for row in rows {
             assert!(rt; gives(rt.alloc(), &table, row)?, "{}", row.text);
@@ -195,13 +226,14 @@ fn texts_give_their_tokens(rt: HostRuntime) -> Result<(), Fail> {
 fn texts_give_the_same_in_two(rt: HostRuntime) -> Result<(), Fail> {
     let table = Table::read(rt.alloc(), ENTITIES)?;
     let (tags, references, marks, texts) = (tags(), references(), marks(), texts());
-    let sections = sections();
+    let (sections, runs) = (sections(), runs());
     for rows in [
         &tags[..],
         &references[..],
         &marks[..],
         &texts[..],
         &sections[..],
+        &runs[..],
     ] {
         for row in rows {
             assert!(rt; gives_in_two(rt.alloc(), &table, row)?, "{}", row.text);
@@ -214,13 +246,14 @@ fn texts_give_the_same_in_two(rt: HostRuntime) -> Result<(), Fail> {
 fn texts_give_the_same_in_three(rt: HostRuntime) -> Result<(), Fail> {
     let table = Table::read(rt.alloc(), ENTITIES)?;
     let (tags, references, marks, texts) = (tags(), references(), marks(), texts());
-    let sections = sections();
+    let (sections, runs) = (sections(), runs());
     for rows in [
         &tags[..],
         &references[..],
         &marks[..],
         &texts[..],
         &sections[..],
+        &runs[..],
     ] {
         for row in rows {
             assert!(rt; gives_in_three(rt.alloc(), &table, row)?, "{}", row.text);

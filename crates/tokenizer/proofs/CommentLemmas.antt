@@ -14,8 +14,9 @@ use Rattle.standard.specs.CommentStates.{in_comment, comment_start_row, comment_
 use Rattle.standard.specs.Entities.{Entities}
 use Rattle.standard.specs.Step.{Step, data_state, in_tag, in_mark, to, again}
 use Rattle.standard.specs.Tokenizer.{Reached, row, feed, settle}
-use Rattle.tokenizer.specs.Comments.{stays, begins, is_inside, begins_inside, OpensComment, Continues}
-use Rattle.tokenizer.specs.Whole.{MakesAlone}
+use Rattle.tokenizer.specs.Comments.{begins, begins_inside, OpensComment, Continues}
+use Rattle.tokenizer.specs.declared.part.Part.TheVariants as part
+use Rattle.tokenizer.specs.Whole.{in_comment_text, is_of, all_of, MakesAlone}
 use Rattle.tokenizer.proofs.WholeLemmas.{feed-to, feed-again}
 
 -- ---- `<!--`
@@ -40,27 +41,27 @@ OpensComment-same e o es foreign rest = ap (λ (l : List ℕ). feed es foreign d
 
 -- ---- its text
 
-inside_row : (text : List ℕ) (k : Class) (c : ℕ) → stays k ≡ true → shown c ≡ c → comment_inside_row text k c ≡ to (in_comment (Inside (text ++ c ∷ [])))
+pub inside_row : (text : List ℕ) (k : Class) (c : ℕ) → in_comment_text k ≡ true → shown c ≡ c → comment_inside_row text k c ≡ to (in_comment (Inside (text ++ c ∷ [])))
 inside_row text Hyphen c h e = absurd (true≢false (sym h))
 inside_row text Less c h e = absurd (true≢false (sym h))
 inside_row text InputEnd c h e = absurd (true≢false (sym h))
 inside_row text _ c h e = ap (λ (x : ℕ). to (in_comment (Inside (text ++ x ∷ [])))) e
 
-row_of : (es : Entities) (foreign : Bool) (text : List ℕ) (c : ℕ) → is_inside c ≡ true → row es foreign (in_comment (Inside text)) (class_of c) c ≡ to (in_comment (Inside (text ++ c ∷ [])))
-row_of es foreign text c h = let p = and_parts (stays (class_of c)) (shown c == c) h in inside_row text (class_of c) c p.0 ((Decides-eqb (shown c) c).0 p.1)
+row_of : (es : Entities) (foreign : Bool) (text : List ℕ) (c : ℕ) → is_of part.Comment c ≡ true → row es foreign (in_comment (Inside text)) (class_of c) c ≡ to (in_comment (Inside (text ++ c ∷ [])))
+row_of es foreign text c h = let p = and_parts (in_comment_text (class_of c)) (shown c == c) h in inside_row text (class_of c) c p.0 ((Decides-eqb (shown c) c).0 p.1)
 
-pub continues-one : (c : ℕ) → is_inside c ≡ true → Continues (c ∷ [])
+pub continues-one : (c : ℕ) → is_of part.Comment c ≡ true → Continues (c ∷ [])
 continues-one c h es foreign text rest = feed-to es foreign (in_comment (Inside text)) (in_comment (Inside (text ++ c ∷ []))) c rest (row_of es foreign text c h)
 
-dash_row : (text : List ℕ) (k : Class) (c : ℕ) → stays k ≡ true → comment_end_dash_row text k c ≡ again (in_comment (Inside (text ++ 45 ∷ [])))
+dash_row : (text : List ℕ) (k : Class) (c : ℕ) → in_comment_text k ≡ true → comment_end_dash_row text k c ≡ again (in_comment (Inside (text ++ 45 ∷ [])))
 dash_row text Hyphen c h = absurd (true≢false (sym h))
 dash_row text Less c h = absurd (true≢false (sym h))
 dash_row text InputEnd c h = absurd (true≢false (sym h))
 dash_row text _ c h = refl
 
-pub continues-dash : (c : ℕ) → is_inside c ≡ true → Continues (45 ∷ c ∷ [])
+pub continues-dash : (c : ℕ) → is_of part.Comment c ≡ true → Continues (45 ∷ c ∷ [])
 continues-dash c h es foreign text rest =
-    let p = and_parts (stays (class_of c)) (shown c == c) h in
+    let p = and_parts (in_comment_text (class_of c)) (shown c == c) h in
     let dashed : List ℕ = text ++ 45 ∷ [] in
     feed-to es foreign (in_comment (Inside text)) (in_comment (EndDash text)) 45 (c ∷ rest) refl
     ∙ feed-again es foreign (in_comment (EndDash text)) (in_comment (Inside dashed)) c rest (dash_row text (class_of c) c p.0) (ap (λ (r : Step). r.again) (row_of es foreign dashed c h))
@@ -76,6 +77,12 @@ continues-both xs ys a b es foreign text rest =
     ∙ a es foreign text (ys ++ rest)
     ∙ b es foreign (text ++ xs) rest
     ∙ ap (λ (l : List ℕ). feed es foreign (in_comment (Inside l)) rest) (append_assoc text xs ys)
+
+pub continues-run : (cs : List ℕ) → all_of part.Comment cs ≡ true → Continues cs
+continues-run [] h = continues-none
+continues-run (c ∷ cs) h =
+    let p = and_parts (is_of part.Comment c) (all_of part.Comment cs) h in
+    continues-both (c ∷ []) cs (continues-one c p.0) (continues-run cs p.1)
 
 pub Continues-same : {xs ys : List ℕ} → xs ≡ ys → Continues ys → Continues xs
 Continues-same e n es foreign text rest =
@@ -93,7 +100,7 @@ start_row _ c h = refl
 feed-text : (es : Entities) (foreign : Bool) (inside rest : List ℕ) → begins_inside inside ≡ true → Continues inside → feed es foreign (in_comment Start) (inside ++ rest) ≡ feed es foreign (in_comment (Inside inside)) rest
 feed-text es foreign [] rest b n = absurd (true≢false (sym b))
 feed-text es foreign (c ∷ cs) rest b n =
-    let p = and_parts (begins (class_of c)) (is_inside c) b in
+    let p = and_parts (begins (class_of c)) (is_of part.Comment c) b in
     feed-again es foreign (in_comment Start) (in_comment (Inside [])) c (cs ++ rest) (start_row (class_of c) c p.0) (ap (λ (r : Step). r.again) (row_of es foreign [] c p.1))
     ∙ n es foreign [] rest
 

@@ -31,8 +31,8 @@ use Rattle.standard.specs.TagStates.{tag_name_row, tag_open_row, end_tag_open_ro
 use Rattle.standard.specs.Tokenizer.{Reached, after_tokens, row, settle, readings, reading, read, feed}
 use Rattle.tokenizer_laws.proofs.FeedLemmas.{onward-front}
 use Rattle.tokenizer_laws.proofs.SettleLemmas.{settle-again, settle-done, reading-emit}
-use Rattle.tokenizer.specs.declared.whole.Part.{Part}
-use Rattle.tokenizer.specs.declared.whole.Part.TheVariants as part
+use Rattle.tokenizer.specs.declared.part.Part.{Part}
+use Rattle.tokenizer.specs.declared.part.Part.TheVariants as part
 use Rattle.tokenizer.specs.declared.whole.Behind.{Behind}
 use Rattle.tokenizer.specs.declared.whole.Behind.TheVariants as behind
 use Rattle.tokenizer.specs.Whole.{in_name, in_attribute_name, in_quoted, in_unquoted, is_space, is_alpha, is_of, all_of, begins_name, begins_with, has_cr, bare, is_gap, goes_on, begins_part, may_close, quote_mark, close_text, piece, value_part, value_of, Opens, Leads, Reads, HasValue, Gives, MakesAlone}
@@ -83,7 +83,7 @@ all_of-one p c h = rw h refl
 pub all_of-cons : (p : Part) (c : ℕ) (cs : List ℕ) → is_of p c ≡ true → all_of p cs ≡ true → all_of p (c ∷ cs) ≡ true
 all_of-cons p c cs h k = rw h k
 
-name_row : (k : Class) (tag : PartialTag) (c : ℕ) → in_name k ≡ true → name_char c ≡ c → tag_name_row tag k c ≡ to (in_tag (TagName (record tag { name = tag.name ++ c ∷ [] })))
+pub name_row : (k : Class) (tag : PartialTag) (c : ℕ) → in_name k ≡ true → name_char c ≡ c → tag_name_row tag k c ≡ to (in_tag (TagName (record tag { name = tag.name ++ c ∷ [] })))
 name_row Space tag c h e = absurd (true≢false (sym h))
 name_row Slash tag c h e = absurd (true≢false (sym h))
 name_row Greater tag c h e = absurd (true≢false (sym h))
@@ -152,7 +152,7 @@ Opens-same k e o es foreign rest h = ap (λ (l : List ℕ). feed es foreign data
 
 -- ---- attributes
 
-attribute_row : (k : Class) (tag : PartialTag) (n : List ℕ) (c : ℕ) → in_attribute_name k ≡ true → name_char c ≡ c → attribute_name_row tag n k c ≡ to (in_tag (AttributeName tag (n ++ c ∷ [])))
+pub attribute_row : (k : Class) (tag : PartialTag) (n : List ℕ) (c : ℕ) → in_attribute_name k ≡ true → name_char c ≡ c → attribute_name_row tag n k c ≡ to (in_tag (AttributeName tag (n ++ c ∷ [])))
 attribute_row Space tag n c h e = absurd (true≢false (sym h))
 attribute_row Slash tag n c h e = absurd (true≢false (sym h))
 attribute_row Greater tag n c h e = absurd (true≢false (sym h))
@@ -176,7 +176,7 @@ name_goes_on Greater h = absurd (true≢false (sym h))
 name_goes_on InputEnd h = absurd (true≢false (sym h))
 name_goes_on _ h = refl
 
-value_row : (q : Quote) (k : Class) (tag : PartialTag) (a : Attribute) (c : ℕ) → in_quoted q k ≡ true → shown c ≡ c → quoted_row tag (Some a) q k c ≡ to (in_tag (AttributeValueQuoted tag (Some (record a { value = a.value ++ c ∷ [] })) q))
+pub value_row : (q : Quote) (k : Class) (tag : PartialTag) (a : Attribute) (c : ℕ) → in_quoted q k ≡ true → shown c ≡ c → quoted_row tag (Some a) q k c ≡ to (in_tag (AttributeValueQuoted tag (Some (record a { value = a.value ++ c ∷ [] })) q))
 value_row quote.Double DoubleQuote tag a c h e = absurd (true≢false (sym h))
 value_row quote.Double Ampersand tag a c h e = absurd (true≢false (sym h))
 value_row quote.Double InputEnd tag a c h e = absurd (true≢false (sym h))
@@ -186,7 +186,7 @@ value_row quote.Single Ampersand tag a c h e = absurd (true≢false (sym h))
 value_row quote.Single InputEnd tag a c h e = absurd (true≢false (sym h))
 value_row quote.Single _ tag a c h e = ap (λ (x : ℕ). to (in_tag (AttributeValueQuoted tag (Some (record a { value = a.value ++ x ∷ [] })) quote.Single))) e
 
-unquoted_value_row : (k : Class) (tag : PartialTag) (a : Attribute) (c : ℕ) → in_unquoted k ≡ true → shown c ≡ c → unquoted_row tag (Some a) k c ≡ to (in_tag (AttributeValueUnquoted tag (Some (record a { value = a.value ++ c ∷ [] }))))
+pub unquoted_value_row : (k : Class) (tag : PartialTag) (a : Attribute) (c : ℕ) → in_unquoted k ≡ true → shown c ≡ c → unquoted_row tag (Some a) k c ≡ to (in_tag (AttributeValueUnquoted tag (Some (record a { value = a.value ++ c ∷ [] }))))
 unquoted_value_row Space tag a c h e = absurd (true≢false (sym h))
 unquoted_value_row DoubleQuote tag a c h e = absurd (true≢false (sym h))
 unquoted_value_row SingleQuote tag a c h e = absurd (true≢false (sym h))

@@ -1,26 +1,17 @@
 -- A comment that stands whole in a text.
-use Rattle.std.specs.Prelude.{◌≡◌, ℕ, Bool, true, false, List, [], ◌∷◌, ◌++◌, ◌&&◌, ◌==◌}
+use Rattle.std.specs.Prelude.{◌≡◌, ℕ, Bool, true, false, List, [], ◌∷◌, ◌++◌, ◌&&◌}
 use Rattle.html_types.specs.declared.class.Class.{Class}
 use Rattle.html_types.specs.declared.class.Class.TheVariants.{Hyphen, Less, Greater, InputEnd}
 use Rattle.html_types.specs.declared.mark_state.CommentState.TheVariants.{Start, Inside}
-use Rattle.standard.specs.Class.{class_of, shown}
+use Rattle.standard.specs.Class.{class_of}
 use Rattle.standard.specs.CommentStates.{in_comment}
 use Rattle.standard.specs.Entities.{Entities}
 use Rattle.standard.specs.Step.{data_state}
 use Rattle.standard.specs.Tokenizer.{feed}
+use Rattle.tokenizer.specs.declared.part.Part.TheVariants as part
+use Rattle.tokenizer.specs.Whole.{is_of}
 
--- the classes that a comment goes on over
-abbrev pub stays : Class → Bool
-stays Hyphen = false
-stays Less = false
-stays InputEnd = false
-stays _ = true
-
--- a character that a comment gets as it is
-abbrev pub is_inside : ℕ → Bool
-is_inside c = stays (class_of c) && (shown c == c)
-
--- and with which it may begin
+-- the classes with which a comment's text may begin
 abbrev pub begins : Class → Bool
 begins Hyphen = false
 begins Less = false
@@ -30,7 +21,7 @@ begins _ = true
 
 abbrev pub begins_inside : List ℕ → Bool
 begins_inside [] = false
-begins_inside (c ∷ cs) = begins (class_of c) && is_inside c
+begins_inside (c ∷ cs) = begins (class_of c) && is_of part.Comment c
 
 -- behind these characters a comment begins
 abbrev pub OpensComment : List ℕ → Type 0

@@ -1,7 +1,9 @@
--- What a run of the tokenizer answers.
-use Rattle.std.specs.Prelude.{◌≡◌, ℕ, Bool, List, [], ◌∷◌, ◌++◌, length}
+-- What a run of the tokenizer answers, and what characters come to that make no token.
+use Rattle.std.specs.Prelude.{◌≡◌, ℕ, Bool, List, [], ◌∷◌, ◌++◌, length, Option, Some, None}
+use Rattle.html_types.specs.declared.attributes.Attribute.{Attribute}
 use Rattle.standard.specs.Entities.{Entities}
-use Rattle.standard.specs.Tokenizer.{Reached, onward}
+use Rattle.html_types.specs.declared.state.TokState.{TokState}
+use Rattle.standard.specs.Tokenizer.{Reached, feed, onward}
 use Rattle.tokenizer.specs.declared.run.Pause.{Pause}
 use Rattle.tokenizer.specs.declared.run.Pause.TheVariants.{Token, InputEnd}
 use Rattle.tokenizer.specs.declared.run.Paused.{Paused}
@@ -22,3 +24,12 @@ UsesAllAt InputEnd used text = used ≡ length text
 
 abbrev pub UsesAll : Paused → List ℕ → Type 0
 UsesAll r text = UsesAllAt r.pause r.used text
+
+-- a held value with more characters; a dropped one stays so
+abbrev pub longer : Option Attribute → List ℕ → Option Attribute
+longer None cs = None
+longer (Some a) cs = Some (record a { value = a.value ++ cs })
+
+-- Read one by one in a state, these characters make no token and lead to another.
+abbrev pub LeadsTo : TokState → List ℕ → TokState → Type 0
+LeadsTo s cs t = (es : Entities) (foreign : Bool) → feed es foreign s cs ≡ record { tokens = []; state = t }

@@ -1,11 +1,11 @@
 -- A tag that stands whole in a text.
-use Rattle.std.specs.Prelude.{◌≡◌, ℕ, Bool, true, false, not, List, [], ◌∷◌, ◌++◌, ◌&&◌, ◌==◌, Option, Some, None, slice_range}
+use Rattle.std.specs.Prelude.{◌≡◌, ℕ, Bool, true, false, not, List, [], ◌∷◌, ◌++◌, ◌&&◌, ◌||◌, ◌==◌, nat_lt, Option, Some, None, slice_range}
 use Rattle.std.specs.List.{list_any}
 use Rattle.std.specs.Str.{chars}
 use Rattle.html_types.specs.Attributes.{has_name}
 use Rattle.html_types.specs.declared.attributes.Attribute.{Attribute}
 use Rattle.html_types.specs.declared.class.Class.{Class}
-use Rattle.html_types.specs.declared.class.Class.TheVariants.{Space, DoubleQuote, Ampersand, SingleQuote, Slash, Equals, Greater, Alpha, InputEnd}
+use Rattle.html_types.specs.declared.class.Class.TheVariants.{Space, DoubleQuote, Ampersand, SingleQuote, Hyphen, Slash, Less, Equals, Greater, Alpha, InputEnd}
 use Rattle.html_types.specs.declared.state.TagState.TheVariants.{TagName, BeforeAttributeName, AttributeName}
 use Rattle.html_types.specs.declared.token.Token.{Token}
 use Rattle.html_types.specs.declared.token.PartialTag.{PartialTag}
@@ -19,8 +19,8 @@ use Rattle.standard.specs.Entities.{Entities}
 use Rattle.standard.specs.ReferenceStates.{return_state}
 use Rattle.standard.specs.Step.{data_state, in_tag, new_tag}
 use Rattle.standard.specs.Tokenizer.{feed}
-use Rattle.tokenizer.specs.declared.whole.Part.{Part}
-use Rattle.tokenizer.specs.declared.whole.Part.TheVariants as part
+use Rattle.tokenizer.specs.declared.part.Part.{Part}
+use Rattle.tokenizer.specs.declared.part.Part.TheVariants as part
 use Rattle.tokenizer.specs.declared.whole.Behind.{Behind}
 use Rattle.tokenizer.specs.declared.whole.Behind.TheVariants as behind
 
@@ -59,6 +59,34 @@ in_unquoted Greater = false
 in_unquoted InputEnd = false
 in_unquoted _ = true
 
+-- and the text of a comment, up to what may end it
+abbrev pub in_comment_text : Class → Bool
+in_comment_text Hyphen = false
+in_comment_text Less = false
+in_comment_text InputEnd = false
+in_comment_text _ = true
+
+-- and that of a bogus comment, and what is dropped in a bogus doctype
+abbrev pub in_bogus : Class → Bool
+in_bogus Greater = false
+in_bogus InputEnd = false
+in_bogus _ = true
+
+-- and a doctype's name
+abbrev pub in_doctype_name : Class → Bool
+in_doctype_name Space = false
+in_doctype_name Greater = false
+in_doctype_name InputEnd = false
+in_doctype_name _ = true
+
+-- and its identifiers between quotes
+abbrev pub in_identifier : Quote → Class → Bool
+in_identifier quote.Double DoubleQuote = false
+in_identifier quote.Single SingleQuote = false
+in_identifier q Greater = false
+in_identifier q InputEnd = false
+in_identifier q _ = true
+
 abbrev pub is_space : Class → Bool
 is_space Space = true
 is_space _ = false
@@ -67,17 +95,26 @@ abbrev pub is_alpha : Class → Bool
 is_alpha Alpha = true
 is_alpha _ = false
 
--- a character that this part of a tag gets as it is
+-- a character that this part gets as it is
 abbrev pub is_of : Part → ℕ → Bool
 is_of part.TagName c = in_name (class_of c) && (name_char c == c)
 is_of part.Gap c = is_space (class_of c)
 is_of part.AttributeName c = in_attribute_name (class_of c) && (name_char c == c)
 is_of (part.Quoted q) c = in_quoted q (class_of c) && (shown c == c)
 is_of part.Unquoted c = in_unquoted (class_of c) && (shown c == c)
+is_of part.Comment c = in_comment_text (class_of c) && (shown c == c)
+is_of part.BogusComment c = in_bogus (class_of c) && (shown c == c)
+is_of part.DoctypeName c = in_doctype_name (class_of c) && (name_char c == c)
+is_of (part.Identifier q) c = in_identifier q (class_of c)
+is_of part.BogusDoctype c = in_bogus (class_of c)
 
 abbrev pub all_of : Part → List ℕ → Bool
 all_of p [] = true
 all_of p (c ∷ cs) = is_of p c && all_of p cs
+
+-- the bytes at which a run of it ends: of ASCII a CR, and those that it doesn't get as they are
+abbrev pub ends : Part → ℕ → Bool
+ends p b = nat_lt b 128 && ((b == 13) || not (is_of p b))
 
 abbrev pub begins_name : List ℕ → Bool
 begins_name [] = false

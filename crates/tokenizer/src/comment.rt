@@ -8,8 +8,9 @@ ghost use Rattle.tokenizer.specs.Comments.{begins_inside, Continues, OpensCommen
 ghost use Rattle.tokenizer.specs.Whole.{has_cr, piece, MakesAlone};
 ghost use Rattle.html_types.specs.declared.token.Token.TheVariants.{Comment};
 
+use crate::part::{Part, is_of, rest_of};
 use crate::place::{ascii_at, lacks_cr, past};
-use char_class::{class_of, shown};
+use char_class::class_of;
 use html_types::{Class, NoMemory, Text};
 use std::alloc::Global;
 
@@ -18,19 +19,6 @@ use std::alloc::Global;
 pub struct WholeComment {
     pub text: Text,
     pub end: usize,
-}
-
-fn stays(class: Class) -> bool
-    ensures { result ≡ parts.stays class }
-{
-    !matches!(class, Class::Hyphen | Class::Less | Class::InputEnd)
-}
-
-// Whether a comment goes on over a character, and gets it as it is.
-fn is_inside(c: char) -> bool
-    ensures { result ≡ parts.is_inside c }
-{
-    stays(class_of(c)) && shown(c) == c
 }
 
 // The place behind two characters.
@@ -65,27 +53,25 @@ fn comment_opens(text: &str, from: usize) -> Option<usize>
     Some(start)
 }
 
-// The place behind a character that a comment gets as it is, perhaps with a `-` before it.
+// The place behind characters that a comment gets as they are, or behind a `-` and one of them.
 fn inside_next(text: &str, from: usize) -> Option<usize>
     requires { IsCharBoundary text.now from }
     ensures boundary { IfSome result (λ to. IsCharBoundary text.now to) }
     ensures onward { IfSome result (λ to. from < to) }
     ensures inside { IfSome result (λ to. Continues (piece text.now from to)) }
 {
-    let Some(c) = ascii_at(text, from) else {
+    let end = rest_of(text, from, Part::Comment);
+    if end > from {
+        return Some(end);
+    }
+    let Some(dash) = past(text, from, '-') else {
         return None;
     };
-    if is_inside(c) {
-        return Some(from + 1);
-    }
-    if c != '-' {
-        return None;
-    }
-    let Some(behind) = ascii_at(text, from + 1) else {
+    let Some(behind) = ascii_at(text, dash) else {
         return None;
     };
-    if is_inside(behind) {
-        Some(from + 2)
+    if is_of(Part::Comment, behind) {
+        Some(dash + 1)
     } else {
         None
     }
@@ -118,7 +104,7 @@ fn begins(class: Class) -> bool
 fn may_begin(c: char) -> bool
     ensures { result ≡ begins_inside (c ∷ []) }
 {
-    begins(class_of(c)) && is_inside(c)
+    begins(class_of(c)) && is_of(Part::Comment, c)
 }
 
 // The end of the text of a comment that begins at a place; none where it is empty.

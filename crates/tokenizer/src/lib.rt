@@ -1,8 +1,10 @@
 //! The tokenizer (13.2.5) over a text that comes in pieces.
 #![tactic(auto)]
 
+pub mod append;
 pub mod comment;
 mod discard;
+pub mod part;
 mod place;
 pub mod reading;
 pub mod reference;

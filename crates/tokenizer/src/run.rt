@@ -1,11 +1,13 @@
 //! The tokenizer: its state, and the tokens that it has made and not yet given.
 
-ghost use Rattle.std.specs.Prelude.{◌≡◌, ◌↔◌, [], ◌∷◌, take, length, IfOk, OnOk, IfSome, IfNone, IsTrue};
+ghost use Rattle.std.specs.Prelude.{◌≡◌, ◌↔◌, ◌≤◌, false, [], ◌∷◌, take, length, IfOk, OnOk, IfSome, IfNone, IsTrue};
 ghost use Rattle.std.specs.Str.{chars, IsCharBoundary};
 ghost use Rattle.standard.specs.Step.{data_state};
 ghost use Rattle.standard.specs.Tokenizer.{read, reading, read_end, onward, after_tokens};
-ghost use Rattle.tokenizer.specs.Runs.{IsNext, IsQuietBefore, UsesAll};
+ghost use Rattle.tokenizer.specs.Runs.{IsNext, IsQuietBefore, LeadsTo, UsesAll};
+ghost use Rattle.tokenizer.specs.Whole.{has_cr, piece};
 
+use crate::append::append;
 use crate::discard::discard;
 use crate::reading::{READINGS, add_in_place, is_plain, settle};
 use char_class::class_of;
@@ -110,6 +112,19 @@ impl Tokenizer {
         ensures { OnOk result (self.new ≡ after_tokens self.old.tokens (read_end table.now foreign self.old.state)) }
     {
         self.settle_in(alloc, table, foreign, Class::InputEnd, '\0')
+    }
+
+    /// Takes the characters from a place of a text on that the state only adds to what it holds, or drops, and gives the place behind them.
+    /// It may end before all of them are taken. A CR ends them.
+    pub fn append(&mut self, text: &str, from: usize) -> Result<usize, NoMemory>
+        requires { IsCharBoundary text.now from }
+        ensures boundary { IfOk result (λ end. IsCharBoundary text.now end) }
+        ensures onward { IfOk result (λ end. from ≤ end) }
+        ensures led { IfOk result (λ end. LeadsTo self.old.state (piece text.now from end) self.new.state) }
+        ensures no_cr { IfOk result (λ end. has_cr (piece text.now from end) ≡ false) }
+        ensures waiting { self.new.tokens ≡ self.old.tokens }
+    {
+        append(&mut self.state, text, from)
     }
 
     /// Takes the first of the tokens that wait.

@@ -7,12 +7,13 @@ ghost use Rattle.standard.specs.Entities.{Entities};
 ghost use Rattle.standard.specs.Step.{finished, tag_token};
 ghost use Rattle.tokenizer.specs.Whole.{all_of, is_gap, begins_name, begins_with, has_cr, quote_mark, close_text, may_close, piece, Opens, Reads, Gives, HasValue, MakesAlone};
 ghost use Rattle.tokenizer.specs.Whole as parts;
-ghost use Rattle.tokenizer.specs.declared.whole.Part.TheVariants as part;
+ghost use Rattle.tokenizer.specs.declared.part.Part.TheVariants as part;
 
 use crate::comment::whole_comment;
+use crate::part::{Part, is_of, rest_of};
 use crate::place::{ascii_at, lacks_cr, past};
 use crate::reference::{reference_at, whole_number};
-use char_class::{class_of, name_char, shown};
+use char_class::class_of;
 use entity_table::{Characters, Table};
 use html_types::{Attribute, Attributes, Class, Name, NoMemory, Quote, Tag, TagKind, Text, Token};
 use std::alloc::Global;
@@ -24,19 +25,6 @@ pub struct Whole {
     pub end: usize,
 }
 
-/// A part of a tag.
-#[derive(Clone, Copy)]
-pub enum Part {
-    TagName,
-    /// White space between parts.
-    Gap,
-    AttributeName,
-    /// A value between quotes.
-    Quoted(Quote),
-    /// A value without quotes.
-    Unquoted,
-}
-
 /// What stands right behind a part of a tag.
 #[derive(Clone, Copy)]
 pub enum Behind {
@@ -46,76 +34,6 @@ pub enum Behind {
     Nothing,
     /// Nothing, and the part is a value without quotes, to which a slash would belong: only `>` may follow.
     Value,
-}
-
-fn in_name(class: Class) -> bool
-    ensures { result ≡ parts.in_name class }
-{
-    !matches!(
-        class,
-        Class::Space | Class::Slash | Class::Greater | Class::InputEnd
-    )
-}
-
-fn in_attribute_name(class: Class) -> bool
-    ensures { result ≡ parts.in_attribute_name class }
-{
-    in_name(class) && !matches!(class, Class::Equals)
-}
-
-fn in_quoted(quote: Quote, class: Class) -> bool
-    ensures { result ≡ parts.in_quoted quote class }
-{
-    match (quote, class) {
-        (Quote::Double, Class::DoubleQuote) => false,
-        (Quote::Single, Class::SingleQuote) => false,
-        (_, Class::Ampersand | Class::InputEnd) => false,
-        _ => true,
-    }
-}
-
-fn in_unquoted(class: Class) -> bool
-    ensures { result ≡ parts.in_unquoted class }
-{
-    !matches!(
-        class,
-        Class::Space
-            | Class::DoubleQuote
-            | Class::SingleQuote
-            | Class::Ampersand
-            | Class::Greater
-            | Class::InputEnd
-    )
-}
-
-// Whether this part of a tag goes on over a character, and gets it as it is.
-fn is_of(part: Part, c: char) -> bool
-    ensures { result ≡ parts.is_of part c }
-{
-    match part {
-        Part::TagName => in_name(class_of(c)) && name_char(c) == c,
-        Part::Gap => matches!(class_of(c), Class::Space),
-        Part::AttributeName => in_attribute_name(class_of(c)) && name_char(c) == c,
-        Part::Quoted(quote) => in_quoted(quote, class_of(c)) && shown(c) == c,
-        Part::Unquoted => in_unquoted(class_of(c)) && shown(c) == c,
-    }
-}
-
-// The end of what is left of a part.
-fn rest_of(text: &str, from: usize, part: Part) -> usize
-    requires { IsCharBoundary text.now from }
-    ensures boundary { IsCharBoundary text.now result }
-    ensures onward { from ≤ result }
-    ensures all { all_of part (piece text.now from result) ≡ true }
-{
-    let mut at = from;
-    while let Some(c) = ascii_at(text, at) {
-        if !is_of(part, c) {
-            return at;
-        }
-        at += 1;
-    }
-    at
 }
 
 // The end of the tag's name that begins at a place.

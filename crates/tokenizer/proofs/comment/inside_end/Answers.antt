@@ -1,4 +1,4 @@
-use Rattle.std.proofs.Common.{◌≡◌, ℕ, List, ◌++◌, ap, ◌∙◌, arith}
+use Rattle.std.proofs.Common.{arith}
 use Rattle.tokenizer.specs.Whole.{piece}
 use Rattle.tokenizer.proofs.WholeLemmas.{piece-none, piece-split}
 use Rattle.tokenizer.proofs.CommentLemmas.{continues-none, continues-both, Continues-same}

@@ -1,4 +1,4 @@
-use Rattle.std.proofs.Common.{◌≡◌, ◌<◌, sym, ap, ◌∙◌, arith}
+use Rattle.std.proofs.Common.{◌<◌, sym, ap, ◌∙◌, arith}
 use Rattle.tokenizer.specs.Comments.{begins_inside}
 use Rattle.tokenizer.proofs.WholeLemmas.{piece-cons}
 use Rattle.tokenizer.proofs.comment.text_end.Goals as goal

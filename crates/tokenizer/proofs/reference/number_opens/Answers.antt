@@ -1,4 +1,4 @@
-use Rattle.std.proofs.Common.{◌≡◌, ℕ, List, [], ◌∷◌, ◌++◌, true, false, ap, ◌∙◌, arith}
+use Rattle.std.proofs.Common.{ℕ, List, ◌∷◌, ◌++◌, true, false, ap, ◌∙◌, arith}
 use Rattle.tokenizer.specs.Whole.{piece}
 use Rattle.tokenizer.proofs.WholeLemmas.{piece-split}
 use Rattle.tokenizer.proofs.NumberLemmas.{opens-decimal, opens-hexadecimal, OpensNumber-same}

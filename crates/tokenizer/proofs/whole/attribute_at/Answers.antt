@@ -1,7 +1,7 @@
 use Rattle.std.proofs.Common.{◌≡◌, ℕ, List, ap, ◌∙◌, arith}
 use Rattle.std.specs.Str.{chars}
 use Rattle.tokenizer.specs.Whole.{begins_with, piece}
-use Rattle.tokenizer.specs.declared.whole.Part.TheVariants as part
+use Rattle.tokenizer.specs.declared.part.Part.TheVariants as part
 use Rattle.tokenizer.proofs.WholeLemmas.{piece-split, begins_with-append, named-gives, Gives-same}
 use Rattle.tokenizer.proofs.whole.attribute_at.Goals as goal
 

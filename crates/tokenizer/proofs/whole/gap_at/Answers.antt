@@ -2,7 +2,7 @@ use Rattle.std.proofs.Common.{◌+◌, sym, ◌∙◌, ap}
 use Rattle.std.specs.Prelude.{not}
 use Rattle.tokenizer.specs.Whole.{is_gap, piece}
 use Rattle.tokenizer.specs.declared.whole.Behind.TheVariants as behind
-use Rattle.tokenizer.specs.declared.whole.Part.TheVariants as part
+use Rattle.tokenizer.specs.declared.part.Part.TheVariants as part
 use Rattle.tokenizer.proofs.WholeLemmas.{piece-cons, piece-none, all_of-cons}
 use Rattle.tokenizer.proofs.whole.gap_at.Goals as goal
 

@@ -1,6 +1,6 @@
 use Rattle.std.proofs.Common.{◌≡◌, ◌+◌, ◌∷◌, true≢false, sym, ◌∙◌, ap}
 use Rattle.tokenizer.specs.Whole.{all_of, begins_name, is_alpha, piece}
-use Rattle.tokenizer.specs.declared.whole.Part.TheVariants as part
+use Rattle.tokenizer.specs.declared.part.Part.TheVariants as part
 use Rattle.tokenizer.proofs.WholeLemmas.{piece-cons, all_of-cons}
 use Rattle.tokenizer.proofs.whole.name_end.Goals.{in-Alpha, in_default-matches}
 use Rattle.tokenizer.proofs.whole.name_end.Goals as goal

@@ -1,6 +1,6 @@
-use Rattle.std.proofs.Common.{◌≡◌, ◌+◌, ◌<◌, ℕ, List, ◌∷◌, ◌++◌, true, sym, refl, ap, ◌∙◌, arith}
+use Rattle.std.proofs.Common.{◌≡◌, ◌<◌, ℕ, List, ◌∷◌, ◌++◌, true, sym, refl, ap, ◌∙◌, arith}
 use Rattle.tokenizer.specs.Whole.{begins_with, piece}
-use Rattle.tokenizer.specs.declared.whole.Part.TheVariants as part
+use Rattle.tokenizer.specs.declared.part.Part.TheVariants as part
 use Rattle.tokenizer.proofs.WholeLemmas.{piece-split, piece-cons, unquoted-value, HasValue-same}
 use Rattle.tokenizer.proofs.whole.unquoted_value.Goals as goal
 

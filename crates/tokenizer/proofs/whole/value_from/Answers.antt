@@ -2,7 +2,7 @@ use Rattle.std.proofs.Common.{◌≡◌, ℕ, List, ◌++◌, true, sym, refl, a
 use Rattle.std.specs.Str.{chars}
 use Rattle.entity_table.specs.View.{characters_in}
 use Rattle.tokenizer.specs.Whole.{all_of, value_part, piece}
-use Rattle.tokenizer.specs.declared.whole.Part.{Part}
+use Rattle.tokenizer.specs.declared.part.Part.{Part}
 use Rattle.tokenizer.proofs.WholeLemmas.{piece-split, Reads-run, Reads-more, Reads-same}
 use Rattle.tokenizer.proofs.whole.value_from.Goals as goal
 

@@ -1,8 +1,6 @@
-use Rattle.std.proofs.Common.{◌≡◌, ◌++◌, ◌∙◌, List, ℕ, sym, ap, arith}
-use Rattle.std.specs.Str.{chars}
+use Rattle.std.proofs.Common.{◌∙◌, sym, arith}
 use Rattle.entity_table.specs.View.{characters_in}
-use Rattle.standard.specs.Instructions.{here, texts}
-use Rattle.builder_state.specs.Texts.{TakesText, behind_text}
+use Rattle.builder_state.specs.Texts.{TakesText}
 use Rattle.parse_machine.proofs.References.{taken_reference}
 use Rattle.parse_machine.proofs.machine.Machine.take_reference.Goals as goal
 
@@ -11,9 +9,7 @@ returns-clause-parsed c =
     let r = c.in-Some.ensures in
     let p = c.args.self.now in
     let us = characters_in c.in-Some.reference.characters in
-    let is : chars c.as_str.result.now ≡ us = c.as_str.ensures ∙ c.in_ok-inserted.ensures in
     let takes : TakesText p.open_state = rw (← c.self.view_is) (c.takes_text.ensures c.if-not-takes_text.false) in
-    taken_reference c.args.table.now c.args.text.now us c.args.from c.in-Some.reference.end p c.insert_run.new.self c.args.ops.now c.insert_run.new.ops c.utf8.text c.requires (omega (arith, r.onward))
+    taken_reference c.args.table.now c.args.text.now us c.args.from c.in-Some.reference.end p c.insert_characters.new.self c.args.ops.now c.insert_characters.new.ops c.utf8.text c.requires (omega (arith, r.onward))
     (c.reads_tags.ensures c.if-not-reads_tags.false) takes r.refers r.no_cr (sym c.has_nul.ensures ∙ c.if-has_nul.false)
-    (c.in_ok-insert_run.ensures.inserted ∙ ap (λ (l : List ℕ). c.args.ops.now ++ texts (here p.open_state) l) is)
-    (c.in_ok-insert_run.ensures.done ∙ ap (λ (l : List ℕ). record p { open_state = behind_text l p.open_state }) is)
+    c.in_ok-insert_characters.ensures.inserted c.in_ok-insert_characters.ensures.done

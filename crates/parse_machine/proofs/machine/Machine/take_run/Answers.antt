@@ -1,9 +1,6 @@
 use Rattle.parse_machine.proofs.Runs.{none_taken, run_taken}
 use Rattle.parse_machine.proofs.machine.Machine.take_run.Goals as goal
 
-pub returns-then-not-takes_runs-clause-parsed : goal.returns-then-not-takes_runs-clause-parsed
-returns-then-not-takes_runs-clause-parsed c = none_taken c.args.text.now c.args.from c.args.self.now c.args.ops.now
-
 pub returns-then-is_empty-clause-parsed : goal.returns-then-is_empty-clause-parsed
 returns-then-is_empty-clause-parsed c = none_taken c.args.text.now c.args.from c.args.self.now c.args.ops.now
 

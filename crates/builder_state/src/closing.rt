@@ -1,0 +1,45 @@
+//! The end tags of formatting elements that close the current node.
+
+ghost use Rattle.std.specs.Prelude.{◌≡◌, ◌≤◌, List, length, IsTrue, IsFalse, false};
+ghost use Rattle.html_types.specs.declared.operation.Op.{Op};
+ghost use Rattle.standard.specs.Adoption.{adopted, adopt};
+ghost use Rattle.builder_state.specs.Latest.{is_latest, current_is_latest};
+
+use html_types::{Format, Formats, Open, OpenElement, Word};
+use tag_sets::is_the;
+
+/// Whether the element is that of the latest entry, which has the name.
+fn has_latest(formats: &Formats, element: &OpenElement, word: Word) -> bool
+    ensures { result ≡ is_latest word element.now formats.now }
+{
+    match formats.as_slice().split_last() {
+        None => false,
+        Some((Format::Marker, _)) => false,
+        Some((Format::Element { id, tag }, _)) => element.id.same(*id) && is_the(word, &tag.name),
+    }
+}
+
+/// Whether the current node is the element of the latest entry, which has the name.
+fn closes_latest(state: &Open, word: Word) -> bool
+    ensures { result ≡ current_is_latest word state.now.stack state.now.formats }
+{
+    match state.stack.as_slice().split_last() {
+        None => false,
+        Some((last, _)) => has_latest(&state.formats, last, word),
+    }
+}
+
+/// The adoption agency algorithm (13.2.6.4.7) for an end tag of that name, where it only pops the current node and takes its entry off. Else
+/// nothing changes.
+pub fn close_latest(state: &mut Open, word: Word) -> bool
+    ensures closed { IsTrue result → (o : List Op) → adopted state.new o false ≡ adopt word state.old o }
+    ensures kept { IsFalse result → state.new ≡ state.old }
+    ensures shorter { length state.new.stack ≤ length state.old.stack }
+{
+    if !closes_latest(state, word) {
+        return false;
+    }
+    let _ = state.stack.pop();
+    let _ = state.formats.pop();
+    true
+}
