@@ -17,6 +17,7 @@ use Rattle.core_steps.specs.Fetches.{names_of}
 use Rattle.core_steps.specs.Journals.{found}
 use Rattle.core_steps.specs.Sides.{Shown, first_shown, with_piece, with_ending, journaled, with_fetch, ShowsIn, Shows, DoesShow, IsReplayed}
 use Rattle.core_steps.specs.Acting.{fetch_or_missing}
+use Rattle.core_steps.proofs.Counts.{counts-same}
 use Rattle.core_steps.proofs.Replays.{moves-then, pieces-then, ending-then, moves-more}
 
 pub first-replayed : (es : Entities) (ahead : ℕ) → IsReplayed (first_shown es ahead)
@@ -53,7 +54,7 @@ same-shown d v is = by v.phase
     by free = is
     by (tagged i held) = is
     by (waits name held) = is
-    by (done r) = (subst (λ z. d ≡ record z { own = d.own; hand = d.hand }) is refl, ap (λ (z : Desk). z.own.side.doc) is, ap (λ (z : Desk). z.own.side.lines) is)
+    by (done r) = (subst (λ z. d ≡ record z { own = d.own; hand = d.hand }) is refl, ap (λ (z : Desk). z.own.side.doc) is, ap (λ (z : Desk). z.own.side.lines) is, counts-same r d.own.side v.own.side (ap (λ (z : Desk). z.own.side) is))
 
 not-sent : (ahead : ℕ) (d : Desk) → IsTrue (can_send ahead d) → (r : Result) → d.phase ≡ done r → ⊥
 not-sent ahead d can r is = true≢false (sym (and_parts _ _ (and_parts _ _ can).0).0 ∙ ap (λ (p : Phase). not (is_done p)) is)
