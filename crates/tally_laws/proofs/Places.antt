@@ -86,26 +86,27 @@ module _ (e : Ending) (w : World) where
   -- no script is in hand, and as much of the page is left
   pub none-in_hand : (a b : Moment) (u v : Watch) → Watches e w a u b v → u.after_tag ≡ None → u.page_left ≡ v.page_left → v ≡ u
   none-in_hand a b u v (stays m x) none left = refl
-  none-in_hand a b u v (goes_on n m m1 m' x x1 x' q k rest) none left = by (goes m1 x x1 k)
+  none-in_hand a b u v (goes_on n m m1 m' x x1 x' q k rest) none left = by (goes m1 x x1 k) (λ same. none-in_hand m1 m' x1 x' rest (ap (λ (z : Watch). z.after_tag) same ∙ none) (ap (λ (z : Watch). z.page_left) same ∙ left))
     where
-      by : Goes x x1 → x' ≡ x
-      by (inl same) = none-in_hand m1 m' x1 x' rest (ap (λ (z : Watch). z.after_tag) same ∙ none) (ap (λ (z : Watch). z.page_left) same ∙ left) ∙ same
-      by (inr (inl (p, c, some, is))) = absurd (cc (sym none ∙ some))
-      by (inr (inr less)) = absurd (omega (arith, less, left, less-left m1 m' x1 x' rest))
+      by : Goes x x1 → (x1 ≡ x → x' ≡ x1) → x' ≡ x
+      by (inl same) on = on same ∙ same
+      by (inr (inl (p, c, some, is))) on = absurd (cc (sym none ∙ some))
+      by (inr (inr less)) on = absurd (omega (arith, less, left, less-left m1 m' x1 x' rest))
 
   -- a script is in hand
   pub some-in_hand : (a b : Moment) (u v : Watch) (p : Parser) → Watches e w a u b v → u.after_tag ≡ Some p → u.page_left ≡ v.page_left → InPlace (Some p) v.after_tag u v
   some-in_hand a b u v p (stays m x) some left = subst (λ (o : Option Parser). InPlace (Some p) o x x) (sym some) refl
-  some-in_hand a b u v p (goes_on n m m1 m' x x1 x' q k rest) some left = by (goes m1 x x1 k)
+  some-in_hand a b u v p (goes_on n m m1 m' x x1 x' q k rest) some left =
+      by (goes m1 x x1 k) (λ same. some-in_hand m1 m' x1 x' p rest (ap (λ (z : Watch). z.after_tag) same ∙ some) (ap (λ (z : Watch). z.page_left) same ∙ left))
     where
-      by : Goes x x1 → InPlace (Some p) x'.after_tag x x'
-      by (inl same) = subst (λ (z : Watch). InPlace (Some p) x'.after_tag z x') same (some-in_hand m1 m' x1 x' p rest (ap (λ (z : Watch). z.after_tag) same ∙ some) (ap (λ (z : Watch). z.page_left) same ∙ left))
-      by (inr (inl (o, c, held, is))) =
+      by : Goes x x1 → (x1 ≡ x → InPlace (Some p) x'.after_tag x1 x') → InPlace (Some p) x'.after_tag x x'
+      by (inl same) on = subst (λ (z : Watch). InPlace (Some p) x'.after_tag z x') same (on same)
+      by (inr (inl (o, c, held, is))) on =
           let gone : x1.after_tag ≡ None = ap (λ (z : Watch). z.after_tag) is ∙ judged-none c x in
           let there : x1.page_left ≡ x'.page_left = ap (λ (z : Watch). z.page_left) is ∙ judges c x ∙ left in
           let same : x' ≡ x1 = none-in_hand m1 m' x1 x' rest gone there in
           subst (λ (o : Option Parser). InPlace (Some p) o x x') (sym (ap (λ (z : Watch). z.after_tag) same ∙ gone)) (c, same ∙ is)
-      by (inr (inr less)) = absurd (omega (arith, less, left, less-left m1 m' x1 x' rest))
+      by (inr (inr less)) on = absurd (omega (arith, less, left, less-left m1 m' x1 x' rest))
 
   -- behind the end nothing more is found
   pub over-stays : (a b : Moment) (o : Outcome) (u v : Watch) → a ≡ over o → Watches e w a u b v → (b ≡ over o) × (v ≡ u)

@@ -352,7 +352,7 @@ module _ (e : Ending) (w : World) (m0 : Moment) (v0 : Watch) where
             let written : d'.own.side.written ≡ o.last.side.written = ap (λ (z : Desk). z.own.side.written) desk ∙ (ap (λ (z : Serial). z.side.written) from.is ∙ sym same.0) in
             let executed : d'.own.side.executed ≡ o.last.side.executed = ap (λ (z : Desk). z.own.side.executed) desk ∙ (ap (λ (z : Serial). z.side.executed) from.is ∙ sym same.1) in
             let realm : d'.realm ≡ d.realm = ap (λ (z : Desk). z.realm) desk in
-            subst (λ f. CountsIn f d'.realm d'.own.side m' v') (sym at_done) (subst (λ z. Realms 0 d'.realm z) (sym one.1) (realm ∙ counts), o, one.0, written, executed)
+            subst (λ f. CountsIn f d'.realm d'.own.side m' v') (sym at_done) (subst (λ z. Realms 0 d'.realm z) (sym one.1) (realm ∙ counts), (o, one.0, written, executed))
 
         by-finish : (x : Finish) → e ≡ ending.End → b.halt ≡ finishing x → Counted
         by-finish finale.Finished end h = finished-counts end h
@@ -439,7 +439,7 @@ tallies-as-serial x vs d o h q is =
     let from : Moment = from0 x in
     let known0 : Watch = seen0 x in
     let (m, v, r, seen, known, counts) = (moves-by-tally x.ending x.world from known0 x.ahead vs (desk0 x) d h (first-tallied x)).stood in
-    let (realms, o', at_end_, written, executed) = subst (λ p. CountsIn p d.realm d.own.side m v) q counts in
+    let (realms, (o', at_end_, written, executed)) = subst (λ p. CountsIn p d.realm d.own.side m v) q counts in
     let passes : Passes (whole_page x) x.world (over o') = subst (Passes (whole_page x) x.world) at_end_ (watches-lead x.ending x.world from m known0 v seen) in
     let one : o' ≡ o = one_outcome (whole_page x) x.world o' o (passes-over (whole_page x) x.world o' passes) is in
     record {
