@@ -3,6 +3,7 @@ pub mod Hands
 pub mod Replays
 pub mod Settles
 pub mod Counts
+pub mod Nodes
 pub mod Acts
 pub mod Sound
 pub mod Kept

@@ -27,11 +27,12 @@ pub(crate) fn count_nodes(tree: &Tree) -> u64
     if tree.len() == 0 {
         return 0;
     }
-    let mut nodes = 0u64;
     let mut left = tree.next(0);
-    'walk: while let Some(node) = left {
-        nodes = nodes.saturating_add(1);
-        left = tree.next(node);
+    for nodes in 0..u64::MAX {
+        match left {
+            None => return nodes,
+            Some(node) => left = tree.next(node),
+        }
     }
-    nodes
+    u64::MAX
 }

@@ -27,7 +27,7 @@ use std::sync::{Arc, Wait};
 use std::thread::Threads;
 
 /// What came of the parse of the made page.
-#[derive(Clone, Copy, Drop)]
+#[derive(Clone, Copy)]
 pub(crate) enum MadeRun {
     /// It finished, with these numbers.
     Finished(Tally),
