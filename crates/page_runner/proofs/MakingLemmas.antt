@@ -9,7 +9,10 @@ use Rattle.html_types.specs.declared.script.Ending.{Ending}
 use Rattle.html_types.specs.declared.script.Ending.TheVariants.{End}
 use Rattle.html_types.specs.declared.script.Why.{Why}
 use Rattle.html_types.specs.declared.script.Why.TheVariants as why
+use Rattle.std.specs.Cmp.Lexicographic.{bytes_decides}
 use Rattle.outside.specs.Outside.{Rose, Files, Seen}
+use Rattle.outside.specs.Memory.{files_of}
+use Rattle.outside.specs.declared.never_fails.NeverFails.{NeverFails}
 use Rattle.outside.specs.declared.traits.Port.TheVariants.{Page, Script}
 use Rattle.standard.specs.Page.{Page as ReadPage}
 use Rattle.standard.specs.Scripts.{Fetched, got, missing, faulted}
@@ -24,6 +27,7 @@ use Rattle.tally_laws.specs.TallyLaws.{Tallies}
 use Rattle.tally_laws.proofs.Tallying.{tallies-as-serial}
 use Rattle.core_steps.specs.Journals.{found}
 use Rattle.core_steps.specs.Sides.{Shown, ShowsIn, IsReplayed, CountsAlike}
+use Rattle.core_steps.specs.declared.tally.Tally.{Tally}
 use Rattle.core_steps.specs.Tallies.{nodes_below, failed_by, kept_by, tally_of}
 use Rattle.page_maker.specs.Made.{made_page, made_scripts}
 use Rattle.made_laws.proofs.MadePages.{is-read_as_made}
@@ -41,7 +45,7 @@ use Rattle.page_runner.specs.declared.status.Status.TheVariants as status
 use Rattle.page_runner.specs.declared.words.MakeWords.{MakeWords}
 use Rattle.page_runner.specs.Answers.{IsPageOf, PageMet, MayGivePage, IsParsed, Answer, status_with, answer_to_page, Gives, PageAnswers}
 use Rattle.page_runner.specs.Reports.{IsMet, IsWritten, Reports}
-use Rattle.page_runner.specs.Making.{page_made, file_among, made_world, AreNumbers, tally_text, IsLineOf, Makes, AreFilesOf, IsRefusal, IsEndOf, IsRunOf}
+use Rattle.page_runner.specs.Making.{page_made, file_among, made_world, AreNumbers, tally_text, IsLineOf, Makes, Adds, AreFilesOf, IsRefusal, IsEndOf, IsRunOf, Tells}
 use Rattle.page_runner.proofs.Complete.{scripts_told, fetch_told, some_at}
 
 -- ---- what is written
@@ -196,3 +200,59 @@ module _ (asked : MakeWords) (few : asked.count ≤ 50000) (before after : Seen)
         kept = omega (arith, law.realms, law.epochs, realm, epoch);
         failed = omega (arith, law.epochs, epoch);
       }
+
+-- ---- what is told of it
+
+module _ (asked : MakeWords) (few : asked.count ≤ 50000) (before after : Seen) (map : Files) (told : before.files ≡ Some map) (page_there : map (codes "page") ≡ Some (made_page asked.number asked.count))
+    (scripts_there : (name : List ℕ) → fetched_of (map (path_of (codes "scripts") name)) ≡ file_among made_scripts name)
+    (no_page_fault : FaultsRose Page before after → ⊥) (no_script_fault : FaultsRose Script before after → ⊥) (t t' : Option (List ℕ)) where
+  finished-run : (s : Shown) (n : Tally) → IsSettled asked status.Done → Reports [] 8 false (codes "page") (codes "scripts") before after t t' s status.Done → IsReplayed s → (s.spent ≡ false → n ≡ tally_of s.desk) →
+      IsRunOf asked (made.Finished n)
+  finished-run s n settled reports replayed numbers =
+      let written = reports.written refl in
+      let result : written.result ≡ finished = is-done written.result written.outcome_is in
+      let at_done : s.desk.phase ≡ done finished = written.phase ∙ ap done result in
+      let end : settled.end.result ≡ finished = elim settled.status_is [ inl is ↦ is-done settled.end.result is | inr is ↦ absurd (cc is) ] in
+      let all : AreNumbers asked settled.end (tally_of s.desk) = numbers-at asked few before after map told page_there scripts_there no_page_fault no_script_fault s t t' settled.end replayed reports at_done settled.comes in
+      (settled.end, settled.comes, end, subst (λ z. AreNumbers asked settled.end z) (sym (numbers written.going)) all)
+
+  refused-run : (r : Status) → IsSettled asked r → r ≢ status.Done → r ≢ status.NoMemory → IsRunOf asked (made.Refused r)
+  refused-run r settled other memory = by settled.end.result refl
+    where
+      status_is : r ≡ status_with settled.end.result
+      status_is = elim settled.status_is [ inl is ↦ is | inr is ↦ absurd (memory is) ]
+
+      by : (x : Result) → settled.end.result ≡ x → IsRunOf asked (made.Refused r)
+      by finished q = absurd (other (status_is ∙ ap status_with q))
+      by (refused w) q = (settled.end, settled.comes, (w, q, status_is ∙ ap status_with q))
+
+  pub run-is : (r : Status) (side : Option Shown) (run : MadeRun) → IsSettled asked r → IfSome side (λ s. Reports [] 8 false (codes "page") (codes "scripts") before after t t' s r) → Tells r side run → IsRunOf asked run
+  run-is r side (made.Finished n) settled reports (is, s, there, replayed, numbers) =
+      let here : Reports [] 8 false (codes "page") (codes "scripts") before after t t' s r = subst (λ o. IfSome o (λ z. Reports [] 8 false (codes "page") (codes "scripts") before after t t' z r)) there reports in
+      finished-run s n (subst (IsSettled asked) is settled) (subst (λ z. Reports [] 8 false (codes "page") (codes "scripts") before after t t' s z) is here) replayed numbers
+  run-is r side (made.Refused told_) settled reports (is, other, memory) = subst (λ z. IsRunOf asked (made.Refused z)) (sym is) (refused-run r settled other memory)
+
+-- ---- the files of the made page
+
+same-name : (a b : List ℕ) → same_text a b ≡ true → a ≡ b
+same-name a b is = (bytes_decides a b).0 is
+
+module _ (f0 f1 f2 f3 : NeverFails) (page : List ℕ) (none : (path : List ℕ) → files_of f0 path ≡ None) (first : Adds (codes "page") page f0 f1)
+    (second : Adds (codes "scripts/e") (codes "document.write(\"<br>\");") f1 f2) (third : Adds (codes "scripts/f") (codes "document.write(\"<!--\");") f2 f3) where
+  script-at : (name : List ℕ) → fetched_of (files_of f3 (path_of (codes "scripts") name)) ≡ file_among made_scripts name
+  script-at name = ap fetched_of (third path ∙ ap (λ o. if bytes_eq (codes "f") name then Some (codes "document.write(\"<!--\");") else o) (second path ∙ ap (λ o. if bytes_eq (codes "e") name then Some (codes "document.write(\"<br>\");") else o) (first path ∙ none path)))
+      ∙ by (same_text (codes "e") name) (same_text (codes "f") name) refl refl
+    where
+      path : List ℕ
+      path = path_of (codes "scripts") name
+
+      by : (e f : Bool) → same_text (codes "e") name ≡ e → same_text (codes "f") name ≡ f →
+          fetched_of (if f then Some (codes "document.write(\"<!--\");") else (if e then Some (codes "document.write(\"<br>\");") else None))
+          ≡ (if e then got (codes "document.write(\"<br>\");") else (if f then got (codes "document.write(\"<!--\");") else missing))
+      by true true is is' = absurd (cc (same-name (codes "e") name is ∙ sym (same-name (codes "f") name is')))
+      by true false is is' = refl
+      by false true is is' = refl
+      by false false is is' = refl
+
+  pub are-files : AreFilesOf page f3
+  are-files = record { page_is = third (codes "page") ∙ (second (codes "page") ∙ first (codes "page")); scripts = script-at }

@@ -1,5 +1,5 @@
 -- What comes of the command `make`: a page is made from a number and parsed, and what that comes to in numbers is written.
-use Rattle.std.specs.Prelude.{◌≡◌, ◌⊎◌, ◌-◌, ◌^◌, ℕ, List, [], ◌∷◌, ◌++◌, min, codes, decimal, Option, Some, None, if◌then◌else◌}
+use Rattle.std.specs.Prelude.{◌≡◌, ◌≢◌, false, ◌⊎◌, ◌-◌, ◌^◌, ℕ, List, [], ◌∷◌, ◌++◌, min, codes, decimal, Option, Some, None, if◌then◌else◌}
 use Rattle.html_types.specs.Text.{same_text}
 use Rattle.std.specs.Str.{bytes_eq}
 use Rattle.html_types.specs.declared.script.Ending.TheVariants.{End}
@@ -11,7 +11,8 @@ use Rattle.standard.specs.Page.{Page}
 use Rattle.standard.specs.Scripts.{Fetched, got, missing}
 use Rattle.standard.specs.Serial.{World, Result, finished, refused, Outcome, IsSerial}
 use Rattle.core_rules.specs.Verdict.{Watch, AreVerdicts}
-use Rattle.core_steps.specs.Tallies.{nodes_below}
+use Rattle.core_steps.specs.Sides.{Shown, IsReplayed}
+use Rattle.core_steps.specs.Tallies.{nodes_below, tally_of}
 use Rattle.core_steps.specs.declared.tally.Tally.{Tally}
 use Rattle.page_maker.specs.Made.{made_page, made_scripts}
 use Rattle.page_maker.specs.declared.page.Script.{Script}
@@ -98,3 +99,8 @@ IsEndOf asked o (made.Refused outcome) = (why : Why) × (o.result ≡ refused wh
 
 abbrev pub IsRunOf : MakeWords → MadeRun → Type 0
 IsRunOf asked run = (o : Outcome) × IsSerial (page_made asked) made_world o × IsEndOf asked o run
+
+-- what a report's status and document's side tell: of a parse that finished the numbers, and of another the status, where memory didn't run out
+abbrev pub Tells : Status → Option Shown → MadeRun → Type 0
+Tells outcome side (made.Finished t) = (outcome ≡ status.Done) × (s : Shown) × (side ≡ Some s) × IsReplayed s × (s.spent ≡ false → t ≡ tally_of s.desk)
+Tells outcome side (made.Refused told) = (told ≡ outcome) × (outcome ≢ status.Done) × (outcome ≢ status.NoMemory)

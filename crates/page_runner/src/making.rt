@@ -1,12 +1,12 @@
 // The command `make`: a page is made from a number, parsed, and what that comes to in numbers is written.
 ghost use Rattle.std.specs.Prelude.{◌≡◌, ◌<◌, ◌≤◌, ◌^◌, ◌++◌, [], codes, IfOk, OnOk, OnErr, IsErrOf, IsTrue};
 ghost use Rattle.std.specs.String.{string_bytes};
-ghost use lib.Utf8.{encodes};
+ghost use Rattle.std.specs.Prelude.{encode_utf8_all};
 ghost use Rattle.outside.specs.Outside.{Rose};
 ghost use Rattle.page_turns.specs.Taken.{Took, TookFront};
 ghost use Rattle.page_maker.specs.Made.{made_page, made_scripts};
 ghost use Rattle.page_runner.specs.Answers.{is_finished, Gives};
-ghost use Rattle.page_runner.specs.Making.{tally_text, Adds, AreFilesOf, IsRefusal, IsRunOf, Makes};
+ghost use Rattle.page_runner.specs.Making.{tally_text, Adds, AreFilesOf, IsRefusal, IsRunOf, Makes, Tells};
 
 use crate::command::status_for;
 use crate::nowhere::Nowhere;
@@ -37,7 +37,7 @@ pub(crate) enum MadeRun {
 
 // Adds the file of a script.
 fn add_script(alloc: Global, files: &mut NeverFails, script: &Script) -> Result<(), NoMemory>
-    ensures { OnOk result (Adds (codes "scripts/" ++ encodes script.now.name) (encodes script.now.text) files.old files.new) }
+    ensures { OnOk result (Adds (codes "scripts/" ++ encode_utf8_all script.now.name) (encode_utf8_all script.now.text) files.old files.new) }
 {
     let name = script.name.as_str();
     let path = format!(in alloc; "scripts/{name}")?;
@@ -47,7 +47,7 @@ fn add_script(alloc: Global, files: &mut NeverFails, script: &Script) -> Result<
 // The files of a page: itself, and its scripts.
 fn files_of(alloc: Global, made: &Made) -> Result<NeverFails, NoMemory>
     requires { made.now.scripts.items ≡ made_scripts }
-    ensures { IfOk result (λ files. AreFilesOf (encodes made.now.page) files) }
+    ensures { IfOk result (λ files. AreFilesOf (encode_utf8_all made.now.page) files) }
 {
     let mut files = NeverFails::new(alloc);
     files.add("page", made.page.as_str().as_bytes())?;
@@ -119,7 +119,9 @@ fn end_make<K: Sink>(alloc: Global, out: &mut K, words: MakeWords, run: MadeRun)
 }
 
 // What came of the page, by its report.
-fn run_of<E: InForce>(report: &Report<E>) -> Result<MadeRun, NoMemory> {
+fn run_of<E: InForce>(report: &Report<E>) -> Result<MadeRun, NoMemory>
+    ensures { IfOk result (λ run. Tells report.now.outcome report.now.side run) }
+{
     match report.outcome {
         Status::NoMemory => Err(NoMemory),
         Status::Done => match &report.side {
