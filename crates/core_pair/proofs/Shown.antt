@@ -65,14 +65,14 @@ idle-shown : (d v : Desk) (p : Phase) → v.phase ≡ p → ShowsIn p d v → (i
 idle-shown d v free q s = ap (λ (z : Desk). is_free z.phase && is_empty z.hand) s
 idle-shown d v (tagged i held) q s = ap (λ (z : Desk). is_free z.phase && is_empty z.hand) s
 idle-shown d v (waits name held) q s = ap (λ (z : Desk). is_free z.phase && is_empty z.hand) s
-idle-shown d v (done r) q (is, doc, lines) =
+idle-shown d v (done r) q (is, doc, lines, counts) =
     ap (λ f. is_free f && is_empty d.hand) (ap (λ (z : Desk). z.phase) is ∙ q) ∙ sym (ap (λ f. is_free f && is_empty v.hand) q)
 
 do-shown : (d v : Desk) (p : Phase) → v.phase ≡ p → ShowsIn p d v → can_do d ≡ can_do v
 do-shown d v free q s = ap can_do s
 do-shown d v (tagged i held) q s = ap can_do s
 do-shown d v (waits name held) q s = ap can_do s
-do-shown d v (done r) q (is, doc, lines) = ap (λ f. can_do_in f d) (ap (λ (z : Desk). z.phase) is ∙ q) ∙ sym (ap (λ f. can_do_in f v) q)
+do-shown d v (done r) q (is, doc, lines, counts) = ap (λ f. can_do_in f d) (ap (λ (z : Desk). z.phase) is ∙ q) ∙ sym (ap (λ f. can_do_in f v) q)
 
 desk-enabled : (x : Setup) (v : Event) (told : Core) (d : Desk) → Shows d told.desk → enabled x v (record told { desk = d }) ≡ enabled x v told
 desk-enabled x Send told d s = ap (can_send x.ahead) (parts-in d told.desk told.desk.phase s).is

@@ -76,13 +76,13 @@ arrives-shown : (name : List ℕ) (d v : Desk) (p : Phase) → ShowsIn p d v →
 arrives-shown name d v free is = ap (arrives name) is
 arrives-shown name d v (tagged i held) is = ap (arrives name) is
 arrives-shown name d v (waits n held) is = ap (arrives name) is
-arrives-shown name d v (done r) (is, doc, lines) = (ap (arrives name) is, doc, lines)
+arrives-shown name d v (done r) (is, doc, lines, counts) = (ap (arrives name) is, doc, lines, counts)
 
 arrived-alike : (d v : Desk) (p : Phase) → ShowsIn p d v → d.arrived ≡ v.arrived
 arrived-alike d v free is = ap (λ (z : Desk). z.arrived) is
 arrived-alike d v (tagged i held) is = ap (λ (z : Desk). z.arrived) is
 arrived-alike d v (waits n held) is = ap (λ (z : Desk). z.arrived) is
-arrived-alike d v (done r) (is, doc, lines) = ap (λ (z : Desk). z.arrived) is
+arrived-alike d v (done r) (is, doc, lines, counts) = ap (λ (z : Desk). z.arrived) is
 
 pub arrive-replayed : (s : Shown) (name : List ℕ) (f : Fetched) → IsTrue (can_arrive name s.desk) → IsReplayed s → IsReplayed (with_fetch name f s)
 arrive-replayed s name f can h w es (this, knows) =
@@ -96,7 +96,7 @@ more-shown : (xs : List Piece) (d v : Desk) (p : Phase) → ShowsIn p d v → Sh
 more-shown xs d v free is = ap (with_more xs) is
 more-shown xs d v (tagged i held) is = ap (with_more xs) is
 more-shown xs d v (waits n held) is = ap (with_more xs) is
-more-shown xs d v (done r) (is, doc, lines) = (ap (with_more xs) is, doc, lines)
+more-shown xs d v (done r) (is, doc, lines, counts) = (ap (with_more xs) is, doc, lines, counts)
 
 pub piece-replayed : (s : Shown) (t : List ℕ) → s.journal.ending ≡ None → IsReplayed s → IsReplayed (with_piece t s)
 piece-replayed s t open_ h w es knows =

@@ -144,7 +144,7 @@ shows-more : (p : Phase) (xs : List Piece) (d v : Desk) → ShowsIn p d v → Sh
 shows-more free xs d v is = ap (with_more xs) is
 shows-more (tagged i held) xs d v is = ap (with_more xs) is
 shows-more (waits name held) xs d v is = ap (with_more xs) is
-shows-more (done r) xs d v (is, doc, lines) = (ap (with_more xs) is, doc, lines)
+shows-more (done r) xs d v (is, doc, lines, counts) = (ap (with_more xs) is, doc, lines, counts)
 
 not-done : (p : Phase) → not (is_done p) ≡ true → is_done p ≡ false
 not-done free e = refl
