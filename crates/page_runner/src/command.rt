@@ -3,7 +3,7 @@ ghost use Rattle.std.specs.Prelude.{◌≡◌, ◌≤◌, ◌<◌, [], ◌∷◌
 ghost use Rattle.std.specs.String.{string_bytes};
 ghost use Rattle.standard.specs.Output.{result_with};
 ghost use Rattle.outside.specs.Outside.{Rose, Begun, KeepsOthers};
-ghost use Rattle.page_runner.specs.Words.{asked, shown};
+ghost use Rattle.page_runner.specs.Words.{for_page, asked, shown};
 ghost use Rattle.page_turns.specs.Given.{ReadTo};
 ghost use Rattle.page_turns.specs.Taken.{Took, TookFront};
 ghost use Rattle.page_turns.specs.Shown.{result_of};
@@ -230,8 +230,8 @@ fn run_files<
     requires ahead { (0 < words.ahead) × (words.ahead ≤ 64) }
     ensures answer { Answers (shown words) (F.seen files.old) (F.seen files.new)
         (K.faults out.old) (K.faults out.new) (K.taken out.old) (K.taken out.new) result }
-    ensures no_further { StopsAtLimits (Some (shown words)) (F.seen files.old) (F.seen files.new) }
-    ensures begins { BeginsOnce (Some (shown words)) (F.seen files.old) (F.seen files.new) }
+    ensures no_further { StopsAtLimits (Some (for_page (shown words))) (F.seen files.old) (F.seen files.new) }
+    ensures begins { BeginsOnce (Some (for_page (shown words))) (F.seen files.old) (F.seen files.new) }
     ensures clean { IsTrue (is_finished result) → IsTrue (K.clean out.new) }
 {
     match read_entities(alloc, files, words.entities.as_str()) {
