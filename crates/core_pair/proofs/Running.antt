@@ -116,7 +116,7 @@ module _ (x : Setup) (told : Core) where
   arrives-in name d v free is = ap (arrives name) is
   arrives-in name d v (tagged i held) is = ap (arrives name) is
   arrives-in name d v (waits n held) is = ap (arrives name) is
-  arrives-in name d v (done r) (is, doc, lines) = (ap (arrives name) is, doc, lines)
+  arrives-in name d v (done r) (is, doc, lines, counts) = (ap (arrives name) is, doc, lines, counts)
 
   pub arrive-steps : (name : List ℕ) → StepsShown x (Arrive name) told (record told { desk = arrives name told.desk })
   arrive-steps name c (d, shows, is) =
@@ -173,7 +173,7 @@ shows-arrived : (d v : Desk) (p : Phase) → ShowsIn p d v → v.arrived ≡ d.a
 shows-arrived d v free is = sym (ap (λ (z : Desk). z.arrived) is)
 shows-arrived d v (tagged i held) is = sym (ap (λ (z : Desk). z.arrived) is)
 shows-arrived d v (waits n held) is = sym (ap (λ (z : Desk). z.arrived) is)
-shows-arrived d v (done r) (is, doc, lines) = sym (ap (λ (z : Desk). z.arrived) is)
+shows-arrived d v (done r) (is, doc, lines, counts) = sym (ap (λ (z : Desk). z.arrived) is)
 
 picked-arrived : (rs : List Request) (c : Core) → (picked_from rs c).desk.arrived ≡ c.desk.arrived
 picked-arrived [] c = refl

@@ -11,6 +11,7 @@ use Rattle.core_rules.specs.Desk.{Phase, free, tagged, waits, done, Desk, is_fre
 use Rattle.core_rules.specs.Core.{Setup, Core, enabled}
 use Rattle.core_rules.specs.StandsFor.{CarriesMoment, own_moment, page_left, StandsFor}
 use Rattle.core_steps.specs.Sides.{ShowsIn, Shows}
+use Rattle.core_steps.proofs.Counts.{counts-same}
 use Rattle.core_pair.specs.Pairs.{ShowsCore}
 
 -- what is shown of a desk at any time
@@ -30,7 +31,7 @@ parts-in : (d v : Desk) (p : Phase) → ShowsIn p d v → Parts d v
 parts-in d v free s = same-parts d v s
 parts-in d v (tagged i held) s = same-parts d v s
 parts-in d v (waits name held) s = same-parts d v s
-parts-in d v (done r) (is, doc, lines) = record { is = is; doc = doc; lines = lines }
+parts-in d v (done r) (is, doc, lines, counts) = record { is = is; doc = doc; lines = lines }
 
 pub core-parts : (c told : Core) → ShowsCore c told → Parts c.desk told.desk
 core-parts c told (d, shows, is) = subst (λ (z : Desk). Parts z told.desk) (sym (ap (λ (z : Core). z.desk) is)) (parts-in d told.desk told.desk.phase shows)
@@ -53,7 +54,7 @@ shows-itself d = by d.phase
     by free = refl
     by (tagged i held) = refl
     by (waits name held) = refl
-    by (done r) = (refl, refl, refl)
+    by (done r) = (refl, refl, refl, counts-same r d.own.side d.own.side refl)
 
 pub core-shows-itself : (c : Core) → ShowsCore c c
 core-shows-itself c = (c.desk, shows-itself c.desk, refl)
@@ -64,14 +65,14 @@ idle-shown : (d v : Desk) (p : Phase) → v.phase ≡ p → ShowsIn p d v → (i
 idle-shown d v free q s = ap (λ (z : Desk). is_free z.phase && is_empty z.hand) s
 idle-shown d v (tagged i held) q s = ap (λ (z : Desk). is_free z.phase && is_empty z.hand) s
 idle-shown d v (waits name held) q s = ap (λ (z : Desk). is_free z.phase && is_empty z.hand) s
-idle-shown d v (done r) q (is, doc, lines) =
+idle-shown d v (done r) q (is, doc, lines, counts) =
     ap (λ f. is_free f && is_empty d.hand) (ap (λ (z : Desk). z.phase) is ∙ q) ∙ sym (ap (λ f. is_free f && is_empty v.hand) q)
 
 do-shown : (d v : Desk) (p : Phase) → v.phase ≡ p → ShowsIn p d v → can_do d ≡ can_do v
 do-shown d v free q s = ap can_do s
 do-shown d v (tagged i held) q s = ap can_do s
 do-shown d v (waits name held) q s = ap can_do s
-do-shown d v (done r) q (is, doc, lines) = ap (λ f. can_do_in f d) (ap (λ (z : Desk). z.phase) is ∙ q) ∙ sym (ap (λ f. can_do_in f v) q)
+do-shown d v (done r) q (is, doc, lines, counts) = ap (λ f. can_do_in f d) (ap (λ (z : Desk). z.phase) is ∙ q) ∙ sym (ap (λ f. can_do_in f v) q)
 
 desk-enabled : (x : Setup) (v : Event) (told : Core) (d : Desk) → Shows d told.desk → enabled x v (record told { desk = d }) ≡ enabled x v told
 desk-enabled x Send told d s = ap (can_send x.ahead) (parts-in d told.desk told.desk.phase s).is
@@ -101,7 +102,7 @@ desk-stands : (d v : Desk) (p : Phase) (m : Moment) → v.phase ≡ p → ShowsI
 desk-stands d v free m q s h = subst (λ (z : Desk). StandsFor z m) s h
 desk-stands d v (tagged i held) m q s h = subst (λ (z : Desk). StandsFor z m) s h
 desk-stands d v (waits name held) m q s h = subst (λ (z : Desk). StandsFor z m) s h
-desk-stands d v (done x) m q (is, doc, lines) (r, one, carries) =
+desk-stands d v (done x) m q (is, doc, lines, counts) (r, one, carries) =
     let page : List ℕ = page_left v in
     let own : CarriesMoment r page m (own_moment v.phase d.own) = subst (λ (z : Desk). CarriesMoment r (page_left z) m (own_moment z.phase d.own)) is carries in
     (r, one, stands-in r page v.phase d.own v.own m (ap is_done q) doc lines own)

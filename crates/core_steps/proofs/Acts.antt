@@ -29,6 +29,7 @@ use Rattle.core_steps.specs.declared.stage.Stage.TheVariants.{Free, Tagged, Wait
 use Rattle.core_steps.specs.declared.side.Side.{Side}
 use Rattle.core_steps.specs.Sides.{lines_given, result_of, desk_of, hand_of, phase_of, ShowsIn, Shows}
 use Rattle.core_steps.specs.Acting.{ended, at_stage, free_hand, Executed, MeetsTag, runs_there, Halts, RunsBatch, with_writer, JudgedAs, Judged, LeavesBy, Settled, RunsTagged, met, RunsText, Misses, RunsFetched, ActsBy}
+use Rattle.core_steps.proofs.Counts.{counts-same}
 use Rattle.core_steps.proofs.Settles.{EndsAt, SettlesAt, tag-settles, miss-settles, ran-settles, fault-settles}
 
 -- what is shown of a desk that is what is told
@@ -39,7 +40,7 @@ shows-all d v is = by v.phase
     by free = is
     by (tagged i held) = is
     by (waits name held) = is
-    by (done r) = (subst (λ z. d ≡ record z { own = d.own; hand = d.hand }) is refl, ap (λ (z : Desk). z.own.side.doc) is, ap (λ (z : Desk). z.own.side.lines) is)
+    by (done r) = (subst (λ z. d ≡ record z { own = d.own; hand = d.hand }) is refl, ap (λ (z : Desk). z.own.side.doc) is, ap (λ (z : Desk). z.own.side.lines) is, counts-same r d.own.side v.own.side (ap (λ (z : Desk). z.own.side) is))
 
 -- from a desk to one of which that is shown
 abbrev pub ShownBehind : World → Desk → Side → Type 0
@@ -74,7 +75,7 @@ module _ (s0 : Side) (b : Batch) (bs : List Batch) (mid : Side) where
   done-shows : (r : Option Why) (new : Side) → IsBehind → new ≡ ended r mid → Shows (in_phase (done (result_of r)) d1) (desk_of new)
   done-shows r new is m =
       subst (λ (z : Side). Shows (in_phase (done (result_of r)) d1) (desk_of z)) (sym m)
-      (subst (λ (z : Desk). Shows (in_phase (done (result_of r)) z) (desk_of (ended r mid))) (sym is) (refl, refl, refl))
+      (subst (λ (z : Desk). Shows (in_phase (done (result_of r)) z) (desk_of (ended r mid))) (sym is) (refl, refl, refl, counts-same (result_of r) (desk_of (ended r mid)).own.side (desk_of (ended r mid)).own.side refl))
 
   abbrev runs_there_in : Desk → Side → Type 0
   runs_there_in e m = (i : NodeId) → runs (prepared i e.own) ≡ runs_there i m
@@ -140,7 +141,7 @@ module _ (s : Side) (held : Parser) (p : Phase) (mid : View) where
       let d' : Desk = record (held_desk s held p) { own = ends.last; phase = done (refused (why_of l)) } in (
         d',
         subst (λ n. Concludes held n (held_desk s held p) d') (sym ends.is) refl,
-        subst (λ (z : Side). Shows d' (desk_of z)) (sym is) (refl, ends.doc, ends.lines),
+        subst (λ (z : Side). Shows d' (desk_of z)) (sym is) (refl, ends.doc, ends.lines, tt),
       )
 
   runs-on : (w : World) (from : Moment) (answer : Left) (new : Side) → SettlesAt w from answer mid given → LeavesBy answer held (with_writer mid s) new →
@@ -178,7 +179,7 @@ fetched-shows w s name held new faulted es halted is x =
     let d' : Desk = record (held_desk s held (waits name held)) { phase = done (refused why.Fault) } in (
       d',
       (over (record { result = refused why.Fault; last = own }), fault-settles w name own is, refl),
-      subst (λ (z : Side). Shows d' (desk_of z)) (sym x) (refl, refl, refl),
+      subst (λ (z : Side). Shows d' (desk_of z)) (sym x) (refl, refl, refl, tt),
     )
 
 -- ---- by what is in hand

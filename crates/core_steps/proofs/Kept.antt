@@ -17,6 +17,7 @@ use Rattle.core_steps.specs.Fetches.{names_of}
 use Rattle.core_steps.specs.Journals.{found}
 use Rattle.core_steps.specs.Sides.{Shown, first_shown, with_piece, with_ending, journaled, with_fetch, ShowsIn, Shows, DoesShow, IsReplayed}
 use Rattle.core_steps.specs.Acting.{fetch_or_missing}
+use Rattle.core_steps.proofs.Counts.{counts-same}
 use Rattle.core_steps.proofs.Replays.{moves-then, pieces-then, ending-then, moves-more}
 
 pub first-replayed : (es : Entities) (ahead : ℕ) → IsReplayed (first_shown es ahead)
@@ -53,7 +54,7 @@ same-shown d v is = by v.phase
     by free = is
     by (tagged i held) = is
     by (waits name held) = is
-    by (done r) = (subst (λ z. d ≡ record z { own = d.own; hand = d.hand }) is refl, ap (λ (z : Desk). z.own.side.doc) is, ap (λ (z : Desk). z.own.side.lines) is)
+    by (done r) = (subst (λ z. d ≡ record z { own = d.own; hand = d.hand }) is refl, ap (λ (z : Desk). z.own.side.doc) is, ap (λ (z : Desk). z.own.side.lines) is, counts-same r d.own.side v.own.side (ap (λ (z : Desk). z.own.side) is))
 
 not-sent : (ahead : ℕ) (d : Desk) → IsTrue (can_send ahead d) → (r : Result) → d.phase ≡ done r → ⊥
 not-sent ahead d can r is = true≢false (sym (and_parts _ _ (and_parts _ _ can).0).0 ∙ ap (λ (p : Phase). not (is_done p)) is)
@@ -75,13 +76,13 @@ arrives-shown : (name : List ℕ) (d v : Desk) (p : Phase) → ShowsIn p d v →
 arrives-shown name d v free is = ap (arrives name) is
 arrives-shown name d v (tagged i held) is = ap (arrives name) is
 arrives-shown name d v (waits n held) is = ap (arrives name) is
-arrives-shown name d v (done r) (is, doc, lines) = (ap (arrives name) is, doc, lines)
+arrives-shown name d v (done r) (is, doc, lines, counts) = (ap (arrives name) is, doc, lines, counts)
 
 arrived-alike : (d v : Desk) (p : Phase) → ShowsIn p d v → d.arrived ≡ v.arrived
 arrived-alike d v free is = ap (λ (z : Desk). z.arrived) is
 arrived-alike d v (tagged i held) is = ap (λ (z : Desk). z.arrived) is
 arrived-alike d v (waits n held) is = ap (λ (z : Desk). z.arrived) is
-arrived-alike d v (done r) (is, doc, lines) = ap (λ (z : Desk). z.arrived) is
+arrived-alike d v (done r) (is, doc, lines, counts) = ap (λ (z : Desk). z.arrived) is
 
 pub arrive-replayed : (s : Shown) (name : List ℕ) (f : Fetched) → IsTrue (can_arrive name s.desk) → IsReplayed s → IsReplayed (with_fetch name f s)
 arrive-replayed s name f can h w es (this, knows) =
@@ -95,7 +96,7 @@ more-shown : (xs : List Piece) (d v : Desk) (p : Phase) → ShowsIn p d v → Sh
 more-shown xs d v free is = ap (with_more xs) is
 more-shown xs d v (tagged i held) is = ap (with_more xs) is
 more-shown xs d v (waits n held) is = ap (with_more xs) is
-more-shown xs d v (done r) (is, doc, lines) = (ap (with_more xs) is, doc, lines)
+more-shown xs d v (done r) (is, doc, lines, counts) = (ap (with_more xs) is, doc, lines, counts)
 
 pub piece-replayed : (s : Shown) (t : List ℕ) → s.journal.ending ≡ None → IsReplayed s → IsReplayed (with_piece t s)
 piece-replayed s t open_ h w es knows =

@@ -2,6 +2,8 @@ pub mod FileLemmas
 pub mod Hands
 pub mod Replays
 pub mod Settles
+pub mod Counts
+pub mod Nodes
 pub mod Acts
 pub mod Sound
 pub mod Kept

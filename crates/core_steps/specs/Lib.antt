@@ -3,4 +3,5 @@ pub mod Journals
 pub mod Sides
 pub mod Acting
 pub mod States
+pub mod Tallies
 pub mod Working

@@ -9,6 +9,7 @@ use Rattle.standard.specs.Entities.{Entities}
 use Rattle.standard.specs.Parser.{Parser}
 use Rattle.standard.specs.Scripts.{Fetched}
 use Rattle.standard.specs.Serial.{World, Serial, Result, finished, refused, write_limit}
+use Rattle.standard.specs.Serial as serial
 use Rattle.core_rules.specs.declared.event.Event.{Event}
 use Rattle.core_rules.specs.declared.event.Event.TheVariants.{Arrive}
 use Rattle.core_rules.specs.Batches.{Piece, of_text, of_ending, Batch, answer}
@@ -70,9 +71,15 @@ IsRequestFor (x ∷ xs) d r = r ≡ request_for d x
 abbrev pub sent_before : Shown → ℕ
 sent_before s = length (joined s.journal.pieces) - length (text_of s.desk.to_send)
 
+-- where the parse finished, as many characters were written and scripts executed
+abbrev pub CountsAlike : Result → serial.Side → serial.Side → Type 0
+CountsAlike finished a b = (a.written ≡ b.written) × (a.executed ≡ b.executed)
+CountsAlike (refused w) a b = Unit {0}
+
 -- At the end a desk shows its result, document and lines, and what is kept of the pieces.
 abbrev pub ShowsIn : Phase → Desk → Desk → Type 0
-ShowsIn (done r) d v = (d ≡ record v { own = d.own; hand = d.hand }) × (d.own.side.doc ≡ v.own.side.doc) × (d.own.side.lines ≡ v.own.side.lines)
+ShowsIn (done r) d v =
+    (d ≡ record v { own = d.own; hand = d.hand }) × (d.own.side.doc ≡ v.own.side.doc) × (d.own.side.lines ≡ v.own.side.lines) × CountsAlike r d.own.side v.own.side
 ShowsIn p d v = d ≡ v
 
 -- what is shown of the first desk is the second

@@ -9,11 +9,13 @@ ghost use Rattle.speculation.specs.Asking.{page_limit};
 ghost use Rattle.core_steps.specs.Fetches.{fetched_of};
 ghost use Rattle.core_steps.specs.Sides.{first_shown, with_piece, with_ending, journaled, with_fetch, IsRequestFor, sent_before, DoesShow, awaiting, standing_of, left_to_do, IsReplayed};
 ghost use Rattle.core_steps.specs.States.{standing_told};
+ghost use Rattle.core_steps.specs.Tallies.{tally_of};
 
 use crate::fetch::Fetch;
 use crate::journal::Journal;
 use crate::side::Side;
 use crate::state::State;
+use crate::tally::Tally;
 use entity_table::Table;
 use html_types::{Ending, Lines, NoMemory, Text};
 use op_exec::Doc;
@@ -226,6 +228,13 @@ impl DocSide {
         ensures { self.now.spent ≡ false → result.now ≡ self.now.desk.own.side.doc }
     {
         self.side.writer.doc()
+    }
+
+    /// What it comes to in numbers. After want of memory it tells nothing. The tree is walked.
+    pub fn tally(&self) -> Tally
+        ensures { self.now.spent ≡ false → result ≡ tally_of self.now.desk }
+    {
+        self.side.tally()
     }
 
     /// The journal, whose events replay to what is shown.

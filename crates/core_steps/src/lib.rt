@@ -9,6 +9,7 @@ pub mod journal;
 mod side;
 mod stage;
 pub mod state;
+pub mod tally;
 pub mod work_side;
 
 pub use core_rules::Event;
@@ -17,4 +18,5 @@ pub use fetch::{Fetch, FetchedFile};
 pub use file::is_lawful;
 pub use journal::Journal;
 pub use state::State;
+pub use tally::Tally;
 pub use work_side::WorkSide;

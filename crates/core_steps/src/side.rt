@@ -11,6 +11,7 @@ ghost use Rattle.core_rules.specs.Settling.{is_empty as has_none};
 ghost use Rattle.speculation.specs.Asking.{page_limit};
 ghost use Rattle.core_steps.specs.Fetches.{fetched_of};
 ghost use Rattle.core_steps.specs.States.{standing_told};
+ghost use Rattle.core_steps.specs.Tallies.{tally_of};
 ghost use Rattle.std.specs.Prelude.{◌+◌, ◌≤◌, suc};
 ghost use Rattle.standard.specs.Act.{is_bound};
 ghost use Rattle.core_rules.specs.declared.verdict.Verdict.TheVariants as verdict;
@@ -24,6 +25,7 @@ use crate::file::{is_lawful, text_of};
 use crate::journal::Journal;
 use crate::stage::Stage;
 use crate::state::State;
+use crate::tally::{Tally, count_nodes};
 use core_rules::{Event, Verdict};
 use entity_table::Table;
 use html_types::{Ending, Finish, Lines, NoMemory, NodeId, Stop, Text, Why};
@@ -264,6 +266,21 @@ impl Side {
         ensures { result.now ≡ self.now.writer.lines }
     {
         self.writer.lines()
+    }
+
+    /// What it comes to in numbers. Each script of the page that was in hand took a realm of ids, and each that failed one more and an epoch.
+    pub fn tally(&self) -> Tally
+        ensures { result ≡ tally_of (desk_of self.now) }
+    {
+        let Counts { epoch, realm, .. } = &self.counts;
+        let failed = epoch.saturating_sub(1);
+        Tally {
+            scripts: self.writer.executed(),
+            kept: realm.saturating_sub(*epoch).saturating_sub(failed),
+            failed,
+            nodes: count_nodes(self.writer.doc().tree()),
+            written: self.writer.written(),
+        }
     }
 
     /// Takes the lines that scripts gave since lines were last taken.

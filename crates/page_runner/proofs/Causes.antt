@@ -1,21 +1,26 @@
 -- The causes of single statuses.
 use Rattle.std.proofs.Common.{◌≡◌, ℕ, Bool, List, [], Option, Some, None, refl, subst, inl, inr}
-use Rattle.std.specs.Prelude.{◌⊎◌, true}
+use Rattle.std.specs.Prelude.{◌⊎◌, true, false, if◌then◌else◌}
 use Rattle.html_types.specs.declared.script.Why.TheVariants as why
 use Rattle.outside.specs.Outside.{Rose, Seen}
 use Rattle.outside.specs.declared.traits.Port.TheVariants.{Entities}
 use Rattle.standard.specs.Entities.{Entities as Table}
 use Rattle.standard.specs.Scripts as fetched
-use Rattle.standard.specs.Serial.{Result, finished, refused}
+use Rattle.standard.specs.Serial.{Result, finished, refused, Outcome, IsSerial}
 use Rattle.page_runner.specs.declared.command.TheConstants.{ENTITIES_LIMIT}
 use Rattle.page_runner.specs.declared.status.Status.{Status}
 use Rattle.page_runner.specs.declared.status.Status.TheVariants as status
-use Rattle.page_runner.specs.Words.{Asked}
+use Rattle.page_runner.specs.Words.{PageAsked, Asked, for_page, for_make}
 use Rattle.page_turns.specs.Given.{Given, unmet, missing, faulted, got, MayGive}
 use Rattle.page_turns.specs.Scripts.{MayFetch}
 use Rattle.page_turns.specs.Pages.{world_of}
 use Rattle.page_runner.specs.Answers.{PageMet, MayGivePage, IsParsed, status_with, answer_to_page, answer_over, answer_to, table_of, Gives, RunsTo, Exactly, AbsenceRose, FaultRose}
-use Rattle.page_runner.proofs.PageFaults.{fault_met}
+use Rattle.page_runner.proofs.PageFaults.{fault_ends, fault_met}
+use Rattle.page_runner.specs.declared.words.MakeWords.{MakeWords}
+use Rattle.page_runner.specs.Making.{page_made, file_among, made_world, MakesTo}
+use Rattle.page_maker.specs.Made.{made_scripts}
+use Rattle.page_maker.specs.declared.page.Script.{Script}
+use Rattle.html_types.specs.Text.{same_text}
 
 -- ---- which answers have the status
 
@@ -59,7 +64,7 @@ never_usage dump missing page e = cc
 never_usage dump faulted page e = cc
 never_usage dump (got bytes) page e = never_usage_over dump (table_of bytes) page e
 
-module _ (asked : Asked) (before after' : Seen) where
+module _ (asked : PageAsked) (before after' : Seen) where
   absent_page : (page : Given PageMet) → MayGivePage asked.page asked.dir before after' page → status.Absent ≡ (answer_to_page asked.dump page).0 → AbsenceRose before after'
   absent_page unmet may e = absurd (cc e)
   absent_page missing may e = inr may.0
@@ -100,21 +105,45 @@ module _ (asked : Asked) (before after' : Seen) where
   fault_of faulted page may may' parsed e = inl may
   fault_of (got bytes) page may may' parsed e = fault_over (table_of bytes) page may' (λ es is. parsed bytes es refl is) e
 
+-- ---- the made page
+
+-- no name has a file that is faulted
+file-not_faulted : (scripts : List Script) (name : List ℕ) → file_among scripts name ≡ fetched.faulted → ⊥
+file-not_faulted [] name e = absurd (cc e)
+file-not_faulted (script ∷ scripts) name e = by (same_text script.name name) e (λ f. file-not_faulted scripts name f)
+  where
+    by : (b : Bool) → (if b then fetched.got script.text else file_among scripts name) ≡ fetched.faulted → (file_among scripts name ≡ fetched.faulted → ⊥) → ⊥
+    by true e rest = absurd (cc e)
+    by false e rest = rest e
+
+-- neither the page nor a script is faulted
+made-meets_no_fault : (asked : MakeWords) (o : Outcome) → IsSerial (page_made asked) made_world o → o.result ≡ refused why.Fault → ⊥
+made-meets_no_fault asked o comes is = elim (fault_ends made_world (page_made asked) o comes is) [
+  | inl ends ↦ cc ends
+  | inr met ↦ file-not_faulted made_scripts met.0 met.1
+]
+
 -- ---- the clauses
 
-pub absent : (asked : Option Asked) (before after' : Seen) (k k' : ℕ) (t t' : Option (List ℕ)) (r : Status) → RunsTo asked before after' k k' t t' r → r ≡ status.Absent → AbsenceRose before after'
-absent None before after' k k' t t' r runs is = let gives = subst (Gives (Rose k k') t t' (status.Usage, [])) is runs in absurd (cc gives.0)
-absent (Some asked) before after' k k' t t' r runs is =
+pub absent : (asked : Option Asked) (before after' : Seen) (k k' : ℕ) (t t' : Option (List ℕ)) (r : Status) → RunsTo asked before after' k k' t t' r → MakesTo asked before after' k k' t t' r → r ≡ status.Absent → AbsenceRose before after'
+absent None before after' k k' t t' r runs makes is = let gives = subst (Gives (Rose k k') t t' (status.Usage, [])) is runs in absurd (cc gives.0)
+absent (Some (for_page asked)) before after' k k' t t' r runs makes is =
     let gives = subst (Gives (Rose k k') t t' (answer_to asked.dump runs.entities runs.page)) is runs.gives in absent_of asked before after' runs.entities runs.page runs.may_entities runs.may_page gives.0
+absent (Some (for_make asked)) before after' k k' t t' r runs makes is =
+    let gives = subst (Gives (Rose k k') t t' (status_with makes.1.outcome.result, makes.1.text)) is makes.1.gives in absurd (absent_result makes.1.outcome.result gives.0)
 
-pub read_fault : (asked : Option Asked) (before after' : Seen) (k k' : ℕ) (t t' : Option (List ℕ)) (r : Status) → RunsTo asked before after' k k' t t' r → r ≡ status.ReadFault → FaultRose before after'
-read_fault None before after' k k' t t' r runs is = let gives = subst (Gives (Rose k k') t t' (status.Usage, [])) is runs in absurd (cc gives.0)
-read_fault (Some asked) before after' k k' t t' r runs is =
+pub read_fault : (asked : Option Asked) (before after' : Seen) (k k' : ℕ) (t t' : Option (List ℕ)) (r : Status) → RunsTo asked before after' k k' t t' r → MakesTo asked before after' k k' t t' r → r ≡ status.ReadFault → FaultRose before after'
+read_fault None before after' k k' t t' r runs makes is = let gives = subst (Gives (Rose k k') t t' (status.Usage, [])) is runs in absurd (cc gives.0)
+read_fault (Some (for_page asked)) before after' k k' t t' r runs makes is =
     let gives = subst (Gives (Rose k k') t t' (answer_to asked.dump runs.entities runs.page)) is runs.gives in fault_of asked before after' runs.entities runs.page runs.may_entities runs.may_page runs.parsed gives.0
+read_fault (Some (for_make asked)) before after' k k' t t' r runs makes is =
+    let gives = subst (Gives (Rose k k') t t' (status_with makes.1.outcome.result, makes.1.text)) is makes.1.gives in absurd (made-meets_no_fault asked makes.1.outcome makes.1.comes (fault_result makes.1.outcome.result gives.0))
 
-pub write_fault : (asked : Option Asked) (before after' : Seen) (k k' : ℕ) (t t' : Option (List ℕ)) (r : Status) → RunsTo asked before after' k k' t t' r → r ≡ status.WriteFault → Rose k k'
-write_fault None before after' k k' t t' r runs is = let gives = subst (Gives (Rose k k') t t' (status.Usage, [])) is runs in gives.0
-write_fault (Some asked) before after' k k' t t' r runs is = let gives = subst (Gives (Rose k k') t t' (answer_to asked.dump runs.entities runs.page)) is runs.gives in gives.0
+pub write_fault : (asked : Option Asked) (before after' : Seen) (k k' : ℕ) (t t' : Option (List ℕ)) (r : Status) → RunsTo asked before after' k k' t t' r → MakesTo asked before after' k k' t t' r → r ≡ status.WriteFault → Rose k k'
+write_fault None before after' k k' t t' r runs makes is = let gives = subst (Gives (Rose k k') t t' (status.Usage, [])) is runs in gives.0
+write_fault (Some (for_page asked)) before after' k k' t t' r runs makes is = let gives = subst (Gives (Rose k k') t t' (answer_to asked.dump runs.entities runs.page)) is runs.gives in gives.0
+write_fault (Some (for_make asked)) before after' k k' t t' r runs makes is =
+    let gives = subst (Gives (Rose k k') t t' (status_with makes.1.outcome.result, makes.1.text)) is makes.1.gives in gives.0
 
 in_place : (rose : Type 0) (t t' : Option (List ℕ)) (r : Status) → Gives rose t t' (status.Usage, []) r → (r ≡ status.Usage) ⊎ (r ≡ status.WriteFault) ⊎ (r ≡ status.NoMemory)
 in_place rose t t' status.WriteFault gives = inr (inl refl)
@@ -127,9 +156,13 @@ in_place rose t t' (status.Limit which) gives = inl gives.0
 in_place rose t t' status.ReadFault gives = inl gives.0
 in_place rose t t' status.Absent gives = inl gives.0
 
-pub usage : (asked : Option Asked) (before after' : Seen) (k k' : ℕ) (t t' : Option (List ℕ)) (r : Status) → RunsTo asked before after' k k' t t' r → Exactly status.Usage r (asked ≡ None)
-usage None before after' k k' t t' r runs = record { nowhere_else = λ _. refl; there = λ _. in_place (Rose k k') t t' r runs }
-usage (Some asked) before after' k k' t t' r runs = record {
+pub usage : (asked : Option Asked) (before after' : Seen) (k k' : ℕ) (t t' : Option (List ℕ)) (r : Status) → RunsTo asked before after' k k' t t' r → MakesTo asked before after' k k' t t' r → Exactly status.Usage r (asked ≡ None)
+usage None before after' k k' t t' r runs makes = record { nowhere_else = λ _. refl; there = λ _. in_place (Rose k k') t t' r runs }
+usage (Some (for_page asked)) before after' k k' t t' r runs makes = record {
   nowhere_else = λ is. let gives = subst (Gives (Rose k k') t t' (answer_to asked.dump runs.entities runs.page)) is runs.gives in absurd (never_usage asked.dump runs.entities runs.page gives.0);
+  there = λ none. absurd (cc none);
+}
+usage (Some (for_make asked)) before after' k k' t t' r runs makes = record {
+  nowhere_else = λ is. let gives = subst (Gives (Rose k k') t t' (status_with makes.1.outcome.result, makes.1.text)) is makes.1.gives in absurd (usage_result makes.1.outcome.result gives.0);
   there = λ none. absurd (cc none);
 }

@@ -16,7 +16,7 @@ use Rattle.standard_laws.proofs.Fuel.{one_outcome}
 use Rattle.page_runner.specs.declared.command.TheConstants.{ENTITIES_LIMIT}
 use Rattle.page_runner.specs.declared.status.Status.{Status}
 use Rattle.page_runner.specs.declared.status.Status.TheVariants as status
-use Rattle.page_runner.specs.Words.{Asked}
+use Rattle.page_runner.specs.Words.{PageAsked, Asked, for_page, for_make}
 use Rattle.page_turns.specs.Given.{Given, unmet, missing, faulted, got, FaultsRose, NoFault, AbsencesRose, file_at, MayGive}
 use Rattle.page_turns.specs.Taken.{Took}
 use Rattle.page_turns.specs.Scripts.{path_of, IsAbsent, MayFetch, AreScriptsOf, fetched_of, world_in}
@@ -56,14 +56,14 @@ if_some : {A : Type 0} (o : Option A) (P : A → Type 0) → ((x : A) → o ≡ 
 if_some None P h = tt
 if_some (Some x) P h = h x refl
 
-some_at : {A : Type 0} (o : Option A) (P : A → Type 0) (x : A) → o ≡ Some x → IfSome o P → P x
+pub some_at : {A : Type 0} (o : Option A) (P : A → Type 0) (x : A) → o ≡ Some x → IfSome o P → P x
 some_at o P x is h = let there = subst (λ q. IfSome q P) is h in there
 
 -- where the files are told and no read of a script failed, this came of each script
 absent_told : (file : Option (Option (List ℕ))) (rose : Type 0) (told : Option (List ℕ)) → file ≡ Some told → IsAbsent file rose → told ≡ None
 absent_told file rose told is none = let there = subst (λ f. IsAbsent f rose) is none in there
 
-fetch_told : (dir : List ℕ) (before after : Seen) (map : Files) (name : List ℕ) (f : Fetched) → before.files ≡ Some map → ¬ (FaultsRose Script before after) → MayFetch dir before after name f
+pub fetch_told : (dir : List ℕ) (before after : Seen) (map : Files) (name : List ℕ) (f : Fetched) → before.files ≡ Some map → ¬ (FaultsRose Script before after) → MayFetch dir before after name f
     → f ≡ fetched_of (map (path_of dir name))
 fetch_told dir before after map name (fetched.got bytes) told none may =
     let at : file_at before (path_of dir name) ≡ Some (map (path_of dir name)) = ap (option_map (λ m. m (path_of dir name))) told in
@@ -76,14 +76,14 @@ fetch_told dir before after map name fetched.missing told none may =
 fetch_told dir before after map name fetched.faulted told none may = absurd (none may)
 
 -- so the scripts are those of the folder
-scripts_told : (dir : List ℕ) (before after : Seen) (map : Files) (scripts : List ℕ → Fetched) → before.files ≡ Some map → ¬ (FaultsRose Script before after) → AreScriptsOf dir before after scripts
+pub scripts_told : (dir : List ℕ) (before after : Seen) (map : Files) (scripts : List ℕ → Fetched) → before.files ≡ Some map → ¬ (FaultsRose Script before after) → AreScriptsOf dir before after scripts
     → scripts ≡ (λ name. fetched_of (map (path_of dir name)))
 scripts_told dir before after map scripts told none are = fun_ext (λ name. fetch_told dir before after map name (scripts name) told none (are.each name))
 
 abbrev Finishes : Bool → Option (List ℕ) → Option (List ℕ) → Status → Outcome → Type 0
 Finishes dump t t' r o = (r ≡ status.NoMemory) ⊎ ((r ≡ status.Done) × Took t t' (output_with dump o))
 
-module _ (asked : Asked) (before after : Seen) (map : Files) (told : before.files ≡ Some map) (rose : Type 0) (t t' : Option (List ℕ)) (r : Status) (unless : ¬ rose)
+module _ (asked : PageAsked) (before after : Seen) (map : Files) (told : before.files ≡ Some map) (rose : Type 0) (t t' : Option (List ℕ)) (r : Status) (unless : ¬ rose)
     (none : ¬ (FaultsRose Entities before after)) (none' : ¬ (FaultsRose Page before after)) (none'' : ¬ (FaultsRose Script before after))
     (es : Table) (page : List ℕ) (there : map asked.page ≡ Some page) (o : Outcome) (comes : ComesTo (world_in es map asked.dir) (record { bytes = page; fault = false }) o) (done : o.result ≡ finished) where
   file_told : (path : List ℕ) → file_at before path ≡ Some (map path)
@@ -124,6 +124,7 @@ module _ (asked : Asked) (before after : Seen) (map : Files) (told : before.file
 -- the whole
 pub completes : (asked : Option Asked) (before after : Seen) (sink sink' : ℕ) (t t' : Option (List ℕ)) (r : Status) → RunsTo asked before after sink sink' t t' r → CompletesRun asked before after sink sink' t t' r
 completes None before after sink sink' t t' r runs = tt
-completes (Some asked) before after sink sink' t t' r runs = if_some before.files _ (λ map told entities page es o there table there' comes done none.
+completes (Some (for_make asked)) before after sink sink' t t' r runs = tt
+completes (Some (for_page asked)) before after sink sink' t t' r runs = if_some before.files _ (λ map told entities page es o there table there' comes done none.
     met_entities asked before after map told (Rose sink sink') t t' r none.at_sink none.entities none.page none.script es page there' o comes done
     entities runs.entities runs.page there table runs.may_entities runs.may_page runs.parsed runs.gives)

@@ -24,17 +24,17 @@ value_at name rows None is = absurd (cc is)
 value_at name rows (Some sub) is = let same : rows ≡ sub.1 = cc is in ap (first_of name) same
 
 -- a text that is such a number
-pub read_number : (most otherwise n : ℕ) (text : List ℕ) → IsNumeral 10 (without_leading_plus text) → digits_value 10 (without_leading_plus text) < 2 ^ 64
-    → n ≡ digits_value 10 (without_leading_plus text) → 1 ≤ n → n ≤ most → n ≡ number_from most otherwise (Some text)
-read_number most otherwise n text numeral fits is low high =
-    rw (Accepts-accepts false (parsers.Unsigned 1 most) text (numeral, fits, rw is at low, rw is at high)) is
+pub read_number : (least most otherwise n : ℕ) (text : List ℕ) → IsNumeral 10 (without_leading_plus text) → digits_value 10 (without_leading_plus text) < 2 ^ 64
+    → n ≡ digits_value 10 (without_leading_plus text) → least ≤ n → n ≤ most → n ≡ number_from least most otherwise (Some text)
+read_number least most otherwise n text numeral fits is low high =
+    rw (Accepts-accepts false (parsers.Unsigned least most) text (numeral, fits, rw is at low, rw is at high)) is
 
 -- and one that isn't
-pub read_none : (most otherwise : ℕ) (text : List ℕ) → (IsUnsignedIn 1 most text → ⊥) → otherwise ≡ number_from most otherwise (Some text)
-read_none most otherwise text none = by_test (is_unsigned_in 1 most text) refl
+pub read_none : (least most otherwise : ℕ) (text : List ℕ) → (IsUnsignedIn least most text → ⊥) → otherwise ≡ number_from least most otherwise (Some text)
+read_none least most otherwise text none = by_test (is_unsigned_in least most text) refl
   where
-    by_test : (b : Bool) → is_unsigned_in 1 most text ≡ b → otherwise ≡ (if b then digits_value 10 (without_leading_plus text) else otherwise)
-    by_test true is = absurd (none (accepts-Accepts false (parsers.Unsigned 1 most) text is))
+    by_test : (b : Bool) → is_unsigned_in least most text ≡ b → otherwise ≡ (if b then digits_value 10 (without_leading_plus text) else otherwise)
+    by_test true is = absurd (none (accepts-Accepts false (parsers.Unsigned least most) text is))
     by_test false is = refl
 
 pub asked_none : (words : List Text) → (AreInGrammar words → ⊥) → asked words ≡ None

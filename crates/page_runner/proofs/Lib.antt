@@ -6,3 +6,4 @@ pub mod OnTwoLemmas
 pub mod ReportLemmas
 pub mod Complete
 pub mod Causes
+pub mod MakingLemmas

@@ -12,12 +12,12 @@ use Rattle.html_types.specs.declared.instruction.Finish.{Finish}
 use Rattle.html_types.specs.declared.instruction.Finish.TheVariants as finale
 use Rattle.standard.specs.Tree.{Nodes, appended, find_id, first_element}
 use Rattle.standard.specs.Act.{Doc, acts}
-use Rattle.standard.specs.Page.{ending_of}
+use Rattle.standard.specs.Page.{Page, ending_of}
 use Rattle.standard.specs.Parser.{Parser, Took, took, take_character, Finished, finish}
 use Rattle.standard.specs.Prepare.{Prepared, still, inline, external}
 use Rattle.standard.specs.Scripts.{Fetched, got, missing, faulted, is_lawful, file_statements}
 use Rattle.standard.specs.Statements.{statements}
-use Rattle.standard.specs.Serial.{World, fetched_if, fetched, Serial, Outcome, refused, Course, goes, refuses, starved, ◌then◌, Advanced, advanced, advance, before_point, moved, with_line_feed, may_write, insert, tree_of, inside, back_at, with_tree, remove, read, one_more_executed, prepared, execute, run_statements, on_element, on_move, write, go_on, stopped, end_of_script, run_prepared, run_text, Moment, reading, tag_ended, awaits, over, at_end, after_character, unless_pending, after_script, after_fetch, read_next, moment_after, moments_on, first}
+use Rattle.standard.specs.Serial.{World, fetched_if, fetched, Serial, Outcome, refused, Course, goes, refuses, starved, ◌then◌, Advanced, advanced, advance, before_point, moved, with_line_feed, may_write, insert, tree_of, inside, back_at, with_tree, remove, read, one_more_executed, prepared, execute, run_statements, on_element, on_move, write, go_on, stopped, end_of_script, run_prepared, run_text, Moment, reading, tag_ended, awaits, over, at_end, after_character, unless_pending, after_script, after_fetch, read_next, moment_after, moments_on, first, IsSerial}
 use Rattle.standard_laws.specs.Laws.{outcome_at}
 use Rattle.standard_laws.proofs.Fuel.{serial-over}
 use Rattle.standard_laws.proofs.Passing.{finished-at}
@@ -104,7 +104,7 @@ text-meets_none n w text s = then-meets_none (execute n w text (inside s)) (λ t
 -- ---- the moments
 
 -- the page ends with a fault, or a script is faulted
-abbrev HasFault : Ending → World → Type 0
+abbrev pub HasFault : Ending → World → Type 0
 HasFault e w = (e ≡ ending.Fault) ⊎ ((name : List ℕ) × (w.scripts name ≡ faulted))
 
 -- where the parse is over with a fault, there is one
@@ -179,14 +179,17 @@ by_ending true false false false e = absurd (cc e)
 fault-ends : (limit : ℕ) (bytes : List ℕ) (fault : Bool) → ending_of limit bytes fault ≡ ending.Fault → fault ≡ true
 fault-ends limit bytes fault e = by_ending _ _ _ fault e
 
+pub fault_ends : (w : World) (page : Page) (o : Outcome) → IsSerial page w o → o.result ≡ refused why.Fault → HasFault page.ending w
+fault_ends w page o (n, comes) is =
+    let e = page.ending in
+    let meets : MeetsOnly e w (moments_on n n e w (reading (first page))) = moments-meet n n e w (reading (first page)) tt in
+    let over_there = serial-over n page w o comes in
+    let there : MeetsOnly e w (Some (over o)) = subst (MeetsOnly e w) over_there meets in
+    there is
+
 pub fault_met : (w : World) (page : PageRead) (o : Outcome) → ComesTo w page o → o.result ≡ refused why.Fault
     → (page.fault ≡ true) ⊎ ((name : List ℕ) × (w.scripts name ≡ faulted))
-fault_met w page o (n, comes) is =
-    let e = (page_at page).ending in
-    let meets : MeetsOnly e w (moments_on n n e w (reading (first (page_at page)))) = moments-meet n n e w (reading (first (page_at page))) tt in
-    let over_there = serial-over n (page_at page) w o comes in
-    let there : MeetsOnly e w (Some (over o)) = subst (MeetsOnly e w) over_there meets in
-    by_fault (there is)
+fault_met w page o comes is = by_fault (fault_ends w (page_at page) o comes is)
   where
     by_fault : HasFault (page_at page).ending w → (page.fault ≡ true) ⊎ ((name : List ℕ) × (w.scripts name ≡ faulted))
     by_fault (inl ends) = inl (fault-ends PAGE_LIMIT page.bytes page.fault ends)

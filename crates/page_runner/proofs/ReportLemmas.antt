@@ -31,6 +31,7 @@ is_met es ahead path dir before after s begun left = record {
     | inl none ↦ absurd (cc none)
     | inr may ↦ may
   ];
+  known = left.known;
 }
 
 module _ (es : Entities) (ahead : ℕ) (dump : Bool) (path dir : List ℕ) (before after : Seen) (begun : IsBegun path before) (t t' : Option (List ℕ)) (s : Shown) (left : Leaves es ahead dir before after s) (replays : ReplaysTo es ahead s) where
@@ -70,7 +71,7 @@ module _ (es : Entities) (ahead : ℕ) (dump : Bool) (path dir : List ℕ) (befo
       all-of status.Absent e gives = gives
 
       here : All r → IsWritten dump t t' s r
-      here (is, took) = record { result = result_of o; phase = out.phase; outcome_is = is ∙ status_is o; took = took_then t now' t' _ _ out.took took }
+      here (is, took) = record { result = result_of o; going = out.going; phase = out.phase; outcome_is = is ∙ status_is o; took = took_then t now' t' _ _ out.took took }
 
 -- The page was begun before.
 pub reports_since : (es : Entities) (ahead : ℕ) (dump : Bool) (path dir : List ℕ) (before now after : Seen) (t t' : Option (List ℕ)) (s : Shown) (r : Status) → KeepsOthers Page before now → NoFault Page before now
@@ -85,6 +86,7 @@ reports_since es ahead dump path dir before now after t t' s r keeps quiet repor
         is_page = file_page_since Page path before now after met.page keeps quiet met.is_page;
         front = met.front;
         scripts = λ name f is. let (g, may, alike) = met.scripts name f is in (g, fetch_since Page dir before now after name g keeps may, alike);
+        known = met.known;
       };
       replays = reports.replays;
       written = reports.written;

@@ -25,7 +25,9 @@ use Rattle.page_turns.specs.declared.page.Failure.{Failure}
 use Rattle.page_turns.specs.declared.page.Failure.TheVariants as failures
 use Rattle.page_runner.specs.declared.status.Status.{Status}
 use Rattle.page_runner.specs.declared.status.Status.TheVariants as status
-use Rattle.page_runner.specs.Words.{Asked}
+use Rattle.page_runner.specs.declared.words.MakeWords.{MakeWords}
+use Rattle.page_runner.specs.Words.{PageAsked, Asked, for_page, for_make}
+use Rattle.page_runner.specs.Making.{Makes, MakesTo}
 use Rattle.page_turns.specs.Given.{Given, unmet, missing, faulted, got, FaultsRose, NoFault, AbsencesRose, file_at, MayGive, AreRead, ReadTo, untouched, unbegun, begun, KeepsEntities}
 use Rattle.page_turns.specs.Taken.{Took, TookFront}
 use Rattle.page_turns.specs.Scripts.{path_of, IsAbsent, MayFetch, ReadScriptsTo, NamesOnce, none_begun, last}
@@ -270,7 +272,7 @@ module _ (es : Table) (dump : Bool) (path dir : List ℕ) (before after : Seen) 
     names = names_none dir _ _ (keeps.begun Script (λ e. cc e));
   }
 
-pub answers_on : (asked : Asked) (before now after : Seen) (k k' : ℕ) (t t' : Option (List ℕ)) (result : Status) (es : Table) → ReadsTable asked.entities before now es → KeepsOthers Entities before now
+pub answers_on : (asked : PageAsked) (before now after : Seen) (k k' : ℕ) (t t' : Option (List ℕ)) (result : Status) (es : Table) → ReadsTable asked.entities before now es → KeepsOthers Entities before now
     → PageAnswers es asked.dump asked.page asked.dir now after k k' t t' result → KeepsEntities now after → Answers asked before after k k' t t' result
 answers_on asked before now after k k' t t' result es reads keeps answers keeps' = record {
   entities = got reads.bytes;
@@ -287,7 +289,7 @@ answers_on asked before now after k k' t t' result es reads keeps answers keeps'
 }
 
 -- there is no table
-module _ (asked : Asked) (before after : Seen) (keeps : KeepsOthers Entities before after) (k k' : ℕ) (t t' : Option (List ℕ)) (r : Status) where
+module _ (asked : PageAsked) (before after : Seen) (keeps : KeepsOthers Entities before after) (k k' : ℕ) (t t' : Option (List ℕ)) (r : Status) where
   answers_early : (given : Given (List ℕ)) → MayGive ENTITIES_LIMIT Entities asked.entities before after given → Gives (Rose k k') t t' (answer_to asked.dump given unmet) r → Answers asked before after k k' t t' r
   answers_early given may gives = record {
     entities = given;
@@ -362,7 +364,7 @@ begun_page_read path before now after keeps found (begun read taken most) =
     begun read (subst (λ file. AreRead file (after.left Page) read) (file_since path before now keeps.files) taken) most
 
 -- where the entities alone were read
-pub stops_early : (asked : Asked) (before after : Seen) → ReadTo ENTITIES_LIMIT Entities asked.entities before after → KeepsOthers Entities before after → StopsAtEach asked before after
+pub stops_early : (asked : PageAsked) (before after : Seen) → ReadTo ENTITIES_LIMIT Entities asked.entities before after → KeepsOthers Entities before after → StopsAtEach asked before after
 stops_early asked before after reads keeps = record {
   entities = reads;
   page = untouched (keeps.left Page (λ e. cc e));
@@ -370,7 +372,7 @@ stops_early asked before after reads keeps = record {
 }
 
 -- the page and its scripts were read behind them
-pub stops_on : (asked : Asked) (paths : List (List ℕ)) (before now after : Seen) → ReadTo ENTITIES_LIMIT Entities asked.entities before now → KeepsOthers Entities before now → ReadsPage asked.page asked.dir paths now after
+pub stops_on : (asked : PageAsked) (paths : List (List ℕ)) (before now after : Seen) → ReadTo ENTITIES_LIMIT Entities asked.entities before now → KeepsOthers Entities before now → ReadsPage asked.page asked.dir paths now after
     → StopsAtEach asked before after
 stops_on asked paths before now after reads keeps page = record {
   entities = read_still ENTITIES_LIMIT asked.entities before now after reads page.others;
@@ -379,14 +381,14 @@ stops_on asked paths before now after reads keeps page = record {
 }
 
 -- what was begun at the ports
-pub begins_early : (asked : Asked) (path : List ℕ) (before after : Seen) → path ≡ asked.entities → Begun (before.begun Entities) (after.begun Entities) (path ∷ []) → KeepsOthers Entities before after → BeginsEach asked before after
+pub begins_early : (asked : PageAsked) (path : List ℕ) (before after : Seen) → path ≡ asked.entities → Begun (before.begun Entities) (after.begun Entities) (path ∷ []) → KeepsOthers Entities before after → BeginsEach asked before after
 begins_early asked path before after same paths keeps = record {
   entities = inr (begun_is _ _ path asked.entities same paths);
   page = inl (begun_none _ _ (keeps.begun Page (λ e. cc e)));
   scripts = names_none asked.dir _ _ (keeps.begun Script (λ e. cc e));
 }
 
-pub begins_on : (asked : Asked) (path : List ℕ) (before now after : Seen) → path ≡ asked.entities → Begun (before.begun Entities) (now.begun Entities) (path ∷ []) → KeepsOthers Entities before now
+pub begins_on : (asked : PageAsked) (path : List ℕ) (before now after : Seen) → path ≡ asked.entities → Begun (before.begun Entities) (now.begun Entities) (path ∷ []) → KeepsOthers Entities before now
     → ReadsPage asked.page asked.dir (asked.page ∷ []) now after → BeginsEach asked before after
 begins_on asked path before now after same paths keeps page = record {
   entities = inr (begun_stays _ _ _ _ (begun_is _ _ path asked.entities same paths) page.others.begun);
@@ -419,24 +421,40 @@ runs_usage asked before k t none = subst (λ a. RunsTo a before before k k t t s
 
 pub runs_no_memory : (asked : Option Asked) (before : Seen) (k : ℕ) (t : Option (List ℕ)) → RunsTo asked before before k k t t status.NoMemory
 runs_no_memory None before k t = front_nothing t []
-runs_no_memory (Some asked) before k t = answers_without asked before before (keeps-same Entities before) k k t t status.NoMemory unread.NoMemory tt (front_nothing t [])
+runs_no_memory (Some (for_make asked)) before k t = tt
+runs_no_memory (Some (for_page asked)) before k t = answers_without asked before before (keeps-same Entities before) k k t t status.NoMemory unread.NoMemory tt (front_nothing t [])
 
-pub runs_asked : (asked : Option Asked) (a : Asked) (before after : Seen) (k k' : ℕ) (t t' : Option (List ℕ)) (result : Status) → Some a ≡ asked → Answers a before after k k' t t' result → RunsTo asked before after k k' t t' result
+pub runs_asked : (asked : Option Asked) (a : PageAsked) (before after : Seen) (k k' : ℕ) (t t' : Option (List ℕ)) (result : Status) → Some (for_page a) ≡ asked → Answers a before after k k' t t' result → RunsTo asked before after k k' t t' result
 runs_asked asked a before after k k' t t' result is answers = subst (λ o. RunsTo o before after k k' t t' result) is answers
 
 pub begins_nothing : (asked : Option Asked) (before : Seen) → BeginsOnce asked before before
 begins_nothing None before = refl
-begins_nothing (Some asked) before = record { entities = inl (begun_none _ _ refl); page = inl (begun_none _ _ refl); scripts = names_none asked.dir _ _ refl }
+begins_nothing (Some (for_make asked)) before = refl
+begins_nothing (Some (for_page asked)) before = record { entities = inl (begun_none _ _ refl); page = inl (begun_none _ _ refl); scripts = names_none asked.dir _ _ refl }
 
 pub begins_asked : (asked : Option Asked) (a : Asked) (before after : Seen) → Some a ≡ asked → BeginsOnce (Some a) before after → BeginsOnce asked before after
 begins_asked asked a before after is begins = subst (λ o. BeginsOnce o before after) is begins
 
 pub stops_at_once : (asked : Option Asked) (before : Seen) → StopsAtLimits asked before before
 stops_at_once None before = refl
-stops_at_once (Some asked) before = record { entities = untouched refl; page = untouched refl; scripts = none_begun refl }
+stops_at_once (Some (for_make asked)) before = refl
+stops_at_once (Some (for_page asked)) before = record { entities = untouched refl; page = untouched refl; scripts = none_begun refl }
 
 pub stops_asked : (asked : Option Asked) (a : Asked) (before after : Seen) → Some a ≡ asked → StopsAtLimits (Some a) before after → StopsAtLimits asked before after
 stops_asked asked a before after is stops = subst (λ o. StopsAtLimits o before after) is stops
+
+-- of the command `make` no more is said by these
+pub runs_made : (asked : Option Asked) (a : MakeWords) (before after : Seen) (k k' : ℕ) (t t' : Option (List ℕ)) (result : Status) → Some (for_make a) ≡ asked → RunsTo asked before after k k' t t' result
+runs_made asked a before after k k' t t' result is = subst (λ o. RunsTo o before after k k' t t' result) is tt
+
+pub makes_none : (asked : Option Asked) (before after : Seen) (k k' : ℕ) (t t' : Option (List ℕ)) (result : Status) → asked ≡ None → MakesTo asked before after k k' t t' result
+makes_none asked before after k k' t t' result is = subst (λ o. MakesTo o before after k k' t t' result) (sym is) tt
+
+pub makes_page : (asked : Option Asked) (a : PageAsked) (before after : Seen) (k k' : ℕ) (t t' : Option (List ℕ)) (result : Status) → Some (for_page a) ≡ asked → MakesTo asked before after k k' t t' result
+makes_page asked a before after k k' t t' result is = subst (λ o. MakesTo o before after k k' t t' result) is tt
+
+pub makes_made : (asked : Option Asked) (a : MakeWords) (before : Seen) (k k' : ℕ) (t t' : Option (List ℕ)) (result : Status) → Some (for_make a) ≡ asked → Makes a (Rose k k') t t' result → MakesTo asked before before k k' t t' result
+makes_made asked a before k k' t t' result is makes = subst (λ o. MakesTo o before before k k' t t' result) is (refl, makes)
 
 -- ---- small steps
 

@@ -2,20 +2,20 @@
 use Rattle.std.proofs.Common.{◌≡◌, true, false, [], ◌∷◌, Some, None, codes, refl}
 use Rattle.clap.specs.Faults.{walk_fault, defaults_fault}
 use Rattle.clap.specs.Walk.{walked}
-use Rattle.page_runner.specs.Words.{asked}
+use Rattle.page_runner.specs.Words.{for_page, for_make, asked}
 
 plain : asked (codes "specparse" ∷ codes "page" ∷ codes "p" ∷ codes "d" ∷ codes "e" ∷ [])
-    ≡ Some (record { page = codes "p"; dir = codes "d"; entities = codes "e"; piece = 4096; ahead = 8; dump = false })
+    ≡ Some (for_page (record { page = codes "p"; dir = codes "d"; entities = codes "e"; piece = 4096; ahead = 8; dump = false }))
 unfolding walk_fault walked defaults_fault
 plain = refl
 
 with_options : asked (codes "specparse" ∷ codes "page" ∷ codes "--piece=+5" ∷ codes "p" ∷ codes "d" ∷ codes "--ahead" ∷ codes "007" ∷ codes "e" ∷ [])
-    ≡ Some (record { page = codes "p"; dir = codes "d"; entities = codes "e"; piece = 5; ahead = 7; dump = false })
+    ≡ Some (for_page (record { page = codes "p"; dir = codes "d"; entities = codes "e"; piece = 5; ahead = 7; dump = false }))
 unfolding walk_fault walked defaults_fault
 with_options = refl
 
 with_dump : asked (codes "specparse" ∷ codes "page" ∷ codes "p" ∷ codes "--dump" ∷ codes "d" ∷ codes "e" ∷ [])
-    ≡ Some (record { page = codes "p"; dir = codes "d"; entities = codes "e"; piece = 4096; ahead = 8; dump = true })
+    ≡ Some (for_page (record { page = codes "p"; dir = codes "d"; entities = codes "e"; piece = 4096; ahead = 8; dump = true }))
 unfolding walk_fault walked defaults_fault
 with_dump = refl
 
@@ -42,3 +42,23 @@ version = refl
 no_words : asked [] ≡ None
 unfolding walk_fault walked defaults_fault
 no_words = refl
+
+made_page : asked (codes "specparse" ∷ codes "make" ∷ codes "2147483647" ∷ codes "50000" ∷ []) ≡ Some (for_make (record { number = 2147483647; count = 50000 }))
+unfolding walk_fault walked defaults_fault
+made_page = refl
+
+too_large_a_number : asked (codes "specparse" ∷ codes "make" ∷ codes "2147483648" ∷ codes "1" ∷ []) ≡ None
+unfolding walk_fault walked defaults_fault
+too_large_a_number = refl
+
+no_items : asked (codes "specparse" ∷ codes "make" ∷ codes "1" ∷ codes "0" ∷ []) ≡ None
+unfolding walk_fault walked defaults_fault
+no_items = refl
+
+too_many_items : asked (codes "specparse" ∷ codes "make" ∷ codes "1" ∷ codes "50001" ∷ []) ≡ None
+unfolding walk_fault walked defaults_fault
+too_many_items = refl
+
+no_count : asked (codes "specparse" ∷ codes "make" ∷ codes "1" ∷ []) ≡ None
+unfolding walk_fault walked defaults_fault
+no_count = refl

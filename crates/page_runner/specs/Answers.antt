@@ -17,7 +17,7 @@ use Rattle.page_turns.specs.declared.scripts.TheConstants.{SCRIPT_LIMIT}
 use Rattle.page_runner.specs.declared.status.Limit.TheVariants as limits
 use Rattle.page_runner.specs.declared.status.Status.{Status}
 use Rattle.page_runner.specs.declared.status.Status.TheVariants as status
-use Rattle.page_runner.specs.Words.{Asked}
+use Rattle.page_runner.specs.Words.{PageAsked, Asked, for_page, for_make}
 use Rattle.page_turns.specs.Given.{Given, unmet, missing, faulted, got, FaultsRose, NoFault, AbsencesRose, file_at, MayGive, ReadTo, BegunOnce, KeepsEntities}
 use Rattle.page_turns.specs.Taken.{Took, TookFront}
 use Rattle.page_turns.specs.Scripts.{AreScriptsOf, ReadScriptsTo, NamesOnce, world_in}
@@ -164,7 +164,7 @@ answer_without unread.NotTable = (status.Entities, [])
 
 -- What was met at the ports, each with its cause, and the answer to it. The entities come first, and what stands behind
 -- that one which refuses counts for nothing.
-pub record Answers (asked : Asked) (before after : Seen) (sink sink' : ℕ) (taken taken' : Option (List ℕ)) (result : Status) : Type 0 where
+pub record Answers (asked : PageAsked) (before after : Seen) (sink sink' : ℕ) (taken taken' : Option (List ℕ)) (result : Status) : Type 0 where
   pub entities : Given (List ℕ)
   pub page : Given PageMet
   pub may_entities : MayGive ENTITIES_LIMIT Entities asked.entities before after entities
@@ -173,10 +173,11 @@ pub record Answers (asked : Asked) (before after : Seen) (sink sink' : ℕ) (tak
   pub parsed : (bytes : List ℕ) (es : Table) → entities ≡ got bytes → table_of bytes ≡ Some es → IsParsed es page
   pub gives : Gives (Rose sink sink') taken taken' (answer_to asked.dump entities page) result
 
--- The words come before all.
+-- The words come before all. What comes of the command `make` is said by a clause of its own (`Making`).
 abbrev pub RunsTo : Option Asked → Seen → Seen → ℕ → ℕ → Option (List ℕ) → Option (List ℕ) → Status → Type 0
 RunsTo None before after sink sink' taken taken' result = Gives (Rose sink sink') taken taken' (status.Usage, []) result
-RunsTo (Some asked) before after sink sink' taken taken' result = Answers asked before after sink sink' taken taken' result
+RunsTo (Some (for_page asked)) before after sink sink' taken taken' result = Answers asked before after sink sink' taken taken' result
+RunsTo (Some (for_make asked)) before after sink sink' taken taken' result = Unit {0}
 
 -- the statuses before which the sink is finished
 abbrev pub is_finished : Status → Bool
@@ -187,24 +188,26 @@ is_finished status.ReadFault = true
 is_finished _ = false
 
 -- No file is read further than one byte past its limit.
-pub record StopsAtEach (asked : Asked) (before after : Seen) : Type 0 where
+pub record StopsAtEach (asked : PageAsked) (before after : Seen) : Type 0 where
   pub entities : ReadTo ENTITIES_LIMIT Entities asked.entities before after
   pub page : ReadTo PAGE_LIMIT Page asked.page before after
   pub scripts : ReadScriptsTo SCRIPT_LIMIT asked.dir before after
 
 abbrev pub StopsAtLimits : Option Asked → Seen → Seen → Type 0
 StopsAtLimits None before after = after.left ≡ before.left
-StopsAtLimits (Some asked) before after = StopsAtEach asked before after
+StopsAtLimits (Some (for_page asked)) before after = StopsAtEach asked before after
+StopsAtLimits (Some (for_make asked)) before after = after.left ≡ before.left
 
 -- The entities and the page are begun once at most, so is each script, by a lawful name, and nothing else ever is.
-pub record BeginsEach (asked : Asked) (before after : Seen) : Type 0 where
+pub record BeginsEach (asked : PageAsked) (before after : Seen) : Type 0 where
   pub entities : BegunOnce asked.entities (before.begun Entities) (after.begun Entities)
   pub page : BegunOnce asked.page (before.begun Page) (after.begun Page)
   pub scripts : NamesOnce asked.dir (before.begun Script) (after.begun Script)
 
 abbrev pub BeginsOnce : Option Asked → Seen → Seen → Type 0
 BeginsOnce None before after = after.begun ≡ before.begun
-BeginsOnce (Some asked) before after = BeginsEach asked before after
+BeginsOnce (Some (for_page asked)) before after = BeginsEach asked before after
+BeginsOnce (Some (for_make asked)) before after = after.begun ≡ before.begun
 
 -- ---- what follows of it
 
@@ -217,17 +220,17 @@ pub record NoFaultRose (before after : Seen) (sink sink' : ℕ) : Type 0 where
 
 -- Where the files are there and in order, the parse with the folder's scripts finishes, and nothing failed, all is written, or
 -- memory ran out.
-abbrev pub Completes : Asked → Seen → Seen → ℕ → ℕ → Option (List ℕ) → Option (List ℕ) → Status → Type 0
+abbrev pub Completes : PageAsked → Seen → Seen → ℕ → ℕ → Option (List ℕ) → Option (List ℕ) → Status → Type 0
 Completes asked before after sink sink' taken taken' result = IfSome before.files (λ map. (entities page : List ℕ) (es : Table) (o : Outcome)
     → map asked.entities ≡ Some entities → table_of entities ≡ Some es → map asked.page ≡ Some page
     → ComesTo (world_in es map asked.dir) (record { bytes = page; fault = false }) o → o.result ≡ finished
     → NoFaultRose before after sink sink'
     → (result ≡ status.NoMemory) ⊎ ((result ≡ status.Done) × Took taken taken' (output_with asked.dump o)))
 
--- the same of the words
+-- the same of the words; a page that is made is always there and in order (`Making`)
 abbrev pub CompletesRun : Option Asked → Seen → Seen → ℕ → ℕ → Option (List ℕ) → Option (List ℕ) → Status → Type 0
-CompletesRun None before after sink sink' taken taken' result = Unit {0}
-CompletesRun (Some asked) before after sink sink' taken taken' result = Completes asked before after sink sink' taken taken' result
+CompletesRun (Some (for_page asked)) before after sink sink' taken taken' result = Completes asked before after sink sink' taken taken' result
+CompletesRun _ before after sink sink' taken taken' result = Unit {0}
 
 -- It comes nowhere else, and there it comes, or WriteFault or NoMemory comes in its place.
 pub record Exactly (wanted result : Status) (fact : Type 0) : Type 0 where

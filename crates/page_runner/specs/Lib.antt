@@ -2,6 +2,7 @@ pub mod Status
 pub mod Words
 pub mod Shown
 pub mod Answers
+pub mod Making
 pub mod Reports
 pub mod Exchanges
 pub mod OnTwo

@@ -14,7 +14,7 @@ use Rattle.page_runner.specs.declared.status.Status.{Status}
 use Rattle.page_runner.specs.declared.status.Status.TheVariants as status
 use Rattle.page_turns.specs.Given.{FaultsRose, NoFault, file_at}
 use Rattle.page_turns.specs.Taken.{Took}
-use Rattle.page_turns.specs.Scripts.{MayMeet}
+use Rattle.page_turns.specs.Scripts.{MayMeet, AreKnown}
 use Rattle.page_turns.specs.Pages.{PageRead, page_at, IsPageBehind}
 use Rattle.page_turns.specs.Replaying.{ReplaysTo}
 use Rattle.page_runner.specs.Answers.{status_with, is_answered, IsPageOf}
@@ -33,10 +33,13 @@ pub record IsMet (path dir : List ℕ) (before after : Seen) (j : Journal) : Typ
   pub is_page : IsPageOf (file_at before path) (after.left Page) (FaultsRose Page before after) (NoFault Page before after) page
   pub front : IsPageBehind j.ending j.pieces (page_at page)
   pub scripts : (name : List ℕ) (f : Fetched) → found name j.fetches ≡ Some f → MayMeet dir before after name f
+  -- each name that was fetched is lawful, and none was twice
+  pub known : AreKnown j.fetches
 
 -- what was written is of these lines and this result, with this document
 pub record IsWritten (dump : Bool) (taken taken' : Option (List ℕ)) (s : Shown) (outcome : Status) : Type 0 where
   pub result : Result
+  pub going : s.spent ≡ false
   pub phase : s.desk.phase ≡ done result
   pub outcome_is : outcome ≡ status_with result
   pub took : Took taken taken' (flat_map line_text s.desk.own.side.lines ++ result_with dump result s.desk.own.side.doc.tree)

@@ -3,17 +3,19 @@ ghost use Rattle.std.specs.Prelude.{◌≡◌, ◌≤◌, ◌<◌, [], ◌∷◌
 ghost use Rattle.std.specs.String.{string_bytes};
 ghost use Rattle.standard.specs.Output.{result_with};
 ghost use Rattle.outside.specs.Outside.{Rose, Begun, KeepsOthers};
-ghost use Rattle.page_runner.specs.Words.{asked, shown};
+ghost use Rattle.page_runner.specs.Words.{for_page, asked, shown};
 ghost use Rattle.page_turns.specs.Given.{ReadTo};
 ghost use Rattle.page_turns.specs.Taken.{Took, TookFront};
 ghost use Rattle.page_turns.specs.Shown.{result_of};
 ghost use Rattle.page_runner.specs.Shown.{status_of};
 ghost use Rattle.page_runner.specs.Reports.{is_parsed};
+ghost use Rattle.page_runner.specs.Making.{MakesTo};
 ghost use Rattle.page_runner.specs.Answers.{status_for, table_of, is_finished, Gives, PageAnswers, ReadsPage, ReadsTable, ReadsNone, answer_without, Answers, RunsTo, StopsAtLimits, BeginsOnce, CompletesRun, Exactly, AbsenceRose, FaultRose};
 
+use crate::making::run_make;
 use crate::on_two::page_on_two;
 use crate::status::{Limit, Status};
-use crate::words::{PageWords, Refused, read_words};
+use crate::words::{CommandWords, PageWords, Refused, read_words};
 use core_steps::Fetch;
 use entity_table::{Table, TableFault};
 use html_types::{NoMemory, Why};
@@ -228,8 +230,8 @@ fn run_files<
     requires ahead { (0 < words.ahead) × (words.ahead ≤ 64) }
     ensures answer { Answers (shown words) (F.seen files.old) (F.seen files.new)
         (K.faults out.old) (K.faults out.new) (K.taken out.old) (K.taken out.new) result }
-    ensures no_further { StopsAtLimits (Some (shown words)) (F.seen files.old) (F.seen files.new) }
-    ensures begins { BeginsOnce (Some (shown words)) (F.seen files.old) (F.seen files.new) }
+    ensures no_further { StopsAtLimits (Some (for_page (shown words))) (F.seen files.old) (F.seen files.new) }
+    ensures begins { BeginsOnce (Some (for_page (shown words))) (F.seen files.old) (F.seen files.new) }
     ensures clean { IsTrue (is_finished result) → IsTrue (K.clean out.new) }
 {
     match read_entities(alloc, files, words.entities.as_str()) {
@@ -256,17 +258,21 @@ fn run_words<
         (K.faults out.old) (K.faults out.new) (K.taken out.old) (K.taken out.new) result }
     ensures no_further { StopsAtLimits (asked (map string_bytes words.now)) (F.seen files.old) (F.seen files.new) }
     ensures begins { BeginsOnce (asked (map string_bytes words.now)) (F.seen files.old) (F.seen files.new) }
+    ensures makes { MakesTo (asked (map string_bytes words.now)) (F.seen files.old) (F.seen files.new)
+        (K.faults out.old) (K.faults out.new) (K.taken out.old) (K.taken out.new) result }
     ensures clean { IsTrue (is_finished result) → IsTrue (K.clean out.new) }
 {
     match read_words(alloc, words) {
         Err(Refused::Usage) => Status::Usage,
         Err(Refused::NoMemory) => Status::NoMemory,
-        Ok(words) => run_files(rt, alloc, files, out, gate, words),
+        Ok(CommandWords::Page(words)) => run_files(rt, alloc, files, out, gate, words),
+        Ok(CommandWords::Make(words)) => run_make(rt, alloc, out, gate, words),
     }
 }
 
 /// Runs the command that the words give, of which the program's name is the first: the entities file is read, and then
-/// the page is begun, parsed and written, its scripts with it. The sink is finished where the parse came to an end.
+/// the page is begun, parsed and written, its scripts with it; or a page is made, parsed, and what that comes to in numbers written. The sink is
+/// finished where the parse came to an end.
 pub fn run<
     R: Threads + Wait + Copy + Send + Sync + 'static,
     F: Outside,
@@ -282,6 +288,10 @@ pub fn run<
 ) -> Status
     // The status and the bytes that the sink took are the answer to what the run met, and the text is that of the serial parse.
     ensures answer { RunsTo (asked (map string_bytes words.now)) (F.seen files.old) (F.seen files.new)
+        (K.faults out.old) (K.faults out.new) (K.taken out.old) (K.taken out.new) result }
+
+    // The same of a page that is made from a number.
+    ensures makes { MakesTo (asked (map string_bytes words.now)) (F.seen files.old) (F.seen files.new)
         (K.faults out.old) (K.faults out.new) (K.taken out.old) (K.taken out.new) result }
     ensures clean { IsTrue (is_finished result) → IsTrue (K.clean out.new) }
     ensures no_further { StopsAtLimits (asked (map string_bytes words.now)) (F.seen files.old) (F.seen files.new) }

@@ -3,6 +3,8 @@
 
 mod command;
 mod in_place;
+mod making;
+mod nowhere;
 mod on_two;
 mod report;
 mod running;
@@ -14,7 +16,8 @@ mod words;
 pub use command::{ENTITIES_LIMIT, run};
 pub use in_place::page_in_place;
 pub use on_two::page_on_two;
+pub use core_steps::Tally;
 pub use page_turns::Job;
 pub use report::Report;
 pub use status::{Limit, Status};
-pub use words::{PageWords, Refused, read_words};
+pub use words::{CommandWords, MakeWords, PageWords, Refused, read_words};

@@ -1,6 +1,9 @@
 // What came of a page.
+ghost use Rattle.std.specs.Prelude.{◌≡◌, Some, None, false, IfSome};
+ghost use Rattle.core_steps.specs.Tallies.{tally_of};
+
 use crate::status::Status;
-use core_steps::DocSide;
+use core_steps::{DocSide, Tally};
 use parser_thread::Lanes;
 use speculation::InForce;
 
@@ -21,4 +24,17 @@ pub struct Report<E: InForce> {
     pub side: Option<DocSide>,
     /// What went through both lanes between the document's side and the parser's side: none where there were no lanes.
     pub ends: Option<Lanes<E>>,
+}
+
+impl<E: InForce> Report<E> {
+    /// What the run came to in numbers, where the page was begun. After want of memory they tell nothing. The tree is walked.
+    pub fn tally(&self) -> Option<Tally>
+        ensures none { self.now.side ≡ None → result ≡ None }
+        ensures some { IfSome self.now.side (λ side. side.spent ≡ false → result ≡ Some (tally_of side.desk)) }
+    {
+        match &self.side {
+            Some(side) => Some(side.tally()),
+            None => None,
+        }
+    }
 }

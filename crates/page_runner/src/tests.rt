@@ -1,4 +1,4 @@
-use crate::{Refused, read_words};
+use crate::{CommandWords, MakeWords, Refused, read_words};
 use std::alloc::{AllocError, Global};
 use std::test::Fail;
 
@@ -17,10 +17,21 @@ fn words_are_read(rt: HostRuntime) -> Result<(), Fail> {
         alloc,
         &["specparse", "page", "--piece", "16", "p", "d", "e"],
     )?;
-    let read = read_words(alloc, &given)?;
-    assert_eq!(rt; read.page.as_str(), "p");
-    assert_eq!(rt; read.piece, 16);
-    assert_eq!(rt; read.ahead, 8);
+    match read_words(alloc, &given)? {
+        CommandWords::Page(read) => {
+            assert_eq!(rt; read.page.as_str(), "p");
+            assert_eq!(rt; read.piece, 16);
+            assert_eq!(rt; read.ahead, 8);
+        }
+        CommandWords::Make(_) => assert!(rt; false),
+    }
+    let given = words(alloc, &["specparse", "make", "2147483647", "50000"])?;
+    match read_words(alloc, &given)? {
+        CommandWords::Make(read) => {
+            assert_eq!(rt; read, MakeWords { number: 2_147_483_647, count: 50_000 });
+        }
+        CommandWords::Page(_) => assert!(rt; false),
+    }
     let given = words(alloc, &["specparse", "--help"])?;
     assert_eq!(rt; read_words(alloc, &given).err(), Some(Refused::Usage));
     Ok(())

@@ -5,7 +5,7 @@ ghost use Rattle.std.specs.Prelude.{◌≡◌, ◌≤◌, ◌<◌, ◌^◌, [], 
 ghost use Rattle.std.specs.String.{string_bytes};
 ghost use Rattle.clap.specs.Words.{app_of, rule_of};
 ghost use Rattle.clap.specs.declared.builder.command.Command.TheViews.{out-Command as fields_of};
-ghost use Rattle.page_runner.specs.Words.{number_option, flag, required, page_command, specparse, AreInGrammar, value_of, text_from, number_from, flag_from, asked, shown};
+ghost use Rattle.page_runner.specs.Words.{number_option, flag, required, required_number, page_command, make_command, specparse, AreInGrammar, value_of, text_from, number_from, flag_from, is_make, page_asked, make_asked, asked, shown, asked_for, AreWithin};
 
 use clap::builder::ValueParser;
 use clap::error::ErrorKind;
@@ -13,6 +13,15 @@ use clap::{Arg, ArgAction, ArgMatches, Command};
 use std::alloc::{AllocError, Global};
 
 /// What the words ask for.
+#[derive(Drop)]
+pub enum CommandWords {
+    /// The command `page`.
+    Page(PageWords),
+    /// The command `make`.
+    Make(MakeWords),
+}
+
+/// What the words of the command `page` ask for.
 #[derive(Drop)]
 pub struct PageWords {
     /// The page's path.
@@ -27,6 +36,15 @@ pub struct PageWords {
     pub ahead: usize,
     /// Whether the tree's dump is written in place of its text.
     pub dump: bool,
+}
+
+/// What the words of the command `make` ask for: a page that is made from a number.
+#[derive(Clone, Copy, Debug, PartialEq, Eq)]
+pub struct MakeWords {
+    /// The number that chooses the page's items: 0 to 2,147,483,647.
+    pub number: u32,
+    /// How many items there are: 1 to 50,000.
+    pub count: u32,
 }
 
 /// Why the words weren't read.
@@ -70,6 +88,15 @@ fn required<'a>(alloc: Global, name: &'a str) -> Arg<'a>
     Arg::new(alloc, name).required(true)
 }
 
+fn required_number<'a>(alloc: Global, name: &'a str, least: u64, most: u64) -> Arg<'a>
+    ensures rule { rule_of result ≡ required_number name.entry.now least most }
+    ensures local { result.global ≡ false }
+{
+    Arg::new(alloc, name)
+        .required(true)
+        .value_parser(ValueParser::Unsigned(least, most))
+}
+
 fn page_command<'a>(alloc: Global) -> Result<Command<'a>, AllocError>
     ensures { IfOk result (λ c. (app_of c ≡ page_command) × ((fields_of c).has_globals ≡ false)) }
 {
@@ -82,13 +109,23 @@ fn page_command<'a>(alloc: Global) -> Result<Command<'a>, AllocError>
         .arg(required(alloc, "ENTITIES"))
 }
 
+fn make_command<'a>(alloc: Global) -> Result<Command<'a>, AllocError>
+    ensures { IfOk result (λ c. (app_of c ≡ make_command) × ((fields_of c).has_globals ≡ false)) }
+{
+    Command::new(alloc, "make")
+        .arg(required_number(alloc, "NUMBER", 0, 2_147_483_647))?
+        .arg(required_number(alloc, "COUNT", 1, 50_000))
+}
+
 fn specparse<'a>(alloc: Global) -> Result<Command<'a>, AllocError>
     ensures { IfOk result (λ c. app_of c ≡ specparse) }
 {
     let page = page_command(alloc)?;
+    let make = make_command(alloc)?;
     Command::new(alloc, "specparse")
         .subcommand_required(true)
-        .subcommand(page)
+        .subcommand(page)?
+        .subcommand(make)
 }
 
 // The matches, where the words are in the grammar.
@@ -116,8 +153,8 @@ fn matches_of<'a>(alloc: Global, words: &'a [String]) -> Result<ArgMatches<'a>, 
 fn value_of<'a>(matches: &ArgMatches<'a>, name: &str) -> Option<&'a str>
     ensures { option_map (λ value. value.now) result ≡ value_of name.now (subcommand_rows_of matches.now) }
 {
-    let (_, page) = matches.subcommand()?;
-    page.get_str(name)
+    let (_, command) = matches.subcommand()?;
+    command.get_str(name)
 }
 
 fn text_of<'a>(matches: &ArgMatches<'a>, name: &str) -> &'a str
@@ -129,12 +166,12 @@ fn text_of<'a>(matches: &ArgMatches<'a>, name: &str) -> &'a str
     }
 }
 
-// The number from 1 to `most` that the text writes.
-fn number_in(text: &str, most: usize, otherwise: usize) -> usize
-    ensures { result ≡ number_from most otherwise (Some text.now) }
+// The number from `least` to `most` that the text writes.
+fn number_in(text: &str, least: usize, most: usize, otherwise: usize) -> usize
+    ensures { result ≡ number_from least most otherwise (Some text.now) }
 {
     match text.parse::<usize>() {
-        Ok(number) => if number < 1 || most < number {
+        Ok(number) => if number < least || most < number {
             otherwise
         } else {
             number
@@ -143,11 +180,17 @@ fn number_in(text: &str, most: usize, otherwise: usize) -> usize
     }
 }
 
-fn number_of(matches: &ArgMatches<'_>, name: &str, most: usize, otherwise: usize) -> usize
-    ensures { result ≡ number_from most otherwise (value_of name.now (subcommand_rows_of matches.now)) }
+fn number_of(
+    matches: &ArgMatches<'_>,
+    name: &str,
+    least: usize,
+    most: usize,
+    otherwise: usize,
+) -> usize
+    ensures { result ≡ number_from least most otherwise (value_of name.now (subcommand_rows_of matches.now)) }
 {
     match value_of(matches, name) {
-        Some(text) => number_in(text, most, otherwise),
+        Some(text) => number_in(text, least, most, otherwise),
         None => otherwise,
     }
 }
@@ -159,24 +202,52 @@ fn is_given(matches: &ArgMatches<'_>, name: &str) -> bool
     text_of(matches, name) == "true"
 }
 
+// Whether the command `make` is asked for.
+fn is_make(matches: &ArgMatches<'_>) -> bool
+    ensures { result ≡ is_make (subcommand_rows_of matches.now) }
+{
+    match matches.subcommand() {
+        Some((name, _)) => name == "make",
+        None => false,
+    }
+}
+
+fn page_words(alloc: Global, matches: &ArgMatches<'_>) -> Result<PageWords, AllocError>
+    ensures { IfOk result (λ read. shown read ≡ page_asked (subcommand_rows_of matches.now)) }
+{
+    Ok(PageWords {
+        page: String::from_str(alloc, text_of(matches, "PAGE"))?,
+        dir: String::from_str(alloc, text_of(matches, "DIR"))?,
+        entities: String::from_str(alloc, text_of(matches, "ENTITIES"))?,
+        piece: number_of(matches, "piece", 1, 65536, 4096),
+        ahead: number_of(matches, "ahead", 1, 64, 8),
+        dump: is_given(matches, "dump"),
+    })
+}
+
+fn make_words(matches: &ArgMatches<'_>) -> MakeWords
+    ensures { result ≡ make_asked (subcommand_rows_of matches.now) }
+{
+    MakeWords {
+        number: number_of(matches, "NUMBER", 0, 2_147_483_647, 0) as u32,
+        count: number_of(matches, "COUNT", 1, 50_000, 1) as u32,
+    }
+}
+
 /// Reads the words of the command, of which the program's name is the first. `Usage` comes exactly where the command's
 /// grammar doesn't take them, but where memory runs out.
-pub fn read_words(alloc: Global, words: &[String]) -> Result<PageWords, Refused>
-    ensures ok { IfOk result (λ read. Some (shown read) ≡ asked (map string_bytes words.now)) }
+pub fn read_words(alloc: Global, words: &[String]) -> Result<CommandWords, Refused>
+    ensures ok { IfOk result (λ read. Some (asked_for read) ≡ asked (map string_bytes words.now)) }
     ensures usage { IfErr result (λ refused. refused ≡ Refused.Usage → asked (map string_bytes words.now) ≡ None) }
-    ensures piece { IfOk result (λ read. (1 ≤ read.piece) × (read.piece ≤ 65536)) }
-    ensures ahead { IfOk result (λ read. (1 ≤ read.ahead) × (read.ahead ≤ 64)) }
+    ensures within { IfOk result (λ read. AreWithin read) }
 {
     let matches = match matches_of(alloc, words) {
         Ok(matches) => matches,
         Err(refused) => return Err(refused),
     };
-    Ok(PageWords {
-        page: String::from_str(alloc, text_of(&matches, "PAGE"))?,
-        dir: String::from_str(alloc, text_of(&matches, "DIR"))?,
-        entities: String::from_str(alloc, text_of(&matches, "ENTITIES"))?,
-        piece: number_of(&matches, "piece", 65536, 4096),
-        ahead: number_of(&matches, "ahead", 64, 8),
-        dump: is_given(&matches, "dump"),
-    })
+    if is_make(&matches) {
+        Ok(CommandWords::Make(make_words(&matches)))
+    } else {
+        Ok(CommandWords::Page(page_words(alloc, &matches)?))
+    }
 }

@@ -6,6 +6,8 @@ mod faults;
 #[cfg(test)]
 mod foreign;
 #[cfg(test)]
+mod making;
+#[cfg(test)]
 mod rows;
 #[cfg(test)]
 mod scripts;

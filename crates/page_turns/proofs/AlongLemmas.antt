@@ -19,6 +19,7 @@ use Rattle.core_rules.specs.Journal.{Journal, Knows, IsPageOf, IsRunOf}
 use Rattle.core_laws.proofs.Handing.{more-may_follow}
 use Rattle.speculation.specs.Asking.{Asked}
 use Rattle.core_steps.specs.Sides.{Shown, first_shown, ShowsIn, Shows, DoesShow, journaled, with_piece, with_ending, with_fetch, IsRequestFor}
+use Rattle.core_steps.proofs.Counts.{counts-same}
 use Rattle.run_laws.specs.Along.{MovesWith, HoldsAlong, sends_in, IsForFirst, SendsOf, IsSentAhead, LooksAhead}
 use Rattle.page_turns.specs.Along.{Stays, MayDo, Hands, IsSentSoFar, LooksSoFar, GoesSoFar, requests_of, Goes}
 use Rattle.page_turns.specs.Turns.{StaysRead}
@@ -130,7 +131,7 @@ shows-same : (p : Phase) (d : Desk) → ShowsIn p d d
 shows-same free d = refl
 shows-same (tagged i held) d = refl
 shows-same (waits name held) d = refl
-shows-same (done r) d = (refl, refl, refl)
+shows-same (done r) d = (refl, refl, refl, counts-same r d.own.side d.own.side refl)
 
 -- while it goes on, all of the desk is
 shown-going : (p : Phase) (d v : Desk) → is_done p ≡ false → ShowsIn p d v → d ≡ v
@@ -143,7 +144,7 @@ shows-more : (p : Phase) (xs : List Piece) (d v : Desk) → ShowsIn p d v → Sh
 shows-more free xs d v is = ap (with_more xs) is
 shows-more (tagged i held) xs d v is = ap (with_more xs) is
 shows-more (waits name held) xs d v is = ap (with_more xs) is
-shows-more (done r) xs d v (is, doc, lines) = (ap (with_more xs) is, doc, lines)
+shows-more (done r) xs d v (is, doc, lines, counts) = (ap (with_more xs) is, doc, lines, counts)
 
 not-done : (p : Phase) → not (is_done p) ≡ true → is_done p ≡ false
 not-done free e = refl

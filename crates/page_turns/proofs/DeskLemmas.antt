@@ -82,7 +82,7 @@ shown-keeps : (p : Phase) (d0 d v : Desk) → ShowsIn p d v → Keeps d0 d → K
 shown-keeps free d0 d v is k = subst (Keeps d0) is k
 shown-keeps (tagged i held) d0 d v is k = subst (Keeps d0) is k
 shown-keeps (waits name held) d0 d v is k = subst (Keeps d0) is k
-shown-keeps (done r) d0 d v (is, doc, lines) k = record {
+shown-keeps (done r) d0 d v (is, doc, lines, counts) k = record {
   arrived = sym (ap (λ (z : Desk). z.arrived) is) ∙ k.arrived;
   sent = sym (ap (λ (z : Desk). z.sent) is) ∙ k.sent;
   taken = sym (ap (λ (z : Desk). z.taken) is) ∙ k.taken;
@@ -97,7 +97,7 @@ shown-phase : (p : Phase) (d v : Desk) → v.phase ≡ p → ShowsIn p d v → d
 shown-phase free d v q is = ap (λ (z : Desk). z.phase) is
 shown-phase (tagged i held) d v q is = ap (λ (z : Desk). z.phase) is
 shown-phase (waits name held) d v q is = ap (λ (z : Desk). z.phase) is
-shown-phase (done r) d v q (is, doc, lines) = ap (λ (z : Desk). z.phase) is
+shown-phase (done r) d v q (is, doc, lines, counts) = ap (λ (z : Desk). z.phase) is
 
 pub shows-phase : (d v : Desk) → Shows d v → d.phase ≡ v.phase
 shows-phase d v shows = shown-phase v.phase d v refl shows

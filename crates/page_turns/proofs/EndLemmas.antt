@@ -29,7 +29,7 @@ pub shown-lines : (p : Phase) (d v : Desk) → ShowsIn p d v → d.own.side.line
 shown-lines free d v is = ap (λ (z : Desk). z.own.side.lines) is
 shown-lines (tagged i held) d v is = ap (λ (z : Desk). z.own.side.lines) is
 shown-lines (waits name held) d v is = ap (λ (z : Desk). z.own.side.lines) is
-shown-lines (done r) d v (is, doc, lines) = lines
+shown-lines (done r) d v (is, doc, lines, counts) = lines
 
 module _ (es : Entities) (ahead : ℕ) (dir : List ℕ) (before after : Seen) (s : Shown) (replayed : IsReplayed s) (leaves : Leaves es ahead dir before after s) where
   pub has : HasWorld dir before after s.journal.fetches

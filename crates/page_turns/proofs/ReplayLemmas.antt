@@ -20,7 +20,7 @@ shown-doc : (p : Phase) (d v : Desk) → ShowsIn p d v → d.own.side.doc ≡ v.
 shown-doc free d v is = ap (λ (z : Desk). z.own.side.doc) is
 shown-doc (tagged i held) d v is = ap (λ (z : Desk). z.own.side.doc) is
 shown-doc (waits name held) d v is = ap (λ (z : Desk). z.own.side.doc) is
-shown-doc (done r) d v (is, doc, lines) = doc
+shown-doc (done r) d v (is, doc, lines, counts) = doc
 
 record ReachesTo (x : Setup) (s : Shown) : Type 0 where
   desk : Desk

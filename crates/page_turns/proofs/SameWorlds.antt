@@ -120,7 +120,7 @@ module _ (w : World) (scripts : List ℕ → Fetched) where
     fetched-alike false name = tt
     fetched-alike true name = alike name
 
-    moment-same : (n : ℕ) (e : Ending) (m : Moment) → moment_after n e w m ≡ moment_after n e v m
+    pub moment-same : (n : ℕ) (e : Ending) (m : Moment) → moment_after n e w m ≡ moment_after n e v m
     unfolding moment_after
     moment-same n e (reading s) = refl
     moment-same n e (tag_ended i s) = ap after_script (end_of_script-same n i s)

@@ -59,6 +59,20 @@ impl Writer {
         &self.live.doc
     }
 
+    /// How many scripts were executed.
+    pub fn executed(&self) -> u64
+        ensures { result ≡ self.now.executed }
+    {
+        self.live.executed
+    }
+
+    /// How many characters scripts wrote.
+    pub fn written(&self) -> u64
+        ensures { result ≡ self.now.written }
+    {
+        self.live.written as u64
+    }
+
     /// The lines that scripts gave since lines were last taken.
     pub fn lines(&self) -> &Lines
         ensures { result.now ≡ self.now.lines }

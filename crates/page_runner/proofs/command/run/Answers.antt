@@ -13,19 +13,19 @@ returns-clause-complete g c =
 pub returns-clause-usage : goal.returns-clause-usage
 returns-clause-usage g c =
     let at = g.F.Outside.seen in
-    usage (asked (map string_bytes c.args.words.now)) (at c.args.files.now) (at c.run_words.new.files) _ _ _ _ c.run_words.result c.run_words.ensures.answer
+    usage (asked (map string_bytes c.args.words.now)) (at c.args.files.now) (at c.run_words.new.files) _ _ _ _ c.run_words.result c.run_words.ensures.answer c.run_words.ensures.makes
 
 pub returns-clause-absent : goal.returns-clause-absent
 returns-clause-absent g c e =
     let at = g.F.Outside.seen in
-    absent (asked (map string_bytes c.args.words.now)) (at c.args.files.now) (at c.run_words.new.files) _ _ _ _ c.run_words.result c.run_words.ensures.answer e
+    absent (asked (map string_bytes c.args.words.now)) (at c.args.files.now) (at c.run_words.new.files) _ _ _ _ c.run_words.result c.run_words.ensures.answer c.run_words.ensures.makes e
 
 pub returns-clause-read_fault : goal.returns-clause-read_fault
 returns-clause-read_fault g c e =
     let at = g.F.Outside.seen in
-    read_fault (asked (map string_bytes c.args.words.now)) (at c.args.files.now) (at c.run_words.new.files) _ _ _ _ c.run_words.result c.run_words.ensures.answer e
+    read_fault (asked (map string_bytes c.args.words.now)) (at c.args.files.now) (at c.run_words.new.files) _ _ _ _ c.run_words.result c.run_words.ensures.answer c.run_words.ensures.makes e
 
 pub returns-clause-write_fault : goal.returns-clause-write_fault
 returns-clause-write_fault g c e =
     let at = g.F.Outside.seen in
-    write_fault (asked (map string_bytes c.args.words.now)) (at c.args.files.now) (at c.run_words.new.files) _ _ _ _ c.run_words.result c.run_words.ensures.answer e
+    write_fault (asked (map string_bytes c.args.words.now)) (at c.args.files.now) (at c.run_words.new.files) _ _ _ _ c.run_words.result c.run_words.ensures.answer c.run_words.ensures.makes e

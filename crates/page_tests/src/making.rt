@@ -1,0 +1,93 @@
+//! Pages that are made from a number.
+
+use html_types::NoMemory;
+use outside::{MemFiles, MemSink, OpenGate};
+use page_runner::{Status, run};
+use std::alloc::Global;
+use std::sync::{Arc, Wait};
+use std::test::Fail;
+use std::thread::Threads;
+
+// The words behind `make`, how many bytes the sink takes, and the status and text that are wanted.
+#[derive(Clone, Copy)]
+struct Row {
+    words: &'static [&'static str],
+    sink: usize,
+    status: Status,
+    text: &'static str,
+}
+
+fn words(alloc: Global, texts: &[&str]) -> Result<Vec<String>, NoMemory> {
+    let mut words = Vec::new(alloc);
+    for text in ["specparse", "make"] {
+        words.push(String::from_str(alloc, text)?)?;
+    }
+    for text in texts {
+        words.push(String::from_str(alloc, text)?)?;
+    }
+    Ok(words)
+}
+
+// Whether the run answers and writes what is wanted. The files outside are none.
+fn gives<R: Threads + Wait + Copy + Send + Sync + 'static>(
+    rt: &R,
+    alloc: Global,
+    row: &Row,
+) -> Result<bool, NoMemory> {
+    let words = words(alloc, row.words)?;
+    let mut files = MemFiles::new(alloc, &[])?;
+    let mut sink = MemSink::new(alloc, row.sink)?;
+    let gate = Arc::new(alloc, OpenGate)?;
+    let status = run(rt, alloc, &words, &mut files, &mut sink, &gate);
+    Ok(status == row.status && sink.bytes() == row.text.as_bytes())
+}
+
+fn made(words: &'static [&'static str], text: &'static str) -> Row {
+    Row {
+        words,
+        sink: 100,
+        status: Status::Done,
+        text,
+    }
+}
+
+fn usage(words: &'static [&'static str]) -> Row {
+    Row {
+        status: Status::Usage,
+        ..made(words, "")
+    }
+}
+
+fn rows() -> [Row; 8] {
+    [
+        made(
+            &["1", "4"],
+            "scripts 1 kept 1 failed 0 nodes 21 written 8\n",
+        ),
+        made(
+            &["1", "9"],
+            "scripts 5 kept 4 failed 1 nodes 43 written 35\n",
+        ),
+        made(
+            &["7", "1000"],
+            "scripts 515 kept 242 failed 273 nodes 3204 written 2715\n",
+        ),
+        Row {
+            sink: 10,
+            status: Status::WriteFault,
+            ..made(&["1", "4"], "scripts 1 ")
+        },
+        usage(&["2147483648", "1"]),
+        usage(&["1", "0"]),
+        usage(&["1", "50001"]),
+        usage(&["1"]),
+    ]
+}
+
+#[test]
+fn made_pages(rt: HostRuntime) -> Result<(), Fail> {
+    for row in &rows() {
+        assert!(rt; gives(&rt, rt.alloc(), row)?);
+    }
+    Ok(())
+}
