@@ -80,7 +80,7 @@ fn write_end<K: Sink>(
     ensures write { IsErrOf result Failure.Write → Rose (K.faults out.old) (K.faults out.new) }
 {
     let line = show_outcome(alloc, doc, outcome, dump)?;
-    write_all(out, line.as_bytes())?;
+    write_all(out, &line)?;
     out.finish()?;
     Ok(())
 }

@@ -1,5 +1,4 @@
 pub mod WriteLemmas
-pub mod ShowLemmas
 pub mod KeepsLemmas
 pub mod FetchLemmas
 pub mod TextLemmas

@@ -1,5 +1,5 @@
 // The lines that a run writes.
-ghost use Rattle.std.specs.Prelude.{◌≡◌, ◌≤◌, IfOk, OnOk, OnErr, IsErrOf, flat_map, string_bytes};
+ghost use Rattle.std.specs.Prelude.{◌≡◌, ◌≤◌, ◌++◌, codes, IfOk, OnOk, OnErr, IsErrOf, flat_map, string_bytes};
 ghost use Rattle.std.specs.Str.{chars};
 ghost use Rattle.standard.specs.Output.{line_text, tree_text, tree_lines, refusal_text, result_with, json_string};
 ghost use Rattle.outside.specs.Outside.{Rose};
@@ -12,33 +12,27 @@ use crate::write::write_all;
 use html_types::{Line, NoMemory, Why};
 use op_exec::Doc;
 use outside::Sink;
-use serde_json::Value;
+use serialiser::with_json;
 use std::alloc::Global;
 
-// A text as a JSON string.
-fn json_string(alloc: Global, text: &str) -> Result<String, NoMemory>
-    ensures { IfOk result (λ s. string_bytes s ≡ json_string (chars text.now)) }
+// The line that begins so and ends with a text as a JSON string.
+fn json_line(start: String, text: &str) -> Result<Vec<u8>, NoMemory>
+    ensures { IfOk result (λ line. line.items ≡ string_bytes start ++ json_string (chars text.now) ++ codes "\n") }
 {
-    let value = Value::String(String::from_str(alloc, text)?);
-    let json = value.to_string(alloc)?;
-    Ok(json)
+    let mut line = with_json(start.into_bytes(), text)?;
+    line.push(b'\n')?;
+    Ok(line)
 }
 
 // The text of a script's line.
-fn line_text(alloc: Global, line: &Line) -> Result<String, NoMemory>
-    ensures { IfOk result (λ s. string_bytes s ≡ line_text line.now) }
+fn line_text(alloc: Global, line: &Line) -> Result<Vec<u8>, NoMemory>
+    ensures { IfOk result (λ bytes. bytes.items ≡ line_text line.now) }
 {
     match line {
-        Line::Log(number, text) => {
-            let json = json_string(alloc, text.as_str())?;
-            Ok(format!(in alloc; "log {number} {json}\n")?)
-        }
-        Line::Throw(number) => Ok(format!(in alloc; "throw {number}\n")?),
-        Line::Syntax(number) => Ok(format!(in alloc; "syntax {number}\n")?),
-        Line::Miss(name) => {
-            let json = json_string(alloc, name.as_str())?;
-            Ok(format!(in alloc; "miss {json}\n")?)
-        }
+        Line::Log(number, text) => json_line(format!(in alloc; "log {number} ")?, text.as_str()),
+        Line::Throw(number) => Ok(format!(in alloc; "throw {number}\n")?.into_bytes()),
+        Line::Syntax(number) => Ok(format!(in alloc; "syntax {number}\n")?.into_bytes()),
+        Line::Miss(name) => json_line(String::from_str(alloc, "miss ")?, name.as_str()),
     }
 }
 
@@ -49,7 +43,7 @@ fn write_line<K: Sink>(alloc: Global, out: &mut K, line: &Line) -> Result<(), Fa
     ensures faults { K.faults out.old ≤ K.faults out.new }
 {
     let text = line_text(alloc, line)?;
-    write_all(out, text.as_bytes())?;
+    write_all(out, &text)?;
     Ok(())
 }
 
@@ -70,18 +64,17 @@ pub(crate) fn write_lines<K: Sink>(
     Ok(())
 }
 
-// The document's text as a JSON string.
-fn show_tree(alloc: Global, doc: &Doc) -> Result<String, NoMemory>
-    ensures { IfOk result (λ s. string_bytes s ≡ tree_text doc.now.tree) }
+// The document's text as a JSON string. No copy of the text is made but the line.
+fn show_tree(alloc: Global, doc: &Doc) -> Result<Vec<u8>, NoMemory>
+    ensures { IfOk result (λ bytes. bytes.items ≡ tree_text doc.now.tree) }
 {
     let text = serialiser::document(alloc, doc.tree())?;
-    let json = json_string(alloc, text.as_str())?;
-    Ok(format!(in alloc; "tree {json}\n")?)
+    json_line(String::from_str(alloc, "tree ")?, text.as_str())
 }
 
 // The document's text, or its dump.
-fn show_lines(alloc: Global, doc: &Doc, dump: bool) -> Result<String, NoMemory>
-    ensures { IfOk result (λ s. string_bytes s ≡ tree_lines dump doc.now.tree) }
+fn show_lines(alloc: Global, doc: &Doc, dump: bool) -> Result<Vec<u8>, NoMemory>
+    ensures { IfOk result (λ bytes. bytes.items ≡ tree_lines dump doc.now.tree) }
 {
     if dump {
         serialiser::dump(alloc, doc.tree())
@@ -108,14 +101,14 @@ pub fn show_outcome(
     doc: &Doc,
     outcome: Outcome,
     dump: bool,
-) -> Result<String, NoMemory>
-    ensures { IfOk result (λ s. string_bytes s ≡ result_with dump (result_of outcome) doc.now.tree) }
+) -> Result<Vec<u8>, NoMemory>
+    ensures { IfOk result (λ bytes. bytes.items ≡ result_with dump (result_of outcome) doc.now.tree) }
 {
     match outcome {
         Outcome::Finished => show_lines(alloc, doc, dump),
         Outcome::Refused(why) => {
             let line = String::from_str(alloc, refusal(why))?;
-            Ok(line)
+            Ok(line.into_bytes())
         }
     }
 }
