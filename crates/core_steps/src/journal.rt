@@ -26,6 +26,8 @@ pub struct Journal {
     // The same, the latest last. A contract sees them in this order.
     fetched: Vec<Snapshot<FetchedFile>>,
     events: Vec<Event>,
+    // A measure, which a contract doesn't see.
+    parsed_here: u64,
 }
 
 impl Model for Journal {
@@ -53,6 +55,7 @@ impl Journal {
             fetches: BTreeMap::new(alloc),
             fetched: Vec::new(alloc),
             events: Vec::new(alloc),
+            parsed_here: 0,
         }
     }
 
@@ -77,6 +80,12 @@ impl Journal {
         self.events.as_slice()
     }
 
+    /// How many characters of the page the document's side parsed itself, where it had no batch that holds a machine. It measures, and tells
+    /// nothing of what the events come to.
+    pub fn parsed_here(&self) -> u64 {
+        self.parsed_here
+    }
+
     /// What came of the script of that name, where it was fetched.
     pub fn find(&self, name: &str) -> Option<&Fetch>
         ensures found { IfSome result (λ fetch. found (chars name.now) self.now.fetches ≡ Some (fetched_of fetch.now)) }
@@ -99,6 +108,13 @@ impl Journal {
         ensures { self.new ≡ record self.old { ending = Some ending } }
     {
         self.ending = Some(ending);
+    }
+
+    /// The document's side parsed so many characters of the page itself.
+    pub(crate) fn count_parsed(&mut self, characters: u64)
+        ensures { self.new ≡ self.old }
+    {
+        self.parsed_here = self.parsed_here.saturating_add(characters);
     }
 
     /// Adds an event.

@@ -364,8 +364,11 @@ impl Side {
             return self.parse_ending();
         }
         let text = self.ledger.left().text().as_str();
+        let before = self.counts.place;
         let ran = self.writer.parse(&self.table, text)?;
         self.use_up(ran.used);
+        self.journal
+            .count_parsed(self.counts.place.saturating_sub(before));
         Ok(Halt::At(ran.stop))
     }
 

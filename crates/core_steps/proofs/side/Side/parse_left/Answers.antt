@@ -1,5 +1,7 @@
-use Rattle.std.proofs.Common.{◌∙◌, ap, refl}
+use Rattle.std.proofs.Common.{◌∙◌, ap, refl, sym, subst}
 use Rattle.core_rules.specs.Batches.{Piece}
+use Rattle.speculation.specs.declared.batch.Halt.TheVariants as halt
+use Rattle.core_steps.specs.Acting.{Executed}
 use Rattle.core_steps.proofs.Executes.{parsed-front, parsed-executed}
 use Rattle.core_steps.proofs.Ready.{not-empty}
 use Rattle.core_steps.proofs.side.Side.parse_left.Goals as goal
@@ -11,6 +13,7 @@ use_up-requires-clause-front c =
 
 pub returns-clause-executed : goal.returns-clause-executed
 returns-clause-executed c =
+    subst (λ j. Executed c.args.self.now (halt.At c.in_ok-ran.ran.stop) (record c.use_up.new.self { journal = j })) (sym c.count_parsed.ensures) (
     parsed-executed c.args.self.now (record c.args.self.now { writer = c.parse.new.self }) c.use_up.new.self c.parse.new.self c.as_str-text.result.now c.in_ok-ran.ran
     (not-empty c.args.self.now.ledger.left.text c.text.result.now c.is_empty.result (c.text.ensures ∙ ap (λ (x : Piece). x.text) c.left.ensures) c.is_empty.ensures c.if-is_empty.false)
-    (c.as_str-text.ensures ∙ (c.text-2.ensures ∙ ap (λ (x : Piece). x.text) c.left-2.ensures)) c.as_str-text.utf8 c.in_ok-ran.ensures.parsed c.requires.free c.requires.ahead refl c.use_up.ensures
+    (c.as_str-text.ensures ∙ (c.text-2.ensures ∙ ap (λ (x : Piece). x.text) c.left-2.ensures)) c.as_str-text.utf8 c.in_ok-ran.ensures.parsed c.requires.free c.requires.ahead refl c.use_up.ensures)
