@@ -73,10 +73,7 @@ fn pages() -> [Row; 9] {
             &["7", "1000"],
             "scripts 515 kept 242 failed 273 nodes 3204 written 2715\n",
         ),
-        made(
-            &["0", "1"],
-            "scripts 0 kept 0 failed 0 nodes 6 written 0\n",
-        ),
+        made(&["0", "1"], "scripts 0 kept 0 failed 0 nodes 6 written 0\n"),
         made(
             &["2147483647", "1"],
             "scripts 0 kept 0 failed 0 nodes 6 written 0\n",
@@ -87,10 +84,7 @@ fn pages() -> [Row; 9] {
             "scripts 1 kept 1 failed 0 nodes 10 written 4\n",
         ),
         // the files' other script, which begins a comment
-        made(
-            &["5", "2"],
-            "scripts 1 kept 0 failed 1 nodes 8 written 4\n",
-        ),
+        made(&["5", "2"], "scripts 1 kept 0 failed 1 nodes 8 written 4\n"),
         made(
             &["26", "3"],
             "scripts 2 kept 0 failed 2 nodes 13 written 7\n",
