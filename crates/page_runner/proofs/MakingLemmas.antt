@@ -1,7 +1,8 @@
 -- What comes of the page that is made from a number.
-use Rattle.std.proofs.Common.{◌≡◌, ◌≢◌, ◌≤◌, ◌<◌, ◌+◌, ◌*◌, ◌-◌, ◌^◌, ℕ, Bool, true, false, List, [], ◌∷◌, ◌++◌, Option, Some, None, IfSome, refl, sym, ap, subst, ◌∙◌, inl, inr, arith, codes}
+use Rattle.std.proofs.Common.{◌≡◌, ◌≢◌, ◌≤◌, ◌<◌, ◌+◌, ◌*◌, ◌-◌, ◌^◌, ℕ, Bool, true, false, List, [], ◌∷◌, ◌++◌, Option, Some, None, IfSome, refl, sym, ap, subst, ◌∙◌, inl, inr, arith, codes, get_or}
 use Rattle.std.specs.Prelude.{◌⊎◌, min, encode_utf8_all, IsTrue, IsSome, OnOk, if◌then◌else◌}
 use Rattle.std.specs.Prelude.{Result as ResultOf}
+use Rattle.std.specs.Char.{encode_utf8}
 use Rattle.std.specs.Str.{chars, IsUtf8}
 use Rattle.std.proofs.lemmas.Str.{encodes-chars, encodes-IsAscii}
 use Rattle.std.specs.Str.{bytes_eq}
@@ -33,7 +34,8 @@ use Rattle.core_steps.specs.Journals.{found}
 use Rattle.core_steps.specs.Sides.{Shown, ShowsIn, IsReplayed, CountsAlike}
 use Rattle.core_steps.specs.declared.tally.Tally.{Tally}
 use Rattle.core_steps.specs.Tallies.{nodes_below, failed_by, kept_by, tally_of}
-use Rattle.page_maker.specs.Made.{made_page, made_scripts}
+use Rattle.page_maker.specs.Made.{made_page, named_script, made_scripts}
+use Rattle.page_maker.specs.declared.page.Script.{Script as ScriptFile}
 use Rattle.made_laws.proofs.MadePages.{is-in_ascii, is-read_as_made}
 use Rattle.page_turns.specs.declared.outcome.Outcome.TheVariants as told
 use Rattle.page_turns.specs.declared.page.TheConstants.{PAGE_LIMIT}
@@ -305,3 +307,21 @@ encoded bytes text utf8 is = sym (encodes-chars bytes utf8) ∙ ap encode_utf8_a
 -- the page is ASCII
 pub page-encoded : (asked : MakeWords) (page : List ℕ) → asked.count ≤ 50000 → page ≡ made_page asked.number asked.count → encode_utf8_all page ≡ made_page asked.number asked.count
 page-encoded asked page few is = ap encode_utf8_all is ∙ encodes-IsAscii (made_page asked.number asked.count) (is-in_ascii asked.number asked.count few)
+
+-- the scripts by their numbers
+first-adds : (script : ScriptFile) (old new : NeverFails) → script ≡ named_script (codes "e") (codes "document.write(\"<br>\");") → Adds (codes "scripts/" ++ encode_utf8_all script.name) (encode_utf8_all script.text) old new
+    → Adds (codes "scripts/e") (codes "document.write(\"<br>\");") old new
+unfolding encode_utf8
+first-adds script old new is adds = subst (λ (s : ScriptFile). Adds (codes "scripts/" ++ encode_utf8_all s.name) (encode_utf8_all s.text) old new) is adds
+
+second-adds : (script : ScriptFile) (old new : NeverFails) → script ≡ named_script (codes "f") (codes "document.write(\"<!--\");") → Adds (codes "scripts/" ++ encode_utf8_all script.name) (encode_utf8_all script.text) old new
+    → Adds (codes "scripts/f") (codes "document.write(\"<!--\");") old new
+unfolding encode_utf8
+second-adds script old new is adds = subst (λ (s : ScriptFile). Adds (codes "scripts/" ++ encode_utf8_all s.name) (encode_utf8_all s.text) old new) is adds
+
+pub are-files_of : (f0 f1 f2 f3 : NeverFails) (page : List ℕ) (scripts : List ScriptFile) (e f : ScriptFile) → ((path : List ℕ) → files_of f0 path ≡ None) → Adds (codes "page") page f0 f1 → scripts ≡ made_scripts → e ≡ get_or scripts 0 e → f ≡ get_or scripts 1 f →
+    Adds (codes "scripts/" ++ encode_utf8_all e.name) (encode_utf8_all e.text) f1 f2 → Adds (codes "scripts/" ++ encode_utf8_all f.name) (encode_utf8_all f.text) f2 f3 → AreFilesOf page f3
+are-files_of f0 f1 f2 f3 page scripts e f none first are e_is f_is second third =
+    are-files f0 f1 f2 f3 page none first
+    (first-adds e f1 f2 (e_is ∙ ap (λ l. get_or l 0 e) are) second)
+    (second-adds f f2 f3 (f_is ∙ ap (λ l. get_or l 1 f) are) third)
