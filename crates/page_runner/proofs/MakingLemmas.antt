@@ -1,6 +1,6 @@
 -- What comes of the page that is made from a number.
-use Rattle.std.proofs.Common.{◌≡◌, ◌≢◌, ◌≤◌, ◌<◌, ◌+◌, ◌*◌, ◌-◌, ◌^◌, ℕ, Bool, true, false, List, [], ◌∷◌, ◌++◌, Option, Some, None, IfSome, refl, sym, ap, subst, ◌∙◌, inl, inr, arith, codes, get_or}
-use Rattle.std.specs.Prelude.{◌⊎◌, min, encode_utf8_all, IsTrue, IsSome, OnOk, if◌then◌else◌}
+use Rattle.std.proofs.Common.{◌≡◌, ◌≢◌, ◌≤◌, ◌<◌, ◌+◌, ◌*◌, ◌-◌, ◌^◌, ℕ, Bool, true, false, List, [], ◌∷◌, ◌++◌, Option, Some, None, IfSome, refl, sym, ap, subst, ◌∙◌, inl, inr, arith, codes, get_or, append_assoc}
+use Rattle.std.specs.Prelude.{◌⊎◌, min, decimal, encode_utf8_all, IsTrue, IsSome, OnOk, if◌then◌else◌}
 use Rattle.std.specs.Prelude.{Result as ResultOf}
 use Rattle.std.specs.Char.{encode_utf8}
 use Rattle.std.specs.Str.{chars, IsUtf8}
@@ -325,3 +325,7 @@ are-files_of f0 f1 f2 f3 page scripts e f none first are e_is f_is second third 
     are-files f0 f1 f2 f3 page none first
     (first-adds e f1 f2 (e_is ∙ ap (λ l. get_or l 0 e) are) second)
     (second-adds f f2 f3 (f_is ∙ ap (λ l. get_or l 1 f) are) third)
+
+-- the line as a format writes it
+pub tally-line : (line : List ℕ) (t : Tally) → line ≡ codes "scripts " ++ (decimal t.scripts ++ (codes " kept " ++ (decimal t.kept ++ (codes " failed " ++ (decimal t.failed ++ (codes " nodes " ++ (decimal t.nodes ++ (codes " written " ++ (decimal t.written ++ codes "\n"))))))))) → line ≡ tally_text t
+tally-line line t is = is ∙ simp append_assoc
