@@ -1,5 +1,5 @@
 -- What comes of the page that is made from a number.
-use Rattle.std.proofs.Common.{◌≡◌, ◌≢◌, ◌≤◌, ◌<◌, ◌+◌, ◌*◌, ◌-◌, ◌^◌, ℕ, Bool, true, false, List, [], ◌∷◌, ◌++◌, Option, Some, None, IfSome, refl, sym, ap, subst, ◌∙◌, inl, inr, arith, codes, get_or, append_assoc}
+use Rattle.std.proofs.Common.{◌≡◌, ◌≢◌, ◌≤◌, ◌<◌, ◌+◌, ◌*◌, ◌-◌, ◌^◌, ℕ, Bool, true, false, List, [], ◌∷◌, ◌++◌, Option, Some, None, IfSome, refl, sym, ap, subst, ◌∙◌, inl, inr, true≢false, arith, codes, get_or, append_assoc}
 use Rattle.std.specs.Prelude.{◌⊎◌, min, decimal, encode_utf8_all, IsTrue, IsSome, OnOk, if◌then◌else◌}
 use Rattle.std.specs.Prelude.{Result as ResultOf}
 use Rattle.std.specs.Char.{encode_utf8}
@@ -72,7 +72,7 @@ is-done (refused why.Fault) e = absurd (cc e)
 
 -- the numbers
 pub makes-finished : (asked : MakeWords) (n : Tally) (rose : Type 0) (t t' : Option (List ℕ)) (r : Status) → IsRunOf asked (made.Finished n) → Gives rose t t' (status.Done, tally_text n) r → Makes asked rose t t' r
-makes-finished asked n rose t t' r (o, comes, is, numbers) gives = record {
+makes-finished asked n rose t t' r (o, comes, (is, numbers)) gives = record {
   outcome = o;
   comes = comes;
   text = tally_text n;
@@ -236,29 +236,29 @@ module _ (asked : MakeWords) (few : asked.count ≤ 50000) (before after : Seen)
     (no_page_fault : FaultsRose Page before after → ⊥) (no_script_fault : FaultsRose Script before after → ⊥) (t t' : Option (List ℕ)) where
   finished-run : (s : Shown) (n : Tally) → IsSettled asked status.Done → Reports [] 8 false (codes "page") (codes "scripts") before after t t' s status.Done → IsReplayed s → (s.spent ≡ false → n ≡ tally_of s.desk) →
       IsRunOf asked (made.Finished n)
-  finished-run s n settled reports replayed numbers =
+  finished-run s n ended reports replayed numbers =
       let written = reports.written refl in
       let result : written.result ≡ finished = is-done written.result written.outcome_is in
       let at_done : s.desk.phase ≡ done finished = written.phase ∙ ap done result in
-      let end : settled.end.result ≡ finished = elim settled.status_is [ inl is ↦ is-done settled.end.result is | inr is ↦ absurd (cc is) ] in
-      let all : AreNumbers asked settled.end (tally_of s.desk) = numbers-at asked few before after map told page_there scripts_there no_page_fault no_script_fault s t t' settled.end replayed reports at_done settled.comes in
-      (settled.end, settled.comes, end, subst (λ z. AreNumbers asked settled.end z) (sym (numbers written.going)) all)
+      let end : ended.end.result ≡ finished = elim ended.status_is [ inl is ↦ is-done ended.end.result is | inr is ↦ absurd (cc is) ] in
+      let all : AreNumbers asked ended.end (tally_of s.desk) = numbers-at asked few before after map told page_there scripts_there no_page_fault no_script_fault s t t' ended.end replayed reports at_done ended.comes in
+      (ended.end, ended.comes, (end, subst (λ z. AreNumbers asked ended.end z) (sym (numbers written.going)) all))
 
   refused-run : (r : Status) → IsSettled asked r → r ≢ status.Done → r ≢ status.NoMemory → IsRunOf asked (made.Refused r)
-  refused-run r settled other memory = by settled.end.result refl
+  refused-run r ended other memory = by ended.end.result refl
     where
-      status_is : r ≡ status_with settled.end.result
-      status_is = elim settled.status_is [ inl is ↦ is | inr is ↦ absurd (memory is) ]
+      status_is : r ≡ status_with ended.end.result
+      status_is = elim ended.status_is [ inl is ↦ is | inr is ↦ absurd (memory is) ]
 
-      by : (x : Result) → settled.end.result ≡ x → IsRunOf asked (made.Refused r)
+      by : (x : Result) → ended.end.result ≡ x → IsRunOf asked (made.Refused r)
       by finished q = absurd (other (status_is ∙ ap status_with q))
-      by (refused w) q = (settled.end, settled.comes, (w, q, status_is ∙ ap status_with q))
+      by (refused w) q = (ended.end, ended.comes, (w, q, status_is ∙ ap status_with q))
 
   pub run-is : (r : Status) (side : Option Shown) (run : MadeRun) → IsSettled asked r → IfSome side (λ s. Reports [] 8 false (codes "page") (codes "scripts") before after t t' s r) → Tells r side run → IsRunOf asked run
-  run-is r side (made.Finished n) settled reports (is, s, there, replayed, numbers) =
+  run-is r side (made.Finished n) ended reports (is, s, there, replayed, numbers) =
       let here : Reports [] 8 false (codes "page") (codes "scripts") before after t t' s r = subst (λ o. IfSome o (λ z. Reports [] 8 false (codes "page") (codes "scripts") before after t t' z r)) there reports in
-      finished-run s n (subst (IsSettled asked) is settled) (subst (λ z. Reports [] 8 false (codes "page") (codes "scripts") before after t t' s z) is here) replayed numbers
-  run-is r side (made.Refused told_) settled reports (is, other, memory) = subst (λ z. IsRunOf asked (made.Refused z)) (sym is) (refused-run r settled other memory)
+      finished-run s n (subst (IsSettled asked) is ended) (subst (λ z. Reports [] 8 false (codes "page") (codes "scripts") before after t t' s z) is here) replayed numbers
+  run-is r side (made.Refused told_) ended reports (is, other, memory) = subst (λ z. IsRunOf asked (made.Refused z)) (sym is) (refused-run r ended other memory)
 
   -- what is told of a run over those files
   pub run-over : (es : Entities) (path dir : List ℕ) (r : Status) (side : Option Shown) (run : MadeRun) → es ≡ [] → path ≡ codes "page" → dir ≡ codes "scripts" → PageAnswers es false path dir before after 0 0 t t' r →
@@ -289,7 +289,7 @@ module _ (f0 f1 f2 f3 : NeverFails) (page : List ℕ) (none : (path : List ℕ) 
       by : (e f : Bool) → same_text (codes "e") name ≡ e → same_text (codes "f") name ≡ f →
           fetched_of (if f then Some (codes "document.write(\"<!--\");") else (if e then Some (codes "document.write(\"<br>\");") else None))
           ≡ (if e then got (codes "document.write(\"<br>\");") else (if f then got (codes "document.write(\"<!--\");") else missing))
-      by true true is is' = absurd (cc (same-name (codes "e") name is ∙ sym (same-name (codes "f") name is')))
+      by true true is is' = absurd (true≢false (ap (λ l. same_text l (codes "e")) (same-name (codes "e") name is ∙ sym (same-name (codes "f") name is'))))
       by true false is is' = refl
       by false true is is' = refl
       by false false is is' = refl
