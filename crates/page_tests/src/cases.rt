@@ -149,16 +149,17 @@ pub fn cases() -> [Case; 9] {
     ]
 }
 
-/// A script that writes itself, 500 characters at a time.
-pub const WRITES_ITSELF: &[u8] =
-    b"document.write(\"<script src=\\\"a\\\"><\\/script>xxxxxxxxxxxxxxxxxxxxxxxxxxxxxxxxxxxxxxxxxxxxxxxxxxxxxxxxxxxxxxxxxxxxxxxxxxxxxxxxxxxxxxxxxxxxxxxxxxxxxxxxxxxxxxxxxxxxxxxxxxxxxxxxxxxxxxxxxxxxxxxxxxxxxxxxxxxxxxxxxxxxxxxxxxxxxxxxxxxxxxxxxxxxxxxxxxxxxxxxxxxxxxxxxxxxxxxxxxxxxxxxxxxxxxxxxxxxxxxxxxxxxxxxxxxxxxxxxxxxxxxxxxxxxxxxxxxxxxxxxxxxxxxxxxxxxxxxxxxxxxxxxxxxxxxxxxxxxxxxxxxxxxxxxxxxxxxxxxxxxxxxxxxxxxxxxxxxxxxxxxxxxxxxxxxxxxxxxxxxxxxxxxxxxxxxxxxxxxxxxxxxxxxxxxxxxxxxxxxxxxxxxxxxxxxxxxxxxxxxxxxxxxxxxxxxxxxxxxxxxxxxxxxxxxxxxxx\");";
+/// A statement that writes a script which its own file holds.
+pub const WRITES_ITSELF: &[u8] = b"document.write(\"<script src=\\\"a\\\"><\\/script>\");";
 
-/// A page with such a script, whose 2,098th write passes the limit. No fault of the page behind its end tag is come to.
+/// A page with a file of 1,000 such statements, each of which writes 25 characters: the 41,944th passes the limit. No fault of the page behind its
+/// end tag is come to.
 pub fn writes_itself() -> Case {
     Case {
         settled: 25,
         ..whole(
             Row {
+                times: 1000,
                 status: Status::Limit(Limit::Writes),
                 ..scripted(
                     b"<script src=\"a\"></script>",

@@ -46,6 +46,7 @@ fn faults() -> [Row; 8] {
         // The scripts write too much before the fault of the page is come to.
         Row {
             met: SECOND_READ,
+            times: 1000,
             status: Status::Limit(Limit::Writes),
             ..scripted(EXTERNAL, &[("a", WRITES_ITSELF)], "refused writes\n")
         },
@@ -56,6 +57,7 @@ fn faults() -> [Row; 8] {
         },
         // They write too much before the bad byte is come to.
         Row {
+            times: 1000,
             status: Status::Limit(Limit::Writes),
             ..scripted(
                 b"<script src=\"a\"></script>\xFF",

@@ -139,7 +139,7 @@ fn each_sink_takes_a_front(rt: HostRuntime) -> Result<(), Fail> {
 fn a_page_that_writes_itself_fails_in_turn(rt: HostRuntime) -> Result<(), Fail> {
     let case = writes_itself();
     for way in WAYS {
-        let given = gives_at_each_fault(&rt, rt.alloc(), &case, way, 64)?;
+        let given = gives_at_each_fault(&rt, rt.alloc(), &case, way, 4096)?;
         assert!(rt; given, "{way:?}");
     }
     Ok(())
