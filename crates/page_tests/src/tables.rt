@@ -1,6 +1,6 @@
 //! Tables, templates, `select` and framesets.
 
-use crate::rows::{gives_at_every_piece, page};
+use crate::rows::{Way, gives_at_every_piece, page};
 use page_runner::Status;
 use std::test::Fail;
 
@@ -152,7 +152,10 @@ const TABLES: [(&str, &str); 35] = [
 fn tables_give_their_trees(rt: HostRuntime) -> Result<(), Fail> {
     for (html, text) in &TABLES {
         let row = page(html.as_bytes(), Status::Done, text);
-        assert!(rt; gives_at_every_piece(&rt, rt.alloc(), &row)?, "{html}");
+        assert!(rt;
+            gives_at_every_piece(&rt, rt.alloc(), &row, Way::OnTwo)?,
+            "{html}"
+        );
     }
     Ok(())
 }
