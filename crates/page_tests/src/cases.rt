@@ -24,7 +24,7 @@ impl Case {
         let mut written = "";
         for (from, front) in self.fronts {
             if *from <= bytes {
-                written = front;
+                written = *front;
             }
         }
         (Status::ReadFault, written)
@@ -44,8 +44,8 @@ fn whole(row: Row, fronts: &'static [(usize, &'static str)]) -> Case {
     }
 }
 
-/// An empty page, and pages with scripts that are written, that aren't there, that are in svg, and with a bad byte at their end.
-pub fn cases() -> [Case; 9] {
+/// An empty page, and a page with a script that writes one with a file.
+pub fn written() -> [Case; 2] {
     [
         whole(
             page(
@@ -63,6 +63,12 @@ pub fn cases() -> [Case; 9] {
             ),
             &[],
         ),
+    ]
+}
+
+/// The same page, whose script in the file logs the tree besides, and a page with a script that a file writes.
+pub fn logged() -> [Case; 2] {
+    [
         whole(
             scripted(
                 b"<body><script>document.write(\"<script src=\\\"a\\\"><\\/script>X\");document.write(\"Y\");</script>Z",
@@ -77,6 +83,27 @@ pub fn cases() -> [Case; 9] {
                 "log 2 \"<html><head></head><body><script>document.write(\\\"<script src=\\\\\\\"a\\\\\\\"><\\\\/script>X\\\");document.write(\\\"Y\\\");</script><script src=\\\"a\\\"></script>Q</body></html>\"\n",
             )],
         ),
+        // The fourth byte and the fifth are one character.
+        whole(
+            scripted(
+                b"<p>\xC3\xA9<script src=\"a\"></script><script>console.log(document.documentElement.outerHTML);</script>b",
+                &[("a", b"document.write(\"<script>foo();<\\/script><b>\");")],
+                "syntax 2\nlog 3 \"<html><head></head><body><p>é<script src=\\\"a\\\"></script><script>foo();</script><b><script>console.log(document.documentElement.outerHTML);</script></b></p></body></html>\"\ntree \"<html><head></head><body><p>é<script src=\\\"a\\\"></script><script>foo();</script><b><script>console.log(document.documentElement.outerHTML);</script>b</b></p></body></html>\"\n",
+            ),
+            &[
+                (30, "syntax 2\n"),
+                (
+                    95,
+                    "syntax 2\nlog 3 \"<html><head></head><body><p>é<script src=\\\"a\\\"></script><script>foo();</script><b><script>console.log(document.documentElement.outerHTML);</script></b></p></body></html>\"\n",
+                ),
+            ],
+        ),
+    ]
+}
+
+/// Pages with a script that isn't there, and with one whose name is unlawful.
+pub fn missing() -> [Case; 2] {
+    [
         whole(
             scripted(
                 b"<script src=\"b\"></script>",
@@ -93,6 +120,12 @@ pub fn cases() -> [Case; 9] {
             ),
             &[(28, "miss \"../b\"\n")],
         ),
+    ]
+}
+
+/// Pages with a bad byte at their end: behind a log, and behind a script that writes the beginning of a comment.
+pub fn bad() -> [Case; 2] {
+    [
         // The bad byte is the 66th.
         Case {
             settled: 66,
@@ -120,6 +153,12 @@ pub fn cases() -> [Case; 9] {
                 &[],
             )
         },
+    ]
+}
+
+/// A page with svg, with scripts behind it.
+pub fn foreign() -> [Case; 1] {
+    [
         Case {
             unfetched: "syntax 1\n",
             ..whole(
@@ -131,21 +170,6 @@ pub fn cases() -> [Case; 9] {
                 &[(65, "syntax 1\n"), (90, "syntax 1\nthrow 2\n")],
             )
         },
-        // The fourth byte and the fifth are one character.
-        whole(
-            scripted(
-                b"<p>\xC3\xA9<script src=\"a\"></script><script>console.log(document.documentElement.outerHTML);</script>b",
-                &[("a", b"document.write(\"<script>foo();<\\/script><b>\");")],
-                "syntax 2\nlog 3 \"<html><head></head><body><p>é<script src=\\\"a\\\"></script><script>foo();</script><b><script>console.log(document.documentElement.outerHTML);</script></b></p></body></html>\"\ntree \"<html><head></head><body><p>é<script src=\\\"a\\\"></script><script>foo();</script><b><script>console.log(document.documentElement.outerHTML);</script>b</b></p></body></html>\"\n",
-            ),
-            &[
-                (30, "syntax 2\n"),
-                (
-                    95,
-                    "syntax 2\nlog 3 \"<html><head></head><body><p>é<script src=\\\"a\\\"></script><script>foo();</script><b><script>console.log(document.documentElement.outerHTML);</script></b></p></body></html>\"\n",
-                ),
-            ],
-        ),
     ]
 }
 

@@ -2,7 +2,8 @@
 
 use crate::cases::WRITES_ITSELF;
 use crate::rows::{
-    CALM, Conditions, Row, WAYS, failing, gives, gives_at_every_piece, page, scripted,
+    CALM, Conditions, Row, assert_as_met, assert_both_ways_as_met, assert_both_ways_at_every_piece,
+    failing, page, scripted,
 };
 use outside::Port;
 use page_runner::{Limit, Status};
@@ -296,38 +297,15 @@ fn counted() -> [Row; 21] {
 
 #[test]
 fn what_is_not_there_is_told(rt: HostRuntime) -> Result<(), Fail> {
-    for row in &unbegun() {
-        assert!(rt; gives(&rt, rt.alloc(), row, &row.met)?, "{:?}", row.status);
-    }
-    Ok(())
+    assert_as_met(&rt, &unbegun())
 }
 
 #[test]
 fn the_first_fault_is_answered(rt: HostRuntime) -> Result<(), Fail> {
-    for row in &faults() {
-        for way in WAYS {
-            let met = Conditions { way, ..row.met };
-            assert!(rt;
-                gives(&rt, rt.alloc(), row, &met)?,
-                "{way:?}: {:?}, {}",
-                row.status,
-                row.text
-            );
-        }
-    }
-    Ok(())
+    assert_both_ways_as_met(&rt, &faults())
 }
 
 #[test]
 fn files_are_read_once(rt: HostRuntime) -> Result<(), Fail> {
-    for row in &counted() {
-        for way in WAYS {
-            assert!(rt;
-                gives_at_every_piece(&rt, rt.alloc(), row, way)?,
-                "{way:?}: {}",
-                row.text
-            );
-        }
-    }
-    Ok(())
+    assert_both_ways_at_every_piece(&rt, &counted())
 }

@@ -1,6 +1,6 @@
 //! Pages with elements of SVG and MathML.
 
-use crate::rows::{Row, Way, gives_at_every_piece, page, scripted};
+use crate::rows::{Row, assert_at_every_piece, page, scripted};
 use page_runner::Status;
 use std::test::Fail;
 
@@ -64,12 +64,5 @@ fn foreign() -> [Row; 8] {
 
 #[test]
 fn foreign_pages_give_their_trees(rt: HostRuntime) -> Result<(), Fail> {
-    for row in &foreign() {
-        assert!(rt;
-            gives_at_every_piece(&rt, rt.alloc(), row, Way::OnTwo)?,
-            "{}",
-            row.text
-        );
-    }
-    Ok(())
+    assert_at_every_piece(&rt, &foreign())
 }

@@ -1,23 +1,23 @@
 //! A run over files and a sink in memory.
 
-use entity_table::Table;
+ghost use Rattle.std.specs.Prelude.{◌<◌, ◌≤◌};
+
+use entity_table::{Table, TableFault};
 use html_types::NoMemory;
 use outside::{MemFiles, MemSink, OpenGate, Port};
 use page_runner::{Job, Status, page_in_place, run};
 use std::alloc::Global;
-use std::sync::{Arc, Wait};
-use std::thread::Threads;
+use std::sync::Arc;
+use std::test::Fail;
 
 /// Which call runs a page.
-#[derive(Clone, Copy, Debug)]
+#[derive(Clone, Copy)]
 pub enum Way {
     /// `run`, by its words: on two threads.
     OnTwo,
     /// `page_in_place`, which begins with the page.
     InPlace,
 }
-
-pub const WAYS: [Way; 2] = [Way::OnTwo, Way::InPlace];
 
 /// What a run meets.
 #[derive(Clone, Copy)]
@@ -101,6 +101,15 @@ fn repeated(alloc: Global, bytes: &[u8], times: usize) -> Result<Vec<u8>, NoMemo
     Ok(all)
 }
 
+fn add_scripts(alloc: Global, files: &mut MemFiles, row: &Row) -> Result<(), NoMemory> {
+    for (name, bytes) in row.scripts {
+        let path = format!(in alloc; "d/{name}")?;
+        let text = repeated(alloc, bytes, row.times)?;
+        files.add(path.as_str(), &text)?;
+    }
+    Ok(())
+}
+
 fn files(alloc: Global, row: &Row, met: &Conditions<'_>) -> Result<MemFiles, NoMemory> {
     let mut files = MemFiles::new(alloc, met.fail)?;
     files.limit(met.most.max(1));
@@ -108,11 +117,7 @@ fn files(alloc: Global, row: &Row, met: &Conditions<'_>) -> Result<MemFiles, NoM
     if let Some(page) = row.page {
         files.add("p", page)?;
     }
-    for (name, bytes) in row.scripts {
-        let path = format!(in alloc; "d/{name}")?;
-        let text = repeated(alloc, bytes, row.times)?;
-        files.add(path.as_str(), &text)?;
-    }
+    add_scripts(alloc, &mut files, row)?;
     Ok(files)
 }
 
@@ -150,15 +155,46 @@ impl PageRun {
     }
 }
 
-fn run_words<R: Threads + Wait + Copy + Send + Sync + 'static>(
-    rt: &R,
-    alloc: Global,
+// The calls of the program stand alone, as they promise much that no test asks for: it would be known at each goal behind them.
+
+/// Runs the command that the words give.
+pub fn call_run(
+    rt: &HostRuntime,
     words: &[String],
     files: &mut MemFiles,
     sink: &mut MemSink,
+    gate: &Arc<OpenGate, Global>,
+) -> Status {
+    run(rt, rt.alloc(), words, files, sink, gate)
+}
+
+fn call_in_place(
+    alloc: Global,
+    job: &Job<'_>,
+    files: &mut MemFiles,
+    sink: &mut MemSink,
+) -> Status
+    requires piece { (0 < job.now.piece) × (job.now.piece ≤ 65536) }
+    requires ahead { (0 < job.now.ahead) × (job.now.ahead ≤ 64) }
+{
+    page_in_place(alloc, job, files, sink).outcome
+}
+
+fn read_table(alloc: Global, entities: &str) -> Result<Table, TableFault> {
+    Table::read(alloc, entities.as_bytes())
+}
+
+fn run_on_two(
+    rt: &HostRuntime,
+    piece: &str,
+    dump: bool,
+    files: &mut MemFiles,
+    sink: &mut MemSink,
 ) -> Result<Status, NoMemory> {
+    let alloc = rt.alloc();
+    let words = words(alloc, piece, dump)?;
     let gate = Arc::new(alloc, OpenGate)?;
-    Ok(run(rt, alloc, words, files, sink, &gate))
+    Ok(call_run(rt, &words, files, sink, &gate))
 }
 
 fn run_in_place(
@@ -168,7 +204,7 @@ fn run_in_place(
     files: &mut MemFiles,
     sink: &mut MemSink,
 ) -> Result<Status, NoMemory> {
-    let Ok(table) = Table::read(alloc, row.entities.as_bytes()) else {
+    let Ok(table) = read_table(alloc, row.entities) else {
         return Err(NoMemory);
     };
     let job = Job {
@@ -179,26 +215,35 @@ fn run_in_place(
         ahead: 8,
         dump: row.dump,
     };
-    Ok(page_in_place(alloc, &job, files, sink).outcome)
+    Ok(call_in_place(alloc, &job, files, sink))
+}
+
+fn run_over(
+    rt: &HostRuntime,
+    row: &Row,
+    met: &Conditions<'_>,
+    files: &mut MemFiles,
+    sink: &mut MemSink,
+) -> Result<Status, NoMemory> {
+    let alloc = rt.alloc();
+    match met.way {
+        Way::OnTwo => {
+            let piece = format!(in alloc; "{}", met.piece)?;
+            run_on_two(rt, piece.as_str(), row.dump, files, sink)
+        }
+        Way::InPlace => run_in_place(alloc, row, met.piece, files, sink),
+    }
 }
 
 /// Runs the row's page under these conditions in place of its own.
-pub fn run_row<R: Threads + Wait + Copy + Send + Sync + 'static>(
-    rt: &R,
-    alloc: Global,
+pub fn run_row(
+    rt: &HostRuntime,
     row: &Row,
     met: &Conditions<'_>,
 ) -> Result<PageRun, NoMemory> {
-    let mut files = files(alloc, row, met)?;
-    let mut sink = sink(alloc, met)?;
-    let status = match met.way {
-        Way::OnTwo => {
-            let piece = format!(in alloc; "{}", met.piece)?;
-            let words = words(alloc, piece.as_str(), row.dump)?;
-            run_words(rt, alloc, &words, &mut files, &mut sink)?
-        }
-        Way::InPlace => run_in_place(alloc, row, met.piece, &mut files, &mut sink)?,
-    };
+    let mut files = files(rt.alloc(), row, met)?;
+    let mut sink = sink(rt.alloc(), met)?;
+    let status = run_over(rt, row, met, &mut files, &mut sink)?;
     Ok(PageRun {
         files,
         sink,
@@ -207,46 +252,73 @@ pub fn run_row<R: Threads + Wait + Copy + Send + Sync + 'static>(
 }
 
 /// Whether the run answers and writes what is wanted.
-pub fn gives<R: Threads + Wait + Copy + Send + Sync + 'static>(
-    rt: &R,
-    alloc: Global,
-    row: &Row,
-    met: &Conditions<'_>,
-) -> Result<bool, NoMemory> {
-    let ran = run_row(rt, alloc, row, met)?;
+pub fn gives(rt: &HostRuntime, row: &Row, met: &Conditions<'_>) -> Result<bool, NoMemory> {
+    let ran = run_row(rt, row, met)?;
     Ok(ran.is(row.status, row.text.as_bytes()))
 }
 
-/// Whether the run answers and writes what is wanted, with reads of 1, of 7 and of 4,096 bytes.
-pub fn gives_at_every_piece<R: Threads + Wait + Copy + Send + Sync + 'static>(
-    rt: &R,
-    alloc: Global,
-    row: &Row,
-    way: Way,
-) -> Result<bool, NoMemory> {
+// Whether the run answers and writes what is wanted, with reads of 1, of 7 and of 4,096 bytes.
+fn gives_at_every_piece(rt: &HostRuntime, row: &Row, way: Way) -> Result<bool, NoMemory> {
     for piece in [1, 7, 4096] {
         let met = Conditions {
             way,
             piece,
             ..row.met
         };
-        if !gives(rt, alloc, row, &met)? {
+        if !gives(rt, row, &met)? {
             return Ok(false);
         }
     }
     Ok(true)
 }
 
+/// Each row gives what is wanted at every piece, by `run`.
+pub fn assert_at_every_piece(rt: &HostRuntime, rows: &[Row]) -> Result<(), Fail> {
+    for row in rows {
+        let given = gives_at_every_piece(rt, row, Way::OnTwo)?;
+        assert!(rt; given, "{}", row.text);
+    }
+    Ok(())
+}
+
+/// The same by `run` and in place.
+pub fn assert_both_ways_at_every_piece(rt: &HostRuntime, rows: &[Row]) -> Result<(), Fail> {
+    assert_at_every_piece(rt, rows)?;
+    for row in rows {
+        let given = gives_at_every_piece(rt, row, Way::InPlace)?;
+        assert!(rt; given, "in place: {}", row.text);
+    }
+    Ok(())
+}
+
+/// Each row gives what is wanted in what it meets, by `run`.
+pub fn assert_as_met(rt: &HostRuntime, rows: &[Row]) -> Result<(), Fail> {
+    for row in rows {
+        let given = gives(rt, row, &row.met)?;
+        assert!(rt; given, "{:?}, {}", row.status, row.text);
+    }
+    Ok(())
+}
+
+/// The same by `run` and in place.
+pub fn assert_both_ways_as_met(rt: &HostRuntime, rows: &[Row]) -> Result<(), Fail> {
+    assert_as_met(rt, rows)?;
+    for row in rows {
+        let met = Conditions {
+            way: Way::InPlace,
+            ..row.met
+        };
+        let given = gives(rt, row, &met)?;
+        assert!(rt; given, "in place: {:?}, {}", row.status, row.text);
+    }
+    Ok(())
+}
+
 /// Whether a run with that number of bytes a read is refused for its words, and writes nothing.
-pub fn is_usage<R: Threads + Wait + Copy + Send + Sync + 'static>(
-    rt: &R,
-    alloc: Global,
-    piece: &str,
-) -> Result<bool, NoMemory> {
+pub fn is_usage(rt: &HostRuntime, piece: &str) -> Result<bool, NoMemory> {
     let row = page(b"", Status::Usage, "");
-    let mut files = files(alloc, &row, &row.met)?;
-    let mut sink = sink(alloc, &row.met)?;
-    let words = words(alloc, piece, false)?;
-    let status = run_words(rt, alloc, &words, &mut files, &mut sink)?;
+    let mut files = files(rt.alloc(), &row, &CALM)?;
+    let mut sink = sink(rt.alloc(), &CALM)?;
+    let status = run_on_two(rt, piece, false, &mut files, &mut sink)?;
     Ok(status == row.status && sink.bytes().is_empty())
 }

@@ -1,6 +1,7 @@
 //! Pages with scripts.
 
-use crate::rows::{Conditions, Row, Way, failing, gives, gives_at_every_piece, scripted};
+use crate::cases::WRITES_ITSELF;
+use crate::rows::{Conditions, Row, assert_as_met, assert_at_every_piece, failing, scripted};
 use outside::Port;
 use page_runner::{Limit, Status};
 use std::test::Fail;
@@ -117,14 +118,7 @@ fn scripts() -> [Row; 21] {
 
 #[test]
 fn scripts_give_their_lines(rt: HostRuntime) -> Result<(), Fail> {
-    for row in &scripts() {
-        assert!(rt;
-            gives_at_every_piece(&rt, rt.alloc(), row, Way::OnTwo)?,
-            "{}",
-            row.text
-        );
-    }
-    Ok(())
+    assert_at_every_piece(&rt, &scripts())
 }
 
 // Its 41,944th write passes the limit, and its file is read once.
@@ -138,13 +132,9 @@ fn a_script_that_writes_itself_is_refused(rt: HostRuntime) -> Result<(), Fail> {
         status: Status::Limit(Limit::Writes),
         ..scripted(
             b"<script src=\"a\"></script>",
-            &[(
-                "a",
-                b"document.write(\"<script src=\\\"a\\\"><\\/script>\");",
-            )],
+            &[("a", WRITES_ITSELF)],
             "refused writes\n",
         )
     };
-    assert!(rt; gives(&rt, rt.alloc(), &row, &row.met)?);
-    Ok(())
+    assert_as_met(&rt, &[row])
 }

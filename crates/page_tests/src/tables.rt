@@ -1,6 +1,6 @@
 //! Tables, templates, `select` and framesets.
 
-use crate::rows::{Way, gives_at_every_piece, page};
+use crate::rows::{assert_at_every_piece, page};
 use page_runner::Status;
 use std::test::Fail;
 
@@ -148,14 +148,18 @@ const TABLES: [(&str, &str); 35] = [
     ),
 ];
 
-#[test]
-fn tables_give_their_trees(rt: HostRuntime) -> Result<(), Fail> {
-    for (html, text) in &TABLES {
-        let row = page(html.as_bytes(), Status::Done, text);
-        assert!(rt;
-            gives_at_every_piece(&rt, rt.alloc(), &row, Way::OnTwo)?,
-            "{html}"
-        );
+// Each page gives what is written of it at every piece.
+fn assert_pages(
+    rt: &HostRuntime,
+    pages: &[(&'static str, &'static str)],
+) -> Result<(), Fail> {
+    for (html, text) in pages {
+        assert_at_every_piece(rt, &[page(html.as_bytes(), Status::Done, text)])?;
     }
     Ok(())
+}
+
+#[test]
+fn tables_give_their_trees(rt: HostRuntime) -> Result<(), Fail> {
+    assert_pages(&rt, &TABLES)
 }

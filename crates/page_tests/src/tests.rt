@@ -1,6 +1,6 @@
 //! Pages that the tokenizer, formatting elements and the scopes decide.
 
-use crate::rows::{Row, Way, gives_at_every_piece, is_usage, page};
+use crate::rows::{Row, assert_at_every_piece, is_usage, page};
 use page_runner::{Limit, Status};
 use std::test::Fail;
 
@@ -323,56 +323,28 @@ fn formatting() -> [Row; 16] {
 
 #[test]
 fn pages_give_their_trees(rt: HostRuntime) -> Result<(), Fail> {
-    for row in &pages() {
-        assert!(rt;
-            gives_at_every_piece(&rt, rt.alloc(), row, Way::OnTwo)?,
-            "{}",
-            row.text
-        );
-    }
-    Ok(())
+    assert_at_every_piece(&rt, &pages())
 }
 
 #[test]
 fn dumps_give_their_nodes(rt: HostRuntime) -> Result<(), Fail> {
-    for row in &dumps() {
-        assert!(rt;
-            gives_at_every_piece(&rt, rt.alloc(), row, Way::OnTwo)?,
-            "{}",
-            row.text
-        );
-    }
-    Ok(())
+    assert_at_every_piece(&rt, &dumps())
 }
 
 #[test]
 fn tokens_give_their_trees(rt: HostRuntime) -> Result<(), Fail> {
-    for row in &tokens() {
-        assert!(rt;
-            gives_at_every_piece(&rt, rt.alloc(), row, Way::OnTwo)?,
-            "{}",
-            row.text
-        );
-    }
-    Ok(())
+    assert_at_every_piece(&rt, &tokens())
 }
 
 #[test]
 fn formatting_gives_its_trees(rt: HostRuntime) -> Result<(), Fail> {
-    for row in &formatting() {
-        assert!(rt;
-            gives_at_every_piece(&rt, rt.alloc(), row, Way::OnTwo)?,
-            "{}",
-            row.text
-        );
-    }
-    Ok(())
+    assert_at_every_piece(&rt, &formatting())
 }
 
 #[test]
 fn words_that_clap_refuses_are_usage(rt: HostRuntime) -> Result<(), Fail> {
     for piece in ["0", "65537", "x"] {
-        assert!(rt; is_usage(&rt, rt.alloc(), piece)?, "{piece}");
+        assert!(rt; is_usage(&rt, piece)?, "{piece}");
     }
     Ok(())
 }

@@ -1,93 +1,124 @@
 //! Each call of a run fails in turn, and each sink takes a front of the text.
 
-use crate::cases::{Case, cases, writes_itself};
-use crate::rows::{CALM, Conditions, WAYS, Way, gives, run_row};
+use crate::cases::{Case, bad, foreign, logged, missing, writes_itself, written};
+use crate::rows::{CALM, Conditions, Way, gives, run_row};
 use html_types::NoMemory;
 use outside::Port;
 use page_runner::Status;
-use std::alloc::Global;
-use std::sync::Wait;
 use std::test::Fail;
-use std::thread::Threads;
+
+// How many bytes of the page were read before that call at its port, of which the first begins it, a read giving so many bytes.
+fn bytes_before(case: &Case, call: u64, most: usize) -> usize {
+    let reads = call.saturating_sub(2) as usize;
+    match case.row.page {
+        Some(bytes) => reads.saturating_mul(most).min(bytes.len()),
+        None => 0,
+    }
+}
 
 // What comes of a page where that call at the port fails, a read giving so many bytes.
 fn wanted(case: &Case, port: Port, call: u64, most: usize) -> (Status, &'static str) {
     match port {
         Port::Entities => (Status::ReadFault, ""),
         Port::Script => (Status::ReadFault, case.unfetched),
-        // The first call begins the page.
-        Port::Page => {
-            let reads = call.saturating_sub(2) as usize;
-            let bytes = case.row.page.map_or(0, <[u8]>::len);
-            case.behind(reads.saturating_mul(most).min(bytes))
-        }
+        Port::Page => case.behind(bytes_before(case, call, most)),
     }
 }
 
-// Whether each run gives what is wanted in which the first call at the port fails, or the second, and so on until none that is made does, a
-// read giving at most so many bytes.
-fn gives_at_each_call<R: Threads + Wait + Copy + Send + Sync + 'static>(
-    rt: &R,
-    alloc: Global,
+// A run in which a call is to fail: whether that call was made, and whether what is wanted came of the run.
+#[derive(Clone, Copy)]
+struct Tried {
+    is_made: bool,
+    is_given: bool,
+}
+
+fn try_call(
+    rt: &HostRuntime,
+    case: &Case,
+    port: Port,
+    call: u64,
+    met: &Conditions<'_>,
+) -> Result<Tried, NoMemory> {
+    let fail = [(port, call)];
+    let met = Conditions {
+        fail: &fail,
+        ..*met
+    };
+    let ran = run_row(rt, &case.row, &met)?;
+    let is_made = call <= ran.files.calls(port);
+    let (status, text) = if is_made {
+        wanted(case, port, call, met.most)
+    } else {
+        (case.row.status, case.row.text)
+    };
+    Ok(Tried {
+        is_made,
+        is_given: ran.is(status, text.as_bytes()),
+    })
+}
+
+// Whether each run gives what is wanted in which the first call at the port fails, or the second, and so on until none that is made does.
+fn gives_at_each_call(
+    rt: &HostRuntime,
     case: &Case,
     port: Port,
     met: &Conditions<'_>,
 ) -> Result<bool, NoMemory> {
     for call in 1..10_000u64 {
-        let fail = [(port, call)];
-        let met = Conditions {
-            fail: &fail,
-            ..*met
-        };
-        let ran = run_row(rt, alloc, &case.row, &met)?;
-        if ran.files.calls(port) < call {
-            return Ok(ran.is(case.row.status, case.row.text.as_bytes()));
-        }
-        let (status, text) = wanted(case, port, call, met.most);
-        if !ran.is(status, text.as_bytes()) {
-            return Ok(false);
+        let tried = try_call(rt, case, port, call, met)?;
+        if !tried.is_made || !tried.is_given {
+            return Ok(tried.is_given);
         }
     }
     Ok(false)
 }
 
 // The same of each port, where a read gives at most so many bytes.
-fn gives_at_each_fault<R: Threads + Wait + Copy + Send + Sync + 'static>(
-    rt: &R,
-    alloc: Global,
+fn gives_at_each_port(
+    rt: &HostRuntime,
     case: &Case,
     way: Way,
     most: usize,
 ) -> Result<bool, NoMemory> {
     let met = Conditions { way, most, ..CALM };
     for port in [Port::Entities, Port::Page, Port::Script] {
-        if !gives_at_each_call(rt, alloc, case, port, &met)? {
+        if !gives_at_each_call(rt, case, port, &met)? {
             return Ok(false);
         }
     }
     Ok(true)
 }
 
-// The most bytes that a read gives, of each run. On two threads each read may wait for the other thread: a long page isn't read byte by byte there.
-fn limits(case: &Case, way: Way) -> &'static [usize] {
-    let is_long = 50 < case.row.page.map_or(0, <[u8]>::len);
-    match way {
-        Way::OnTwo if is_long => &[64, 4096],
-        _ => &[1, 64, 4096],
+// The same where a read gives at most 1, 64 or 4,096 bytes.
+fn gives_at_each_limit(rt: &HostRuntime, case: &Case, way: Way) -> Result<bool, NoMemory> {
+    for most in [1, 64, 4096] {
+        if !gives_at_each_port(rt, case, way, most)? {
+            return Ok(false);
+        }
     }
+    Ok(true)
 }
 
-// Whether a sink of each size below the text's takes a front of the text, and fails then.
-fn gives_a_front_at_each_size<R: Threads + Wait + Copy + Send + Sync + 'static>(
-    rt: &R,
-    alloc: Global,
-    case: &Case,
-    way: Way,
-) -> Result<bool, NoMemory> {
+// Each page comes to what is wanted, whichever call fails.
+fn assert_at_each_call(rt: &HostRuntime, cases: &[Case], way: Way) -> Result<(), Fail> {
+    for case in cases {
+        let given = gives_at_each_limit(rt, case, way)?;
+        assert!(rt; given, "{}", case.row.text);
+    }
+    Ok(())
+}
+
+// Whether a sink of that size, below the text's, takes a front of the text, and fails then.
+fn gives_a_front(rt: &HostRuntime, case: &Case, way: Way, sink: usize) -> Result<bool, NoMemory> {
+    let ran = run_row(rt, &case.row, &Conditions { way, sink, ..CALM })?;
     let text = case.row.text.as_bytes();
-    for sink in 0..text.len() {
-        let ran = run_row(rt, alloc, &case.row, &Conditions { way, sink, ..CALM })?;
-        if !ran.is(Status::WriteFault, &text[..sink]) {
+    Ok(ran.status == Status::WriteFault && text.starts_with(ran.sink.bytes()) && ran.sink.bytes().len() == sink)
+}
+
+// Whether each sink below the text's size does.
+fn gives_each_front(rt: &HostRuntime, case: &Case, way: Way) -> Result<bool, NoMemory> {
+    for sink in 0..case.row.text.len() {
+        if !gives_a_front(rt, case, way, sink)? {
             return Ok(false);
         }
     }
@@ -95,12 +126,7 @@ fn gives_a_front_at_each_size<R: Threads + Wait + Copy + Send + Sync + 'static>(
 }
 
 // Whether a sink of the text's size takes all of it, and one that can't be finished all of it too, which is a fault.
-fn gives_all<R: Threads + Wait + Copy + Send + Sync + 'static>(
-    rt: &R,
-    alloc: Global,
-    case: &Case,
-    way: Way,
-) -> Result<bool, NoMemory> {
+fn gives_all(rt: &HostRuntime, case: &Case, way: Way) -> Result<bool, NoMemory> {
     let met = Conditions {
         way,
         sink: case.row.text.len(),
@@ -110,47 +136,74 @@ fn gives_all<R: Threads + Wait + Copy + Send + Sync + 'static>(
         fails_to_finish: true,
         ..met
     };
-    let ran = run_row(rt, alloc, &case.row, &unfinished)?;
+    let ran = run_row(rt, &case.row, &unfinished)?;
     let is_fault = ran.is(Status::WriteFault, case.row.text.as_bytes());
-    Ok(is_fault && gives(rt, alloc, &case.row, &met)?)
+    Ok(is_fault && gives(rt, &case.row, &met)?)
 }
 
-#[test]
-fn each_call_fails_in_turn(rt: HostRuntime) -> Result<(), Fail> {
-    for case in &cases() {
-        for way in WAYS {
-            for most in limits(case, way) {
-                let given = gives_at_each_fault(&rt, rt.alloc(), case, way, *most)?;
-                assert!(rt; given, "{way:?}, {most}: {}", case.row.text);
-            }
-        }
+// Sinks of each size take what they should of each page.
+fn assert_at_each_sink(rt: &HostRuntime, cases: &[Case], way: Way) -> Result<(), Fail> {
+    for case in cases {
+        let given = gives_each_front(rt, case, way)? && gives_all(rt, case, way)?;
+        assert!(rt; given, "{}", case.row.text);
     }
     Ok(())
 }
 
 #[test]
-fn each_sink_takes_a_front(rt: HostRuntime) -> Result<(), Fail> {
-    for case in &cases() {
-        for way in WAYS {
-            let given = gives_a_front_at_each_size(&rt, rt.alloc(), case, way)?;
-            assert!(rt; given, "{way:?}: {}", case.row.text);
-            assert!(rt;
-                gives_all(&rt, rt.alloc(), case, way)?,
-                "{way:?}: {}",
-                case.row.text
-            );
-        }
-    }
-    Ok(())
+fn each_call_fails_in_turn_where_a_script_is_written(rt: HostRuntime) -> Result<(), Fail> {
+    assert_at_each_call(&rt, &written(), Way::OnTwo)?;
+    assert_at_each_call(&rt, &written(), Way::InPlace)
+}
+
+#[test]
+fn each_call_fails_in_turn_where_a_script_logs(rt: HostRuntime) -> Result<(), Fail> {
+    assert_at_each_call(&rt, &logged(), Way::OnTwo)?;
+    assert_at_each_call(&rt, &logged(), Way::InPlace)
+}
+
+#[test]
+fn each_call_fails_in_turn_where_a_script_is_missing(rt: HostRuntime) -> Result<(), Fail> {
+    assert_at_each_call(&rt, &missing(), Way::OnTwo)?;
+    assert_at_each_call(&rt, &missing(), Way::InPlace)
+}
+
+#[test]
+fn each_call_fails_in_turn_before_a_bad_byte(rt: HostRuntime) -> Result<(), Fail> {
+    assert_at_each_call(&rt, &bad(), Way::OnTwo)?;
+    assert_at_each_call(&rt, &bad(), Way::InPlace)
+}
+
+#[test]
+fn each_call_fails_in_turn_behind_svg(rt: HostRuntime) -> Result<(), Fail> {
+    assert_at_each_call(&rt, &foreign(), Way::OnTwo)?;
+    assert_at_each_call(&rt, &foreign(), Way::InPlace)
+}
+
+// Sinks of every size, over every page.
+fn assert_at_every_sink(rt: &HostRuntime, way: Way) -> Result<(), Fail> {
+    assert_at_each_sink(rt, &written(), way)?;
+    assert_at_each_sink(rt, &logged(), way)?;
+    assert_at_each_sink(rt, &missing(), way)?;
+    assert_at_each_sink(rt, &bad(), way)?;
+    assert_at_each_sink(rt, &foreign(), way)
+}
+
+#[test]
+fn each_sink_takes_a_front_on_two_threads(rt: HostRuntime) -> Result<(), Fail> {
+    assert_at_every_sink(&rt, Way::OnTwo)
+}
+
+#[test]
+fn each_sink_takes_a_front_in_place(rt: HostRuntime) -> Result<(), Fail> {
+    assert_at_every_sink(&rt, Way::InPlace)
 }
 
 #[test]
 fn a_page_that_writes_itself_fails_in_turn(rt: HostRuntime) -> Result<(), Fail> {
     let case = writes_itself();
-    for way in WAYS {
-        let given = gives_at_each_fault(&rt, rt.alloc(), &case, way, 4096)?;
-        assert!(rt; given, "{way:?}");
-    }
+    assert!(rt; gives_at_each_port(&rt, &case, Way::OnTwo, 4096)?);
+    assert!(rt; gives_at_each_port(&rt, &case, Way::InPlace, 4096)?);
     Ok(())
 }
 
@@ -158,8 +211,7 @@ fn a_page_that_writes_itself_fails_in_turn(rt: HostRuntime) -> Result<(), Fail> 
 #[test]
 fn a_sink_takes_all_of_a_refusal(rt: HostRuntime) -> Result<(), Fail> {
     let case = writes_itself();
-    for way in WAYS {
-        assert!(rt; gives_all(&rt, rt.alloc(), &case, way)?, "{way:?}");
-    }
+    assert!(rt; gives_all(&rt, &case, Way::OnTwo)?);
+    assert!(rt; gives_all(&rt, &case, Way::InPlace)?);
     Ok(())
 }
