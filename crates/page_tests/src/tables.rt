@@ -153,7 +153,8 @@ fn assert_pages(
     rt: &HostRuntime,
     pages: &[(&'static str, &'static str)],
 ) -> Result<(), Fail> {
-    for (html, text) in pages {
+    for pair in pages {
+        let (html, text) = *pair;
         assert_at_every_piece(rt, &[page(html.as_bytes(), Status::Done, text)])?;
     }
     Ok(())
