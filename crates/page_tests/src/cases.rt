@@ -158,32 +158,31 @@ pub fn bad() -> [Case; 2] {
 
 /// A page with svg, with scripts behind it.
 pub fn foreign() -> [Case; 1] {
-    [
-        Case {
-            unfetched: "syntax 1\n",
-            ..whole(
-                scripted(
-                    b"<svg viewbox=\"0\"><foreignobject><p>a</svg><script>foo();</script><script src=\"a\"></script>b",
-                    &[("a", b"document.getElementById(\"k\").remove();")],
-                    "syntax 1\nthrow 2\ntree \"<html><head></head><body><svg viewBox=\\\"0\\\"><foreignObject><p>a<script>foo();</script><script src=\\\"a\\\"></script>b</p></foreignObject></svg></body></html>\"\n",
-                ),
-                &[(65, "syntax 1\n"), (90, "syntax 1\nthrow 2\n")],
-            )
-        },
-    ]
+    [Case {
+        unfetched: "syntax 1\n",
+        ..whole(
+            scripted(
+                b"<svg viewbox=\"0\"><foreignobject><p>a</svg><script>foo();</script><script src=\"a\"></script>b",
+                &[("a", b"document.getElementById(\"k\").remove();")],
+                "syntax 1\nthrow 2\ntree \"<html><head></head><body><svg viewBox=\\\"0\\\"><foreignObject><p>a<script>foo();</script><script src=\\\"a\\\"></script>b</p></foreignObject></svg></body></html>\"\n",
+            ),
+            &[(65, "syntax 1\n"), (90, "syntax 1\nthrow 2\n")],
+        )
+    }]
 }
 
-/// A statement that writes a script which its own file holds.
-pub const WRITES_ITSELF: &[u8] = b"document.write(\"<script src=\\\"a\\\"><\\/script>\");";
+/// A statement that writes a script which its own file holds, and 225 characters behind it.
+pub const WRITES_ITSELF: &[u8] =
+    b"document.write(\"<script src=\\\"a\\\"><\\/script>xxxxxxxxxxxxxxxxxxxxxxxxxxxxxxxxxxxxxxxxxxxxxxxxxxxxxxxxxxxxxxxxxxxxxxxxxxxxxxxxxxxxxxxxxxxxxxxxxxxxxxxxxxxxxxxxxxxxxxxxxxxxxxxxxxxxxxxxxxxxxxxxxxxxxxxxxxxxxxxxxxxxxxxxxxxxxxxxxxxxxxxxxxxxxxxxxxxxxxxxxxxxxxxxxxxxxxxxxxxxxxxxx\");";
 
-/// A page with a file of 1,000 such statements, each of which writes 25 characters: the 41,944th passes the limit. No fault of the page behind its
-/// end tag is come to.
+/// A page with a file of 100 such statements, each of which writes 250 characters: the 4,195th passes the limit. No fault of the page behind its end
+/// tag is come to.
 pub fn writes_itself() -> Case {
     Case {
         settled: 25,
         ..whole(
             Row {
-                times: 1000,
+                times: 100,
                 status: Status::Limit(Limit::Writes),
                 ..scripted(
                     b"<script src=\"a\"></script>",

@@ -2,8 +2,7 @@
 
 use crate::cases::WRITES_ITSELF;
 use crate::rows::{
-    CALM, Conditions, Row, assert_as_met, assert_both_ways_as_met, assert_both_ways_at_every_piece,
-    failing, page, scripted,
+    CALM, Conditions, Row, Way, failing, page, scripted, wrong_as_met, wrong_at_a_piece,
 };
 use outside::Port;
 use page_runner::{Limit, Status};
@@ -47,7 +46,7 @@ fn faults() -> [Row; 8] {
         // The scripts write too much before the fault of the page is come to.
         Row {
             met: SECOND_READ,
-            times: 1000,
+            times: 100,
             status: Status::Limit(Limit::Writes),
             ..scripted(EXTERNAL, &[("a", WRITES_ITSELF)], "refused writes\n")
         },
@@ -58,7 +57,7 @@ fn faults() -> [Row; 8] {
         },
         // They write too much before the bad byte is come to.
         Row {
-            times: 1000,
+            times: 100,
             status: Status::Limit(Limit::Writes),
             ..scripted(
                 b"<script src=\"a\"></script>\xFF",
@@ -297,15 +296,28 @@ fn counted() -> [Row; 21] {
 
 #[test]
 fn what_is_not_there_is_told(rt: HostRuntime) -> Result<(), Fail> {
-    assert_as_met(&rt, &unbegun())
+    assert_eq!(rt;
+        wrong_as_met(&rt, rt.alloc(), &unbegun(), Way::OnTwo)?,
+        None
+    );
+    Ok(())
 }
 
 #[test]
 fn the_first_fault_is_answered(rt: HostRuntime) -> Result<(), Fail> {
-    assert_both_ways_as_met(&rt, &faults())
+    let rows = faults();
+    assert_eq!(rt; wrong_as_met(&rt, rt.alloc(), &rows, Way::OnTwo)?, None);
+    assert_eq!(rt; wrong_as_met(&rt, rt.alloc(), &rows, Way::InPlace)?, None);
+    Ok(())
 }
 
 #[test]
 fn files_are_read_once(rt: HostRuntime) -> Result<(), Fail> {
-    assert_both_ways_at_every_piece(&rt, &counted())
+    let rows = counted();
+    assert_eq!(rt; wrong_at_a_piece(&rt, rt.alloc(), &rows, Way::OnTwo)?, None);
+    assert_eq!(rt;
+        wrong_at_a_piece(&rt, rt.alloc(), &rows, Way::InPlace)?,
+        None
+    );
+    Ok(())
 }

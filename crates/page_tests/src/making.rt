@@ -5,8 +5,9 @@ use html_types::NoMemory;
 use outside::{MemFiles, MemSink, OpenGate};
 use page_runner::Status;
 use std::alloc::Global;
-use std::sync::Arc;
+use std::sync::{Arc, Wait};
 use std::test::Fail;
+use std::thread::Threads;
 
 // The words behind `make`, how many bytes the sink takes, and the status and text that are wanted.
 #[derive(Clone, Copy)]
@@ -29,13 +30,16 @@ fn words(alloc: Global, texts: &[&str]) -> Result<Vec<String>, NoMemory> {
 }
 
 // Whether the run answers and writes what is wanted. The files outside are none.
-fn gives(rt: &HostRuntime, row: &Row) -> Result<bool, NoMemory> {
-    let alloc = rt.alloc();
+fn gives<R: Threads + Wait + Copy + Send + Sync + 'static>(
+    rt: &R,
+    alloc: Global,
+    row: &Row,
+) -> Result<bool, NoMemory> {
     let words = words(alloc, row.words)?;
     let mut files = MemFiles::new(alloc, &[])?;
     let mut sink = MemSink::new(alloc, row.sink)?;
     let gate = Arc::new(alloc, OpenGate)?;
-    let status = call_run(rt, &words, &mut files, &mut sink, &gate);
+    let status = call_run(rt, alloc, &words, &mut files, &mut sink, &gate);
     Ok(status == row.status && sink.bytes() == row.text.as_bytes())
 }
 
@@ -84,7 +88,7 @@ fn rows() -> [Row; 8] {
 #[test]
 fn made_pages(rt: HostRuntime) -> Result<(), Fail> {
     for row in &rows() {
-        assert!(rt; gives(&rt, row)?);
+        assert!(rt; gives(&rt, rt.alloc(), row)?);
     }
     Ok(())
 }

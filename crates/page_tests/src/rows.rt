@@ -7,8 +7,8 @@ use html_types::NoMemory;
 use outside::{MemFiles, MemSink, OpenGate, Port};
 use page_runner::{Job, Status, page_in_place, run};
 use std::alloc::Global;
-use std::sync::Arc;
-use std::test::Fail;
+use std::sync::{Arc, Wait};
+use std::thread::Threads;
 
 /// Which call runs a page.
 #[derive(Clone, Copy)]
@@ -158,22 +158,18 @@ impl PageRun {
 // The calls of the program stand alone, as they promise much that no test asks for: it would be known at each goal behind them.
 
 /// Runs the command that the words give.
-pub fn call_run(
-    rt: &HostRuntime,
+pub fn call_run<R: Threads + Wait + Copy + Send + Sync + 'static>(
+    rt: &R,
+    alloc: Global,
     words: &[String],
     files: &mut MemFiles,
     sink: &mut MemSink,
     gate: &Arc<OpenGate, Global>,
 ) -> Status {
-    run(rt, rt.alloc(), words, files, sink, gate)
+    run(rt, alloc, words, files, sink, gate)
 }
 
-fn call_in_place(
-    alloc: Global,
-    job: &Job<'_>,
-    files: &mut MemFiles,
-    sink: &mut MemSink,
-) -> Status
+fn call_in_place(alloc: Global, job: &Job<'_>, files: &mut MemFiles, sink: &mut MemSink) -> Status
     requires piece { (0 < job.now.piece) × (job.now.piece ≤ 65536) }
     requires ahead { (0 < job.now.ahead) × (job.now.ahead ≤ 64) }
 {
@@ -184,17 +180,17 @@ fn read_table(alloc: Global, entities: &str) -> Result<Table, TableFault> {
     Table::read(alloc, entities.as_bytes())
 }
 
-fn run_on_two(
-    rt: &HostRuntime,
+fn run_on_two<R: Threads + Wait + Copy + Send + Sync + 'static>(
+    rt: &R,
+    alloc: Global,
     piece: &str,
     dump: bool,
     files: &mut MemFiles,
     sink: &mut MemSink,
 ) -> Result<Status, NoMemory> {
-    let alloc = rt.alloc();
     let words = words(alloc, piece, dump)?;
     let gate = Arc::new(alloc, OpenGate)?;
-    Ok(call_run(rt, &words, files, sink, &gate))
+    Ok(call_run(rt, alloc, &words, files, sink, &gate))
 }
 
 fn run_in_place(
@@ -218,32 +214,33 @@ fn run_in_place(
     Ok(call_in_place(alloc, &job, files, sink))
 }
 
-fn run_over(
-    rt: &HostRuntime,
+fn run_over<R: Threads + Wait + Copy + Send + Sync + 'static>(
+    rt: &R,
+    alloc: Global,
     row: &Row,
     met: &Conditions<'_>,
     files: &mut MemFiles,
     sink: &mut MemSink,
 ) -> Result<Status, NoMemory> {
-    let alloc = rt.alloc();
     match met.way {
         Way::OnTwo => {
             let piece = format!(in alloc; "{}", met.piece)?;
-            run_on_two(rt, piece.as_str(), row.dump, files, sink)
+            run_on_two(rt, alloc, piece.as_str(), row.dump, files, sink)
         }
         Way::InPlace => run_in_place(alloc, row, met.piece, files, sink),
     }
 }
 
 /// Runs the row's page under these conditions in place of its own.
-pub fn run_row(
-    rt: &HostRuntime,
+pub fn run_row<R: Threads + Wait + Copy + Send + Sync + 'static>(
+    rt: &R,
+    alloc: Global,
     row: &Row,
     met: &Conditions<'_>,
 ) -> Result<PageRun, NoMemory> {
-    let mut files = files(rt.alloc(), row, met)?;
-    let mut sink = sink(rt.alloc(), met)?;
-    let status = run_over(rt, row, met, &mut files, &mut sink)?;
+    let mut files = files(alloc, row, met)?;
+    let mut sink = sink(alloc, met)?;
+    let status = run_over(rt, alloc, row, met, &mut files, &mut sink)?;
     Ok(PageRun {
         files,
         sink,
@@ -252,73 +249,75 @@ pub fn run_row(
 }
 
 /// Whether the run answers and writes what is wanted.
-pub fn gives(rt: &HostRuntime, row: &Row, met: &Conditions<'_>) -> Result<bool, NoMemory> {
-    let ran = run_row(rt, row, met)?;
+pub fn gives<R: Threads + Wait + Copy + Send + Sync + 'static>(
+    rt: &R,
+    alloc: Global,
+    row: &Row,
+    met: &Conditions<'_>,
+) -> Result<bool, NoMemory> {
+    let ran = run_row(rt, alloc, row, met)?;
     Ok(ran.is(row.status, row.text.as_bytes()))
 }
 
-// Whether the run answers and writes what is wanted, with reads of 1, of 7 and of 4,096 bytes.
-fn gives_at_every_piece(rt: &HostRuntime, row: &Row, way: Way) -> Result<bool, NoMemory> {
+/// Whether the run answers and writes what is wanted, with reads of 1, of 7 and of 4,096 bytes.
+pub fn gives_at_every_piece<R: Threads + Wait + Copy + Send + Sync + 'static>(
+    rt: &R,
+    alloc: Global,
+    row: &Row,
+    way: Way,
+) -> Result<bool, NoMemory> {
     for piece in [1, 7, 4096] {
         let met = Conditions {
             way,
             piece,
             ..row.met
         };
-        if !gives(rt, row, &met)? {
+        if !gives(rt, alloc, row, &met)? {
             return Ok(false);
         }
     }
     Ok(true)
 }
 
-/// Each row gives what is wanted at every piece, by `run`.
-pub fn assert_at_every_piece(rt: &HostRuntime, rows: &[Row]) -> Result<(), Fail> {
+/// The text of the first row that doesn't give what is wanted at every piece. None where each does.
+pub fn wrong_at_a_piece<R: Threads + Wait + Copy + Send + Sync + 'static>(
+    rt: &R,
+    alloc: Global,
+    rows: &[Row],
+    way: Way,
+) -> Result<Option<&'static str>, NoMemory> {
     for row in rows {
-        let given = gives_at_every_piece(rt, row, Way::OnTwo)?;
-        assert!(rt; given, "{}", row.text);
+        if !gives_at_every_piece(rt, alloc, row, way)? {
+            return Ok(Some(row.text));
+        }
     }
-    Ok(())
+    Ok(None)
 }
 
-/// The same by `run` and in place.
-pub fn assert_both_ways_at_every_piece(rt: &HostRuntime, rows: &[Row]) -> Result<(), Fail> {
-    assert_at_every_piece(rt, rows)?;
+/// The text of the first row that doesn't give what is wanted in what it meets. None where each does.
+pub fn wrong_as_met<R: Threads + Wait + Copy + Send + Sync + 'static>(
+    rt: &R,
+    alloc: Global,
+    rows: &[Row],
+    way: Way,
+) -> Result<Option<&'static str>, NoMemory> {
     for row in rows {
-        let given = gives_at_every_piece(rt, row, Way::InPlace)?;
-        assert!(rt; given, "in place: {}", row.text);
+        if !gives(rt, alloc, row, &Conditions { way, ..row.met })? {
+            return Ok(Some(row.text));
+        }
     }
-    Ok(())
-}
-
-/// Each row gives what is wanted in what it meets, by `run`.
-pub fn assert_as_met(rt: &HostRuntime, rows: &[Row]) -> Result<(), Fail> {
-    for row in rows {
-        let given = gives(rt, row, &row.met)?;
-        assert!(rt; given, "{:?}, {}", row.status, row.text);
-    }
-    Ok(())
-}
-
-/// The same by `run` and in place.
-pub fn assert_both_ways_as_met(rt: &HostRuntime, rows: &[Row]) -> Result<(), Fail> {
-    assert_as_met(rt, rows)?;
-    for row in rows {
-        let met = Conditions {
-            way: Way::InPlace,
-            ..row.met
-        };
-        let given = gives(rt, row, &met)?;
-        assert!(rt; given, "in place: {:?}, {}", row.status, row.text);
-    }
-    Ok(())
+    Ok(None)
 }
 
 /// Whether a run with that number of bytes a read is refused for its words, and writes nothing.
-pub fn is_usage(rt: &HostRuntime, piece: &str) -> Result<bool, NoMemory> {
+pub fn is_usage<R: Threads + Wait + Copy + Send + Sync + 'static>(
+    rt: &R,
+    alloc: Global,
+    piece: &str,
+) -> Result<bool, NoMemory> {
     let row = page(b"", Status::Usage, "");
-    let mut files = files(rt.alloc(), &row, &CALM)?;
-    let mut sink = sink(rt.alloc(), &CALM)?;
-    let status = run_on_two(rt, piece, false, &mut files, &mut sink)?;
+    let mut files = files(alloc, &row, &CALM)?;
+    let mut sink = sink(alloc, &CALM)?;
+    let status = run_on_two(rt, alloc, piece, false, &mut files, &mut sink)?;
     Ok(status == row.status && sink.bytes().is_empty())
 }

@@ -1,7 +1,7 @@
 //! Pages with scripts.
 
 use crate::cases::WRITES_ITSELF;
-use crate::rows::{Conditions, Row, assert_as_met, assert_at_every_piece, failing, scripted};
+use crate::rows::{Conditions, Row, Way, failing, scripted, wrong_as_met, wrong_at_a_piece};
 use outside::Port;
 use page_runner::{Limit, Status};
 use std::test::Fail;
@@ -118,10 +118,14 @@ fn scripts() -> [Row; 21] {
 
 #[test]
 fn scripts_give_their_lines(rt: HostRuntime) -> Result<(), Fail> {
-    assert_at_every_piece(&rt, &scripts())
+    assert_eq!(rt;
+        wrong_at_a_piece(&rt, rt.alloc(), &scripts(), Way::OnTwo)?,
+        None
+    );
+    Ok(())
 }
 
-// Its 41,944th write passes the limit, and its file is read once.
+// Its 4,195th write passes the limit, and its file is read once.
 #[test]
 fn a_script_that_writes_itself_is_refused(rt: HostRuntime) -> Result<(), Fail> {
     let row = Row {
@@ -136,5 +140,6 @@ fn a_script_that_writes_itself_is_refused(rt: HostRuntime) -> Result<(), Fail> {
             "refused writes\n",
         )
     };
-    assert_as_met(&rt, &[row])
+    assert_eq!(rt; wrong_as_met(&rt, rt.alloc(), &[row], Way::OnTwo)?, None);
+    Ok(())
 }

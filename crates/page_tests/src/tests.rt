@@ -1,6 +1,6 @@
 //! Pages that the tokenizer, formatting elements and the scopes decide.
 
-use crate::rows::{Row, assert_at_every_piece, is_usage, page};
+use crate::rows::{Row, Way, is_usage, page, wrong_at_a_piece};
 use page_runner::{Limit, Status};
 use std::test::Fail;
 
@@ -323,28 +323,44 @@ fn formatting() -> [Row; 16] {
 
 #[test]
 fn pages_give_their_trees(rt: HostRuntime) -> Result<(), Fail> {
-    assert_at_every_piece(&rt, &pages())
+    assert_eq!(rt;
+        wrong_at_a_piece(&rt, rt.alloc(), &pages(), Way::OnTwo)?,
+        None
+    );
+    Ok(())
 }
 
 #[test]
 fn dumps_give_their_nodes(rt: HostRuntime) -> Result<(), Fail> {
-    assert_at_every_piece(&rt, &dumps())
+    assert_eq!(rt;
+        wrong_at_a_piece(&rt, rt.alloc(), &dumps(), Way::OnTwo)?,
+        None
+    );
+    Ok(())
 }
 
 #[test]
 fn tokens_give_their_trees(rt: HostRuntime) -> Result<(), Fail> {
-    assert_at_every_piece(&rt, &tokens())
+    assert_eq!(rt;
+        wrong_at_a_piece(&rt, rt.alloc(), &tokens(), Way::OnTwo)?,
+        None
+    );
+    Ok(())
 }
 
 #[test]
 fn formatting_gives_its_trees(rt: HostRuntime) -> Result<(), Fail> {
-    assert_at_every_piece(&rt, &formatting())
+    assert_eq!(rt;
+        wrong_at_a_piece(&rt, rt.alloc(), &formatting(), Way::OnTwo)?,
+        None
+    );
+    Ok(())
 }
 
 #[test]
 fn words_that_clap_refuses_are_usage(rt: HostRuntime) -> Result<(), Fail> {
     for piece in ["0", "65537", "x"] {
-        assert!(rt; is_usage(&rt, piece)?, "{piece}");
+        assert!(rt; is_usage(&rt, rt.alloc(), piece)?, "{piece}");
     }
     Ok(())
 }

@@ -5,7 +5,10 @@ use crate::rows::{CALM, Conditions, Way, gives, run_row};
 use html_types::NoMemory;
 use outside::Port;
 use page_runner::Status;
+use std::alloc::Global;
+use std::sync::Wait;
 use std::test::Fail;
+use std::thread::Threads;
 
 // How many bytes of the page were read before that call at its port, of which the first begins it, a read giving so many bytes.
 fn bytes_before(case: &Case, call: u64, most: usize) -> usize {
@@ -32,8 +35,9 @@ struct Tried {
     is_given: bool,
 }
 
-fn try_call(
-    rt: &HostRuntime,
+fn try_call<R: Threads + Wait + Copy + Send + Sync + 'static>(
+    rt: &R,
+    alloc: Global,
     case: &Case,
     port: Port,
     call: u64,
@@ -44,7 +48,7 @@ fn try_call(
         fail: &fail,
         ..*met
     };
-    let ran = run_row(rt, &case.row, &met)?;
+    let ran = run_row(rt, alloc, &case.row, &met)?;
     let is_made = call <= ran.files.calls(port);
     let (status, text) = if is_made {
         wanted(case, port, call, met.most)
@@ -58,14 +62,15 @@ fn try_call(
 }
 
 // Whether each run gives what is wanted in which the first call at the port fails, or the second, and so on until none that is made does.
-fn gives_at_each_call(
-    rt: &HostRuntime,
+fn gives_at_each_call<R: Threads + Wait + Copy + Send + Sync + 'static>(
+    rt: &R,
+    alloc: Global,
     case: &Case,
     port: Port,
     met: &Conditions<'_>,
 ) -> Result<bool, NoMemory> {
     for call in 1..10_000u64 {
-        let tried = try_call(rt, case, port, call, met)?;
+        let tried = try_call(rt, alloc, case, port, call, met)?;
         if !tried.is_made || !tried.is_given {
             return Ok(tried.is_given);
         }
@@ -74,15 +79,16 @@ fn gives_at_each_call(
 }
 
 // The same of each port, where a read gives at most so many bytes.
-fn gives_at_each_port(
-    rt: &HostRuntime,
+fn gives_at_each_port<R: Threads + Wait + Copy + Send + Sync + 'static>(
+    rt: &R,
+    alloc: Global,
     case: &Case,
     way: Way,
     most: usize,
 ) -> Result<bool, NoMemory> {
     let met = Conditions { way, most, ..CALM };
     for port in [Port::Entities, Port::Page, Port::Script] {
-        if !gives_at_each_call(rt, case, port, &met)? {
+        if !gives_at_each_call(rt, alloc, case, port, &met)? {
             return Ok(false);
         }
     }
@@ -90,35 +96,61 @@ fn gives_at_each_port(
 }
 
 // The same where a read gives at most 1, 64 or 4,096 bytes.
-fn gives_at_each_limit(rt: &HostRuntime, case: &Case, way: Way) -> Result<bool, NoMemory> {
+fn gives_at_each_limit<R: Threads + Wait + Copy + Send + Sync + 'static>(
+    rt: &R,
+    alloc: Global,
+    case: &Case,
+    way: Way,
+) -> Result<bool, NoMemory> {
     for most in [1, 64, 4096] {
-        if !gives_at_each_port(rt, case, way, most)? {
+        if !gives_at_each_port(rt, alloc, case, way, most)? {
             return Ok(false);
         }
     }
     Ok(true)
 }
 
-// Each page comes to what is wanted, whichever call fails.
-fn assert_at_each_call(rt: &HostRuntime, cases: &[Case], way: Way) -> Result<(), Fail> {
+// The text of the first page that doesn't come to what is wanted, whichever call fails. None where each does.
+fn wrong_at_a_call<R: Threads + Wait + Copy + Send + Sync + 'static>(
+    rt: &R,
+    alloc: Global,
+    cases: &[Case],
+    way: Way,
+) -> Result<Option<&'static str>, NoMemory> {
     for case in cases {
-        let given = gives_at_each_limit(rt, case, way)?;
-        assert!(rt; given, "{}", case.row.text);
+        if !gives_at_each_limit(rt, alloc, case, way)? {
+            return Ok(Some(case.row.text));
+        }
     }
-    Ok(())
+    Ok(None)
 }
 
 // Whether a sink of that size, below the text's, takes a front of the text, and fails then.
-fn gives_a_front(rt: &HostRuntime, case: &Case, way: Way, sink: usize) -> Result<bool, NoMemory> {
-    let ran = run_row(rt, &case.row, &Conditions { way, sink, ..CALM })?;
+fn gives_a_front<R: Threads + Wait + Copy + Send + Sync + 'static>(
+    rt: &R,
+    alloc: Global,
+    case: &Case,
+    way: Way,
+    sink: usize,
+) -> Result<bool, NoMemory> {
+    let ran = run_row(rt, alloc, &case.row, &Conditions { way, sink, ..CALM })?;
     let text = case.row.text.as_bytes();
-    Ok(ran.status == Status::WriteFault && text.starts_with(ran.sink.bytes()) && ran.sink.bytes().len() == sink)
+    Ok(
+        ran.status == Status::WriteFault
+            && text.starts_with(ran.sink.bytes())
+            && ran.sink.bytes().len() == sink,
+    )
 }
 
 // Whether each sink below the text's size does.
-fn gives_each_front(rt: &HostRuntime, case: &Case, way: Way) -> Result<bool, NoMemory> {
+fn gives_each_front<R: Threads + Wait + Copy + Send + Sync + 'static>(
+    rt: &R,
+    alloc: Global,
+    case: &Case,
+    way: Way,
+) -> Result<bool, NoMemory> {
     for sink in 0..case.row.text.len() {
-        if !gives_a_front(rt, case, way, sink)? {
+        if !gives_a_front(rt, alloc, case, way, sink)? {
             return Ok(false);
         }
     }
@@ -126,7 +158,12 @@ fn gives_each_front(rt: &HostRuntime, case: &Case, way: Way) -> Result<bool, NoM
 }
 
 // Whether a sink of the text's size takes all of it, and one that can't be finished all of it too, which is a fault.
-fn gives_all(rt: &HostRuntime, case: &Case, way: Way) -> Result<bool, NoMemory> {
+fn gives_all<R: Threads + Wait + Copy + Send + Sync + 'static>(
+    rt: &R,
+    alloc: Global,
+    case: &Case,
+    way: Way,
+) -> Result<bool, NoMemory> {
     let met = Conditions {
         way,
         sink: case.row.text.len(),
@@ -136,82 +173,149 @@ fn gives_all(rt: &HostRuntime, case: &Case, way: Way) -> Result<bool, NoMemory> 
         fails_to_finish: true,
         ..met
     };
-    let ran = run_row(rt, &case.row, &unfinished)?;
+    let ran = run_row(rt, alloc, &case.row, &unfinished)?;
     let is_fault = ran.is(Status::WriteFault, case.row.text.as_bytes());
-    Ok(is_fault && gives(rt, &case.row, &met)?)
+    Ok(is_fault && gives(rt, alloc, &case.row, &met)?)
 }
 
-// Sinks of each size take what they should of each page.
-fn assert_at_each_sink(rt: &HostRuntime, cases: &[Case], way: Way) -> Result<(), Fail> {
+// The text of the first page of which some sink doesn't take what it should. None where each does.
+fn wrong_at_a_sink<R: Threads + Wait + Copy + Send + Sync + 'static>(
+    rt: &R,
+    alloc: Global,
+    cases: &[Case],
+    way: Way,
+) -> Result<Option<&'static str>, NoMemory> {
     for case in cases {
-        let given = gives_each_front(rt, case, way)? && gives_all(rt, case, way)?;
-        assert!(rt; given, "{}", case.row.text);
+        if !gives_each_front(rt, alloc, case, way)? || !gives_all(rt, alloc, case, way)? {
+            return Ok(Some(case.row.text));
+        }
     }
+    Ok(None)
+}
+
+#[test]
+fn calls_fail_in_turn_where_a_script_is_written(rt: HostRuntime) -> Result<(), Fail> {
+    let cases = written();
+    assert_eq!(rt; wrong_at_a_call(&rt, rt.alloc(), &cases, Way::OnTwo)?, None);
+    assert_eq!(rt;
+        wrong_at_a_call(&rt, rt.alloc(), &cases, Way::InPlace)?,
+        None
+    );
     Ok(())
 }
 
 #[test]
-fn each_call_fails_in_turn_where_a_script_is_written(rt: HostRuntime) -> Result<(), Fail> {
-    assert_at_each_call(&rt, &written(), Way::OnTwo)?;
-    assert_at_each_call(&rt, &written(), Way::InPlace)
+fn calls_fail_in_turn_where_a_script_logs(rt: HostRuntime) -> Result<(), Fail> {
+    let cases = logged();
+    assert_eq!(rt; wrong_at_a_call(&rt, rt.alloc(), &cases, Way::OnTwo)?, None);
+    assert_eq!(rt;
+        wrong_at_a_call(&rt, rt.alloc(), &cases, Way::InPlace)?,
+        None
+    );
+    Ok(())
 }
 
 #[test]
-fn each_call_fails_in_turn_where_a_script_logs(rt: HostRuntime) -> Result<(), Fail> {
-    assert_at_each_call(&rt, &logged(), Way::OnTwo)?;
-    assert_at_each_call(&rt, &logged(), Way::InPlace)
+fn calls_fail_in_turn_where_a_script_is_missing(rt: HostRuntime) -> Result<(), Fail> {
+    let cases = missing();
+    assert_eq!(rt; wrong_at_a_call(&rt, rt.alloc(), &cases, Way::OnTwo)?, None);
+    assert_eq!(rt;
+        wrong_at_a_call(&rt, rt.alloc(), &cases, Way::InPlace)?,
+        None
+    );
+    Ok(())
 }
 
 #[test]
-fn each_call_fails_in_turn_where_a_script_is_missing(rt: HostRuntime) -> Result<(), Fail> {
-    assert_at_each_call(&rt, &missing(), Way::OnTwo)?;
-    assert_at_each_call(&rt, &missing(), Way::InPlace)
+fn calls_fail_in_turn_before_a_bad_byte(rt: HostRuntime) -> Result<(), Fail> {
+    let cases = bad();
+    assert_eq!(rt; wrong_at_a_call(&rt, rt.alloc(), &cases, Way::OnTwo)?, None);
+    assert_eq!(rt;
+        wrong_at_a_call(&rt, rt.alloc(), &cases, Way::InPlace)?,
+        None
+    );
+    Ok(())
 }
 
 #[test]
-fn each_call_fails_in_turn_before_a_bad_byte(rt: HostRuntime) -> Result<(), Fail> {
-    assert_at_each_call(&rt, &bad(), Way::OnTwo)?;
-    assert_at_each_call(&rt, &bad(), Way::InPlace)
+fn calls_fail_in_turn_behind_svg(rt: HostRuntime) -> Result<(), Fail> {
+    let cases = foreign();
+    assert_eq!(rt; wrong_at_a_call(&rt, rt.alloc(), &cases, Way::OnTwo)?, None);
+    assert_eq!(rt;
+        wrong_at_a_call(&rt, rt.alloc(), &cases, Way::InPlace)?,
+        None
+    );
+    Ok(())
 }
 
 #[test]
-fn each_call_fails_in_turn_behind_svg(rt: HostRuntime) -> Result<(), Fail> {
-    assert_at_each_call(&rt, &foreign(), Way::OnTwo)?;
-    assert_at_each_call(&rt, &foreign(), Way::InPlace)
-}
-
-// Sinks of every size, over every page.
-fn assert_at_every_sink(rt: &HostRuntime, way: Way) -> Result<(), Fail> {
-    assert_at_each_sink(rt, &written(), way)?;
-    assert_at_each_sink(rt, &logged(), way)?;
-    assert_at_each_sink(rt, &missing(), way)?;
-    assert_at_each_sink(rt, &bad(), way)?;
-    assert_at_each_sink(rt, &foreign(), way)
+fn sinks_take_a_front_where_a_script_is_written(rt: HostRuntime) -> Result<(), Fail> {
+    let cases = written();
+    assert_eq!(rt; wrong_at_a_sink(&rt, rt.alloc(), &cases, Way::OnTwo)?, None);
+    assert_eq!(rt;
+        wrong_at_a_sink(&rt, rt.alloc(), &cases, Way::InPlace)?,
+        None
+    );
+    Ok(())
 }
 
 #[test]
-fn each_sink_takes_a_front_on_two_threads(rt: HostRuntime) -> Result<(), Fail> {
-    assert_at_every_sink(&rt, Way::OnTwo)
+fn sinks_take_a_front_where_a_script_logs(rt: HostRuntime) -> Result<(), Fail> {
+    let cases = logged();
+    assert_eq!(rt; wrong_at_a_sink(&rt, rt.alloc(), &cases, Way::OnTwo)?, None);
+    assert_eq!(rt;
+        wrong_at_a_sink(&rt, rt.alloc(), &cases, Way::InPlace)?,
+        None
+    );
+    Ok(())
 }
 
 #[test]
-fn each_sink_takes_a_front_in_place(rt: HostRuntime) -> Result<(), Fail> {
-    assert_at_every_sink(&rt, Way::InPlace)
+fn sinks_take_a_front_where_a_script_is_missing(rt: HostRuntime) -> Result<(), Fail> {
+    let cases = missing();
+    assert_eq!(rt; wrong_at_a_sink(&rt, rt.alloc(), &cases, Way::OnTwo)?, None);
+    assert_eq!(rt;
+        wrong_at_a_sink(&rt, rt.alloc(), &cases, Way::InPlace)?,
+        None
+    );
+    Ok(())
 }
 
+#[test]
+fn sinks_take_a_front_before_a_bad_byte(rt: HostRuntime) -> Result<(), Fail> {
+    let cases = bad();
+    assert_eq!(rt; wrong_at_a_sink(&rt, rt.alloc(), &cases, Way::OnTwo)?, None);
+    assert_eq!(rt;
+        wrong_at_a_sink(&rt, rt.alloc(), &cases, Way::InPlace)?,
+        None
+    );
+    Ok(())
+}
+
+#[test]
+fn sinks_take_a_front_behind_svg(rt: HostRuntime) -> Result<(), Fail> {
+    let cases = foreign();
+    assert_eq!(rt; wrong_at_a_sink(&rt, rt.alloc(), &cases, Way::OnTwo)?, None);
+    assert_eq!(rt;
+        wrong_at_a_sink(&rt, rt.alloc(), &cases, Way::InPlace)?,
+        None
+    );
+    Ok(())
+}
+
+// A run to the limit of writes takes long: its calls fail in turn at one limit, and only the sinks are tried that take all.
 #[test]
 fn a_page_that_writes_itself_fails_in_turn(rt: HostRuntime) -> Result<(), Fail> {
     let case = writes_itself();
-    assert!(rt; gives_at_each_port(&rt, &case, Way::OnTwo, 4096)?);
-    assert!(rt; gives_at_each_port(&rt, &case, Way::InPlace, 4096)?);
+    assert!(rt; gives_at_each_port(&rt, rt.alloc(), &case, Way::OnTwo, 4096)?);
+    assert!(rt; gives_at_each_port(&rt, rt.alloc(), &case, Way::InPlace, 4096)?);
     Ok(())
 }
 
-// A run to the limit of writes takes long: only the sinks are tried that take all.
 #[test]
 fn a_sink_takes_all_of_a_refusal(rt: HostRuntime) -> Result<(), Fail> {
     let case = writes_itself();
-    assert!(rt; gives_all(&rt, &case, Way::OnTwo)?);
-    assert!(rt; gives_all(&rt, &case, Way::InPlace)?);
+    assert!(rt; gives_all(&rt, rt.alloc(), &case, Way::OnTwo)?);
+    assert!(rt; gives_all(&rt, rt.alloc(), &case, Way::InPlace)?);
     Ok(())
 }
