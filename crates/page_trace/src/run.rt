@@ -1,6 +1,6 @@
 //! A page is run in the calling thread, and its steps noted.
 
-ghost use Rattle.std.specs.Prelude.{◌≡◌, ◌<◌, ◌≤◌, None};
+ghost use Rattle.std.specs.Prelude.{◌≡◌, ◌<◌, ◌≤◌, None, IfOk, length};
 
 use crate::exchange::{Noted, Notes};
 use crate::trace::{Row, rows_of};
@@ -10,7 +10,7 @@ use html_types::NoMemory;
 use outside::{Failed, Outside, Port, Sink};
 use page_turns::{Failure, InPlace, Job, parse_page, read_whole};
 use speculation::InForce;
-use std::alloc::Global;
+use std::alloc::{AllocError, Global};
 use std::marker::Brand;
 
 // The most bytes of the entities file.
@@ -22,6 +22,12 @@ pub enum Untraced {
     NoMemory,
     /// There is no such page, or no entities file that is one.
     Unread,
+}
+
+impl From<AllocError> for Untraced {
+    fn from(_error: AllocError) -> Untraced {
+        Untraced::NoMemory
+    }
 }
 
 impl From<NoMemory> for Untraced {
@@ -74,6 +80,14 @@ fn read_table<F: Outside>(alloc: Global, files: &mut F, path: &str) -> Result<Ta
     }
 }
 
+// Room for a read.
+fn room_for(alloc: Global, bytes: usize) -> Result<Vec<u8>, NoMemory>
+    ensures { IfOk result (λ room. length room.items ≡ bytes) }
+{
+    let room = vec![in alloc; 0u8; bytes]?;
+    Ok(room)
+}
+
 // Runs the page that was begun. Its lines go nowhere.
 fn run_begun<E: InForce, F: Outside>(
     alloc: Global,
@@ -85,7 +99,7 @@ fn run_begun<E: InForce, F: Outside>(
     requires some { 0 < job.now.ahead }
     requires few { job.now.ahead ≤ 64 }
 {
-    let mut room = vec![in alloc; 0u8; job.piece].map_err(|_| NoMemory)?;
+    let mut room = room_for(alloc, job.piece)?;
     let mut side = DocSide::new(alloc, job.table, job.ahead)?;
     let mut out = Nowhere { is_clean: true };
     let mut noted = Noted {
@@ -134,8 +148,8 @@ pub fn trace<F: Outside>(
         return Err(Untraced::Unread);
     }
     let job = Job {
-        page: String::from_str(alloc, paths.page).map_err(|_| NoMemory)?,
-        dir: String::from_str(alloc, paths.dir).map_err(|_| NoMemory)?,
+        page: String::from_str(alloc, paths.page)?,
+        dir: String::from_str(alloc, paths.dir)?,
         table: &table,
         piece,
         ahead,

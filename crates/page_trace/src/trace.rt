@@ -35,6 +35,18 @@ struct Rows<'a> {
     steps: &'a [Passed],
 }
 
+// How many steps of the parser's side come first.
+fn count_answers(steps: &[Passed]) -> usize {
+    let mut count: usize = 0;
+    for passed in steps {
+        if passed.step == Step::Send || passed.step == Step::Take {
+            break;
+        }
+        count = count.saturating_add(1);
+    }
+    count
+}
+
 impl<'a> Rows<'a> {
     fn next_step(&mut self) -> Option<Passed> {
         let (first, rest) = self.steps.split_first()?;
@@ -44,13 +56,10 @@ impl<'a> Rows<'a> {
 
     // The steps of the parser's side, which it makes as soon as it can.
     fn add_answers(&mut self) -> Result<(), NoMemory> {
-        let mut rest = self.steps;
-        'answers: while let Some((first, behind)) = rest.split_first() {
-            if first.step == Step::Send || first.step == Step::Take {
-                break;
-            }
-            self.rows.push(Row::Passed(*first))?;
-            rest = behind;
+        let count = count_answers(self.steps).min(self.steps.len());
+        let (answers, rest) = self.steps.split_at(count);
+        for passed in answers {
+            self.rows.push(Row::Passed(*passed))?;
         }
         self.steps = rest;
         Ok(())
