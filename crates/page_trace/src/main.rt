@@ -9,6 +9,8 @@ mod exchange;
 mod run;
 mod trace;
 
+ghost use Rattle.std.specs.Prelude.{◌<◌, ◌≤◌};
+
 use crate::exchange::{Asked, Step};
 use crate::run::{Paths, Untraced, trace};
 use crate::trace::{Fate, Row};
