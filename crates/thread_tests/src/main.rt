@@ -2,12 +2,14 @@
 //! with delays.
 #![tactic(auto)]
 
+mod counting;
 mod delays;
 mod held;
 mod meeting;
 mod pages;
 mod running;
 
+use crate::counting::{count_parsed, long_comment};
 use crate::pages::PAGES;
 use crate::running::{Held, Sending, run_alone, run_held, run_held_in_place, run_slowly};
 use html_types::NoMemory;
@@ -65,6 +67,21 @@ fn count_slow<R: Threads + Wait + Copy + Send + Sync + 'static>(
     Ok(same)
 }
 
+// How many characters of all pages together, each at a size of read of its own, the document's side parses itself.
+fn count_all<R: Threads + Wait + Copy + Send + Sync + 'static>(
+    rt: &R,
+    alloc: Global,
+) -> Result<u64, NoMemory> {
+    let mut parsed: u64 = 0;
+    let mut piece: usize = 0;
+    for page in &PAGES {
+        piece = (piece + 7) % 64;
+        let here = count_parsed(rt, alloc, page, piece)?.unwrap_or(1);
+        parsed = parsed.saturating_add(here);
+    }
+    Ok(parsed)
+}
+
 // The number that the word with this place writes, 1 where there is none.
 fn number_at(words: &[String], at: usize) -> u32 {
     match words.get(at) {
@@ -116,6 +133,11 @@ fn tell_all<R: AllocGlobal + Print + Threads + Wait + Copy + Send + Sync + 'stat
 ) -> Result<(), Trouble> {
     tell_held(rt, "fetch", Held::Fetch, held)?;
     tell_held(rt, "write", Held::Write, held)?;
+    let parsed = count_all(rt, rt.alloc())?;
+    println!(rt; "all pages: the document's side parses {parsed} characters itself")?;
+    let page = long_comment(rt.alloc())?;
+    let parsed = count_parsed(rt, rt.alloc(), page.as_str(), 4095)?.unwrap_or(0);
+    println!(rt; "a long comment: the document's side parses {parsed} characters itself")?;
     let same = count_slow(rt, rt.alloc(), slow)?;
     println!(rt; "delays: {same} of {slow} runs give what the page gives without them")?;
     Ok(())

@@ -37,7 +37,8 @@ pub const DEFAULT: Sending = Sending {
     ahead: 8,
 };
 
-fn files_of(alloc: Global, page: &str) -> Result<MemFiles, NoMemory> {
+/// The page and its scripts, in memory.
+pub fn files_of(alloc: Global, page: &str) -> Result<MemFiles, NoMemory> {
     let mut files = MemFiles::new(alloc, &[])?;
     files.add("e", ENTITIES.as_bytes())?;
     files.add("p", page.as_bytes())?;
@@ -68,7 +69,8 @@ fn words_of(alloc: Global, sending: Sending) -> Result<Vec<String>, NoMemory> {
     Ok(words)
 }
 
-fn table_of(alloc: Global) -> Result<Table, NoMemory> {
+/// The entities in force.
+pub fn table_of(alloc: Global) -> Result<Table, NoMemory> {
     match Table::read(alloc, ENTITIES.as_bytes()) {
         Ok(table) => Ok(table),
         Err(TableFault::NoMemory) => Err(NoMemory),
