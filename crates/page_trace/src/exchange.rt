@@ -1,6 +1,7 @@
 //! What passes between the two sides is noted.
 
-ghost use Rattle.std.specs.Prelude.{◌≡◌};
+ghost use Rattle.std.specs.Prelude.{◌≡◌, [], IfSome};
+ghost use Rattle.page_turns.specs.Turns.{no_load};
 
 use entity_table::Table;
 use html_types::NoMemory;
@@ -126,6 +127,21 @@ impl Notes {
 pub struct Noted<L: Drop> {
     pub counterpart: L,
     pub notes: Notes,
+}
+
+/// Notes what passes of this counterpart, which was just made.
+pub fn note_all<E: InForce, L: Counterpart<E> + Drop>(alloc: Global, counterpart: L) -> Noted<L>
+    requires load { L.load counterpart ≡ no_load }
+    requires put { IfSome (L.put counterpart) (λ asks. asks ≡ []) }
+    requires taken { IfSome (L.taken counterpart) (λ messages. messages ≡ []) }
+    ensures load { L.load result.counterpart ≡ no_load }
+    ensures put { IfSome (L.put result.counterpart) (λ asks. asks ≡ []) }
+    ensures taken { IfSome (L.taken result.counterpart) (λ messages. messages ≡ []) }
+{
+    Noted {
+        counterpart,
+        notes: Notes::new(alloc),
+    }
 }
 
 impl<E: InForce, L: Counterpart<E> + Drop> Counterpart<E> for Noted<L> {

@@ -1,14 +1,16 @@
 //! A page is run in the calling thread, and its steps noted.
 
-ghost use Rattle.std.specs.Prelude.{◌≡◌, ◌<◌, ◌≤◌, None, IfOk, length};
+ghost use Rattle.std.specs.Prelude.{◌≡◌, ◌<◌, ◌≤◌, [], None, IfOk, IfSome, length};
+ghost use Rattle.core_steps.specs.Sides.{first_shown};
+ghost use Rattle.page_turns.specs.Turns.{no_load};
 
-use crate::exchange::{Noted, Notes};
+use crate::exchange::{Noted, Notes, note_all};
 use crate::trace::{Row, rows_of};
 use core_steps::{DocSide, Fetch};
 use entity_table::{Table, TableFault};
 use html_types::NoMemory;
 use outside::{Failed, Outside, Port, Sink};
-use page_turns::{Failure, InPlace, Job, parse_page, read_whole};
+use page_turns::{Counterpart, Failure, InPlace, Job, Outcome, parse_page, read_whole};
 use speculation::InForce;
 use std::alloc::{AllocError, Global};
 use std::marker::Brand;
@@ -80,15 +82,71 @@ fn read_table<F: Outside>(alloc: Global, files: &mut F, path: &str) -> Result<Ta
     }
 }
 
-// Room for a read.
-fn room_for(alloc: Global, bytes: usize) -> Result<Vec<u8>, NoMemory>
-    ensures { IfOk result (λ room. length room.items ≡ bytes) }
+// What a run begins with: room for a read, and the document's side.
+fn begin_run(alloc: Global, job: &Job<'_>) -> Result<(Vec<u8>, DocSide), NoMemory>
+    requires piece { 0 < job.now.piece }
+    requires some { 0 < job.now.ahead }
+    requires few { job.now.ahead ≤ 64 }
+    ensures room { IfOk result (λ begun. 0 < length begun.0.items) }
+    ensures side { IfOk result (λ begun. begun.1 ≡ first_shown job.now.table.now job.now.ahead) }
 {
-    let room = vec![in alloc; 0u8; bytes]?;
-    Ok(room)
+    let room = vec![in alloc; 0u8; job.piece]?;
+    let side = DocSide::new(alloc, job.table, job.ahead)?;
+    Ok((room, side))
 }
 
-// Runs the page that was begun. Its lines go nowhere.
+// The parse alone: what it promises is long, and nothing behind it needs that.
+fn parse<E: InForce, L: Counterpart<E>, F: Outside>(
+    alloc: Global,
+    job: &Job<'_>,
+    files: &mut F,
+    side: &mut DocSide,
+    lanes: &mut L,
+    room: &mut [u8],
+) -> Result<Outcome, Failure>
+    requires table { job.now.table.now ≡ E.entities }
+    requires first { side.old ≡ first_shown job.now.table.now job.now.ahead }
+    requires load { L.load lanes.old ≡ no_load }
+    requires put { IfSome (L.put lanes.old) (λ asks. asks ≡ []) }
+    requires taken { IfSome (L.taken lanes.old) (λ messages. messages ≡ []) }
+    requires room { 0 < length room.old }
+    requires some { 0 < job.now.ahead }
+    requires few { job.now.ahead ≤ 64 }
+{
+    let mut out = Nowhere { is_clean: true };
+    parse_page::<E, L, F, Nowhere>(alloc, job, files, &mut out, side, lanes, room)
+}
+
+// What was done and noted, as rows.
+fn rows_in(alloc: Global, side: &DocSide, notes: &Notes) -> Result<Vec<Row>, Untraced> {
+    let steps = notes.passed()?;
+    Ok(rows_of(alloc, side.journal().events(), steps)?)
+}
+
+// Runs the page that was begun, with this counterpart. Its lines go nowhere.
+fn run_with<E: InForce, L: Counterpart<E> + Drop, F: Outside>(
+    alloc: Global,
+    job: &Job<'_>,
+    files: &mut F,
+    lanes: L,
+) -> Result<Vec<Row>, Untraced>
+    requires table { job.now.table.now ≡ E.entities }
+    requires load { L.load lanes ≡ no_load }
+    requires put { IfSome (L.put lanes) (λ asks. asks ≡ []) }
+    requires taken { IfSome (L.taken lanes) (λ messages. messages ≡ []) }
+    requires piece { 0 < job.now.piece }
+    requires some { 0 < job.now.ahead }
+    requires few { job.now.ahead ≤ 64 }
+{
+    let (mut room, mut side) = begin_run(alloc, job)?;
+    let mut noted = note_all::<E, L>(alloc, lanes);
+    match parse::<E, Noted<L>, F>(alloc, job, files, &mut side, &mut noted, &mut room) {
+        Err(Failure::Memory) | Err(Failure::Write) => Err(Untraced::NoMemory),
+        Ok(_) => rows_in(alloc, &side, &noted.notes),
+    }
+}
+
+// The parser's side is in this thread.
 fn run_begun<E: InForce, F: Outside>(
     alloc: Global,
     job: &Job<'_>,
@@ -99,23 +157,7 @@ fn run_begun<E: InForce, F: Outside>(
     requires some { 0 < job.now.ahead }
     requires few { job.now.ahead ≤ 64 }
 {
-    let mut room = room_for(alloc, job.piece)?;
-    let mut side = DocSide::new(alloc, job.table, job.ahead)?;
-    let mut out = Nowhere { is_clean: true };
-    let mut noted = Noted {
-        counterpart: InPlace::<E>::new(alloc),
-        notes: Notes::new(alloc),
-    };
-    let ended = parse_page::<E, Noted<InPlace<E>>, F, Nowhere>(
-        alloc, job, files, &mut out, &mut side, &mut noted, &mut room,
-    );
-    match ended {
-        Err(Failure::Memory) | Err(Failure::Write) => Err(Untraced::NoMemory),
-        Ok(_) => {
-            let steps = noted.notes.passed()?;
-            Ok(rows_of(alloc, side.journal().events(), steps)?)
-        }
-    }
+    run_with::<E, InPlace<E>, F>(alloc, job, files, InPlace::<E>::new(alloc))
 }
 
 // The same, the table's entities being in force.

@@ -2,16 +2,25 @@
 
 ghost use Rattle.std.specs.Prelude.{◌≡◌};
 
-use crate::running::{files_of, table_of};
+use crate::calls::report_on_two;
+use crate::running::{ROOM, files_of, table_of};
 use entity_table::Table;
 use html_types::NoMemory;
 use outside::{MemSink, OpenGate};
-use page_runner::{Job, page_on_two};
+use page_runner::{Job, Report};
 use speculation::InForce;
 use std::alloc::Global;
 use std::marker::Brand;
 use std::sync::{Arc, Wait};
 use std::thread::Threads;
+
+// What the report's document's side parsed itself.
+fn parsed_in<E: InForce>(report: &Report<E>) -> Option<u64> {
+    match &report.side {
+        Some(side) => Some(side.journal().parsed_here()),
+        None => None,
+    }
+}
 
 // The same, the entities of the table being those in force.
 fn count_in_force<R: Threads + Wait + Copy + Send + Sync + 'static, E: InForce + Send + 'static>(
@@ -32,13 +41,11 @@ fn count_in_force<R: Threads + Wait + Copy + Send + Sync + 'static, E: InForce +
         dump: false,
     };
     let mut files = files_of(alloc, page)?;
-    let mut sink = MemSink::new(alloc, 100_000)?;
+    let mut sink = MemSink::new(alloc, ROOM)?;
     let gate = Arc::new(alloc, OpenGate)?;
-    let report = page_on_two::<R, E, _, _, OpenGate>(rt, alloc, &job, &mut files, &mut sink, &gate);
-    Ok(match &report.side {
-        Some(side) => Some(side.journal().parsed_here()),
-        None => None,
-    })
+    let report =
+        report_on_two::<R, E, _, _, OpenGate>(rt, alloc, &job, &mut files, &mut sink, &gate);
+    Ok(parsed_in(&report))
 }
 
 fn count_by_table<R: Threads + Wait + Copy + Send + Sync + 'static>(

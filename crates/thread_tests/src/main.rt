@@ -2,16 +2,19 @@
 //! with delays.
 #![tactic(auto)]
 
+mod calls;
 mod counting;
 mod delays;
 mod held;
 mod meeting;
 mod pages;
 mod running;
+mod trials;
 
 use crate::counting::{count_parsed, long_comment};
 use crate::pages::PAGES;
-use crate::running::{Held, Sending, run_alone, run_held, run_held_in_place, run_slowly};
+use crate::running::{Sending, run_alone, run_slowly};
+use crate::trials::{Held, run_held, run_held_in_place};
 use html_types::NoMemory;
 use page_runner::Status;
 use rand_core::utils::NextWord;

@@ -1,19 +1,18 @@
 //! Pages that are run on two threads, or on one.
 
+use crate::calls::{status_in_place, status_on_two};
 use crate::delays::{SlowFiles, SlowGate, SlowSink};
-use crate::held::{HeldFiles, HeldGate, HeldSink};
-use crate::meeting::Meeting;
 use crate::pages::{ENTITIES, SCRIPTS};
 use entity_table::{Table, TableFault};
 use html_types::NoMemory;
 use outside::{MemFiles, MemSink, Outside, Sink};
-use page_runner::{Job, Status, page_in_place, run};
+use page_runner::{Job, Status};
 use std::alloc::Global;
 use std::sync::{Arc, Wait};
 use std::thread::Threads;
 
-// More bytes than a page of these writes.
-const ROOM: usize = 100_000;
+/// More bytes than a page of these writes.
+pub const ROOM: usize = 100_000;
 
 /// What a page comes to.
 #[derive(Drop)]
@@ -49,7 +48,8 @@ pub fn files_of(alloc: Global, page: &str) -> Result<MemFiles, NoMemory> {
     Ok(files)
 }
 
-fn words_of(alloc: Global, sending: Sending) -> Result<Vec<String>, NoMemory> {
+/// The words of a run that sends so.
+pub fn words_of(alloc: Global, sending: Sending) -> Result<Vec<String>, NoMemory> {
     let piece = format!(in alloc; "{}", sending.piece)?;
     let ahead = format!(in alloc; "{}", sending.ahead)?;
     let mut words = Vec::new(alloc);
@@ -78,29 +78,30 @@ pub fn table_of(alloc: Global) -> Result<Table, NoMemory> {
     }
 }
 
-// Runs the page on one thread, by the command's own numbers.
-fn run_in_place<F: Outside, K: Sink>(
+/// Runs the page over the table on one thread, with the numbers that the command has where its words say nothing of them.
+pub fn run_in_place<F: Outside, K: Sink>(
     alloc: Global,
+    table: &Table,
     files: &mut F,
     out: &mut K,
 ) -> Result<Status, NoMemory> {
-    let table = table_of(alloc)?;
     let job = Job {
         page: String::from_str(alloc, "p")?,
         dir: String::from_str(alloc, "d")?,
-        table: &table,
+        table,
         piece: 4096,
         ahead: 8,
         dump: false,
     };
-    Ok(page_in_place(alloc, &job, files, out).outcome)
+    Ok(status_in_place(alloc, &job, files, out))
 }
 
 /// What the page comes to on one thread, without delays.
 pub fn run_alone(alloc: Global, page: &str) -> Result<Written, NoMemory> {
+    let table = table_of(alloc)?;
     let mut files = files_of(alloc, page)?;
     let mut sink = MemSink::new(alloc, ROOM)?;
-    let status = run_in_place(alloc, &mut files, &mut sink)?;
+    let status = run_in_place(alloc, &table, &mut files, &mut sink)?;
     Ok(Written { status, sink })
 }
 
@@ -116,73 +117,9 @@ pub fn run_slowly<R: Threads + Wait + Copy + Send + Sync + 'static>(
     let mut files = SlowFiles::new(files_of(alloc, page)?, seed);
     let mut out = SlowSink::new(MemSink::new(alloc, ROOM)?, seed);
     let gate = Arc::new(alloc, SlowGate { seed })?;
-    let status = run(rt, alloc, &words, &mut files, &mut out, &gate);
+    let status = status_on_two(rt, alloc, &words, &mut files, &mut out, &gate);
     Ok(Written {
         status,
         sink: out.sink,
     })
-}
-
-/// Which call is held.
-#[derive(Clone, Copy)]
-pub enum Held {
-    /// The fetch of the page's script.
-    Fetch,
-    /// The first write, of the line of the page's script.
-    Write,
-}
-
-// The page of which that call is held: a script, and text for two requests.
-fn held_page(alloc: Global, held: Held) -> Result<String, NoMemory> {
-    let front = match held {
-        Held::Fetch => "<script src=\"a\"></script>",
-        Held::Write => "<script>console.log(document.documentElement.outerHTML);</script>",
-    };
-    let mut page = String::from_str(alloc, front)?;
-    for _ in 0..5000u32 {
-        page.push('x')?;
-    }
-    Ok(page)
-}
-
-/// The status of a page on two threads, of which one call is held until the second reply was given, and that reply's gate until the call was begun.
-pub fn run_held<R: Threads + Wait + Copy + Send + Sync + 'static>(
-    rt: &R,
-    alloc: Global,
-    held: Held,
-) -> Result<Status, NoMemory> {
-    let page = held_page(alloc, held)?;
-    let words = words_of(alloc, DEFAULT)?;
-    let meeting = Arc::new(alloc, Meeting::new())?;
-    let gate = Arc::new(alloc, HeldGate(Arc::try_clone(&meeting)?))?;
-    let mut files = files_of(alloc, page.as_str())?;
-    let mut sink = MemSink::new(alloc, ROOM)?;
-    Ok(match held {
-        Held::Fetch => {
-            let mut files = HeldFiles::new(files, meeting);
-            run(rt, alloc, &words, &mut files, &mut sink, &gate)
-        }
-        Held::Write => {
-            let mut out = HeldSink::new(sink, meeting);
-            run(rt, alloc, &words, &mut files, &mut out, &gate)
-        }
-    })
-}
-
-/// The same on one thread, which gives no second reply while the call is held.
-pub fn run_held_in_place(alloc: Global, held: Held) -> Result<Status, NoMemory> {
-    let page = held_page(alloc, held)?;
-    let meeting = Arc::new(alloc, Meeting::new())?;
-    let mut files = files_of(alloc, page.as_str())?;
-    let mut sink = MemSink::new(alloc, ROOM)?;
-    match held {
-        Held::Fetch => {
-            let mut files = HeldFiles::new(files, meeting);
-            run_in_place(alloc, &mut files, &mut sink)
-        }
-        Held::Write => {
-            let mut out = HeldSink::new(sink, meeting);
-            run_in_place(alloc, &mut files, &mut out)
-        }
-    }
 }
