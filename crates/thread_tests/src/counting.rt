@@ -43,8 +43,9 @@ fn count_in_force<R: Threads + Wait + Copy + Send + Sync + 'static, E: InForce +
     let mut files = files_of(alloc, page)?;
     let mut sink = MemSink::new(alloc, ROOM)?;
     let gate = Arc::new(alloc, OpenGate)?;
-    let report =
-        report_on_two::<R, E, _, _, OpenGate>(rt, alloc, &job, &mut files, &mut sink, &gate);
+    let report = report_on_two::<R, E, _, _, OpenGate>(
+        rt, alloc, &job, &mut files, &mut sink, &gate,
+    );
     Ok(parsed_in(&report))
 }
 
