@@ -1,6 +1,10 @@
 -- What comes of the page that is made from a number.
-use Rattle.std.proofs.Common.{◌≡◌, ◌≢◌, ◌≤◌, ◌<◌, ◌+◌, ◌*◌, ◌-◌, ◌^◌, ℕ, Bool, true, false, List, [], ◌∷◌, ◌++◌, Option, Some, None, IfSome, refl, sym, ap, subst, ◌∙◌, inl, inr, arith, codes}
-use Rattle.std.specs.Prelude.{◌⊎◌, min, IsTrue, IsSome, if◌then◌else◌}
+use Rattle.std.proofs.Common.{◌≡◌, ◌≢◌, ◌≤◌, ◌<◌, ◌+◌, ◌*◌, ◌-◌, ◌^◌, ℕ, Bool, true, false, List, [], ◌∷◌, ◌++◌, Option, Some, None, IfSome, refl, sym, ap, subst, ◌∙◌, inl, inr, true≢false, arith, codes, get_or, append_assoc}
+use Rattle.std.specs.Prelude.{◌⊎◌, min, decimal, encode_utf8_all, IsTrue, IsSome, OnOk, if◌then◌else◌}
+use Rattle.std.specs.Prelude.{Result as ResultOf}
+use Rattle.std.specs.Char.{encode_utf8}
+use Rattle.std.specs.Str.{chars, IsUtf8}
+use Rattle.std.proofs.lemmas.Str.{encodes-chars, encodes-IsAscii}
 use Rattle.std.specs.Str.{bytes_eq}
 use Rattle.std.specs.Option.{option_map}
 use Rattle.std.proofs.Math.Path.{fun_ext}
@@ -14,6 +18,7 @@ use Rattle.outside.specs.Outside.{Rose, Files, Seen}
 use Rattle.outside.specs.Memory.{files_of}
 use Rattle.outside.specs.declared.never_fails.NeverFails.{NeverFails}
 use Rattle.outside.specs.declared.traits.Port.TheVariants.{Page, Script}
+use Rattle.standard.specs.Entities.{Entities}
 use Rattle.standard.specs.Page.{Page as ReadPage}
 use Rattle.standard.specs.Scripts.{Fetched, got, missing, faulted}
 use Rattle.standard.specs.Serial.{World, Serial, Moment, reading, over, Result, finished, refused, Outcome, IsSerial, first, moment_after}
@@ -29,10 +34,13 @@ use Rattle.core_steps.specs.Journals.{found}
 use Rattle.core_steps.specs.Sides.{Shown, ShowsIn, IsReplayed, CountsAlike}
 use Rattle.core_steps.specs.declared.tally.Tally.{Tally}
 use Rattle.core_steps.specs.Tallies.{nodes_below, failed_by, kept_by, tally_of}
-use Rattle.page_maker.specs.Made.{made_page, made_scripts}
-use Rattle.made_laws.proofs.MadePages.{is-read_as_made}
+use Rattle.page_maker.specs.Made.{made_page, named_script, made_scripts}
+use Rattle.page_maker.specs.declared.page.Script.{Script as ScriptFile}
+use Rattle.made_laws.proofs.MadePages.{is-in_ascii, is-read_as_made}
+use Rattle.page_turns.specs.declared.outcome.Outcome.TheVariants as told
 use Rattle.page_turns.specs.declared.page.TheConstants.{PAGE_LIMIT}
 use Rattle.page_turns.specs.Given.{Given, unmet, missing as absent, faulted as failed, got as given, file_at, FaultsRose, NoFault}
+use Rattle.page_turns.specs.Taken.{Took}
 use Rattle.page_turns.specs.Scripts.{path_of, fetched_of, AreScriptsOf, MayMeet, MayFetch, Alike, AreKnown, world_in}
 use Rattle.page_turns.specs.Pages.{PageRead, page_at, world_of, ComesTo, IsPageBehind}
 use Rattle.page_turns.proofs.SameWorlds.{alike-refl, alike-sym, moment-same, serial-back}
@@ -43,9 +51,13 @@ use Rattle.page_runner.specs.declared.making.MadeRun.TheVariants as made
 use Rattle.page_runner.specs.declared.status.Status.{Status}
 use Rattle.page_runner.specs.declared.status.Status.TheVariants as status
 use Rattle.page_runner.specs.declared.words.MakeWords.{MakeWords}
+use Rattle.page_runner.specs.Words.{Asked, for_page, for_make}
 use Rattle.page_runner.specs.Answers.{IsPageOf, PageMet, MayGivePage, IsParsed, Answer, status_with, answer_to_page, Gives, PageAnswers}
+use Rattle.page_runner.specs.Shown.{status_of}
 use Rattle.page_runner.specs.Reports.{IsMet, IsWritten, Reports}
-use Rattle.page_runner.specs.Making.{page_made, file_among, made_world, AreNumbers, tally_text, IsLineOf, Makes, Adds, AreFilesOf, IsRefusal, IsEndOf, IsRunOf, Tells}
+use Rattle.page_runner.specs.Making.{page_made, file_among, made_world, AreNumbers, tally_text, IsLineOf, Makes, MakesTo, Adds, AreFilesOf, IsRefusal, IsEndOf, IsRunOf, Tells}
+use Rattle.page_turns.proofs.PageTakenLemmas.{took_nothing, front_nothing}
+use Rattle.page_runner.proofs.RunLemmas.{status_is, gives_all}
 use Rattle.page_runner.proofs.Complete.{scripts_told, fetch_told, some_at}
 
 -- ---- what is written
@@ -58,29 +70,45 @@ is-done (refused why.Writes) e = absurd (cc e)
 is-done (refused why.Page) e = absurd (cc e)
 is-done (refused why.Fault) e = absurd (cc e)
 
--- the numbers, or the refusal, and what is written of it
-pub makes-of : (asked : MakeWords) (run : MadeRun) (rose : Type 0) (t t' : Option (List ℕ)) (r : Status) → IsRunOf asked run →
-    ((n : _) → run ≡ made.Finished n → Gives rose t t' (status.Done, tally_text n) r) → ((outcome : Status) → run ≡ made.Refused outcome → Gives rose t t' (outcome, []) r) → Makes asked rose t t' r
-makes-of asked (made.Finished n) rose t t' r (o, comes, is, numbers) gives other = record {
+-- the numbers
+pub makes-finished : (asked : MakeWords) (n : Tally) (rose : Type 0) (t t' : Option (List ℕ)) (r : Status) → IsRunOf asked (made.Finished n) → Gives rose t t' (status.Done, tally_text n) r → Makes asked rose t t' r
+makes-finished asked n rose t t' r (o, comes, (is, numbers)) gives = record {
   outcome = o;
   comes = comes;
   text = tally_text n;
   line = inl (subst (λ k. IsLineOf asked o k (tally_text n)) (sym is) (n, numbers, refl));
-  gives = subst (λ k. Gives rose t t' (status_with k, tally_text n) r) (sym is) (gives n refl);
+  gives = subst (λ k. Gives rose t t' (status_with k, tally_text n) r) (sym is) gives;
 }
-makes-of asked (made.Refused outcome) rose t t' r (o, comes, (w, is, end)) other gives = record {
+
+-- or nothing, where the parse was refused
+pub makes-refused : (asked : MakeWords) (outcome : Status) (rose : Type 0) (t t' : Option (List ℕ)) (r : Status) → IsRunOf asked (made.Refused outcome) → Gives rose t t' (outcome, []) r → Makes asked rose t t' r
+makes-refused asked outcome rose t t' r (o, comes, (w, is, end)) gives = record {
   outcome = o;
   comes = comes;
   text = [];
   line = inl (subst (λ k. IsLineOf asked o k []) (sym is) refl);
-  gives = subst (λ k. Gives rose t t' (status_with k, []) r) (sym is) (subst (λ s. Gives rose t t' (s, []) r) end (gives outcome refl));
+  gives = subst (λ k. Gives rose t t' (status_with k, []) r) (sym is) (subst (λ s. Gives rose t t' (s, []) r) end gives);
 }
 
+pub refusal-of : (asked : MakeWords) (outcome : Status) → IsRunOf asked (made.Refused outcome) → IsRefusal outcome
+refusal-of asked outcome (o, comes, (w, is, end)) = (w, end)
+
+pub gives-refusal : (outcome : Status) (rose : Type 0) (t t' : Option (List ℕ)) → IsRefusal outcome → t' ≡ t → Gives rose t t' (outcome, []) outcome
+gives-refusal outcome rose t t' (w, is) same =
+    let all : Gives rose t t' (status_of (told.Refused w), []) (status_of (told.Refused w)) = gives_all (told.Refused w) rose t t' [] (subst (λ k. Took t k []) (sym same) (took_nothing t)) in
+    subst (λ s. Gives rose t t' (s, []) s) (status_is (told.Refused w) ∙ sym is) all
+
 -- memory ran out before
-pub makes-nothing : (asked : MakeWords) (rose : Type 0) (t : Option (List ℕ)) → Gives rose t t (status.NoMemory, []) status.NoMemory → Makes asked rose t t status.NoMemory
-makes-nothing asked rose t gives =
+pub makes-nothing : (asked : MakeWords) (rose : Type 0) (t : Option (List ℕ)) → Makes asked rose t t status.NoMemory
+makes-nothing asked rose t =
     let (o, comes) = has_outcome (page_made asked) made_world in
-    record { outcome = o; comes = comes; text = []; line = inr (refl, refl); gives = gives }
+    record { outcome = o; comes = comes; text = []; line = inr (refl, refl); gives = front_nothing t [] }
+
+-- or before it was known what the words ask for
+pub makes-no_memory : (words : Option Asked) (before : Seen) (k : ℕ) (t : Option (List ℕ)) → MakesTo words before before k k t t status.NoMemory
+makes-no_memory None before k t = tt
+makes-no_memory (Some (for_page asked)) before k t = tt
+makes-no_memory (Some (for_make asked)) before k t = (refl, makes-nothing asked (Rose k k) t)
 
 -- ---- the world of the files
 
@@ -109,7 +137,7 @@ given-or t t' rose answer (status.Limit which) gives never = inl gives.0
 given-or t t' rose answer status.ReadFault gives never = inl gives.0
 given-or t t' rose answer status.Absent gives never = inl gives.0
 
-never-rose : Rose 0 0 → ⊥
+pub never-rose : Rose 0 0 → ⊥
 never-rose (inl less) = absurd (omega (arith, less))
 never-rose (inr last) = absurd (omega (arith, last))
 
@@ -208,29 +236,41 @@ module _ (asked : MakeWords) (few : asked.count ≤ 50000) (before after : Seen)
     (no_page_fault : FaultsRose Page before after → ⊥) (no_script_fault : FaultsRose Script before after → ⊥) (t t' : Option (List ℕ)) where
   finished-run : (s : Shown) (n : Tally) → IsSettled asked status.Done → Reports [] 8 false (codes "page") (codes "scripts") before after t t' s status.Done → IsReplayed s → (s.spent ≡ false → n ≡ tally_of s.desk) →
       IsRunOf asked (made.Finished n)
-  finished-run s n settled reports replayed numbers =
+  finished-run s n ended reports replayed numbers =
       let written = reports.written refl in
       let result : written.result ≡ finished = is-done written.result written.outcome_is in
       let at_done : s.desk.phase ≡ done finished = written.phase ∙ ap done result in
-      let end : settled.end.result ≡ finished = elim settled.status_is [ inl is ↦ is-done settled.end.result is | inr is ↦ absurd (cc is) ] in
-      let all : AreNumbers asked settled.end (tally_of s.desk) = numbers-at asked few before after map told page_there scripts_there no_page_fault no_script_fault s t t' settled.end replayed reports at_done settled.comes in
-      (settled.end, settled.comes, end, subst (λ z. AreNumbers asked settled.end z) (sym (numbers written.going)) all)
+      let end : ended.end.result ≡ finished = elim ended.status_is [ inl is ↦ is-done ended.end.result is | inr is ↦ absurd (cc is) ] in
+      let all : AreNumbers asked ended.end (tally_of s.desk) = numbers-at asked few before after map told page_there scripts_there no_page_fault no_script_fault s t t' ended.end replayed reports at_done ended.comes in
+      (ended.end, ended.comes, (end, subst (λ z. AreNumbers asked ended.end z) (sym (numbers written.going)) all))
 
   refused-run : (r : Status) → IsSettled asked r → r ≢ status.Done → r ≢ status.NoMemory → IsRunOf asked (made.Refused r)
-  refused-run r settled other memory = by settled.end.result refl
+  refused-run r ended other memory = by ended.end.result refl
     where
-      status_is : r ≡ status_with settled.end.result
-      status_is = elim settled.status_is [ inl is ↦ is | inr is ↦ absurd (memory is) ]
+      status_is : r ≡ status_with ended.end.result
+      status_is = elim ended.status_is [ inl is ↦ is | inr is ↦ absurd (memory is) ]
 
-      by : (x : Result) → settled.end.result ≡ x → IsRunOf asked (made.Refused r)
+      by : (x : Result) → ended.end.result ≡ x → IsRunOf asked (made.Refused r)
       by finished q = absurd (other (status_is ∙ ap status_with q))
-      by (refused w) q = (settled.end, settled.comes, (w, q, status_is ∙ ap status_with q))
+      by (refused w) q = (ended.end, ended.comes, (w, q, status_is ∙ ap status_with q))
 
   pub run-is : (r : Status) (side : Option Shown) (run : MadeRun) → IsSettled asked r → IfSome side (λ s. Reports [] 8 false (codes "page") (codes "scripts") before after t t' s r) → Tells r side run → IsRunOf asked run
-  run-is r side (made.Finished n) settled reports (is, s, there, replayed, numbers) =
+  run-is r side (made.Finished n) ended reports (is, s, there, replayed, numbers) =
       let here : Reports [] 8 false (codes "page") (codes "scripts") before after t t' s r = subst (λ o. IfSome o (λ z. Reports [] 8 false (codes "page") (codes "scripts") before after t t' z r)) there reports in
-      finished-run s n (subst (IsSettled asked) is settled) (subst (λ z. Reports [] 8 false (codes "page") (codes "scripts") before after t t' s z) is here) replayed numbers
-  run-is r side (made.Refused told_) settled reports (is, other, memory) = subst (λ z. IsRunOf asked (made.Refused z)) (sym is) (refused-run r settled other memory)
+      finished-run s n (subst (IsSettled asked) is ended) (subst (λ z. Reports [] 8 false (codes "page") (codes "scripts") before after t t' s z) is here) replayed numbers
+  run-is r side (made.Refused told_) ended reports (is, other, memory) = subst (λ z. IsRunOf asked (made.Refused z)) (sym is) (refused-run r ended other memory)
+
+  -- what is told of a run over those files
+  pub run-over : (es : Entities) (path dir : List ℕ) (r : Status) (side : Option Shown) (run : MadeRun) → es ≡ [] → path ≡ codes "page" → dir ≡ codes "scripts" → PageAnswers es false path dir before after 0 0 t t' r →
+      IfSome side (λ s. Reports es 8 false path dir before after t t' s r) → Tells r side run → IsRunOf asked run
+  run-over es path dir r side run none path_is dir_is answers reports tells =
+      let over_none = subst (λ e. PageAnswers e false path dir before after 0 0 t t' r) none answers in
+      let of_page = subst (λ p. PageAnswers [] false p dir before after 0 0 t t' r) path_is over_none in
+      let in_folder = subst (λ d. PageAnswers [] false (codes "page") d before after 0 0 t t' r) dir_is of_page in
+      let told_over_none = subst (λ e. IfSome side (λ s. Reports e 8 false path dir before after t t' s r)) none reports in
+      let told_of_page = subst (λ p. IfSome side (λ s. Reports [] 8 false p dir before after t t' s r)) path_is told_over_none in
+      let told_in_folder = subst (λ d. IfSome side (λ s. Reports [] 8 false (codes "page") d before after t t' s r)) dir_is told_of_page in
+      run-is r side run (settled asked few before after map told page_there scripts_there no_page_fault no_script_fault t t' r in_folder) told_in_folder tells
 
 -- ---- the files of the made page
 
@@ -249,10 +289,43 @@ module _ (f0 f1 f2 f3 : NeverFails) (page : List ℕ) (none : (path : List ℕ) 
       by : (e f : Bool) → same_text (codes "e") name ≡ e → same_text (codes "f") name ≡ f →
           fetched_of (if f then Some (codes "document.write(\"<!--\");") else (if e then Some (codes "document.write(\"<br>\");") else None))
           ≡ (if e then got (codes "document.write(\"<br>\");") else (if f then got (codes "document.write(\"<!--\");") else missing))
-      by true true is is' = absurd (cc (same-name (codes "e") name is ∙ sym (same-name (codes "f") name is')))
+      by true true is is' = absurd (true≢false (ap (λ l. same_text l (codes "e")) (same-name (codes "e") name is ∙ sym (same-name (codes "f") name is'))))
       by true false is is' = refl
       by false true is is' = refl
       by false false is is' = refl
 
   pub are-files : AreFilesOf page f3
   are-files = record { page_is = third (codes "page") ∙ (second (codes "page") ∙ first (codes "page")); scripts = script-at }
+
+-- the bytes of a script's name and text
+pub adds-as : {A E : Type 0} (r : ResultOf A E) (path path' bytes bytes' : List ℕ) (old new : NeverFails) → path ≡ path' → bytes ≡ bytes' → OnOk r (Adds path bytes old new) → OnOk r (Adds path' bytes' old new)
+adds-as r path path' bytes bytes' old new p q h = subst (λ x. OnOk r (Adds x bytes' old new)) p (subst (λ x. OnOk r (Adds path x old new)) q h)
+
+pub encoded : (bytes text : List ℕ) → IsUtf8 bytes → chars bytes ≡ text → bytes ≡ encode_utf8_all text
+encoded bytes text utf8 is = sym (encodes-chars bytes utf8) ∙ ap encode_utf8_all is
+
+-- the page is ASCII
+pub page-encoded : (asked : MakeWords) (page : List ℕ) → asked.count ≤ 50000 → page ≡ made_page asked.number asked.count → encode_utf8_all page ≡ made_page asked.number asked.count
+page-encoded asked page few is = ap encode_utf8_all is ∙ encodes-IsAscii (made_page asked.number asked.count) (is-in_ascii asked.number asked.count few)
+
+-- the scripts by their numbers
+first-adds : (script : ScriptFile) (old new : NeverFails) → script ≡ named_script (codes "e") (codes "document.write(\"<br>\");") → Adds (codes "scripts/" ++ encode_utf8_all script.name) (encode_utf8_all script.text) old new
+    → Adds (codes "scripts/e") (codes "document.write(\"<br>\");") old new
+unfolding encode_utf8
+first-adds script old new is adds = subst (λ (s : ScriptFile). Adds (codes "scripts/" ++ encode_utf8_all s.name) (encode_utf8_all s.text) old new) is adds
+
+second-adds : (script : ScriptFile) (old new : NeverFails) → script ≡ named_script (codes "f") (codes "document.write(\"<!--\");") → Adds (codes "scripts/" ++ encode_utf8_all script.name) (encode_utf8_all script.text) old new
+    → Adds (codes "scripts/f") (codes "document.write(\"<!--\");") old new
+unfolding encode_utf8
+second-adds script old new is adds = subst (λ (s : ScriptFile). Adds (codes "scripts/" ++ encode_utf8_all s.name) (encode_utf8_all s.text) old new) is adds
+
+pub are-files_of : (f0 f1 f2 f3 : NeverFails) (page : List ℕ) (scripts : List ScriptFile) (e f : ScriptFile) → ((path : List ℕ) → files_of f0 path ≡ None) → Adds (codes "page") page f0 f1 → scripts ≡ made_scripts → e ≡ get_or scripts 0 e → f ≡ get_or scripts 1 f →
+    Adds (codes "scripts/" ++ encode_utf8_all e.name) (encode_utf8_all e.text) f1 f2 → Adds (codes "scripts/" ++ encode_utf8_all f.name) (encode_utf8_all f.text) f2 f3 → AreFilesOf page f3
+are-files_of f0 f1 f2 f3 page scripts e f none first are e_is f_is second third =
+    are-files f0 f1 f2 f3 page none first
+    (first-adds e f1 f2 (e_is ∙ ap (λ l. get_or l 0 e) are) second)
+    (second-adds f f2 f3 (f_is ∙ ap (λ l. get_or l 1 f) are) third)
+
+-- the line as a format writes it
+pub tally-line : (line : List ℕ) (t : Tally) → line ≡ codes "scripts " ++ (decimal t.scripts ++ (codes " kept " ++ (decimal t.kept ++ (codes " failed " ++ (decimal t.failed ++ (codes " nodes " ++ (decimal t.nodes ++ (codes " written " ++ (decimal t.written ++ codes "\n"))))))))) → line ≡ tally_text t
+tally-line line t is = is ∙ simp append_assoc

@@ -1,6 +1,7 @@
 -- What some words ask for.
 use Rattle.std.proofs.Common.{◌≡◌, true, false, [], ◌∷◌, Some, None, codes, refl}
-use Rattle.clap.specs.Faults.{walk_fault, defaults_fault}
+use Rattle.std.specs.Str.{chars}
+use Rattle.clap.specs.Faults.{walk_fault, flags_fault, defaults_fault}
 use Rattle.clap.specs.Walk.{walked}
 use Rattle.page_runner.specs.Words.{for_page, for_make, asked}
 
@@ -62,3 +63,39 @@ too_many_items = refl
 no_count : asked (codes "specparse" ∷ codes "make" ∷ codes "1" ∷ []) ≡ None
 unfolding walk_fault walked defaults_fault
 no_count = refl
+
+least_made_page : asked (codes "specparse" ∷ codes "make" ∷ codes "0" ∷ codes "1" ∷ []) ≡ Some (for_make (record { number = 0; count = 1 }))
+unfolding walk_fault walked defaults_fault
+least_made_page = refl
+
+signs_and_zeros : asked (codes "specparse" ∷ codes "make" ∷ codes "+5" ∷ codes "007" ∷ []) ≡ Some (for_make (record { number = 5; count = 7 }))
+unfolding walk_fault walked defaults_fault
+signs_and_zeros = refl
+
+no_number : asked (codes "specparse" ∷ codes "make" ∷ []) ≡ None
+unfolding walk_fault walked defaults_fault
+no_number = refl
+
+a_word_more : asked (codes "specparse" ∷ codes "make" ∷ codes "1" ∷ codes "4" ∷ codes "4" ∷ []) ≡ None
+unfolding walk_fault walked defaults_fault
+a_word_more = refl
+
+a_negative_number : asked (codes "specparse" ∷ codes "make" ∷ codes "-1" ∷ codes "4" ∷ []) ≡ None
+unfolding walk_fault flags_fault chars walked defaults_fault
+a_negative_number = refl
+
+no_numeral : asked (codes "specparse" ∷ codes "make" ∷ codes "1" ∷ codes "four" ∷ []) ≡ None
+unfolding walk_fault walked defaults_fault
+no_numeral = refl
+
+an_option_of_page : asked (codes "specparse" ∷ codes "make" ∷ codes "--dump" ∷ codes "1" ∷ codes "4" ∷ []) ≡ None
+unfolding walk_fault walked defaults_fault
+an_option_of_page = refl
+
+another_command : asked (codes "specparse" ∷ codes "makes" ∷ codes "1" ∷ codes "4" ∷ []) ≡ None
+unfolding walk_fault walked defaults_fault
+another_command = refl
+
+no_command : asked (codes "specparse" ∷ []) ≡ None
+unfolding walk_fault walked defaults_fault
+no_command = refl

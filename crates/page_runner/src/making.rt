@@ -151,6 +151,7 @@ fn parse_made<
 ) -> Result<MadeRun, NoMemory>
     requires table { (table.now ≡ []) × (E.entities ≡ []) }
     requires files { AreFilesOf (made_page words.number words.count) files.old }
+    requires count { words.count ≤ 50000 }
     ensures { IfOk result (λ run. IsRunOf words run) }
 {
     let job = Job {

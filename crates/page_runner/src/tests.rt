@@ -28,7 +28,13 @@ fn words_are_read(rt: HostRuntime) -> Result<(), Fail> {
     let given = words(alloc, &["specparse", "make", "2147483647", "50000"])?;
     match read_words(alloc, &given)? {
         CommandWords::Make(read) => {
-            assert_eq!(rt; read, MakeWords { number: 2_147_483_647, count: 50_000 });
+            assert_eq!(rt;
+                read,
+                MakeWords {
+                    number: 2_147_483_647,
+                    count: 50_000
+                }
+            );
         }
         CommandWords::Page(_) => assert!(rt; false),
     }

@@ -58,7 +58,8 @@ fn usage(words: &'static [&'static str]) -> Row {
     }
 }
 
-fn rows() -> [Row; 8] {
+// Pages of the items of each kind, at both ends of what NUMBER may be, and a sink that fails within the line.
+fn pages() -> [Row; 9] {
     [
         made(
             &["1", "4"],
@@ -72,21 +73,51 @@ fn rows() -> [Row; 8] {
             &["7", "1000"],
             "scripts 515 kept 242 failed 273 nodes 3204 written 2715\n",
         ),
+        made(&["0", "1"], "scripts 0 kept 0 failed 0 nodes 6 written 0\n"),
+        made(
+            &["2147483647", "1"],
+            "scripts 0 kept 0 failed 0 nodes 6 written 0\n",
+        ),
+        // a script's file, whose text leaves the parser as it was
+        made(
+            &["30", "3"],
+            "scripts 1 kept 1 failed 0 nodes 10 written 4\n",
+        ),
+        // the files' other script, which begins a comment
+        made(&["5", "2"], "scripts 1 kept 0 failed 1 nodes 8 written 4\n"),
+        made(
+            &["26", "3"],
+            "scripts 2 kept 0 failed 2 nodes 13 written 7\n",
+        ),
         Row {
             sink: 10,
             status: Status::WriteFault,
             ..made(&["1", "4"], "scripts 1 ")
         },
+    ]
+}
+
+// Words that aren't those of the command.
+fn refused() -> [Row; 9] {
+    [
         usage(&["2147483648", "1"]),
         usage(&["1", "0"]),
         usage(&["1", "50001"]),
         usage(&["1"]),
+        usage(&[]),
+        usage(&["1", "4", "4"]),
+        usage(&["-1", "4"]),
+        usage(&["1", "four"]),
+        usage(&["--dump", "1", "4"]),
     ]
 }
 
 #[test]
 fn made_pages(rt: HostRuntime) -> Result<(), Fail> {
-    for row in &rows() {
+    for row in &pages() {
+        assert!(rt; gives(&rt, rt.alloc(), row)?);
+    }
+    for row in &refused() {
         assert!(rt; gives(&rt, rt.alloc(), row)?);
     }
     Ok(())
