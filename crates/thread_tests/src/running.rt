@@ -73,8 +73,8 @@ pub fn words_of(alloc: Global, sending: Sending) -> Result<Vec<String>, NoMemory
 pub fn table_of(alloc: Global) -> Result<Table, NoMemory> {
     match Table::read(alloc, ENTITIES.as_bytes()) {
         Ok(table) => Ok(table),
-        Err(TableFault::NoMemory) => Err(NoMemory),
-        Err(TableFault::NotTable) => unreachable!(),
+        // The text lists entities, so that memory alone can be wanting.
+        Err(TableFault::NoMemory | TableFault::NotTable) => Err(NoMemory),
     }
 }
 
