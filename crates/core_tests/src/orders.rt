@@ -3,7 +3,7 @@
 use crate::events::{KINDS, Kind};
 use crate::running::{Page, Told, entities, run};
 use entity_table::Table;
-use html_types::NoMemory;
+use html_types::{Ending, NoMemory};
 use rand_core::utils::NextWord;
 use rand_pcg::Pcg32;
 use std::alloc::Global;
@@ -145,6 +145,7 @@ fn gives(
         text: wanted.text.as_str(),
         cut: (random.next_word() % 40) as usize,
         ahead,
+        ending: Ending::End,
     };
     let told = run(alloc, table, page, order.as_slice())?;
     let same = told.written.is(wanted.lines.as_str(), wanted.tree.as_str());

@@ -8,7 +8,7 @@ use crate::events::{KINDS, Kind, event_of};
 use crate::written::Written;
 use core_pair::{Event, Fetch, Pair, Scripts, Setup, State};
 use entity_table::{Table, TableFault};
-use html_types::{Ending, NoMemory, Text};
+use html_types::{Ending, NoMemory, Text, Why};
 use speculation::InForce;
 use std::alloc::Global;
 use std::marker::Brand;
@@ -30,6 +30,7 @@ pub struct Page<'a> {
     pub cut: usize,
     /// The most requests that are sent ahead of their replies: 1 to 64.
     pub ahead: usize,
+    pub ending: Ending,
 }
 
 /// What came of a page.
@@ -45,6 +46,8 @@ pub struct Told {
     /// The pieces of the page.
     pub pieces: u64,
     pub done: bool,
+    /// Why the page is refused, where it is.
+    pub refused: Option<Why>,
 }
 
 fn read_table(alloc: Global, entities: &str) -> Result<Table, TableFault> {
@@ -112,6 +115,13 @@ fn is_done<E: InForce>(pair: &Pair<E>) -> bool {
     matches!(pair.status(), State::Done)
 }
 
+fn why_refused<E: InForce>(pair: &Pair<E>) -> Option<Why> {
+    match pair.status() {
+        State::Refused(why) => Some(why),
+        _ => None,
+    }
+}
+
 fn count_pieces<E: InForce>(pair: &Pair<E>) -> u64 {
     pair.journal().pieces().len() as u64
 }
@@ -144,7 +154,7 @@ impl<E: InForce> PageRun<E> {
         let setup = Setup {
             table,
             pieces,
-            ending: Ending::End,
+            ending: page.ending,
             scripts,
             ahead: page.ahead,
         };
@@ -207,6 +217,7 @@ impl<E: InForce> PageRun<E> {
             dropped: self.dropped,
             pieces: count_pieces(&self.pair),
             done: is_done(&self.pair),
+            refused: why_refused(&self.pair),
         })
     }
 }

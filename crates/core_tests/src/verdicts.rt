@@ -1,9 +1,9 @@
 //! Pages whose scripts are known to keep what was parsed ahead of them, or to fail.
 
-use crate::events::Kind;
+use crate::events::{KINDS, Kind};
 use crate::running::{Page, Told, entities, run};
 use entity_table::Table;
-use html_types::NoMemory;
+use html_types::{Ending, NoMemory, Why};
 use std::alloc::Global;
 use std::test::Fail;
 
@@ -68,6 +68,7 @@ fn run_whole(alloc: Global, table: &Table, text: &str) -> Result<Told, NoMemory>
         text,
         cut: 10_000,
         ahead: 64,
+        ending: Ending::End,
     };
     run(alloc, table, page, &[Kind::Send])
 }
@@ -123,5 +124,28 @@ fn a_refusal_that_was_made_ahead_is_thrown_away(rt: HostRuntime) -> Result<(), F
         "--></head><body></body></html>",
     )?;
     assert!(rt; gives(alloc, &entities(alloc)?, page.as_str(), tree.as_str(), 1)?);
+    Ok(())
+}
+
+#[test]
+fn endings_are_refused_with_their_reason(rt: HostRuntime) -> Result<(), Fail> {
+    let alloc = rt.alloc();
+    let table = entities(alloc)?;
+    for (ending, why) in [
+        (Ending::End, None),
+        (Ending::Bad, Some(Why::BadUtf8)),
+        (Ending::Long, Some(Why::Page)),
+        (Ending::Fault, Some(Why::Fault)),
+    ] {
+        let page = Page {
+            text: "<p>a",
+            cut: 10_000,
+            ahead: 8,
+            ending,
+        };
+        let told = run(alloc, &table, page, &KINDS)?;
+        assert_eq!(rt; told.refused, why);
+        assert_eq!(rt; told.done, why.is_none());
+    }
     Ok(())
 }

@@ -2,6 +2,7 @@
 
 use crate::events::Kind;
 use crate::running::{Page, entities, run};
+use html_types::Ending;
 use std::test::Fail;
 
 // The page is the 42 characters up to the script's end tag, and a letter; then it ends.
@@ -9,6 +10,7 @@ const PAGE: Page<'static> = Page {
     text: "<div><script>document.write(\"x\");</script>b",
     cut: 42,
     ahead: 2,
+    ending: Ending::End,
 };
 
 const TREE: &str =

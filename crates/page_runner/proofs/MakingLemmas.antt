@@ -1,6 +1,6 @@
 -- What comes of the page that is made from a number.
-use Rattle.std.proofs.Common.{◌≡◌, ◌≢◌, ◌≤◌, ◌<◌, ◌+◌, ◌*◌, ◌-◌, ◌^◌, ℕ, Bool, true, false, List, [], ◌∷◌, ◌++◌, Option, Some, None, IfSome, refl, sym, ap, subst, ◌∙◌, inl, inr, true≢false, arith, codes, get_or, append_assoc}
-use Rattle.std.specs.Prelude.{◌⊎◌, min, decimal, encode_utf8_all, IsTrue, IsSome, OnOk, if◌then◌else◌}
+use Rattle.std.proofs.Common.{◌≡◌, ◌≢◌, ◌≤◌, ◌-◌, ◌^◌, ℕ, Bool, true, false, List, [], ◌++◌, Option, Some, None, IfSome, refl, sym, ap, subst, ◌∙◌, inl, inr, true≢false, arith, codes, get_or, append_assoc}
+use Rattle.std.specs.Prelude.{◌⊎◌, min, decimal, encode_utf8_all, OnOk, if◌then◌else◌}
 use Rattle.std.specs.Prelude.{Result as ResultOf}
 use Rattle.std.specs.Char.{encode_utf8}
 use Rattle.std.specs.Str.{chars, IsUtf8}
@@ -11,7 +11,6 @@ use Rattle.std.proofs.Math.Path.{fun_ext}
 use Rattle.html_types.specs.Text.{same_text}
 use Rattle.html_types.specs.declared.script.Ending.{Ending}
 use Rattle.html_types.specs.declared.script.Ending.TheVariants.{End}
-use Rattle.html_types.specs.declared.script.Why.{Why}
 use Rattle.html_types.specs.declared.script.Why.TheVariants as why
 use Rattle.std.specs.Cmp.Lexicographic.{bytes_decides}
 use Rattle.outside.specs.Outside.{Rose, Files, Seen}
@@ -19,30 +18,28 @@ use Rattle.outside.specs.Memory.{files_of}
 use Rattle.outside.specs.declared.never_fails.NeverFails.{NeverFails}
 use Rattle.outside.specs.declared.traits.Port.TheVariants.{Page, Script}
 use Rattle.standard.specs.Entities.{Entities}
-use Rattle.standard.specs.Page.{Page as ReadPage}
-use Rattle.standard.specs.Scripts.{Fetched, got, missing, faulted}
-use Rattle.standard.specs.Serial.{World, Serial, Moment, reading, over, Result, finished, refused, Outcome, IsSerial, first, moment_after}
+use Rattle.standard.specs.Scripts.{Fetched, got, missing}
+use Rattle.standard.specs.Serial.{World, Moment, reading, over, Result, finished, refused, Outcome, IsSerial, first}
 use Rattle.standard_laws.proofs.Total.{has_outcome}
 use Rattle.standard_laws.proofs.Fuel.{one_outcome}
-use Rattle.core_rules.specs.Verdict.{Watch, first_watch, Watched, Watches, stays, goes_on, AreVerdicts}
+use Rattle.core_rules.specs.Verdict.{Watch, first_watch, Watches, stays, goes_on, AreVerdicts}
 use Rattle.core_rules.specs.Core.{whole_page}
-use Rattle.core_rules.specs.Desk.{Phase, done, Desk}
+use Rattle.core_rules.specs.Desk.{done, Desk}
 use Rattle.core_laws.proofs.Standing.{ends-as-serial}
 use Rattle.tally_laws.specs.TallyLaws.{Tallies}
 use Rattle.tally_laws.proofs.Tallying.{tallies-as-serial}
 use Rattle.core_steps.specs.Journals.{found}
-use Rattle.core_steps.specs.Sides.{Shown, ShowsIn, IsReplayed, CountsAlike}
+use Rattle.core_steps.specs.Sides.{Shown, ShowsIn, IsReplayed}
 use Rattle.core_steps.specs.declared.tally.Tally.{Tally}
-use Rattle.core_steps.specs.Tallies.{nodes_below, failed_by, kept_by, tally_of}
+use Rattle.core_steps.specs.Tallies.{nodes_below, tally_of}
 use Rattle.page_maker.specs.Made.{made_page, named_script, made_scripts}
 use Rattle.page_maker.specs.declared.page.Script.{Script as ScriptFile}
 use Rattle.made_laws.proofs.MadePages.{is-in_ascii, is-read_as_made}
 use Rattle.page_turns.specs.declared.outcome.Outcome.TheVariants as told
-use Rattle.page_turns.specs.declared.page.TheConstants.{PAGE_LIMIT}
 use Rattle.page_turns.specs.Given.{Given, unmet, missing as absent, faulted as failed, got as given, file_at, FaultsRose, NoFault}
 use Rattle.page_turns.specs.Taken.{Took}
-use Rattle.page_turns.specs.Scripts.{path_of, fetched_of, AreScriptsOf, MayMeet, MayFetch, Alike, AreKnown, world_in}
-use Rattle.page_turns.specs.Pages.{PageRead, page_at, world_of, ComesTo, IsPageBehind}
+use Rattle.page_turns.specs.Scripts.{path_of, fetched_of, AreScriptsOf, MayMeet, Alike}
+use Rattle.page_turns.specs.Pages.{PageRead, page_at, world_of, IsPageBehind}
 use Rattle.page_turns.proofs.SameWorlds.{alike-refl, alike-sym, moment-same, serial-back}
 use Rattle.page_turns.proofs.DeskLemmas.{shows-phase}
 use Rattle.page_turns.proofs.ReachLemmas.{found_or, scripts_with, knows-met, IsRun, is_run}
@@ -54,8 +51,8 @@ use Rattle.page_runner.specs.declared.words.MakeWords.{MakeWords}
 use Rattle.page_runner.specs.Words.{Asked, for_page, for_make}
 use Rattle.page_runner.specs.Answers.{IsPageOf, PageMet, MayGivePage, IsParsed, Answer, status_with, answer_to_page, Gives, PageAnswers}
 use Rattle.page_runner.specs.Shown.{status_of}
-use Rattle.page_runner.specs.Reports.{IsMet, IsWritten, Reports}
-use Rattle.page_runner.specs.Making.{page_made, file_among, made_world, AreNumbers, tally_text, IsLineOf, Makes, MakesTo, Adds, AreFilesOf, IsRefusal, IsEndOf, IsRunOf, Tells}
+use Rattle.page_runner.specs.Reports.{Reports}
+use Rattle.page_runner.specs.Making.{page_made, file_among, made_world, AreNumbers, tally_text, IsLineOf, Makes, MakesTo, Adds, AreFilesOf, IsRefusal, IsRunOf, Tells}
 use Rattle.page_turns.proofs.PageTakenLemmas.{took_nothing, front_nothing}
 use Rattle.page_runner.proofs.RunLemmas.{status_is, gives_all}
 use Rattle.page_runner.proofs.Complete.{scripts_told, fetch_told, some_at}

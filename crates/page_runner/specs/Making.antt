@@ -1,5 +1,5 @@
 -- What comes of the command `make`: a page is made from a number and parsed, and what that comes to in numbers is written.
-use Rattle.std.specs.Prelude.{◌≡◌, ◌≢◌, false, ◌⊎◌, ◌-◌, ◌^◌, ℕ, List, [], ◌∷◌, ◌++◌, min, codes, decimal, Option, Some, None, if◌then◌else◌}
+use Rattle.std.specs.Prelude.{◌≡◌, ◌≢◌, false, ◌⊎◌, ◌-◌, ◌^◌, ℕ, List, [], ◌∷◌, ◌++◌, min, codes, decimal, Option, Some, if◌then◌else◌}
 use Rattle.html_types.specs.Text.{same_text}
 use Rattle.std.specs.Str.{bytes_eq}
 use Rattle.html_types.specs.declared.script.Ending.TheVariants.{End}
@@ -22,7 +22,7 @@ use Rattle.page_runner.specs.declared.making.MadeRun.TheVariants as made
 use Rattle.page_runner.specs.declared.status.Status.{Status}
 use Rattle.page_runner.specs.declared.status.Status.TheVariants as status
 use Rattle.page_runner.specs.declared.words.MakeWords.{MakeWords}
-use Rattle.page_runner.specs.Words.{Asked, for_page, for_make}
+use Rattle.page_runner.specs.Words.{Asked, for_make}
 use Rattle.page_runner.specs.Answers.{status_with, Gives}
 
 -- ---- what is parsed

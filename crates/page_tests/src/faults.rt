@@ -1,14 +1,15 @@
-//! Runs in which a call fails.
+//! Runs in which something isn't there, or a call fails: which of several faults is answered, and which isn't come to.
 
+use crate::cases::WRITES_ITSELF;
 use crate::rows::{
-    Row, gives, gives_at_every_fault, gives_at_every_piece, gives_at_every_size, page, scripted,
+    CALM, Conditions, Row, Way, failing, page, scripted, wrong_as_met, wrong_at_a_piece,
 };
 use outside::Port;
-use page_runner::Status;
+use page_runner::{Limit, Status};
 use std::test::Fail;
 
-// Runs in which something fails, or is not there.
-fn faults() -> [Row; 12] {
+// Runs that end before the page is begun.
+fn unbegun() -> [Row; 3] {
     [
         Row {
             page: None,
@@ -23,67 +24,93 @@ fn faults() -> [Row; 12] {
             entities: "{\"&amp;\":{\"codepoints\":[38,1,2]}}",
             ..page(b"x", Status::Entities, "")
         },
+    ]
+}
+
+const EXTERNAL: &[u8] = b"<script src=\"a\"></script>x";
+
+// The page's second read fails, which begins behind the script's end tag.
+const SECOND_READ: Conditions<'static> = Conditions {
+    piece: 25,
+    fail: &[(Port::Page, 3)],
+    ..CALM
+};
+
+fn faults() -> [Row; 8] {
+    [
         Row {
-            fail: &[(Port::Entities, 1)],
-            ..page(b"x", Status::ReadFault, "")
+            met: failing(&[(Port::Script, 1)]),
+            status: Status::ReadFault,
+            ..scripted(EXTERNAL, &[("a", b"")], "")
+        },
+        // The scripts write too much before the fault of the page is come to.
+        Row {
+            met: SECOND_READ,
+            times: 100,
+            status: Status::Limit(Limit::Writes),
+            ..scripted(EXTERNAL, &[("a", WRITES_ITSELF)], "refused writes\n")
         },
         Row {
-            fail: &[(Port::Page, 1)],
-            ..page(b"x", Status::ReadFault, "")
+            met: SECOND_READ,
+            status: Status::ReadFault,
+            ..scripted(EXTERNAL, &[("a", b"")], "")
         },
+        // They write too much before the bad byte is come to.
         Row {
-            fail: &[(Port::Page, 3)],
-            ..page(b"<p>a", Status::ReadFault, "")
+            times: 100,
+            status: Status::Limit(Limit::Writes),
+            ..scripted(
+                b"<script src=\"a\"></script>\xFF",
+                &[("a", WRITES_ITSELF)],
+                "refused writes\n",
+            )
         },
         // The fault comes in the middle of a character.
         Row {
-            piece: "1",
-            fail: &[(Port::Page, 3)],
+            met: Conditions {
+                piece: 1,
+                fail: &[(Port::Page, 3)],
+                ..CALM
+            },
             ..page(b"\xC3\xA9", Status::ReadFault, "")
         },
+        // The page isn't begun, and the sink can't be finished.
         Row {
-            piece: "24",
-            fail: &[(Port::Page, 3)],
-            ..page(b"<script>foo();</script>x", Status::ReadFault, "syntax 1\n")
+            met: Conditions {
+                fail: &[(Port::Page, 1)],
+                fails_to_finish: true,
+                ..CALM
+            },
+            ..page(b"x", Status::WriteFault, "")
         },
-        // The script's element has as many bytes as the first read.
+        // The sink fails with the bad byte, and what was written before it stands.
         Row {
-            piece: "65",
-            fail: &[(Port::Page, 3)],
+            met: Conditions { sink: 9, ..CALM },
             ..page(
-                b"<script>console.log(document.documentElement.outerHTML);</script>x",
-                Status::ReadFault,
-                "log 1 \"<html><head><script>console.log(document.documentElement.outerHTML);</script></head></html>\"\n",
-            )
-        },
-        // The file of the script fails where its lines so far are written.
-        Row {
-            fail: &[(Port::Script, 1)],
-            status: Status::ReadFault,
-            ..scripted(
-                b"<script>foo();</script><script src=\"a\"></script>",
-                &[("a", b"foo();")],
+                b"<script>foo();</script>\xFF",
+                Status::WriteFault,
                 "syntax 1\n",
             )
         },
+        // A call that isn't made doesn't fail.
         Row {
-            sink: 10,
-            ..page(b"", Status::WriteFault, "tree \"<htm")
-        },
-        Row {
-            sink: 0,
-            ..page(b"\xFF", Status::WriteFault, "")
+            met: failing(&[(Port::Page, 4), (Port::Script, 4)]),
+            ..scripted(
+                EXTERNAL,
+                &[("a", b"foo();")],
+                "syntax 1\ntree \"<html><head><script src=\\\"a\\\"></script></head><body>x</body></html>\"\n",
+            )
         },
     ]
 }
 
 // Which files of scripts are begun and read: the call that fails is made, or isn't.
-fn counted() -> [Row; 20] {
+fn counted() -> [Row; 21] {
     [
         // The file of `a` is begun, read, and read to its end.
         Row {
             status: Status::ReadFault,
-            fail: &[(Port::Script, 3)],
+            met: failing(&[(Port::Script, 3)]),
             ..scripted(
                 b"<script src=\"a\"></script><script src=\"a\"></script>",
                 &[("a", b"foo();")],
@@ -91,7 +118,7 @@ fn counted() -> [Row; 20] {
             )
         },
         Row {
-            fail: &[(Port::Script, 4)],
+            met: failing(&[(Port::Script, 4)]),
             ..scripted(
                 b"<script src=\"a\"></script><script src=\"a\"></script>",
                 &[("a", b"foo();")],
@@ -100,7 +127,7 @@ fn counted() -> [Row; 20] {
         },
         Row {
             status: Status::ReadFault,
-            fail: &[(Port::Script, 6)],
+            met: failing(&[(Port::Script, 6)]),
             ..scripted(
                 b"<script src=\"a\"></script><script src=\"b\"></script><script src=\"a\"></script><script src=\"b\"></script>",
                 &[
@@ -111,7 +138,7 @@ fn counted() -> [Row; 20] {
             )
         },
         Row {
-            fail: &[(Port::Script, 7)],
+            met: failing(&[(Port::Script, 7)]),
             ..scripted(
                 b"<script src=\"a\"></script><script src=\"b\"></script><script src=\"a\"></script><script src=\"b\"></script>",
                 &[
@@ -122,7 +149,7 @@ fn counted() -> [Row; 20] {
             )
         },
         Row {
-            fail: &[(Port::Script, 4)],
+            met: failing(&[(Port::Script, 4)]),
             ..scripted(
                 b"<script>document.write(\"<script src=\\\"a\\\"><\\/script>\");</script><script src=\"a\"></script>",
                 &[("a", b"foo();")],
@@ -132,7 +159,7 @@ fn counted() -> [Row; 20] {
         // A file that isn't there is begun once.
         Row {
             status: Status::ReadFault,
-            fail: &[(Port::Script, 1)],
+            met: failing(&[(Port::Script, 1)]),
             ..scripted(
                 b"<script src=\"b\"></script><script src=\"b\"></script>",
                 &[],
@@ -140,7 +167,7 @@ fn counted() -> [Row; 20] {
             )
         },
         Row {
-            fail: &[(Port::Script, 2)],
+            met: failing(&[(Port::Script, 2)]),
             ..scripted(
                 b"<script src=\"b\"></script><script src=\"b\"></script>",
                 &[],
@@ -149,7 +176,7 @@ fn counted() -> [Row; 20] {
         },
         // No file is begun for these names.
         Row {
-            fail: &[(Port::Script, 1)],
+            met: failing(&[(Port::Script, 1)]),
             ..scripted(
                 b"<script src=\"../b\"></script>",
                 &[("a", b"")],
@@ -157,7 +184,7 @@ fn counted() -> [Row; 20] {
             )
         },
         Row {
-            fail: &[(Port::Script, 1)],
+            met: failing(&[(Port::Script, 1)]),
             ..scripted(
                 b"<script src=\".a\"></script>",
                 &[("a", b"")],
@@ -165,7 +192,7 @@ fn counted() -> [Row; 20] {
             )
         },
         Row {
-            fail: &[(Port::Script, 1)],
+            met: failing(&[(Port::Script, 1)]),
             ..scripted(
                 b"<script src=\"a/b\"></script>",
                 &[("a", b"")],
@@ -173,7 +200,7 @@ fn counted() -> [Row; 20] {
             )
         },
         Row {
-            fail: &[(Port::Script, 1)],
+            met: failing(&[(Port::Script, 1)]),
             ..scripted(
                 b"<script src=\"a?\"></script>",
                 &[("a", b"")],
@@ -181,7 +208,7 @@ fn counted() -> [Row; 20] {
             )
         },
         Row {
-            fail: &[(Port::Script, 1)],
+            met: failing(&[(Port::Script, 1)]),
             ..scripted(
                 b"<script src=\"\xC3\xA9\"></script>",
                 &[("a", b"")],
@@ -189,26 +216,34 @@ fn counted() -> [Row; 20] {
             )
         },
         Row {
-            fail: &[(Port::Script, 1)],
+            met: failing(&[(Port::Script, 1)]),
             ..scripted(
                 b"<script src=\"aaaaaaaaaaaaaaaaaaaaaaaaaaaaaaaaaaaaaaaaaaaaaaaaaaaaaaaaaaaaaaaaaaaaaaaaaaaaaaaaaaaaaaaaaaaaaaaaaaaaa\"></script>",
                 &[("a", b"")],
                 "miss \"aaaaaaaaaaaaaaaaaaaaaaaaaaaaaaaaaaaaaaaaaaaaaaaaaaaaaaaaaaaaaaaaaaaaaaaaaaaaaaaaaaaaaaaaaaaaaaaaaaaaa\"\ntree \"<html><head><script src=\\\"aaaaaaaaaaaaaaaaaaaaaaaaaaaaaaaaaaaaaaaaaaaaaaaaaaaaaaaaaaaaaaaaaaaaaaaaaaaaaaaaaaaaaaaaaaaaaaaaaaaaa\\\"></script></head><body></body></html>\"\n",
             )
         },
-        // This one is lawful.
+        // This one is lawful, and begun once.
         Row {
             status: Status::ReadFault,
-            fail: &[(Port::Script, 1)],
+            met: failing(&[(Port::Script, 1)]),
             ..scripted(
                 b"<script src=\"aaaaaaaaaaaaaaaaaaaaaaaaaaaaaaaaaaaaaaaaaaaaaaaaaaaaaaaaaaaaaaaaaaaaaaaaaaaaaaaaaaaaaaaaaaaaaaaaaaaa\"></script>",
                 &[],
                 "",
             )
         },
+        Row {
+            met: failing(&[(Port::Script, 2)]),
+            ..scripted(
+                b"<script src=\"aaaaaaaaaaaaaaaaaaaaaaaaaaaaaaaaaaaaaaaaaaaaaaaaaaaaaaaaaaaaaaaaaaaaaaaaaaaaaaaaaaaaaaaaaaaaaaaaaaaa\"></script>",
+                &[],
+                "miss \"aaaaaaaaaaaaaaaaaaaaaaaaaaaaaaaaaaaaaaaaaaaaaaaaaaaaaaaaaaaaaaaaaaaaaaaaaaaaaaaaaaaaaaaaaaaaaaaaaaaa\"\ntree \"<html><head><script src=\\\"aaaaaaaaaaaaaaaaaaaaaaaaaaaaaaaaaaaaaaaaaaaaaaaaaaaaaaaaaaaaaaaaaaaaaaaaaaaaaaaaaaaaaaaaaaaaaaaaaaaa\\\"></script></head><body></body></html>\"\n",
+            )
+        },
         // Scripts that aren't run, or aren't reached.
         Row {
-            fail: &[(Port::Script, 1)],
+            met: failing(&[(Port::Script, 1)]),
             ..scripted(
                 b"<script src=\"a\" async></script><script src=\"a\" type=\"x\"></script>",
                 &[("a", b"foo();")],
@@ -216,7 +251,7 @@ fn counted() -> [Row; 20] {
             )
         },
         Row {
-            fail: &[(Port::Script, 1)],
+            met: failing(&[(Port::Script, 1)]),
             ..scripted(
                 b"<template><script src=\"a\"></script></template>",
                 &[("a", b"foo();")],
@@ -224,7 +259,7 @@ fn counted() -> [Row; 20] {
             )
         },
         Row {
-            fail: &[(Port::Script, 1)],
+            met: failing(&[(Port::Script, 1)]),
             ..scripted(
                 b"<script src=\"a\">",
                 &[("a", b"foo();")],
@@ -232,16 +267,16 @@ fn counted() -> [Row; 20] {
             )
         },
         Row {
-            fail: &[(Port::Script, 1)],
+            met: failing(&[(Port::Script, 1)]),
             ..scripted(
-                b"<script>document.write(\"<!--\");</script><script src=\"a\"></script>",
+                b"<script>document.write(\"<!--\");</script><script src=\"a\"></script>-->",
                 &[("a", b"foo();")],
                 "tree \"<html><head><script>document.write(\\\"<!--\\\");</script><!--<script src=\\\"a\\\"></script>--></head><body></body></html>\"\n",
             )
         },
         Row {
             status: Status::BadUtf8,
-            fail: &[(Port::Script, 1)],
+            met: failing(&[(Port::Script, 1)]),
             ..scripted(
                 b"\xFF<script src=\"a\"></script>",
                 &[("a", b"foo();")],
@@ -249,7 +284,7 @@ fn counted() -> [Row; 20] {
             )
         },
         Row {
-            fail: &[(Port::Script, 1)],
+            met: failing(&[(Port::Script, 1)]),
             ..scripted(
                 b"<div id=\"d\"><script>document.getElementById(\"d\").remove();</script><script src=\"a\"></script></div>",
                 &[("a", b"foo();")],
@@ -259,67 +294,30 @@ fn counted() -> [Row; 20] {
     ]
 }
 
-// Pages with an external script, what it writes, and a line.
-fn external() -> [Row; 3] {
-    [
-        scripted(
-            b"<p>\xC3\xA9<script src=\"a\"></script><script>console.log(document.documentElement.outerHTML);</script>b",
-            &[("a", b"document.write(\"<script>foo();<\\/script><b>\");")],
-            "syntax 2\nlog 3 \"<html><head></head><body><p>é<script src=\\\"a\\\"></script><script>foo();</script><b><script>console.log(document.documentElement.outerHTML);</script></b></p></body></html>\"\ntree \"<html><head></head><body><p>é<script src=\\\"a\\\"></script><script>foo();</script><b><script>console.log(document.documentElement.outerHTML);</script>b</b></p></body></html>\"\n",
-        ),
-        Row {
-            status: Status::BadUtf8,
-            ..scripted(
-                b"<script src=\"a\"></script><script src=\"b\"></script>\xFF",
-                &[("a", b"document.getElementById(\"k\").remove();")],
-                "throw 1\nmiss \"b\"\nrefused bad-utf8\n",
-            )
-        },
-        scripted(
-            b"<body><script>document.write(\"<script src=\\\"a\\\"><\\/script>X\");document.write(\"Y\");</script>Z",
-            &[(
-                "a",
-                b"document.write(\"Q\");console.log(document.documentElement.outerHTML);",
-            )],
-            "log 2 \"<html><head></head><body><script>document.write(\\\"<script src=\\\\\\\"a\\\\\\\"><\\\\/script>X\\\");document.write(\\\"Y\\\");</script><script src=\\\"a\\\"></script>Q</body></html>\"\ntree \"<html><head></head><body><script>document.write(\\\"<script src=\\\\\\\"a\\\\\\\"><\\\\/script>X\\\");document.write(\\\"Y\\\");</script><script src=\\\"a\\\"></script>QXYZ</body></html>\"\n",
-        ),
-    ]
+#[test]
+fn what_is_not_there_is_told(rt: HostRuntime) -> Result<(), Fail> {
+    assert_eq!(rt;
+        wrong_as_met(&rt, rt.alloc(), &unbegun(), Way::OnTwo)?,
+        None
+    );
+    Ok(())
 }
 
 #[test]
-fn faults_give_their_status(rt: HostRuntime) -> Result<(), Fail> {
-    for row in &faults() {
-        assert!(rt; gives(&rt, rt.alloc(), row, row.piece)?, "{}", row.text);
-    }
+fn the_first_fault_is_answered(rt: HostRuntime) -> Result<(), Fail> {
+    let rows = faults();
+    assert_eq!(rt; wrong_as_met(&rt, rt.alloc(), &rows, Way::OnTwo)?, None);
+    assert_eq!(rt; wrong_as_met(&rt, rt.alloc(), &rows, Way::InPlace)?, None);
     Ok(())
 }
 
 #[test]
 fn files_are_read_once(rt: HostRuntime) -> Result<(), Fail> {
-    for row in &counted() {
-        assert!(rt; gives_at_every_piece(&rt, rt.alloc(), row)?, "{}", row.text);
-    }
-    Ok(())
-}
-
-#[test]
-fn every_read_fault_leaves_a_front(rt: HostRuntime) -> Result<(), Fail> {
-    for row in &external() {
-        for piece in ["1", "64"] {
-            assert!(rt;
-                gives_at_every_fault(&rt, rt.alloc(), row, piece)?,
-                "{}",
-                row.text
-            );
-        }
-    }
-    Ok(())
-}
-
-#[test]
-fn every_write_fault_leaves_a_front(rt: HostRuntime) -> Result<(), Fail> {
-    for row in &external() {
-        assert!(rt; gives_at_every_size(&rt, rt.alloc(), row)?, "{}", row.text);
-    }
+    let rows = counted();
+    assert_eq!(rt; wrong_at_a_piece(&rt, rt.alloc(), &rows, Way::OnTwo)?, None);
+    assert_eq!(rt;
+        wrong_at_a_piece(&rt, rt.alloc(), &rows, Way::InPlace)?,
+        None
+    );
     Ok(())
 }

@@ -2,6 +2,8 @@
 #![tactic(auto)]
 
 #[cfg(test)]
+mod cases;
+#[cfg(test)]
 mod faults;
 #[cfg(test)]
 mod foreign;
@@ -15,3 +17,5 @@ mod scripts;
 mod tables;
 #[cfg(test)]
 mod tests;
+#[cfg(test)]
+mod turns;

@@ -1,23 +1,64 @@
 //! A run over files and a sink in memory.
 
+ghost use Rattle.std.specs.Prelude.{◌<◌, ◌≤◌};
+
+use entity_table::{Table, TableFault};
 use html_types::NoMemory;
 use outside::{MemFiles, MemSink, OpenGate, Port};
-use page_runner::{Status, run};
+use page_runner::{Job, Status, page_in_place, run};
 use std::alloc::Global;
 use std::sync::{Arc, Wait};
 use std::thread::Threads;
 
-/// The words of a run (the bytes of a read, and whether the dump is asked for), the page (none: there is no such file), the files
-/// of its scripts, the entities file, which calls fail, how many bytes the sink takes, and the status and text that are wanted.
+/// Which call runs a page.
+#[derive(Clone, Copy)]
+pub enum Way {
+    /// `run`, by its words: on two threads.
+    OnTwo,
+    /// `page_in_place`, which begins with the page.
+    InPlace,
+}
+
+/// What a run meets.
+#[derive(Clone, Copy)]
+pub struct Conditions<'a> {
+    pub way: Way,
+    /// The most bytes of a read of the page.
+    pub piece: usize,
+    /// The most bytes that a read gives, of whichever file.
+    pub most: usize,
+    /// The calls that fail.
+    pub fail: &'a [(Port, u64)],
+    /// How many bytes the sink takes, and whether it can't be finished.
+    pub sink: usize,
+    pub fails_to_finish: bool,
+}
+
+/// Nothing fails.
+pub const CALM: Conditions<'static> = Conditions {
+    way: Way::OnTwo,
+    piece: 4096,
+    most: 4096,
+    fail: &[],
+    sink: 100_000,
+    fails_to_finish: false,
+};
+
+/// A run in which these calls fail.
+pub fn failing(fail: &'static [(Port, u64)]) -> Conditions<'static> {
+    Conditions { fail, ..CALM }
+}
+
+/// A page (none: there is no such file), the files of its scripts, each of which holds its text so many times, the entities file, whether the dump is
+/// asked for, what the run meets, and the status and text that are wanted.
 #[derive(Clone, Copy)]
 pub struct Row {
-    pub piece: &'static str,
-    pub dump: bool,
     pub page: Option<&'static [u8]>,
     pub scripts: &'static [(&'static str, &'static [u8])],
+    pub times: usize,
     pub entities: &'static str,
-    pub fail: &'static [(Port, u64)],
-    pub sink: usize,
+    pub dump: bool,
+    pub met: Conditions<'static>,
     pub status: Status,
     pub text: &'static str,
 }
@@ -29,13 +70,12 @@ const ENTITIES: &str =
 /// A run in which nothing fails.
 pub fn page(page: &'static [u8], status: Status, text: &'static str) -> Row {
     Row {
-        piece: "4096",
-        dump: false,
         page: Some(page),
         scripts: &[],
+        times: 1,
         entities: ENTITIES,
-        fail: &[],
-        sink: 100_000,
+        dump: false,
+        met: CALM,
         status,
         text,
     }
@@ -53,17 +93,40 @@ pub fn scripted(
     }
 }
 
-fn files(alloc: Global, row: &Row, fail: &[(Port, u64)]) -> Result<MemFiles, NoMemory> {
-    let mut files = MemFiles::new(alloc, fail)?;
+fn repeated(alloc: Global, bytes: &[u8], times: usize) -> Result<Vec<u8>, NoMemory> {
+    let mut all = Vec::new(alloc);
+    for _ in 0..times {
+        all.extend_from_slice(bytes)?;
+    }
+    Ok(all)
+}
+
+fn add_scripts(alloc: Global, files: &mut MemFiles, row: &Row) -> Result<(), NoMemory> {
+    for (name, bytes) in row.scripts {
+        let path = format!(in alloc; "d/{name}")?;
+        let text = repeated(alloc, bytes, row.times)?;
+        files.add(path.as_str(), &text)?;
+    }
+    Ok(())
+}
+
+fn files(alloc: Global, row: &Row, met: &Conditions<'_>) -> Result<MemFiles, NoMemory> {
+    let mut files = MemFiles::new(alloc, met.fail)?;
+    files.limit(met.most.max(1));
     files.add("e", row.entities.as_bytes())?;
     if let Some(page) = row.page {
         files.add("p", page)?;
     }
-    for (name, bytes) in row.scripts {
-        let path = format!(in alloc; "d/{name}")?;
-        files.add(path.as_str(), bytes)?;
-    }
+    add_scripts(alloc, &mut files, row)?;
     Ok(files)
+}
+
+fn sink(alloc: Global, met: &Conditions<'_>) -> Result<MemSink, NoMemory> {
+    let mut sink = MemSink::new(alloc, met.sink)?;
+    if met.fails_to_finish {
+        sink.fail_finish();
+    }
+    Ok(sink)
 }
 
 fn words(alloc: Global, piece: &str, dump: bool) -> Result<Vec<String>, NoMemory> {
@@ -77,57 +140,123 @@ fn words(alloc: Global, piece: &str, dump: bool) -> Result<Vec<String>, NoMemory
     Ok(words)
 }
 
-// What a run answers, what its sink took, and the files, which tell how many calls were made.
+/// What a run answers, what its sink took, and the files, which tell how many calls were made.
 #[derive(Drop)]
-struct PageRun {
-    status: Status,
-    files: MemFiles,
-    sink: MemSink,
+pub struct PageRun {
+    pub files: MemFiles,
+    pub sink: MemSink,
+    pub status: Status,
 }
 
 impl PageRun {
-    // Whether the run answers and writes what is wanted.
-    fn is_as_wanted(&self, row: &Row) -> bool {
-        self.status == row.status && self.sink.bytes() == row.text.as_bytes()
-    }
-
-    // Whether the run is a read fault that wrote a front of the text.
-    fn is_read_fault(&self, row: &Row) -> bool {
-        let text = row.text.as_bytes();
-        let taken = self.sink.bytes();
-        self.status == Status::ReadFault && taken.len() < text.len() && text.starts_with(taken)
+    /// Whether the run answers and writes that.
+    pub fn is(&self, status: Status, text: &[u8]) -> bool {
+        self.status == status && self.sink.bytes() == text
     }
 }
 
-fn outcome<R: Threads + Wait + Copy + Send + Sync + 'static>(
+// The calls of the program stand alone, as they promise much that no test asks for: it would be known at each goal behind them.
+
+/// Runs the command that the words give.
+pub fn call_run<R: Threads + Wait + Copy + Send + Sync + 'static>(
+    rt: &R,
+    alloc: Global,
+    words: &[String],
+    files: &mut MemFiles,
+    sink: &mut MemSink,
+    gate: &Arc<OpenGate, Global>,
+) -> Status {
+    run(rt, alloc, words, files, sink, gate)
+}
+
+fn call_in_place(alloc: Global, job: &Job<'_>, files: &mut MemFiles, sink: &mut MemSink) -> Status
+    requires piece { (0 < job.now.piece) × (job.now.piece ≤ 65536) }
+    requires ahead { (0 < job.now.ahead) × (job.now.ahead ≤ 64) }
+{
+    page_in_place(alloc, job, files, sink).outcome
+}
+
+fn read_table(alloc: Global, entities: &str) -> Result<Table, TableFault> {
+    Table::read(alloc, entities.as_bytes())
+}
+
+fn run_on_two<R: Threads + Wait + Copy + Send + Sync + 'static>(
+    rt: &R,
+    alloc: Global,
+    piece: &str,
+    dump: bool,
+    files: &mut MemFiles,
+    sink: &mut MemSink,
+) -> Result<Status, NoMemory> {
+    let words = words(alloc, piece, dump)?;
+    let gate = Arc::new(alloc, OpenGate)?;
+    Ok(call_run(rt, alloc, &words, files, sink, &gate))
+}
+
+fn run_in_place(
+    alloc: Global,
+    row: &Row,
+    piece: usize,
+    files: &mut MemFiles,
+    sink: &mut MemSink,
+) -> Result<Status, NoMemory> {
+    let Ok(table) = read_table(alloc, row.entities) else {
+        return Err(NoMemory);
+    };
+    let job = Job {
+        page: String::from_str(alloc, "p")?,
+        dir: String::from_str(alloc, "d")?,
+        table: &table,
+        piece: piece.max(1).min(65_536),
+        ahead: 8,
+        dump: row.dump,
+    };
+    Ok(call_in_place(alloc, &job, files, sink))
+}
+
+fn run_over<R: Threads + Wait + Copy + Send + Sync + 'static>(
     rt: &R,
     alloc: Global,
     row: &Row,
-    fail: &[(Port, u64)],
-    piece: &str,
-    size: usize,
+    met: &Conditions<'_>,
+    files: &mut MemFiles,
+    sink: &mut MemSink,
+) -> Result<Status, NoMemory> {
+    match met.way {
+        Way::OnTwo => {
+            let piece = format!(in alloc; "{}", met.piece)?;
+            run_on_two(rt, alloc, piece.as_str(), row.dump, files, sink)
+        }
+        Way::InPlace => run_in_place(alloc, row, met.piece, files, sink),
+    }
+}
+
+/// Runs the row's page under these conditions in place of its own.
+pub fn run_row<R: Threads + Wait + Copy + Send + Sync + 'static>(
+    rt: &R,
+    alloc: Global,
+    row: &Row,
+    met: &Conditions<'_>,
 ) -> Result<PageRun, NoMemory> {
-    let words = words(alloc, piece, row.dump)?;
-    let mut files = files(alloc, row, fail)?;
-    let mut sink = MemSink::new(alloc, size)?;
-    let gate = Arc::new(alloc, OpenGate)?;
-    let status = run(rt, alloc, &words, &mut files, &mut sink, &gate);
+    let mut files = files(alloc, row, met)?;
+    let mut sink = sink(alloc, met)?;
+    let status = run_over(rt, alloc, row, met, &mut files, &mut sink)?;
     Ok(PageRun {
-        status,
         files,
         sink,
+        status,
     })
 }
 
-/// Whether the run answers and writes what is wanted, with reads of so many bytes.
+/// Whether the run answers and writes what is wanted.
 pub fn gives<R: Threads + Wait + Copy + Send + Sync + 'static>(
     rt: &R,
     alloc: Global,
     row: &Row,
-    piece: &str,
+    met: &Conditions<'_>,
 ) -> Result<bool, NoMemory> {
-    let ran = outcome(rt, alloc, row, row.fail, piece, row.sink)?;
-    Ok(ran.is_as_wanted(row))
+    let ran = run_row(rt, alloc, row, met)?;
+    Ok(ran.is(row.status, row.text.as_bytes()))
 }
 
 /// Whether the run answers and writes what is wanted, with reads of 1, of 7 and of 4,096 bytes.
@@ -135,63 +264,60 @@ pub fn gives_at_every_piece<R: Threads + Wait + Copy + Send + Sync + 'static>(
     rt: &R,
     alloc: Global,
     row: &Row,
+    way: Way,
 ) -> Result<bool, NoMemory> {
-    for piece in ["1", "7", "4096"] {
-        if !gives(rt, alloc, row, piece)? {
+    for piece in [1, 7, 4096] {
+        let met = Conditions {
+            way,
+            piece,
+            ..row.met
+        };
+        if !gives(rt, alloc, row, &met)? {
             return Ok(false);
         }
     }
     Ok(true)
 }
 
-/// Whether a sink of every size up to the text's takes a front of the text, and one of its size all of it.
-pub fn gives_at_every_size<R: Threads + Wait + Copy + Send + Sync + 'static>(
+/// The text of the first row that doesn't give what is wanted at every piece. None where each does.
+pub fn wrong_at_a_piece<R: Threads + Wait + Copy + Send + Sync + 'static>(
     rt: &R,
     alloc: Global,
-    row: &Row,
-) -> Result<bool, NoMemory> {
-    let text = row.text.as_bytes();
-    for size in 0..text.len() {
-        let ran = outcome(rt, alloc, row, row.fail, row.piece, size)?;
-        if ran.status != Status::WriteFault || ran.sink.bytes() != &text[..size] {
-            return Ok(false);
+    rows: &[Row],
+    way: Way,
+) -> Result<Option<&'static str>, NoMemory> {
+    for row in rows {
+        if !gives_at_every_piece(rt, alloc, row, way)? {
+            return Ok(Some(row.text));
         }
     }
-    let ran = outcome(rt, alloc, row, row.fail, row.piece, text.len())?;
-    Ok(ran.is_as_wanted(row))
+    Ok(None)
 }
 
-// Whether the run is a read fault that wrote a front of the text, whichever call at the port fails of those that are made where
-// none does. There is one at least.
-fn gives_at_faults_of<R: Threads + Wait + Copy + Send + Sync + 'static>(
+/// The text of the first row that doesn't give what is wanted in what it meets. None where each does.
+pub fn wrong_as_met<R: Threads + Wait + Copy + Send + Sync + 'static>(
     rt: &R,
     alloc: Global,
-    row: &Row,
-    port: Port,
-    piece: &str,
-) -> Result<bool, NoMemory> {
-    let whole = outcome(rt, alloc, row, &[], piece, row.sink)?;
-    let calls = whole.files.calls(port);
-    for before in 0..calls {
-        let ran = outcome(rt, alloc, row, &[(port, before + 1)], piece, row.sink)?;
-        if !ran.is_read_fault(row) {
-            return Ok(false);
+    rows: &[Row],
+    way: Way,
+) -> Result<Option<&'static str>, NoMemory> {
+    for row in rows {
+        if !gives(rt, alloc, row, &Conditions { way, ..row.met })? {
+            return Ok(Some(row.text));
         }
     }
-    Ok(0 < calls && whole.is_as_wanted(row))
+    Ok(None)
 }
 
-/// Whether the run is a read fault that wrote a front of the text, whichever call at whichever port fails. Each port has one at least.
-pub fn gives_at_every_fault<R: Threads + Wait + Copy + Send + Sync + 'static>(
+/// Whether a run with that number of bytes a read is refused for its words, and writes nothing.
+pub fn is_usage<R: Threads + Wait + Copy + Send + Sync + 'static>(
     rt: &R,
     alloc: Global,
-    row: &Row,
     piece: &str,
 ) -> Result<bool, NoMemory> {
-    for port in [Port::Entities, Port::Page, Port::Script] {
-        if !gives_at_faults_of(rt, alloc, row, port, piece)? {
-            return Ok(false);
-        }
-    }
-    Ok(true)
+    let row = page(b"", Status::Usage, "");
+    let mut files = files(alloc, &row, &CALM)?;
+    let mut sink = sink(alloc, &CALM)?;
+    let status = run_on_two(rt, alloc, piece, false, &mut files, &mut sink)?;
+    Ok(status == row.status && sink.bytes().is_empty())
 }

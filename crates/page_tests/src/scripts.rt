@@ -1,11 +1,12 @@
 //! Pages with scripts.
 
-use crate::rows::{Row, gives, gives_at_every_piece, scripted};
+use crate::cases::WRITES_ITSELF;
+use crate::rows::{Conditions, Row, Way, failing, scripted, wrong_as_met, wrong_at_a_piece};
 use outside::Port;
 use page_runner::{Limit, Status};
 use std::test::Fail;
 
-fn scripts() -> [Row; 25] {
+fn scripts() -> [Row; 21] {
     [
         scripted(
             b"<p>a<script>document.write(\"<b>x</b>\");</script>b",
@@ -38,21 +39,6 @@ fn scripts() -> [Row; 25] {
             "tree \"<html><head></head><body><script>document.write(\\\"<script>document.write(\\\\\\\"A\\\\\\\");<\\\\/script>B\\\");document.write(\\\"C\\\");</script><script>document.write(\\\"A\\\");</script>ABCD</body></html>\"\n",
         ),
         scripted(
-            b"<body><script>document.write(\"<script src=\\\"a\\\"><\\/script>X\");document.write(\"Y\");</script>Z",
-            &[("a", b"document.write(\"Q\");")],
-            "tree \"<html><head></head><body><script>document.write(\\\"<script src=\\\\\\\"a\\\\\\\"><\\\\/script>X\\\");document.write(\\\"Y\\\");</script><script src=\\\"a\\\"></script>QXYZ</body></html>\"\n",
-        ),
-        scripted(
-            b"<script src=\"b\"></script>",
-            &[],
-            "miss \"b\"\ntree \"<html><head><script src=\\\"b\\\"></script></head><body></body></html>\"\n",
-        ),
-        scripted(
-            b"<script src=\"../b\"></script>",
-            &[],
-            "miss \"../b\"\ntree \"<html><head><script src=\\\"../b\\\"></script></head><body></body></html>\"\n",
-        ),
-        scripted(
             b"<script>foo();</script><script>document.getElementById(\"no\").remove();console.log(document.documentElement.outerHTML);</script>",
             &[],
             "syntax 1\nthrow 2\ntree \"<html><head><script>foo();</script><script>document.getElementById(\\\"no\\\").remove();console.log(document.documentElement.outerHTML);</script></head><body></body></html>\"\n",
@@ -62,14 +48,6 @@ fn scripts() -> [Row; 25] {
             &[("a", b"\xFF")],
             "syntax 1\ntree \"<html><head><script src=\\\"a\\\"></script></head><body></body></html>\"\n",
         ),
-        Row {
-            status: Status::BadUtf8,
-            ..scripted(
-                b"<script>console.log(document.documentElement.outerHTML);</script>\xFF",
-                &[],
-                "log 1 \"<html><head><script>console.log(document.documentElement.outerHTML);</script></head></html>\"\nrefused bad-utf8\n",
-            )
-        },
         scripted(
             b"<body><script>document.write(\"<textarea>\");</script><script>console.log(document.documentElement.outerHTML);</script>",
             &[],
@@ -140,27 +118,28 @@ fn scripts() -> [Row; 25] {
 
 #[test]
 fn scripts_give_their_lines(rt: HostRuntime) -> Result<(), Fail> {
-    for row in &scripts() {
-        assert!(rt; gives_at_every_piece(&rt, rt.alloc(), row)?, "{}", row.text);
-    }
+    assert_eq!(rt;
+        wrong_at_a_piece(&rt, rt.alloc(), &scripts(), Way::OnTwo)?,
+        None
+    );
     Ok(())
 }
 
-// Its 41,944th write passes the limit, and its file is read once.
+// Its 4,195th write passes the limit, and its file is read once.
 #[test]
 fn a_script_that_writes_itself_is_refused(rt: HostRuntime) -> Result<(), Fail> {
     let row = Row {
+        met: Conditions {
+            piece: 7,
+            ..failing(&[(Port::Script, 4)])
+        },
         status: Status::Limit(Limit::Writes),
-        fail: &[(Port::Script, 4)],
         ..scripted(
             b"<script src=\"a\"></script>",
-            &[(
-                "a",
-                b"document.write(\"<script src=\\\"a\\\"><\\/script>\");",
-            )],
+            &[("a", WRITES_ITSELF)],
             "refused writes\n",
         )
     };
-    assert!(rt; gives(&rt, rt.alloc(), &row, "7")?);
+    assert_eq!(rt; wrong_as_met(&rt, rt.alloc(), &[row], Way::OnTwo)?, None);
     Ok(())
 }

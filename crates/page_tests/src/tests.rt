@@ -1,17 +1,12 @@
 //! Pages that the tokenizer, formatting elements and the scopes decide.
 
-use crate::rows::{Row, gives, gives_at_every_piece, gives_at_every_size, page};
+use crate::rows::{Row, Way, is_usage, page, wrong_at_a_piece};
 use page_runner::{Limit, Status};
 use std::test::Fail;
 
 // Pages of each kind.
-fn pages() -> [Row; 15] {
+fn pages() -> [Row; 14] {
     [
-        page(
-            b"",
-            Status::Done,
-            "tree \"<html><head></head><body></body></html>\"\n",
-        ),
         page(
             b"<p>a<script>document.write(\"b\");</script>c",
             Status::Done,
@@ -120,7 +115,7 @@ fn dumps() -> [Row; 5] {
 }
 
 // Pages that the tokenizer decides: references, comments, doctypes, declarations, script data.
-fn tokens() -> [Row; 24] {
+fn tokens() -> [Row; 23] {
     [
         page(
             b"<!DOCTYPE html><p>Hi",
@@ -237,11 +232,6 @@ fn tokens() -> [Row; 24] {
             Status::Done,
             "tree \"<html><head></head><body><script>document.write(\\\"<textarea>\\\");</script><textarea>&lt;b&gt;</textarea></body></html>\"\n",
         ),
-        page(
-            b"<script>document.write(\"<!--\");</script>\xFF",
-            Status::BadUtf8,
-            "refused bad-utf8\n",
-        ),
     ]
 }
 
@@ -333,50 +323,44 @@ fn formatting() -> [Row; 16] {
 
 #[test]
 fn pages_give_their_trees(rt: HostRuntime) -> Result<(), Fail> {
-    for row in &pages() {
-        assert!(rt; gives_at_every_piece(&rt, rt.alloc(), row)?, "{}", row.text);
-    }
+    assert_eq!(rt;
+        wrong_at_a_piece(&rt, rt.alloc(), &pages(), Way::OnTwo)?,
+        None
+    );
     Ok(())
 }
 
 #[test]
 fn dumps_give_their_nodes(rt: HostRuntime) -> Result<(), Fail> {
-    for row in &dumps() {
-        assert!(rt; gives_at_every_piece(&rt, rt.alloc(), row)?, "{}", row.text);
-    }
+    assert_eq!(rt;
+        wrong_at_a_piece(&rt, rt.alloc(), &dumps(), Way::OnTwo)?,
+        None
+    );
     Ok(())
 }
 
 #[test]
 fn tokens_give_their_trees(rt: HostRuntime) -> Result<(), Fail> {
-    for row in &tokens() {
-        assert!(rt; gives_at_every_piece(&rt, rt.alloc(), row)?, "{}", row.text);
-    }
+    assert_eq!(rt;
+        wrong_at_a_piece(&rt, rt.alloc(), &tokens(), Way::OnTwo)?,
+        None
+    );
     Ok(())
 }
 
 #[test]
 fn formatting_gives_its_trees(rt: HostRuntime) -> Result<(), Fail> {
-    for row in &formatting() {
-        assert!(rt; gives_at_every_piece(&rt, rt.alloc(), row)?, "{}", row.text);
-    }
-    Ok(())
-}
-
-// Two pages, one of which gives a line of a script before its tree.
-#[test]
-fn a_sink_of_every_size_takes_a_front(rt: HostRuntime) -> Result<(), Fail> {
-    let pages = pages();
-    assert!(rt; gives_at_every_size(&rt, rt.alloc(), &pages[1])?);
-    assert!(rt; gives_at_every_size(&rt, rt.alloc(), &pages[7])?);
+    assert_eq!(rt;
+        wrong_at_a_piece(&rt, rt.alloc(), &formatting(), Way::OnTwo)?,
+        None
+    );
     Ok(())
 }
 
 #[test]
 fn words_that_clap_refuses_are_usage(rt: HostRuntime) -> Result<(), Fail> {
-    let row = page(b"", Status::Usage, "");
     for piece in ["0", "65537", "x"] {
-        assert!(rt; gives(&rt, rt.alloc(), &row, piece)?);
+        assert!(rt; is_usage(&rt, rt.alloc(), piece)?, "{piece}");
     }
     Ok(())
 }

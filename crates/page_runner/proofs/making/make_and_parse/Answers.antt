@@ -1,4 +1,4 @@
-use Rattle.std.proofs.Common.{refl, subst}
+use Rattle.std.proofs.Common.{subst}
 use Rattle.page_runner.specs.Making.{AreFilesOf}
 use Rattle.page_runner.proofs.MakingLemmas.{page-encoded}
 use Rattle.page_runner.proofs.making.make_and_parse.Goals as goal
