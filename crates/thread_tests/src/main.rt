@@ -1,5 +1,5 @@
 //! Runs pages on two threads that hold one another, and with delays: `thread_tests HELD SLOW` runs each held call so many times, and so many pages
-//! with delays.
+//! with delays. In between it counts what the document's side parses itself.
 #![tactic(auto)]
 
 mod calls;
@@ -11,8 +11,8 @@ mod pages;
 mod running;
 mod trials;
 
-use crate::counting::{count_parsed, long_comment};
-use crate::pages::PAGES;
+use crate::counting::{count_page, count_pages, long_comment};
+use crate::pages::{PAGES, STEADY};
 use crate::running::{Sending, run_alone, run_slowly};
 use crate::trials::{Held, run_held, run_held_in_place};
 use html_types::NoMemory;
@@ -70,21 +70,6 @@ fn count_slow<R: Threads + Wait + Copy + Send + Sync + 'static>(
     Ok(same)
 }
 
-// How many characters of all pages together, each at a size of read of its own, the document's side parses itself.
-fn count_all<R: Threads + Wait + Copy + Send + Sync + 'static>(
-    rt: &R,
-    alloc: Global,
-) -> Result<u64, NoMemory> {
-    let mut parsed: u64 = 0;
-    let mut piece: usize = 0;
-    for page in &PAGES {
-        piece = (piece + 7) % 64;
-        let here = count_parsed(rt, alloc, page, piece)?.unwrap_or(1);
-        parsed = parsed.saturating_add(here);
-    }
-    Ok(parsed)
-}
-
 // The number that the word with this place writes, 1 where there is none.
 fn number_at(words: &[String], at: usize) -> u32 {
     match words.get(at) {
@@ -129,6 +114,32 @@ fn tell_held<R: AllocGlobal + Print + Threads + Wait + Copy + Send + Sync + 'sta
     Ok(())
 }
 
+// Counts over the pages without failing scripts, with reads of so many bytes and one, and tells what they come to.
+fn tell_steady<R: AllocGlobal + Print + Threads + Wait + Copy + Send + Sync + 'static>(
+    rt: &R,
+    piece: usize,
+) -> Result<(), Trouble> {
+    let all = count_pages(rt, rt.alloc(), &STEADY, piece)?;
+    println!(rt;
+        "reads of {}: {} scripts fail, and the document's side parses {} characters itself",
+        1 + piece % 4096,
+        all.failed,
+        all.parsed
+    )?;
+    Ok(())
+}
+
+// Tells whether the document's side parses anything of a comment whose state is too long to be held.
+fn tell_long<R: AllocGlobal + Print + Threads + Wait + Copy + Send + Sync + 'static>(
+    rt: &R,
+) -> Result<(), Trouble> {
+    let page = long_comment(rt.alloc())?;
+    let count = count_page(rt, rt.alloc(), page.as_str(), 4095)?;
+    let word = if count.parsed == 0 { "nothing" } else { "some" };
+    println!(rt; "a long comment: the document's side parses {word} of it itself")?;
+    Ok(())
+}
+
 fn tell_all<R: AllocGlobal + Print + Threads + Wait + Copy + Send + Sync + 'static>(
     rt: &R,
     held: u32,
@@ -136,11 +147,10 @@ fn tell_all<R: AllocGlobal + Print + Threads + Wait + Copy + Send + Sync + 'stat
 ) -> Result<(), Trouble> {
     tell_held(rt, "fetch", Held::Fetch, held)?;
     tell_held(rt, "write", Held::Write, held)?;
-    let parsed = count_all(rt, rt.alloc())?;
-    println!(rt; "all pages: the document's side parses {parsed} characters itself")?;
-    let page = long_comment(rt.alloc())?;
-    let parsed = count_parsed(rt, rt.alloc(), page.as_str(), 4095)?.unwrap_or(0);
-    println!(rt; "a long comment: the document's side parses {parsed} characters itself")?;
+    tell_steady(rt, 0)?;
+    tell_steady(rt, 6)?;
+    tell_steady(rt, 4095)?;
+    tell_long(rt)?;
     let same = count_slow(rt, rt.alloc(), slow)?;
     println!(rt; "delays: {same} of {slow} runs give what the page gives without them")?;
     Ok(())

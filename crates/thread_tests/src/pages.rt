@@ -42,3 +42,15 @@ pub const PAGES: [&str; 20] = [
     "<p>a<script src=\"bold\"></script>b<script>document.getElementById(\"no\").remove();</script><select><option>c<option>d",
     "<p id=\"p\">a<script>document.write(\"<i id=\\\"q\\\">\");document.getElementById(\"p\").append(document.getElementById(\"q\"));</script>b<script src=\"bold\"></script>c",
 ];
+
+/// Pages of which no script fails: none, scripts that are kept, files that are awaited, nested writes, a table, svg, a template, and text that is no tag.
+pub const STEADY: [&str; 8] = [
+    "<!doctype html><title>a</title><body id=\"b\"><p>plain &amp; text&notin;<b>1<p>2</b>3<!-- c --><select><option>d<option>e",
+    "<p>a<script>document.write(\"<b>x</b>\");</script>b<p>c<script>document.write(\"d\");</script>e",
+    "<p>a<script src=\"kept\"></script>b<script src=\"kept\"></script>c<script src=\"a\"></script>d",
+    "<body>a<script src=\"nested\"></script>b<p>c<script src=\"nested\"></script>d",
+    "<body><table><tr><td>c<script>document.write(\"<b>d</b>\");</script>e</table>f",
+    "<body><svg viewbox=\"0\"><foreignobject><p>a<script>document.write(\"<i>x</i>\");</script>b</svg><math><mi>c<script src=\"kept\"></script>d",
+    "<body><template>a<script>document.write(\"n\");</script><b>b</template>c",
+    "<body><textarea>a</textarea><style>b</style>c<script src=\"kept\"></script>d",
+];
