@@ -1,9 +1,9 @@
 //! How much of a page the document's side parses itself.
 
-ghost use Rattle.std.specs.Prelude.{◌≡◌};
+ghost use Rattle.std.specs.Prelude.{◌≡◌, [], IfOk};
 
 use crate::calls::report_on_two;
-use crate::running::{ROOM, files_of, table_of};
+use crate::running::{ROOM, files_of};
 use entity_table::Table;
 use html_types::NoMemory;
 use outside::{MemSink, OpenGate};
@@ -64,25 +64,38 @@ fn count_in_force<R: Threads + Wait + Copy + Send + Sync + 'static, E: InForce +
     count_of(&report).ok_or(NoMemory)
 }
 
-fn count_by_table<R: Threads + Wait + Copy + Send + Sync + 'static>(
+// The table of a file that lists no entity.
+fn no_entities(alloc: Global) -> Result<Table, NoMemory>
+    ensures { IfOk result (λ table. table ≡ []) }
+{
+    match Table::read(alloc, b"{}") {
+        Ok(table) => Ok(table),
+        Err(_) => Err(NoMemory),
+    }
+}
+
+// The same, with no entities in force.
+fn count_without<R: Threads + Wait + Copy + Send + Sync + 'static>(
     rt: &R,
     alloc: Global,
     table: &Table,
     page: &str,
     piece: usize,
-) -> Result<Count, NoMemory> {
+) -> Result<Count, NoMemory>
+    requires table { table.now ≡ [] }
+{
     count_in_force::<R, Brand>(rt, alloc, table, page, piece)
 }
 
-/// What the page comes to on two threads, with reads of `piece` + 1 bytes, up to 4,096. A run that isn't done is want of memory.
+/// What the page comes to on two threads, with no entities, and with reads of `piece` + 1 bytes, up to 4,096. A run that isn't done is want of memory.
 pub fn count_page<R: Threads + Wait + Copy + Send + Sync + 'static>(
     rt: &R,
     alloc: Global,
     page: &str,
     piece: usize,
 ) -> Result<Count, NoMemory> {
-    let table = table_of(alloc)?;
-    count_by_table(rt, alloc, &table, page, piece)
+    let table = no_entities(alloc)?;
+    count_without(rt, alloc, &table, page, piece)
 }
 
 /// What the pages come to together.
