@@ -14,9 +14,9 @@ mod tests;
 mod words;
 
 pub use command::{ENTITIES_LIMIT, run};
+pub use core_steps::Tally;
 pub use in_place::page_in_place;
 pub use on_two::page_on_two;
-pub use core_steps::Tally;
 pub use page_turns::Job;
 pub use report::Report;
 pub use status::{Limit, Status};

@@ -67,7 +67,9 @@ fn tally_line(alloc: Global, tally: Tally) -> Result<String, AllocError>
         nodes,
         written,
     } = tally;
-    format!(in alloc; "scripts {scripts} kept {kept} failed {failed} nodes {nodes} written {written}\n")
+    format!(in alloc;
+        "scripts {scripts} kept {kept} failed {failed} nodes {nodes} written {written}\n"
+    )
 }
 
 // Writes the line of the numbers, and finishes the sink.
@@ -163,7 +165,14 @@ fn parse_made<
         dump: false,
     };
     let mut nowhere = Nowhere::new();
-    let report = page_on_two::<R, E, NeverFails, Nowhere, G>(rt, alloc, &job, files, &mut nowhere, gate);
+    let report = page_on_two::<R, E, NeverFails, Nowhere, G>(
+        rt,
+        alloc,
+        &job,
+        files,
+        &mut nowhere,
+        gate,
+    );
     run_of(&report)
 }
 
@@ -181,12 +190,7 @@ fn no_entities(alloc: Global) -> Result<Table, NoMemory>
 fn make_and_parse<
     R: Threads + Wait + Copy + Send + Sync + 'static,
     G: Gate + Drop + Send + Sync + 'static,
->(
-    rt: &R,
-    alloc: Global,
-    gate: &Arc<G, Global>,
-    words: MakeWords,
-) -> Result<MadeRun, NoMemory>
+>(rt: &R, alloc: Global, gate: &Arc<G, Global>, words: MakeWords) -> Result<MadeRun, NoMemory>
     requires number { words.number < 2 ^ 31 }
     requires count { words.count ≤ 50000 }
     ensures { IfOk result (λ run. IsRunOf words run) }
@@ -203,13 +207,7 @@ pub(crate) fn run_make<
     R: Threads + Wait + Copy + Send + Sync + 'static,
     K: Sink,
     G: Gate + Drop + Send + Sync + 'static,
->(
-    rt: &R,
-    alloc: Global,
-    out: &mut K,
-    gate: &Arc<G, Global>,
-    words: MakeWords,
-) -> Status
+>(rt: &R, alloc: Global, out: &mut K, gate: &Arc<G, Global>, words: MakeWords) -> Status
     requires number { words.number < 2 ^ 31 }
     requires count { words.count ≤ 50000 }
     ensures makes { Makes words (Rose (K.faults out.old) (K.faults out.new)) (K.taken out.old) (K.taken out.new) result }
