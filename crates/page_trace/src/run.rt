@@ -1,0 +1,201 @@
+//! A page is run in the calling thread, and its steps noted.
+
+ghost use Rattle.std.specs.Prelude.{◌≡◌, ◌<◌, ◌≤◌, [], None, IfOk, IfSome, length};
+ghost use Rattle.core_steps.specs.Sides.{first_shown};
+ghost use Rattle.page_turns.specs.Turns.{no_load};
+
+use crate::exchange::{Noted, Notes, note_all};
+use crate::trace::{Row, rows_of};
+use core_steps::{DocSide, Fetch};
+use entity_table::{Table, TableFault};
+use html_types::NoMemory;
+use outside::{Failed, Outside, Port, Sink};
+use page_turns::{Counterpart, Failure, InPlace, Job, Outcome, parse_page, read_whole};
+use speculation::InForce;
+use std::alloc::{AllocError, Global};
+use std::marker::Brand;
+
+// The most bytes of the entities file.
+const ENTITIES_LIMIT: usize = 4_194_304;
+
+/// Why there is no trace.
+#[derive(Clone, Copy, Debug, PartialEq, Eq)]
+pub enum Untraced {
+    NoMemory,
+    /// There is no such page, or no entities file that is one.
+    Unread,
+}
+
+impl From<AllocError> for Untraced {
+    fn from(_error: AllocError) -> Untraced {
+        Untraced::NoMemory
+    }
+}
+
+impl From<NoMemory> for Untraced {
+    fn from(_error: NoMemory) -> Untraced {
+        Untraced::NoMemory
+    }
+}
+
+/// A sink that takes everything and keeps nothing.
+#[derive(Drop)]
+struct Nowhere {
+    is_clean: bool,
+}
+
+impl Sink for Nowhere {
+    ghost taken = { λ _. None };
+
+    ghost faults = { λ _. 0 };
+
+    ghost clean = { λ sink. sink.is_clean };
+
+    fn write(&mut self, bytes: &[u8]) -> Result<usize, Failed> {
+        self.is_clean = false;
+        Ok(bytes.len())
+    }
+
+    fn finish(&mut self) -> Result<(), Failed> {
+        self.is_clean = true;
+        Ok(())
+    }
+}
+
+/// The paths of a page, of its scripts' folder and of the entities file.
+#[derive(Clone, Copy)]
+pub struct Paths<'a> {
+    pub page: &'a str,
+    pub dir: &'a str,
+    pub entities: &'a str,
+}
+
+fn read_table<F: Outside>(alloc: Global, files: &mut F, path: &str) -> Result<Table, Untraced> {
+    let fetch = read_whole(alloc, files, Port::Entities, path, ENTITIES_LIMIT)?;
+    let Fetch::Got(bytes) = fetch else {
+        return Err(Untraced::Unread);
+    };
+    match Table::read(alloc, &bytes) {
+        Ok(table) => Ok(table),
+        Err(TableFault::NotTable) => Err(Untraced::Unread),
+        Err(TableFault::NoMemory) => Err(Untraced::NoMemory),
+    }
+}
+
+// What a run begins with: room for a read, and the document's side.
+fn begin_run(alloc: Global, job: &Job<'_>) -> Result<(Vec<u8>, DocSide), NoMemory>
+    requires piece { 0 < job.now.piece }
+    requires some { 0 < job.now.ahead }
+    requires few { job.now.ahead ≤ 64 }
+    ensures room { IfOk result (λ begun. 0 < length begun.0.items) }
+    ensures side { IfOk result (λ begun. begun.1 ≡ first_shown job.now.table.now job.now.ahead) }
+{
+    let room = vec![in alloc; 0u8; job.piece]?;
+    let side = DocSide::new(alloc, job.table, job.ahead)?;
+    Ok((room, side))
+}
+
+// The parse alone: what it promises is long, and nothing behind it needs that.
+fn parse<E: InForce, L: Counterpart<E>, F: Outside>(
+    alloc: Global,
+    job: &Job<'_>,
+    files: &mut F,
+    side: &mut DocSide,
+    lanes: &mut L,
+    room: &mut [u8],
+) -> Result<Outcome, Failure>
+    requires table { job.now.table.now ≡ E.entities }
+    requires first { side.old ≡ first_shown job.now.table.now job.now.ahead }
+    requires load { L.load lanes.old ≡ no_load }
+    requires put { IfSome (L.put lanes.old) (λ asks. asks ≡ []) }
+    requires taken { IfSome (L.taken lanes.old) (λ messages. messages ≡ []) }
+    requires room { 0 < length room.old }
+    requires some { 0 < job.now.ahead }
+    requires few { job.now.ahead ≤ 64 }
+{
+    let mut out = Nowhere { is_clean: true };
+    parse_page::<E, L, F, Nowhere>(alloc, job, files, &mut out, side, lanes, room)
+}
+
+// What was done and noted, as rows.
+fn rows_in(alloc: Global, side: &DocSide, notes: &Notes) -> Result<Vec<Row>, Untraced> {
+    let steps = notes.passed()?;
+    Ok(rows_of(alloc, side.journal().events(), steps)?)
+}
+
+// Runs the page that was begun, with this counterpart. Its lines go nowhere.
+fn run_with<E: InForce, L: Counterpart<E> + Drop, F: Outside>(
+    alloc: Global,
+    job: &Job<'_>,
+    files: &mut F,
+    lanes: L,
+) -> Result<Vec<Row>, Untraced>
+    requires table { job.now.table.now ≡ E.entities }
+    requires load { L.load lanes ≡ no_load }
+    requires put { IfSome (L.put lanes) (λ asks. asks ≡ []) }
+    requires taken { IfSome (L.taken lanes) (λ messages. messages ≡ []) }
+    requires piece { 0 < job.now.piece }
+    requires some { 0 < job.now.ahead }
+    requires few { job.now.ahead ≤ 64 }
+{
+    let (mut room, mut side) = begin_run(alloc, job)?;
+    let mut noted = note_all::<E, L>(alloc, lanes);
+    match parse::<E, Noted<L>, F>(alloc, job, files, &mut side, &mut noted, &mut room) {
+        Err(Failure::Memory) | Err(Failure::Write) => Err(Untraced::NoMemory),
+        Ok(_) => rows_in(alloc, &side, &noted.notes),
+    }
+}
+
+// The parser's side is in this thread.
+fn run_begun<E: InForce, F: Outside>(
+    alloc: Global,
+    job: &Job<'_>,
+    files: &mut F,
+) -> Result<Vec<Row>, Untraced>
+    requires table { job.now.table.now ≡ E.entities }
+    requires piece { 0 < job.now.piece }
+    requires some { 0 < job.now.ahead }
+    requires few { job.now.ahead ≤ 64 }
+{
+    run_with::<E, InPlace<E>, F>(alloc, job, files, InPlace::<E>::new(alloc))
+}
+
+// The same, the table's entities being in force.
+fn run_by_table<F: Outside>(
+    alloc: Global,
+    job: &Job<'_>,
+    files: &mut F,
+) -> Result<Vec<Row>, Untraced>
+    requires piece { 0 < job.now.piece }
+    requires some { 0 < job.now.ahead }
+    requires few { job.now.ahead ≤ 64 }
+{
+    run_begun::<Brand, F>(alloc, job, files)
+}
+
+/// The rows of a run over these files, with reads of so many bytes and so many requests ahead at most.
+pub fn trace<F: Outside>(
+    alloc: Global,
+    files: &mut F,
+    paths: Paths<'_>,
+    piece: usize,
+    ahead: usize,
+) -> Result<Vec<Row>, Untraced>
+    requires piece { 0 < piece }
+    requires some { 0 < ahead }
+    requires few { ahead ≤ 64 }
+{
+    let table = read_table(alloc, files, paths.entities)?;
+    if files.begin(Port::Page, paths.page) != Ok(true) {
+        return Err(Untraced::Unread);
+    }
+    let job = Job {
+        page: String::from_str(alloc, paths.page)?,
+        dir: String::from_str(alloc, paths.dir)?,
+        table: &table,
+        piece,
+        ahead,
+        dump: false,
+    };
+    run_by_table(alloc, &job, files)
+}
