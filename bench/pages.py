@@ -2,7 +2,7 @@
 
 "The output left out": a byte that isn't UTF-8 stands behind the page. The program parses the page, builds its tree, meets the byte and
 refuses the page in one line, so the tree is made and its text isn't."""
-import os, platform, subprocess, sys, time
+import os, platform, re, subprocess, sys, time
 
 WORDS = "Some text of an ordinary page, with a few words in it. "
 # name: what stands before, the item that is repeated (with {n}, its number), what stands behind
@@ -78,6 +78,13 @@ class Used:
             sys.exit("%s: status %d" % (" ".join(words), run.returncode))
         seconds = used.ru_utime + used.ru_stime
         self.seconds = seconds if self.seconds is None else min(self.seconds, seconds)
+
+
+def instructions(words):
+    """How many a run takes, by valgrind. They hardly vary with what else the machine does."""
+    ran = subprocess.run(["valgrind", "--tool=callgrind", "--callgrind-out-file=/dev/null", *words], stdout=subprocess.DEVNULL,
+                         stderr=subprocess.PIPE, text=True)
+    return int(re.search(r"Collected *: *([0-9]+)", ran.stderr)[1])
 
 
 def machine():

@@ -36,7 +36,7 @@ const SECOND_READ: Conditions<'static> = Conditions {
     ..CALM
 };
 
-fn faults() -> [Row; 8] {
+fn faults() -> [Row; 9] {
     [
         Row {
             met: failing(&[(Port::Script, 1)]),
@@ -46,7 +46,6 @@ fn faults() -> [Row; 8] {
         // The scripts write too much before the fault of the page is come to.
         Row {
             met: SECOND_READ,
-            times: 100,
             status: Status::Limit(Limit::Writes),
             ..scripted(EXTERNAL, &[("a", WRITES_ITSELF)], "refused writes\n")
         },
@@ -57,12 +56,23 @@ fn faults() -> [Row; 8] {
         },
         // They write too much before the bad byte is come to.
         Row {
-            times: 100,
             status: Status::Limit(Limit::Writes),
             ..scripted(
                 b"<script src=\"a\"></script>\xFF",
                 &[("a", WRITES_ITSELF)],
                 "refused writes\n",
+            )
+        },
+        // What a script logs before the fault stands. The script's element is the first read's 65 bytes.
+        Row {
+            met: Conditions {
+                piece: 65,
+                ..SECOND_READ
+            },
+            ..page(
+                b"<script>console.log(document.documentElement.outerHTML);</script>x",
+                Status::ReadFault,
+                "log 1 \"<html><head><script>console.log(document.documentElement.outerHTML);</script></head></html>\"\n",
             )
         },
         // The fault comes in the middle of a character.

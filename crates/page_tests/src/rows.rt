@@ -49,13 +49,12 @@ pub fn failing(fail: &'static [(Port, u64)]) -> Conditions<'static> {
     Conditions { fail, ..CALM }
 }
 
-/// A page (none: there is no such file), the files of its scripts, each of which holds its text so many times, the entities file, whether the dump is
-/// asked for, what the run meets, and the status and text that are wanted.
+/// A page (none: there is no such file), the files of its scripts, the entities file, whether the dump is asked for, what the run meets, and the status and
+/// text that are wanted.
 #[derive(Clone, Copy)]
 pub struct Row {
     pub page: Option<&'static [u8]>,
     pub scripts: &'static [(&'static str, &'static [u8])],
-    pub times: usize,
     pub entities: &'static str,
     pub dump: bool,
     pub met: Conditions<'static>,
@@ -72,7 +71,6 @@ pub fn page(page: &'static [u8], status: Status, text: &'static str) -> Row {
     Row {
         page: Some(page),
         scripts: &[],
-        times: 1,
         entities: ENTITIES,
         dump: false,
         met: CALM,
@@ -93,19 +91,10 @@ pub fn scripted(
     }
 }
 
-fn repeated(alloc: Global, bytes: &[u8], times: usize) -> Result<Vec<u8>, NoMemory> {
-    let mut all = Vec::new(alloc);
-    for _ in 0..times {
-        all.extend_from_slice(bytes)?;
-    }
-    Ok(all)
-}
-
 fn add_scripts(alloc: Global, files: &mut MemFiles, row: &Row) -> Result<(), NoMemory> {
     for (name, bytes) in row.scripts {
         let path = format!(in alloc; "d/{name}")?;
-        let text = repeated(alloc, bytes, row.times)?;
-        files.add(path.as_str(), &text)?;
+        files.add(path.as_str(), bytes)?;
     }
     Ok(())
 }

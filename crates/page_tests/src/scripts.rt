@@ -125,7 +125,7 @@ fn scripts_give_their_lines(rt: HostRuntime) -> Result<(), Fail> {
     Ok(())
 }
 
-// Its 4,195th write passes the limit, and its file is read once.
+// Its 41,944th write passes the limit, and its file is read once.
 #[test]
 fn a_script_that_writes_itself_is_refused(rt: HostRuntime) -> Result<(), Fail> {
     let row = Row {

@@ -303,19 +303,24 @@ fn sinks_take_a_front_behind_svg(rt: HostRuntime) -> Result<(), Fail> {
     Ok(())
 }
 
-// A run to the limit of writes takes long: its calls fail in turn at one limit, and only the sinks are tried that take all.
 #[test]
-fn a_page_that_writes_itself_fails_in_turn(rt: HostRuntime) -> Result<(), Fail> {
-    let case = writes_itself();
-    assert!(rt; gives_at_each_port(&rt, rt.alloc(), &case, Way::OnTwo, 4096)?);
-    assert!(rt; gives_at_each_port(&rt, rt.alloc(), &case, Way::InPlace, 4096)?);
+fn calls_fail_in_turn_where_a_script_writes_itself(rt: HostRuntime) -> Result<(), Fail> {
+    let cases = [writes_itself()];
+    assert_eq!(rt; wrong_at_a_call(&rt, rt.alloc(), &cases, Way::OnTwo)?, None);
+    assert_eq!(rt;
+        wrong_at_a_call(&rt, rt.alloc(), &cases, Way::InPlace)?,
+        None
+    );
     Ok(())
 }
 
 #[test]
-fn a_sink_takes_all_of_a_refusal(rt: HostRuntime) -> Result<(), Fail> {
-    let case = writes_itself();
-    assert!(rt; gives_all(&rt, rt.alloc(), &case, Way::OnTwo)?);
-    assert!(rt; gives_all(&rt, rt.alloc(), &case, Way::InPlace)?);
+fn sinks_take_a_front_where_a_script_writes_itself(rt: HostRuntime) -> Result<(), Fail> {
+    let cases = [writes_itself()];
+    assert_eq!(rt; wrong_at_a_sink(&rt, rt.alloc(), &cases, Way::OnTwo)?, None);
+    assert_eq!(rt;
+        wrong_at_a_sink(&rt, rt.alloc(), &cases, Way::InPlace)?,
+        None
+    );
     Ok(())
 }
