@@ -102,6 +102,7 @@ impl<T: Entry> SharedStack<T> {
     }
 
     /// Takes the latest entry off, if there is one. One that is shared stays for the copies.
+    #[tactic(auto, using(std::proofs::lemmas::Grind::common_steps, crate::proofs::Ends::reverse_fewer))]
     pub fn pop(&mut self) -> bool
         ensures some { IsTrue result ↔ (0 < length self.old) }
         ensures rest { self.new ≡ drop 1 self.old }
