@@ -53,6 +53,7 @@ fn joined<T: Entry>(alloc: Global, older: &[T], own: &mut Vec<T>) -> Result<Vec<
 }
 
 // Copies the entries from that place on, so that they are the list's own.
+#[tactic(auto, using(std::proofs::lemmas::Grind::common_steps, crate::proofs::Ends::parted))]
 fn own_from<T: Entry>(
     older: &mut Older<T>,
     own: &mut Vec<T>,
@@ -164,6 +165,7 @@ impl<T: Entry> SharedStack<T> {
     }
 
     /// Takes an entry out, wherever it stands: the earliest has place 0. Those behind it become the list's own.
+    #[tactic(auto, using(std::proofs::lemmas::Grind::common_steps, crate::proofs::Ends::behind))]
     pub fn take_out(&mut self, place: usize) -> Result<(), AllocError>
         requires { place < length self.old }
         ensures ok { OnOk result (self.new ≡ reverse (remove (reverse self.old) place)) }
@@ -175,6 +177,7 @@ impl<T: Entry> SharedStack<T> {
     }
 
     /// Puts an entry in at a place: the earliest has place 0. Those behind it become the list's own.
+    #[tactic(auto, using(std::proofs::lemmas::Grind::common_steps, crate::proofs::Ends::behind))]
     pub fn put_in(&mut self, place: usize, entry: T) -> Result<(), AllocError>
         requires { place ≤ length self.old }
         ensures ok { OnOk result (self.new ≡ reverse (insert (reverse self.old) place entry)) }
@@ -190,6 +193,7 @@ impl<T: Entry> SharedStack<T> {
     }
 
     /// Puts an entry in the stead of the one at a place: the earliest has place 0. Those behind it become the list's own.
+    #[tactic(auto, using(std::proofs::lemmas::Grind::common_steps, crate::proofs::Ends::behind))]
     pub fn replace(&mut self, place: usize, entry: T) -> Result<(), AllocError>
         requires { place < length self.old }
         ensures ok { OnOk result (self.new ≡ reverse (slice_set (reverse self.old) place entry)) }

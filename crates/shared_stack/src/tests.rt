@@ -23,15 +23,16 @@ fn stack_of(alloc: Global, letters: &[u8]) -> Result<SharedStack<Letter>, AllocE
     Ok(stack)
 }
 
+// Whether the entries are these letters, the latest last.
 fn has(stack: &SharedStack<Letter>, letters: &[u8]) -> bool {
-    let mut place = letters.len();
-    for letter in stack.walk() {
-        if place == 0 || letter.0 != letters[place - 1] {
-            return false;
+    let mut walk = stack.walk();
+    for letter in letters.iter().rev() {
+        match walk.next() {
+            Some(entry) if entry.0 == *letter => {}
+            _ => return false,
         }
-        place -= 1;
     }
-    place == 0
+    walk.next().is_none()
 }
 
 // Twenty letters, all of which are shared.
@@ -80,14 +81,20 @@ fn edits_at_places(rt: HostRuntime) -> Result<(), Fail> {
     let mut stack = shared(alloc)?;
     let copy = stack.copy(alloc)?;
     stack.push(Letter(b'u'))?;
+    assert!(rt; 20 < stack.len());
     stack.take_out(20)?;
+    assert!(rt; 20 <= stack.len());
     stack.put_in(20, Letter(b'v'))?;
+    assert!(rt; 20 < stack.len());
     stack.replace(20, Letter(b'w'))?;
     assert!(rt; has(&stack, b"abcdefghijklmnopqrstw"));
+    assert!(rt; 17 < stack.len());
     stack.take_out(17)?;
     assert!(rt; has(&stack, b"abcdefghijklmnopqstw"));
+    assert!(rt; 16 < stack.len());
     stack.put_in(16, Letter(b'x'))?;
     assert!(rt; has(&stack, b"abcdefghijklmnopxqstw"));
+    assert!(rt; 0 < stack.len());
     stack.replace(0, Letter(b'y'))?;
     assert!(rt; has(&stack, b"ybcdefghijklmnopxqstw"));
     assert!(rt; has(&copy, b"abcdefghijklmnopqrst"));
@@ -101,9 +108,9 @@ fn entries_at_places(rt: HostRuntime) -> Result<(), Fail> {
     stack.push(Letter(b'u'))?;
     let letters = b"abcdefghijklmnopqrstu";
     assert_eq!(rt; stack.len(), letters.len());
-    for place in 0..letters.len() {
+    for (place, letter) in letters.iter().enumerate() {
         assert!(rt; place < stack.len());
-        assert_eq!(rt; stack.at(place).0, letters[place]);
+        assert_eq!(rt; stack.at(place).0, *letter);
     }
     let mut walk = stack.walk();
     let _latest = walk.next();
@@ -120,6 +127,7 @@ fn lists_that_differ(rt: HostRuntime) -> Result<(), Fail> {
     let stack = shared(alloc)?;
     let mut other = stack_of(alloc, b"abcdefghijklmnopqrst")?;
     assert!(rt; stack.same(&other));
+    assert!(rt; 19 < other.len());
     other.replace(19, Letter(b'!'))?;
     assert!(rt; !stack.same(&other));
     other.share(alloc)?;
@@ -130,6 +138,7 @@ fn lists_that_differ(rt: HostRuntime) -> Result<(), Fail> {
     assert!(rt; !copy.same(&stack));
     copy.push(Letter(b't'))?;
     assert!(rt; copy.same(&stack));
+    assert!(rt; 0 < copy.len());
     copy.replace(0, Letter(b'!'))?;
     assert!(rt; !copy.same(&stack));
     Ok(())
