@@ -35,128 +35,110 @@ fn has(stack: &SharedStack<Letter>, letters: &[u8]) -> bool {
     walk.next().is_none()
 }
 
-// Twenty letters, all of which are shared.
+// Twenty letters, all of which are shared, and one behind them.
 fn shared(alloc: Global) -> Result<SharedStack<Letter>, AllocError> {
     let mut stack = stack_of(alloc, b"abcdefghijklmnopqrst")?;
     stack.share(alloc)?;
+    stack.push(Letter(b'u'))?;
     Ok(stack)
+}
+
+// Whether a list of these letters, none of which is shared, is the same.
+fn is_same(alloc: Global, stack: &SharedStack<Letter>, letters: &[u8]) -> Result<bool, AllocError> {
+    let other = stack_of(alloc, letters)?;
+    Ok(stack.same(&other) && other.same(stack))
+}
+
+// Whether the latest entry, which is taken off, is that letter.
+fn takes(stack: &mut SharedStack<Letter>, letter: u8) -> Result<bool, AllocError> {
+    match stack.take()? {
+        Some(entry) => Ok(entry.0 == letter),
+        None => Ok(false),
+    }
 }
 
 #[test]
 fn a_copy_stays_as_it_is(rt: HostRuntime) -> Result<(), Fail> {
-    let alloc = rt.alloc();
-    let mut stack = stack_of(alloc, b"ab")?;
-    let copy = stack.copy(alloc)?;
+    let mut stack = stack_of(rt.alloc(), b"ab")?;
+    let copy = stack.copy(rt.alloc())?;
     assert!(rt; stack.pop());
     stack.push(Letter(b'c'))?;
     assert!(rt; has(&stack, b"ac"));
     assert!(rt; has(&copy, b"ab"));
-    assert!(rt; stack.pop());
-    assert!(rt; stack.pop());
-    assert!(rt; !stack.pop());
-    assert_eq!(rt; stack.len(), 0);
-    assert!(rt; has(&copy, b"ab"));
     Ok(())
 }
 
 #[test]
-fn a_copy_shares_what_is_shared(rt: HostRuntime) -> Result<(), Fail> {
-    let alloc = rt.alloc();
-    let mut stack = shared(alloc)?;
-    let copy = stack.copy(alloc)?;
+fn takes_own_and_shared_entries(rt: HostRuntime) -> Result<(), Fail> {
+    let mut stack = shared(rt.alloc())?;
+    let copy = stack.copy(rt.alloc())?;
+    assert!(rt; takes(&mut stack, b'u')?);
+    assert!(rt; takes(&mut stack, b't')?);
     assert!(rt; stack.pop());
-    assert!(rt; matches!(stack.take()?, Some(Letter(b's'))));
-    stack.push(Letter(b'!'))?;
-    assert!(rt; has(&stack, b"abcdefghijklmnopqr!"));
-    assert!(rt; has(&copy, b"abcdefghijklmnopqrst"));
-    assert!(rt; matches!(stack.take()?, Some(Letter(b'!'))));
     assert!(rt; matches!(stack.latest(), Some(Letter(b'r'))));
-    assert!(rt; matches!(copy.latest(), Some(Letter(b't'))));
+    assert!(rt; has(&copy, b"abcdefghijklmnopqrstu"));
     Ok(())
 }
 
 #[test]
-fn edits_at_places(rt: HostRuntime) -> Result<(), Fail> {
-    let alloc = rt.alloc();
-    let mut stack = shared(alloc)?;
-    let copy = stack.copy(alloc)?;
-    stack.push(Letter(b'u'))?;
+fn edits_at_a_place_of_its_own(rt: HostRuntime) -> Result<(), Fail> {
+    let mut stack = shared(rt.alloc())?;
     assert!(rt; 20 < stack.len());
-    stack.take_out(20)?;
-    assert!(rt; 20 <= stack.len());
     stack.put_in(20, Letter(b'v'))?;
+    assert!(rt; 21 < stack.len());
+    stack.take_out(21)?;
     assert!(rt; 20 < stack.len());
     stack.replace(20, Letter(b'w'))?;
     assert!(rt; has(&stack, b"abcdefghijklmnopqrstw"));
+    Ok(())
+}
+
+#[test]
+fn edits_at_a_shared_place(rt: HostRuntime) -> Result<(), Fail> {
+    let mut stack = shared(rt.alloc())?;
+    let copy = stack.copy(rt.alloc())?;
     assert!(rt; 17 < stack.len());
     stack.take_out(17)?;
-    assert!(rt; has(&stack, b"abcdefghijklmnopqstw"));
-    assert!(rt; 16 < stack.len());
-    stack.put_in(16, Letter(b'x'))?;
-    assert!(rt; has(&stack, b"abcdefghijklmnopxqstw"));
+    assert!(rt; 15 < stack.len());
+    stack.put_in(15, Letter(b'v'))?;
     assert!(rt; 0 < stack.len());
-    stack.replace(0, Letter(b'y'))?;
-    assert!(rt; has(&stack, b"ybcdefghijklmnopxqstw"));
-    assert!(rt; has(&copy, b"abcdefghijklmnopqrst"));
+    stack.replace(0, Letter(b'w'))?;
+    assert!(rt; has(&stack, b"wbcdefghijklmnovpqstu"));
+    assert!(rt; has(&copy, b"abcdefghijklmnopqrstu"));
     Ok(())
 }
 
 #[test]
 fn entries_at_places(rt: HostRuntime) -> Result<(), Fail> {
-    let alloc = rt.alloc();
-    let mut stack = shared(alloc)?;
-    stack.push(Letter(b'u'))?;
-    let letters = b"abcdefghijklmnopqrstu";
-    assert_eq!(rt; stack.len(), letters.len());
-    for (place, letter) in letters.iter().enumerate() {
+    let stack = shared(rt.alloc())?;
+    for (place, letter) in b"abcdefghijklmnopqrstu".iter().enumerate() {
         assert!(rt; place < stack.len());
         assert_eq!(rt; stack.at(place).0, *letter);
     }
-    let mut walk = stack.walk();
-    let _latest = walk.next();
-    let rest = walk.copy();
-    assert_eq!(rt; walk.len(), 20);
-    assert!(rt; matches!(walk.next(), Some(Letter(b't'))));
-    assert!(rt; matches!(rest.latest(), Some(Letter(b't'))));
+    let rest = stack.walk().copy();
+    assert_eq!(rt; rest.len(), 21);
+    assert!(rt; matches!(rest.latest(), Some(Letter(b'u'))));
     Ok(())
 }
 
 #[test]
 fn lists_that_differ(rt: HostRuntime) -> Result<(), Fail> {
-    let alloc = rt.alloc();
-    let stack = shared(alloc)?;
-    let mut other = stack_of(alloc, b"abcdefghijklmnopqrst")?;
-    assert!(rt; stack.same(&other));
-    assert!(rt; 19 < other.len());
-    other.replace(19, Letter(b'!'))?;
-    assert!(rt; !stack.same(&other));
-    other.share(alloc)?;
-    assert!(rt; !stack.same(&other));
-    let mut copy = stack.copy(alloc)?;
-    assert!(rt; copy.same(&stack));
-    assert!(rt; copy.pop());
-    assert!(rt; !copy.same(&stack));
-    copy.push(Letter(b't'))?;
-    assert!(rt; copy.same(&stack));
-    assert!(rt; 0 < copy.len());
-    copy.replace(0, Letter(b'!'))?;
-    assert!(rt; !copy.same(&stack));
+    let stack = shared(rt.alloc())?;
+    assert!(rt; is_same(rt.alloc(), &stack, b"abcdefghijklmnopqrstu")?);
+    assert!(rt; !is_same(rt.alloc(), &stack, b"abcdefghijklmnopqrst!")?);
+    assert!(rt; !is_same(rt.alloc(), &stack, b"!bcdefghijklmnopqrstu")?);
+    assert!(rt; !is_same(rt.alloc(), &stack, b"abcdefghijklmnopqrst")?);
     Ok(())
 }
 
 #[test]
 fn copies_go_in_any_order(rt: HostRuntime) -> Result<(), Fail> {
-    let alloc = rt.alloc();
-    let first = shared(alloc)?;
-    let mut second = first.copy(alloc)?;
-    let third = second.copy(alloc)?;
+    let first = shared(rt.alloc())?;
+    let second = first.copy(rt.alloc())?;
+    let third = second.copy(rt.alloc())?;
     drop(first);
-    second.push(Letter(b'u'))?;
     assert!(rt; has(&second, b"abcdefghijklmnopqrstu"));
     drop(second);
-    assert!(rt; has(&third, b"abcdefghijklmnopqrst"));
-    let fourth = third.copy(alloc)?;
-    drop(fourth);
-    assert!(rt; has(&third, b"abcdefghijklmnopqrst"));
+    assert!(rt; has(&third, b"abcdefghijklmnopqrstu"));
     Ok(())
 }
