@@ -9,6 +9,3 @@ mod walk;
 pub use entry::Entry;
 pub use stack::SharedStack;
 pub use walk::Walk;
-
-#[cfg(test)]
-mod tests;

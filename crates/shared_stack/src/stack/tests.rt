@@ -1,5 +1,4 @@
 use super::*;
-use std::alloc::{AllocError, Global};
 use std::test::Fail;
 
 #[derive(Drop)]
@@ -65,6 +64,17 @@ fn a_copy_stays_as_it_is(rt: HostRuntime) -> Result<(), Fail> {
     stack.push(Letter(b'c'))?;
     assert!(rt; has(&stack, b"ac"));
     assert!(rt; has(&copy, b"ab"));
+    Ok(())
+}
+
+#[test]
+fn only_many_entries_become_shared(rt: HostRuntime) -> Result<(), Fail> {
+    let mut few = stack_of(rt.alloc(), b"abcdefghijklmnop")?;
+    few.share(rt.alloc())?;
+    assert_eq!(rt; few.own.len(), 16);
+    let many = shared(rt.alloc())?;
+    assert_eq!(rt; many.own.len(), 1);
+    assert_eq!(rt; many.older.len(), 20);
     Ok(())
 }
 
