@@ -1,0 +1,154 @@
+use super::*;
+use std::test::Fail;
+
+#[derive(Drop)]
+struct Letter(u8);
+
+impl Entry for Letter {
+    fn copy(&self, _alloc: Global) -> Result<Letter, AllocError> {
+        Ok(Letter(self.0))
+    }
+
+    fn same(&self, other: &Letter) -> bool {
+        self.0 == other.0
+    }
+}
+
+fn stack_of(alloc: Global, letters: &[u8]) -> Result<SharedStack<Letter>, AllocError> {
+    let mut stack = SharedStack::new(alloc);
+    for letter in letters {
+        stack.push(Letter(*letter))?;
+    }
+    Ok(stack)
+}
+
+// Whether the entries are these letters, the latest last.
+fn has(stack: &SharedStack<Letter>, letters: &[u8]) -> bool {
+    let mut walk = stack.walk();
+    for letter in letters.iter().rev() {
+        match walk.next() {
+            Some(entry) if entry.0 == *letter => {}
+            _ => return false,
+        }
+    }
+    walk.next().is_none()
+}
+
+// Twenty letters, all of which are shared, and one behind them.
+fn shared(alloc: Global) -> Result<SharedStack<Letter>, AllocError> {
+    let mut stack = stack_of(alloc, b"abcdefghijklmnopqrst")?;
+    stack.share(alloc)?;
+    stack.push(Letter(b'u'))?;
+    Ok(stack)
+}
+
+// Whether a list of these letters, none of which is shared, is the same.
+fn is_same(alloc: Global, stack: &SharedStack<Letter>, letters: &[u8]) -> Result<bool, AllocError> {
+    let other = stack_of(alloc, letters)?;
+    Ok(stack.same(&other) && other.same(stack))
+}
+
+// Whether the latest entry, which is taken off, is that letter.
+fn takes(stack: &mut SharedStack<Letter>, letter: u8) -> Result<bool, AllocError> {
+    match stack.take()? {
+        Some(entry) => Ok(entry.0 == letter),
+        None => Ok(false),
+    }
+}
+
+#[test]
+fn a_copy_stays_as_it_is(rt: HostRuntime) -> Result<(), Fail> {
+    let mut stack = stack_of(rt.alloc(), b"ab")?;
+    let copy = stack.copy(rt.alloc())?;
+    assert!(rt; stack.pop());
+    stack.push(Letter(b'c'))?;
+    assert!(rt; has(&stack, b"ac"));
+    assert!(rt; has(&copy, b"ab"));
+    Ok(())
+}
+
+#[test]
+fn only_many_entries_become_shared(rt: HostRuntime) -> Result<(), Fail> {
+    let mut few = stack_of(rt.alloc(), b"abcdefghijklmnop")?;
+    few.share(rt.alloc())?;
+    assert_eq!(rt; few.own.len(), 16);
+    let many = shared(rt.alloc())?;
+    assert_eq!(rt; many.own.len(), 1);
+    assert_eq!(rt; many.older.len(), 20);
+    Ok(())
+}
+
+#[test]
+fn takes_own_and_shared_entries(rt: HostRuntime) -> Result<(), Fail> {
+    let mut stack = shared(rt.alloc())?;
+    let copy = stack.copy(rt.alloc())?;
+    assert!(rt; takes(&mut stack, b'u')?);
+    assert!(rt; takes(&mut stack, b't')?);
+    assert!(rt; stack.pop());
+    assert!(rt; matches!(stack.latest(), Some(Letter(b'r'))));
+    assert!(rt; has(&copy, b"abcdefghijklmnopqrstu"));
+    Ok(())
+}
+
+#[test]
+fn edits_at_a_place_of_its_own(rt: HostRuntime) -> Result<(), Fail> {
+    let mut stack = shared(rt.alloc())?;
+    assert!(rt; 20 < stack.len());
+    stack.put_in(20, Letter(b'v'))?;
+    assert!(rt; 21 < stack.len());
+    stack.take_out(21)?;
+    assert!(rt; 20 < stack.len());
+    stack.replace(20, Letter(b'w'))?;
+    assert!(rt; has(&stack, b"abcdefghijklmnopqrstw"));
+    Ok(())
+}
+
+#[test]
+fn edits_at_a_shared_place(rt: HostRuntime) -> Result<(), Fail> {
+    let mut stack = shared(rt.alloc())?;
+    let copy = stack.copy(rt.alloc())?;
+    assert!(rt; 17 < stack.len());
+    stack.take_out(17)?;
+    assert!(rt; 15 < stack.len());
+    stack.put_in(15, Letter(b'v'))?;
+    assert!(rt; 0 < stack.len());
+    stack.replace(0, Letter(b'w'))?;
+    assert!(rt; has(&stack, b"wbcdefghijklmnovpqstu"));
+    assert!(rt; has(&copy, b"abcdefghijklmnopqrstu"));
+    Ok(())
+}
+
+#[test]
+fn entries_at_places(rt: HostRuntime) -> Result<(), Fail> {
+    let stack = shared(rt.alloc())?;
+    for (place, letter) in b"abcdefghijklmnopqrstu".iter().enumerate() {
+        assert!(rt; place < stack.len());
+        assert_eq!(rt; stack.at(place).0, *letter);
+    }
+    let rest = stack.walk().copy();
+    assert_eq!(rt; rest.len(), 21);
+    assert!(rt; matches!(rest.latest(), Some(Letter(b'u'))));
+    Ok(())
+}
+
+#[test]
+fn lists_that_differ(rt: HostRuntime) -> Result<(), Fail> {
+    let stack = shared(rt.alloc())?;
+    assert!(rt; is_same(rt.alloc(), &stack, b"abcdefghijklmnopqrstu")?);
+    assert!(rt; !is_same(rt.alloc(), &stack, b"abcdefghijklmnopqrst!")?);
+    assert!(rt; !is_same(rt.alloc(), &stack, b"!bcdefghijklmnopqrstu")?);
+    assert!(rt; !is_same(rt.alloc(), &stack, b"abcdefghijklmnopqrst")?);
+    Ok(())
+}
+
+#[test]
+fn copies_go_in_any_order(rt: HostRuntime) -> Result<(), Fail> {
+    let first = shared(rt.alloc())?;
+    let second = first.copy(rt.alloc())?;
+    let third = second.copy(rt.alloc())?;
+    drop(first);
+    assert!(rt; has(&second, b"abcdefghijklmnopqrstu"));
+    drop(second);
+    assert!(rt; has(&third, b"abcdefghijklmnopqrstu"));
+    Ok(())
+}
