@@ -1,0 +1,78 @@
+//! Walks over a list from its end.
+
+ghost use Rattle.std.specs.Prelude.{◌≡◌, ◌<◌, ◌+◌, ◌^◌, ◌++◌, [], ◌∷◌, length, reverse, drop, MatchOption};
+ghost use Rattle.std.specs.Iterator.{YieldsFirstRef, item_count};
+
+use std::marker::Model;
+
+/// A walk over the entries of a shared stack, from the latest to the earliest: a contract sees the list of those that are left.
+#[derive(Drop)]
+pub struct Walk<'a, T> {
+    older: &'a [T],
+    own: &'a [T],
+}
+
+impl<'a, T> Model for Walk<'a, T> {
+    ghost use Rattle.std.specs.Prelude.{◌+◌, ◌<◌, ◌^◌, ◌++◌, List, length, reverse};
+
+    ghost Value = { List T };
+
+    ghost view = { λ w. reverse (w.older.now ++ w.own.now) };
+
+    ghost invariant = { λ w. length w.older.now + length w.own.now < 2 ^ 64 };
+}
+
+impl<'a, T> Walk<'a, T> {
+    /// A walk over `own`, and then over `older`, each from its end.
+    pub(crate) fn new(older: &'a [T], own: &'a [T]) -> Walk<'a, T>
+        requires { length older.now + length own.now < 2 ^ 64 }
+        ensures { result ≡ reverse (older.now ++ own.now) }
+    {
+        Walk { older, own }
+    }
+
+    /// How many entries are left.
+    pub fn len(&self) -> usize
+        ensures { result ≡ length self.now }
+    {
+        self.older.len() + self.own.len()
+    }
+
+    /// The next entry, which stays.
+    pub fn latest(&self) -> Option<&'a T>
+        ensures { MatchOption result (self.now ≡ []) (λ e. self.now ≡ e.now ∷ drop 1 self.now) }
+    {
+        match self.own.last() {
+            Some(entry) => Some(entry),
+            None => self.older.last(),
+        }
+    }
+
+    /// The same walk.
+    pub fn copy(&self) -> Walk<'a, T>
+        ensures { result ≡ self.now }
+    {
+        Walk {
+            older: self.older,
+            own: self.own,
+        }
+    }
+}
+
+impl<'a, T> Iterator for Walk<'a, T> {
+    type Item = &'a T;
+
+    ghost next_gives = { YieldsFirstRef (λ w. w) };
+
+    ghost remaining = { item_count (λ w. w) };
+
+    fn next(&mut self) -> Option<&'a T> {
+        if let Some((entry, rest)) = self.own.split_last() {
+            self.own = rest;
+            return Some(entry);
+        }
+        let (entry, rest) = self.older.split_last()?;
+        self.older = rest;
+        Some(entry)
+    }
+}
