@@ -104,10 +104,12 @@ pub fn take_lost(alloc: Global, formats: &mut Formats, stack: &Stack) -> Result<
     ensures kept { IfOk result (λ _. formats.new ≡ kept stack.now formats.old) }
 {
     let mut tags = Vec::new(alloc);
-    while !none_lost(formats, stack) {
-        if let Some(Format::Element { id: _, tag }) = formats.take()? {
-            tags.push(tag)?;
+    while let Some(Format::Element { id, tag }) = formats.latest() {
+        if has_open(stack, *id) {
+            return Ok(tags);
         }
+        tags.push(tag.copy(alloc)?)?;
+        formats.pop();
     }
     Ok(tags)
 }

@@ -236,6 +236,7 @@ fn place_of(stack: &Stack, id: NodeId) -> Option<usize>
 }
 
 /// Takes the element of that id off the stack, wherever it stands there.
+#[tactic(auto, using(std::proofs::lemmas::Grind::common_steps, crate::proofs::Fewer::one_fewer))]
 pub fn take_off(stack: &mut Stack, id: NodeId) -> Result<(), NoMemory>
     ensures left { IfOk result (λ _. stack.new ≡ without_open (Some id) stack.old) }
     ensures shorter { length stack.new ≤ length stack.old }
@@ -247,6 +248,7 @@ pub fn take_off(stack: &mut Stack, id: NodeId) -> Result<(), NoMemory>
 }
 
 /// The first element of the stack.
+#[tactic(auto, using(std::proofs::lemmas::Grind::common_steps, crate::proofs::Top::first_at, crate::proofs::Top::first_open_none))]
 pub fn first_element(stack: &Stack) -> Option<&OpenElement>
     ensures { option_map (λ e. e.now) result ≡ first_open stack.now }
 {
@@ -258,6 +260,7 @@ pub fn first_element(stack: &Stack) -> Option<&OpenElement>
 }
 
 /// The second element of the stack.
+#[tactic(auto, using(std::proofs::lemmas::Grind::common_steps, crate::proofs::Top::second_at, crate::proofs::Top::second_open_few))]
 pub fn second_element(stack: &Stack) -> Option<&OpenElement>
     ensures { option_map (λ e. e.now) result ≡ second_open stack.now }
 {
