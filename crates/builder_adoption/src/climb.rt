@@ -38,7 +38,7 @@ fn climb_one(
         ≡ climb_one left id (climb_at formats.old next.old ops.old reached.old.kept.items reached.old.last reached.old.bookmark)) }
 {
     if left == 0 {
-        take_entry_off(formats, id);
+        take_entry_off(formats, id)?;
     }
     if let Some(tag) = tag_of(alloc, formats, id)? {
         let clone = take_id(next)?;

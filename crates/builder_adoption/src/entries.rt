@@ -10,9 +10,8 @@ use std::alloc::Global;
 pub fn has_entry(formats: &Formats, id: NodeId) -> bool
     ensures { result ≡ has_entry id formats.now }
 {
-    let mut items = formats.as_slice();
-    while let Some((last, rest)) = items.split_last() {
-        match last {
+    for entry in formats.walk() {
+        match entry {
             Format::Marker => {}
             Format::Element { id: other, tag: _ } => {
                 if other.same(id) {
@@ -20,7 +19,6 @@ pub fn has_entry(formats: &Formats, id: NodeId) -> bool
                 }
             }
         }
-        items = rest;
     }
     false
 }
@@ -29,9 +27,8 @@ pub fn has_entry(formats: &Formats, id: NodeId) -> bool
 pub fn tag_of(alloc: Global, formats: &Formats, id: NodeId) -> Result<Option<Tag>, NoMemory>
     ensures { IfOk result (λ tag. tag ≡ tag_of_entry id formats.now) }
 {
-    let mut items = formats.as_slice();
-    while let Some((last, rest)) = items.split_last() {
-        match last {
+    for entry in formats.walk() {
+        match entry {
             Format::Marker => {}
             Format::Element { id: other, tag } => {
                 if other.same(id) {
@@ -40,7 +37,6 @@ pub fn tag_of(alloc: Global, formats: &Formats, id: NodeId) -> Result<Option<Tag
                 }
             }
         }
-        items = rest;
     }
     Ok(None)
 }
@@ -51,7 +47,7 @@ fn take_later(alloc: Global, formats: &mut Formats, id: NodeId) -> Result<Vec<Fo
     ensures left { IfOk result (λ _. formats.new ≡ entry_on id formats.old) }
 {
     let mut taken = Vec::new(alloc);
-    while let Some(last) = formats.pop() {
+    while let Some(last) = formats.take()? {
         match last {
             Format::Marker => taken.push(Format::Marker)?,
             Format::Element { id: other, tag } => {
@@ -86,7 +82,7 @@ pub fn renew_entry(
     ensures { IfOk result (λ _. formats.new ≡ with_id id new formats.old) }
 {
     let later = take_later(alloc, formats, id)?;
-    match formats.pop() {
+    match formats.take()? {
         None => {}
         Some(Format::Marker) => formats.push(Format::Marker)?,
         Some(Format::Element { id: _, tag }) => formats.push(Format::Element { id: new, tag })?,

@@ -34,7 +34,7 @@ fn take_turn_at(
     ensures { IfOk result (λ t. turned state.new ops.new t ≡ turn_at (Some element) state.old ops.old) }
 {
     if !has_open(&state.stack, element) {
-        take_entry_off(&mut state.formats, element);
+        take_entry_off(&mut state.formats, element)?;
         return Ok(Turn::Over);
     }
     if !has_in_scope(&state.stack, Scope::Default, element) {
@@ -46,7 +46,7 @@ fn take_turn_at(
     match block_below(&state.stack, element) {
         None => {
             drop_through(&mut state.stack, element);
-            take_entry_off(&mut state.formats, element);
+            take_entry_off(&mut state.formats, element)?;
             Ok(Turn::Over)
         }
         Some(block) => rebuild(alloc, state, element, tag, block, ops),
@@ -85,9 +85,9 @@ fn take_turns(alloc: Global, state: &mut Open, name: Word, ops: &mut Ops) -> Res
 fn is_plain(state: &Open, name: Word) -> bool
     ensures { result ≡ is_plain (is_word name) (current_id state.now.stack) state.now }
 {
-    match state.stack.as_slice().split_last() {
+    match state.stack.latest() {
         None => false,
-        Some((last, _)) => is_the(name, &last.name) && !has_entry(&state.formats, last.id),
+        Some(last) => is_the(name, &last.name) && !has_entry(&state.formats, last.id),
     }
 }
 
@@ -107,7 +107,7 @@ fn adopt_in(alloc: Global, state: &mut Open, name: Word, ops: &mut Ops) -> Resul
     ensures { IfOk result (λ a. adopted state.new ops.new (is_other a) ≡ adopt name state.old ops.old) }
 {
     if is_plain(state, name) {
-        let _ = state.stack.pop();
+        state.stack.pop();
         return Ok(Adopted::Done);
     }
     Ok(after_turns(take_turns(alloc, state, name, ops)?))

@@ -94,8 +94,7 @@ fn mark_entry(
         None => renew_entry(alloc, formats, element, clone),
         Some(bookmark) => {
             insert_behind(alloc, formats, bookmark, Format::Element { id: clone, tag })?;
-            take_entry_off(formats, element);
-            Ok(())
+            take_entry_off(formats, element)
         }
     }
 }
@@ -118,7 +117,7 @@ pub fn rebuild(
     let clone = take_id(&mut state.next)?;
     make_clone(alloc, clone, &tag, block, ops)?;
     let opened = opened(clone, &tag)?;
-    take_off(&mut state.stack, element);
+    take_off(&mut state.stack, element)?;
     insert_below(alloc, &mut state.stack, block, opened)?;
     mark_entry(alloc, &mut state.formats, element, clone, tag, bookmark)?;
     Ok(Turn::More)

@@ -18,7 +18,7 @@ pub fn take_below(
     ensures left { IfOk result (λ _. stack.new ≡ from_on id stack.old) }
 {
     let mut taken = Vec::new(alloc);
-    while let Some(last) = stack.pop() {
+    while let Some(last) = stack.take()? {
         if last.id.same(id) {
             stack.push(last)?;
             return Ok(taken);
@@ -38,7 +38,7 @@ pub fn take_through(
     ensures left { IfOk result (λ _. stack.new ≡ above id stack.old) }
 {
     let mut taken = Vec::new(alloc);
-    while let Some(last) = stack.pop() {
+    while let Some(last) = stack.take()? {
         let found = last.id.same(id);
         taken.push(last)?;
         if found {
@@ -62,8 +62,10 @@ pub fn put_back(stack: &mut Stack, mut taken: Vec<OpenElement>) -> Result<(), No
 pub fn drop_through(stack: &mut Stack, id: NodeId)
     ensures { stack.new ≡ above id stack.old }
 {
-    while let Some(last) = stack.pop() {
-        if last.id.same(id) {
+    while let Some(last) = stack.latest() {
+        let found = last.id.same(id);
+        stack.pop();
+        if found {
             return;
         }
     }
@@ -88,15 +90,13 @@ pub fn block_below(stack: &Stack, id: NodeId) -> Option<NodeId>
     ensures { result ≡ block_below id None stack.now }
 {
     let mut found = None;
-    let mut items = stack.as_slice();
-    while let Some((last, rest)) = items.split_last() {
-        if last.id.same(id) {
+    for element in stack.walk() {
+        if element.id.same(id) {
             return found;
         }
-        if is_any(Group::Special, &last.name) {
-            found = Some(last.id);
+        if is_any(Group::Special, &element.name) {
+            found = Some(element.id);
         }
-        items = rest;
     }
     found
 }
@@ -105,12 +105,11 @@ pub fn block_below(stack: &Stack, id: NodeId) -> Option<NodeId>
 pub fn place_above(stack: &Stack, foster: bool, id: NodeId) -> Place
     ensures { result ≡ place_for foster (above id stack.now) stack.now }
 {
-    let mut items = stack.as_slice();
-    while let Some((last, rest)) = items.split_last() {
-        if last.id.same(id) {
-            return place_for_last(foster, rest, stack);
+    let mut walk = stack.walk();
+    while let Some(element) = walk.next() {
+        if element.id.same(id) {
+            return place_for_last(foster, walk, stack);
         }
-        items = rest;
     }
     Place::Page
 }

@@ -1,6 +1,6 @@
 -- Where the current node is the element of the latest entry, the adoption agency algorithm pops it and takes its entry off.
-use Rattle.std.proofs.Common.{◌≡◌, Bool, true, false, true≢false, ◌&&◌, ◌||◌, List, [], ◌∷◌, ◌++◌, refl, sym, ap, ◌∙◌, arith}
-use Rattle.std.specs.Prelude.{not, if◌then◌else◌, Option, Some, None, IfSome, IfNone}
+use Rattle.std.proofs.Common.{◌≡◌, Bool, true, false, ◌&&◌, ◌||◌, List, [], ◌∷◌, ◌++◌, refl, sym, ap, ◌∙◌, arith}
+use Rattle.std.specs.Prelude.{not, if◌then◌else◌, Option, Some, None, drop}
 use Rattle.html_types.specs.Operations.{same_id}
 use Rattle.html_types.specs.declared.word.Word.{Word}
 use Rattle.html_types.specs.declared.name.Name.{Name}
@@ -89,16 +89,19 @@ of_lists w b o e es Marker fs h = absurd (cc)
 of_lists w b o e es (Element id tag) fs h =
     of_entry w b o e es id tag fs (same e.id id (and-left (same_id e.id id) (is_word w tag.name) h)) (and-right (same_id e.id id) (is_word w tag.name) h)
 
-pub closed : (w : Word) (b : Open) (o : List Op) (e : OpenElement) (es : List OpenElement) (f : Format) (fs : List Format) → b.stack ≡ e ∷ es → b.formats ≡ f ∷ fs
+closed : (w : Word) (b : Open) (o : List Op) (e : OpenElement) (es : List OpenElement) (f : Format) (fs : List Format) → b.stack ≡ e ∷ es → b.formats ≡ f ∷ fs
     → current_is_latest w b.stack b.formats ≡ true → adopted (record b { stack = es; formats = fs }) o false ≡ adopt w b o
 closed w b o e es f fs s t h =
     let h' : is_latest w e (f ∷ fs) ≡ true = sym (ap (λ st. current_is_latest w st b.formats) s ∙ ap (λ l. is_latest w e l) t) ∙ h in
     sym (ap (λ (st : List OpenElement). adopt w (record b { stack = st }) o) s ∙ ap (λ (l : List Format). adopt w (record b { stack = e ∷ es; formats = l }) o) t ∙ of_lists w b o e es f fs h')
 
--- the same of what was popped
-pub closed_by : (w : Word) (b : Open) (o : List Op) (r : Option OpenElement) (es : List OpenElement) (q : Option Format) (fs : List Format)
-    → IfSome r (λ e. b.stack ≡ e ∷ es) → IfNone r (b.stack ≡ []) → IfSome q (λ f. b.formats ≡ f ∷ fs) → IfNone q (b.formats ≡ [])
-    → current_is_latest w b.stack b.formats ≡ true → adopted (record b { stack = es; formats = fs }) o false ≡ adopt w b o
-closed_by w b o (Some e) es (Some f) fs s _ t _ h = closed w b o e es f fs s t h
-closed_by w b o (Some e) es None fs s _ _ t h = absurd (true≢false (sym h ∙ ap (λ st. current_is_latest w st b.formats) s ∙ ap (λ l. is_latest w e l) t))
-closed_by w b o None es q fs _ s _ _ h = absurd (true≢false (sym h ∙ ap (λ st. current_is_latest w st b.formats) s))
+of_both : (w : Word) (b : Open) (o : List Op) (es : List OpenElement) (fs : List Format) → b.stack ≡ es → b.formats ≡ fs
+    → current_is_latest w es fs ≡ true → adopted (record b { stack = drop 1 es; formats = drop 1 fs }) o false ≡ adopt w b o
+of_both w b o [] fs s t h = absurd (cc)
+of_both w b o (e ∷ es) [] s t h = absurd (cc)
+of_both w b o (e ∷ es) (f ∷ fs) s t h = closed w b o e es f fs s t (ap (λ st. current_is_latest w st b.formats) s ∙ ap (λ l. is_latest w e l) t ∙ h)
+
+-- the same of what is left of both
+pub closed_by : (w : Word) (b : Open) (o : List Op) → current_is_latest w b.stack b.formats ≡ true
+    → adopted (record b { stack = drop 1 b.stack; formats = drop 1 b.formats }) o false ≡ adopt w b o
+closed_by w b o h = of_both w b o b.stack b.formats refl refl h

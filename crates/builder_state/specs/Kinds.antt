@@ -42,23 +42,26 @@ goes_on ins.StopAtScript = false
 goes_on ins.Finish = false
 goes_on _ = true
 
--- it takes memory: it adds to a list or to the pending text, or asks for an operation that makes no element
-abbrev pub adds : Instr → Bool
-adds ins.InsertText = true
-adds ins.InsertReplacement = true
-adds ins.InsertComment = true
-adds ins.CommentToPage = true
-adds ins.CommentToRoot = true
-adds ins.AppendDoctype = true
-adds ins.AddToFirst = true
-adds ins.AddToSecond = true
-adds ins.DetachSecond = true
-adds ins.List = true
-adds ins.Marker = true
-adds (ins.PushTemplateMode m) = true
-adds ins.AppendPending = true
-adds _ = false
+-- it may take memory: it adds to a list or to the pending text, takes an entry out of a list, or asks for an operation that makes no element
+abbrev pub takes_memory : Instr → Bool
+takes_memory ins.InsertText = true
+takes_memory ins.InsertReplacement = true
+takes_memory ins.InsertComment = true
+takes_memory ins.CommentToPage = true
+takes_memory ins.CommentToRoot = true
+takes_memory ins.AppendDoctype = true
+takes_memory ins.AddToFirst = true
+takes_memory ins.AddToSecond = true
+takes_memory ins.DetachSecond = true
+takes_memory ins.List = true
+takes_memory ins.Marker = true
+takes_memory (ins.PushTemplateMode m) = true
+takes_memory ins.AppendPending = true
+takes_memory (ins.TakeOff i) = true
+takes_memory ins.TakeHeadOff = true
+takes_memory ins.EndForm = true
+takes_memory _ = false
 
 -- it only changes the open state, and takes no memory
 abbrev pub is_change : Instr → Bool
-is_change i = goes_on i && not (adds i)
+is_change i = goes_on i && not (takes_memory i)

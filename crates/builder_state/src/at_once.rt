@@ -94,7 +94,7 @@ fn do_at_once(
         Instr::List => list_current(alloc, state, token, ops)?,
         Instr::Marker => state.formats.push(Format::Marker)?,
         Instr::Pop => {
-            let _ = state.stack.pop();
+            state.stack.pop();
         }
         Instr::Until(who) => pop_until(&mut state.stack, who, token),
         Instr::PopTo(group) => pop_back_to(&mut state.stack, group),

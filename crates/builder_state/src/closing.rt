@@ -12,10 +12,10 @@ use tag_sets::is_the;
 fn has_latest(formats: &Formats, element: &OpenElement, word: Word) -> bool
     ensures { result ≡ is_latest word element.now formats.now }
 {
-    match formats.as_slice().split_last() {
+    match formats.latest() {
         None => false,
-        Some((Format::Marker, _)) => false,
-        Some((Format::Element { id, tag }, _)) => element.id.same(*id) && is_the(word, &tag.name),
+        Some(Format::Marker) => false,
+        Some(Format::Element { id, tag }) => element.id.same(*id) && is_the(word, &tag.name),
     }
 }
 
@@ -23,14 +23,15 @@ fn has_latest(formats: &Formats, element: &OpenElement, word: Word) -> bool
 fn closes_latest(state: &Open, word: Word) -> bool
     ensures { result ≡ current_is_latest word state.now.stack state.now.formats }
 {
-    match state.stack.as_slice().split_last() {
+    match state.stack.latest() {
         None => false,
-        Some((last, _)) => has_latest(&state.formats, last, word),
+        Some(last) => has_latest(&state.formats, last, word),
     }
 }
 
 /// The adoption agency algorithm (13.2.6.4.7) for an end tag of that name, where it only pops the current node and takes its entry off. Else
 /// nothing changes.
+#[tactic(auto, using(std::proofs::lemmas::Grind::common_steps, crate::proofs::Latest::closed_by))]
 pub fn close_latest(state: &mut Open, word: Word) -> bool
     ensures closed { IsTrue result → (o : List Op) → adopted state.new o false ≡ adopt word state.old o }
     ensures kept { IsFalse result → state.new ≡ state.old }
@@ -39,7 +40,7 @@ pub fn close_latest(state: &mut Open, word: Word) -> bool
     if !closes_latest(state, word) {
         return false;
     }
-    let _ = state.stack.pop();
-    let _ = state.formats.pop();
+    state.stack.pop();
+    state.formats.pop();
     true
 }

@@ -17,10 +17,7 @@ use tag_sets::{is_annotation_text, is_math_text, is_svg_point, is_the};
 pub fn adjusted(state: &Open) -> Option<&OpenElement>
     ensures { option_map (λ e. e.now) result ≡ definition.adjusted state.now }
 {
-    match state.stack.as_slice().split_last() {
-        None => None,
-        Some((last, _)) => Some(last),
-    }
+    state.stack.latest()
 }
 
 /// Whether the name is one of HTML.

@@ -15,11 +15,11 @@ fn pop_foreign(stack: &mut Stack)
     ensures left { stack.new ≡ pop_foreign stack.old }
     ensures shorter { length stack.new ≤ length stack.old }
 {
-    while let Some((last, _)) = stack.as_slice().split_last() {
+    while let Some(last) = stack.latest() {
         if is_html_or_point(last) {
             return;
         }
-        let _ = stack.pop();
+        stack.pop();
     }
 }
 
@@ -47,9 +47,9 @@ pub enum End {
 fn end_found(stack: &Stack, lower: &str) -> End
     ensures { result ≡ end_found (chars lower.now) stack.now }
 {
-    let mut items = stack.as_slice();
-    while let Some((last, rest)) = items.split_last() {
-        let Some((above, _)) = rest.split_last() else {
+    let mut walk = stack.walk();
+    while let Some(last) = walk.next() {
+        let Some(above) = walk.latest() else {
             return End::Nothing;
         };
         if is_lower_of(lower, last.name.as_str()) {
@@ -58,7 +58,6 @@ fn end_found(stack: &Stack, lower: &str) -> End
         if is_html(&above.name) {
             return End::ByMode;
         }
-        items = rest;
     }
     End::Nothing
 }
@@ -68,8 +67,10 @@ fn pop_through(stack: &mut Stack, lower: &str)
     ensures left { stack.new ≡ through (chars lower.now) stack.old }
     ensures shorter { length stack.new ≤ length stack.old }
 {
-    while let Some(last) = stack.pop() {
-        if is_lower_of(lower, last.name.as_str()) {
+    while let Some(last) = stack.latest() {
+        let found = is_lower_of(lower, last.name.as_str());
+        stack.pop();
+        if found {
             return;
         }
     }

@@ -13,9 +13,8 @@ use tag_sets::{is_the, meant};
 pub fn is_listed(formats: &Formats, who: Who, token: &Token) -> bool
     ensures { result ≡ listed (is_meant who token.now) formats.now }
 {
-    let mut items = formats.as_slice();
-    while let Some((last, rest)) = items.split_last() {
-        match last {
+    for entry in formats.walk() {
+        match entry {
             Format::Marker => return false,
             Format::Element { id: _, tag } => {
                 if meant(who, token, &tag.name) {
@@ -23,7 +22,6 @@ pub fn is_listed(formats: &Formats, who: Who, token: &Token) -> bool
                 }
             }
         }
-        items = rest;
     }
     false
 }
@@ -32,9 +30,8 @@ pub fn is_listed(formats: &Formats, who: Who, token: &Token) -> bool
 pub fn entry_of(formats: &Formats, word: Word) -> Option<NodeId>
     ensures { result ≡ entry_named (is_word word) formats.now }
 {
-    let mut items = formats.as_slice();
-    while let Some((last, rest)) = items.split_last() {
-        match last {
+    for entry in formats.walk() {
+        match entry {
             Format::Marker => return None,
             Format::Element { id, tag } => {
                 if is_the(word, &tag.name) {
@@ -42,49 +39,49 @@ pub fn entry_of(formats: &Formats, word: Word) -> Option<NodeId>
                 }
             }
         }
-        items = rest;
     }
     None
 }
 
 /// Where the entry of an element stands, counted from the first entry.
-fn place_of_entry(all: &[Format], id: NodeId) -> Option<usize>
+fn place_of_entry(formats: &Formats, id: NodeId) -> Option<usize>
     ensures { MatchOption result
-        (without_entry id (reverse all.now) ≡ reverse all.now)
-        (λ i. (i < length all.now) × (without_entry id (reverse all.now) ≡ reverse (remove all.now i))) }
+        (without_entry id formats.now ≡ formats.now)
+        (λ i. (i < length formats.now) × (without_entry id formats.now ≡ reverse (remove (reverse formats.now) i))) }
 {
-    let mut items = all;
-    while let Some((last, rest)) = items.split_last() {
-        match last {
+    let mut walk = formats.walk();
+    while let Some(entry) = walk.next() {
+        match entry {
             Format::Marker => {}
             Format::Element { id: other, tag: _ } => {
                 if other.same(id) {
-                    return Some(rest.len());
+                    return Some(walk.len());
                 }
             }
         }
-        items = rest;
     }
     None
 }
 
 /// Takes the entry of an element off the list, wherever it stands there.
-pub fn take_entry_off(formats: &mut Formats, id: NodeId)
-    ensures { formats.new ≡ without_entry id formats.old }
+pub fn take_entry_off(formats: &mut Formats, id: NodeId) -> Result<(), NoMemory>
+    ensures { IfOk result (λ _. formats.new ≡ without_entry id formats.old) }
 {
-    if let Some(place) = place_of_entry(formats.as_slice(), id) {
-        formats.take_out(place);
+    if let Some(place) = place_of_entry(formats, id) {
+        formats.take_out(place)?;
     }
+    Ok(())
 }
 
 /// Clears the list up to the last marker, which goes too.
 pub fn clear_back(formats: &mut Formats)
     ensures { formats.new ≡ clear_to_marker formats.old }
 {
-    while let Some(last) = formats.pop() {
-        match last {
-            Format::Marker => return,
-            Format::Element { id: _, tag: _ } => {}
+    while let Some(last) = formats.latest() {
+        let found = matches!(last, Format::Marker);
+        formats.pop();
+        if found {
+            return;
         }
     }
 }
@@ -94,10 +91,10 @@ pub fn none_lost(formats: &Formats, stack: &Stack) -> bool
     ensures lost { IsTrue result → lost stack.now formats.now ≡ [] }
     ensures kept { IsTrue result → kept stack.now formats.now ≡ formats.now }
 {
-    match formats.as_slice().split_last() {
+    match formats.latest() {
         None => true,
-        Some((Format::Marker, _)) => true,
-        Some((Format::Element { id, tag: _ }, _)) => has_open(stack, *id),
+        Some(Format::Marker) => true,
+        Some(Format::Element { id, tag: _ }) => has_open(stack, *id),
     }
 }
 
@@ -107,23 +104,12 @@ pub fn take_lost(alloc: Global, formats: &mut Formats, stack: &Stack) -> Result<
     ensures kept { IfOk result (λ _. formats.new ≡ kept stack.now formats.old) }
 {
     let mut tags = Vec::new(alloc);
-    if none_lost(formats, stack) {
-        return Ok(tags);
-    }
-    while let Some(last) = formats.pop() {
-        match last {
-            Format::Marker => {
-                formats.push(Format::Marker)?;
-                return Ok(tags);
-            }
-            Format::Element { id, tag } => {
-                if has_open(stack, id) {
-                    formats.push(Format::Element { id, tag })?;
-                    return Ok(tags);
-                }
-                tags.push(tag)?;
-            }
+    while let Some(Format::Element { id, tag }) = formats.latest() {
+        if has_open(stack, *id) {
+            return Ok(tags);
         }
+        tags.push(tag.copy(alloc)?)?;
+        formats.pop();
     }
     Ok(tags)
 }

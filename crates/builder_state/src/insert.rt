@@ -11,6 +11,7 @@ ghost use Rattle.standard.specs.Instructions.{on, config, made, pushed, insert_a
 use crate::foreign::{adjusted, foreign_tag, opened, tag_in};
 use crate::formatting::take_lost;
 use crate::places::appropriate;
+use crate::walks::{first_element, second_element};
 use html_types::{
     Attributes, Flow, Format, Name, Next, NoMemory, NodeId, Op, Open, OpenElement, Ops, Place,
     Space, Tag, Token, Word,
@@ -100,7 +101,8 @@ pub fn push_made(
     ensures bounded { length state.new.stack ≤ 512 }
 {
     let id = make(alloc, state, place, tag, ops)?;
-    state.stack.push(opened(id, tag)?)
+    state.stack.push(opened(id, tag)?)?;
+    Ok(())
 }
 
 /// Inserts an element for the token's tag at the appropriate place.
@@ -411,7 +413,6 @@ pub fn insert_doctype(
 }
 
 /// Adds the attributes of the token's tag to the first element of the stack, where it lacks them.
-#[tactic(auto, using(std::proofs::lemmas::Grind::common_steps, crate::proofs::Top::first_open_reverse))]
 pub fn add_to_first(
     alloc: Global,
     state: &Open,
@@ -421,16 +422,15 @@ pub fn add_to_first(
     ensures { IfOk result (λ _. on state.now ops.new ≡ for_tag (add_attributes (first_open state.now.stack)) token.now state.now ops.old) }
 {
     match token {
-        Token::StartTag(tag) | Token::EndTag(tag) => match state.stack.as_slice() {
-            [first, ..] => add_to(alloc, first.id, tag, ops),
-            [] => Ok(()),
+        Token::StartTag(tag) | Token::EndTag(tag) => match first_element(&state.stack) {
+            Some(first) => add_to(alloc, first.id, tag, ops),
+            None => Ok(()),
         },
         _ => Ok(()),
     }
 }
 
 /// Adds them to the second element of the stack.
-#[tactic(auto, using(std::proofs::lemmas::Grind::common_steps, crate::proofs::Top::second_open_reverse, crate::proofs::Top::second_open_few))]
 pub fn add_to_second(
     alloc: Global,
     state: &Open,
@@ -440,9 +440,9 @@ pub fn add_to_second(
     ensures { IfOk result (λ _. on state.now ops.new ≡ for_tag (add_attributes (second_open state.now.stack)) token.now state.now ops.old) }
 {
     match token {
-        Token::StartTag(tag) | Token::EndTag(tag) => match state.stack.as_slice() {
-            [_, second, ..] => add_to(alloc, second.id, tag, ops),
-            [] | [_] => Ok(()),
+        Token::StartTag(tag) | Token::EndTag(tag) => match second_element(&state.stack) {
+            Some(second) => add_to(alloc, second.id, tag, ops),
+            None => Ok(()),
         },
         _ => Ok(()),
     }
@@ -456,13 +456,12 @@ fn add_to(alloc: Global, node: NodeId, tag: &Tag, ops: &mut Ops) -> Result<(), N
 }
 
 /// Takes the second element of the stack out of its parent. It stays on the stack.
-#[tactic(auto, using(std::proofs::lemmas::Grind::common_steps, crate::proofs::Top::second_open_reverse, crate::proofs::Top::second_open_few))]
 pub fn take_second_out(state: &Open, ops: &mut Ops) -> Result<(), NoMemory>
     ensures { IfOk result (λ _. on state.now ops.new ≡ detach_second (second_open state.now.stack) state.now ops.old) }
 {
-    match state.stack.as_slice() {
-        [_, second, ..] => ops.push(Op::Detach { node: second.id }),
-        [] | [_] => Ok(()),
+    match second_element(&state.stack) {
+        Some(second) => ops.push(Op::Detach { node: second.id }),
+        None => Ok(()),
     }
 }
 

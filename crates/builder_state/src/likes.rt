@@ -116,13 +116,12 @@ fn are_alike(alloc: Global, a: &Tag, b: &Tag) -> Result<bool, NoMemory>
 }
 
 /// How many entries behind the last marker are like the tag.
-fn count_alike(alloc: Global, all: &[Format], tag: &Tag) -> Result<usize, NoMemory>
-    ensures { IfOk result (λ count. count ≡ likes tag.now (reverse all.now)) }
+fn count_alike(alloc: Global, formats: &Formats, tag: &Tag) -> Result<usize, NoMemory>
+    ensures { IfOk result (λ count. count ≡ likes tag.now formats.now) }
 {
     let mut count = 0;
-    let mut items = all;
-    while let Some((last, rest)) = items.split_last() {
-        match last {
+    for entry in formats.walk() {
+        match entry {
             Format::Marker => return Ok(count),
             Format::Element { id: _, tag: other } => {
                 if are_alike(alloc, tag, other)? {
@@ -130,7 +129,6 @@ fn count_alike(alloc: Global, all: &[Format], tag: &Tag) -> Result<usize, NoMemo
                 }
             }
         }
-        items = rest;
     }
     Ok(count)
 }
@@ -138,30 +136,29 @@ fn count_alike(alloc: Global, all: &[Format], tag: &Tag) -> Result<usize, NoMemo
 /// Where the earliest of so many entries stands that are like the tag, counted from the first entry.
 fn place_of_earliest(
     alloc: Global,
-    all: &[Format],
+    formats: &Formats,
     tag: &Tag,
     count: usize,
 ) -> Result<Option<usize>, NoMemory>
-    requires { count ≡ likes tag.now (reverse all.now) }
+    requires { count ≡ likes tag.now formats.now }
     ensures { IfOk result (λ place. MatchOption place
-        (without_earliest tag.now (reverse all.now) ≡ reverse all.now)
-        (λ i. (i < length all.now) × (without_earliest tag.now (reverse all.now) ≡ reverse (remove all.now i)))) }
+        (without_earliest tag.now formats.now ≡ formats.now)
+        (λ i. (i < length formats.now) × (without_earliest tag.now formats.now ≡ reverse (remove (reverse formats.now) i)))) }
 {
     let mut left = count;
-    let mut items = all;
-    while let Some((last, rest)) = items.split_last() {
-        match last {
+    let mut walk = formats.walk();
+    while let Some(entry) = walk.next() {
+        match entry {
             Format::Marker => return Ok(None),
             Format::Element { id: _, tag: other } => {
                 if are_alike(alloc, tag, other)? {
                     left -= 1;
                     if left == 0 {
-                        return Ok(Some(rest.len()));
+                        return Ok(Some(walk.len()));
                     }
                 }
             }
         }
-        items = rest;
     }
     Ok(None)
 }
@@ -170,11 +167,12 @@ fn place_of_earliest(
 pub fn enter(alloc: Global, formats: &mut Formats, id: NodeId, tag: Tag) -> Result<(), NoMemory>
     ensures { IfOk result (λ _. formats.new ≡ list_element id tag formats.old) }
 {
-    let count = count_alike(alloc, formats.as_slice(), &tag)?;
+    let count = count_alike(alloc, formats, &tag)?;
     if count >= ALIKE {
-        if let Some(place) = place_of_earliest(alloc, formats.as_slice(), &tag, count)? {
-            formats.take_out(place);
+        if let Some(place) = place_of_earliest(alloc, formats, &tag, count)? {
+            formats.take_out(place)?;
         }
     }
-    formats.push(Format::Element { id, tag })
+    formats.push(Format::Element { id, tag })?;
+    Ok(())
 }

@@ -35,13 +35,14 @@ use html_types::{
 use std::alloc::Global;
 
 /// Takes the head element pointer's node off the stack.
-fn take_head_off(state: &mut Open)
-    ensures left { state.new ≡ record state.old { stack = without_open state.old.head state.old.stack } }
+fn take_head_off(state: &mut Open) -> Result<(), NoMemory>
+    ensures left { IfOk result (λ _. state.new ≡ record state.old { stack = without_open state.old.head state.old.stack }) }
     ensures shorter { length state.new.stack ≤ length state.old.stack }
 {
     if let Some(id) = state.head {
-        take_off(&mut state.stack, id);
+        take_off(&mut state.stack, id)?;
     }
+    Ok(())
 }
 
 /// The mode is the original mode again. (There always is one in the modes "text" and "in table text": `open_state_is_proper` of `rule_laws`.)
@@ -74,9 +75,12 @@ fn stop_at(state: &mut Open, ops: &Ops) -> Flow
     ensures done { config state.new ops.now result ≡ stop_at_script state.old.stack state.old ops.now }
     ensures shorter { length state.new.stack ≤ length state.old.stack }
 {
-    match state.stack.pop() {
+    match current_node(&state.stack) {
         None => Flow::Leave(Next::Done),
-        Some(script) => Flow::Leave(Next::Script(script.id)),
+        Some(script) => {
+            state.stack.pop();
+            Flow::Leave(Next::Script(script))
+        }
     }
 }
 
@@ -103,12 +107,12 @@ pub fn list_current(
 }
 
 /// Takes an element off the list of active formatting elements and off the stack.
-fn take_element_off(state: &mut Open, id: NodeId)
-    ensures left { state.new ≡ record state.old { stack = without_open (Some id) state.old.stack; formats = without_entry id state.old.formats } }
+fn take_element_off(state: &mut Open, id: NodeId) -> Result<(), NoMemory>
+    ensures left { IfOk result (λ _. state.new ≡ record state.old { stack = without_open (Some id) state.old.stack; formats = without_entry id state.old.formats }) }
     ensures shorter { length state.new.stack ≤ length state.old.stack }
 {
-    take_off(&mut state.stack, id);
-    take_entry_off(&mut state.formats, id);
+    take_off(&mut state.stack, id)?;
+    take_entry_off(&mut state.formats, id)
 }
 
 /// The adoption agency algorithm (13.2.6.4.7) for the token's name.
@@ -181,7 +185,7 @@ fn change(state: &mut Open, instr: Instr, token: &Token, ops: &Ops)
 {
     match instr {
         Instr::Pop => {
-            let _ = state.stack.pop();
+            state.stack.pop();
         }
         Instr::Until(who) => pop_until(&mut state.stack, who, token),
         Instr::PopTo(group) => pop_back_to(&mut state.stack, group),
@@ -193,14 +197,11 @@ fn change(state: &mut Open, instr: Instr, token: &Token, ops: &Ops)
         Instr::CloseItem(who) => close_found_item(&mut state.stack, who, token),
         Instr::AnyOtherEnd => close_other_end(&mut state.stack, token),
         Instr::ClearToMarker => clear_back(&mut state.formats),
-        Instr::TakeOff(id) => take_element_off(state, id),
         Instr::NotOk => state.frameset_ok = false,
         Instr::BecomeQuirky => state.quirks = true,
         Instr::SkipLineFeed => state.skip_line_feed = true,
         Instr::PointHead => state.head = current_node(&state.stack),
-        Instr::TakeHeadOff => take_head_off(state),
         Instr::PointForm => state.form = current_node(&state.stack),
-        Instr::EndForm => end_form_element(state, token, ops),
         Instr::Enter(mode) => state.mode = mode,
         Instr::KeepMode => state.original = Some(state.mode),
         Instr::Restore => restore(state),
@@ -238,6 +239,9 @@ fn exec_on(
         Instr::Marker => state.formats.push(Format::Marker)?,
         Instr::PushTemplateMode(mode) => state.template_modes.push(mode)?,
         Instr::AppendPending => keep_character(state, token, ops)?,
+        Instr::TakeOff(id) => take_element_off(state, id)?,
+        Instr::TakeHeadOff => take_head_off(state)?,
+        Instr::EndForm => end_form_element(state, token, ops)?,
         _ => change(state, instr, token, ops),
     }
     Ok(())

@@ -1,11 +1,12 @@
 //! Where a node goes (13.2.6.1).
 
-ghost use Rattle.std.specs.Prelude.{◌≡◌, reverse};
+ghost use Rattle.std.specs.Prelude.{◌≡◌};
 ghost use Rattle.standard.specs.Elements.{is_word};
 ghost use Rattle.standard.specs.Stack.{place, place_for, foster_place, first_open, second_open, is_the};
 ghost use Rattle.standard.specs.Instructions.{end_of};
 
-use html_types::{Group, OpenElement, Place, Stack, Word};
+use crate::walks::{first_element, second_element};
+use html_types::{Elements, Group, Place, Stack, Word};
 use tag_sets::{is_any, is_the as is_word_of};
 
 /// The appropriate place for inserting a node.
@@ -13,24 +14,24 @@ use tag_sets::{is_any, is_the as is_word_of};
 pub fn appropriate(foster: bool, stack: &Stack) -> Place
     ensures { result ≡ place foster stack.now }
 {
-    match stack.as_slice().split_last() {
-        Some((last, _)) if !foster && !is_word_of(Word::Template, &last.name) => {
+    match stack.latest() {
+        Some(last) if !foster && !is_word_of(Word::Template, &last.name) => {
             Place::Inside(last.id)
         }
-        _ => place_for_last(foster, stack.as_slice(), stack),
+        _ => place_for_last(foster, stack.walk(), stack),
     }
 }
 
-/// The appropriate place where the target is the last of these elements.
+/// The appropriate place where the target is the first that is left of a walk over the stack.
 #[inline(never)]
-pub fn place_for_last(foster: bool, items: &[OpenElement], stack: &Stack) -> Place
-    ensures { result ≡ place_for foster (reverse items.now) stack.now }
+pub fn place_for_last(foster: bool, left: Elements<'_>, stack: &Stack) -> Place
+    ensures { result ≡ place_for foster left.entry stack.now }
 {
-    match items.split_last() {
+    match left.latest() {
         None => Place::Page,
-        Some((last, _)) => {
+        Some(last) => {
             if foster && is_any(Group::FosterTargets, &last.name) {
-                fostered(stack.as_slice())
+                fostered(stack)
             } else if is_word_of(Word::Template, &last.name) {
                 Place::Contents(last.id)
             } else {
@@ -41,15 +42,15 @@ pub fn place_for_last(foster: bool, items: &[OpenElement], stack: &Stack) -> Pla
 }
 
 /// Where foster parenting puts a node: the latest template or table decides, else the first element.
-fn fostered(all: &[OpenElement]) -> Place
-    ensures { result ≡ foster_place (reverse all.now) }
+fn fostered(stack: &Stack) -> Place
+    ensures { result ≡ foster_place stack.now }
 {
-    let mut items = all;
-    while let Some((last, rest)) = items.split_last() {
+    let mut walk = stack.walk();
+    while let Some(last) = walk.next() {
         if is_word_of(Word::Template, &last.name) {
             return Place::Contents(last.id);
         }
-        match rest.split_last() {
+        match walk.latest() {
             None => {
                 return if is_word_of(Word::Table, &last.name) {
                     Place::Foster {
@@ -60,7 +61,7 @@ fn fostered(all: &[OpenElement]) -> Place
                     Place::Inside(last.id)
                 };
             }
-            Some((above, _)) => {
+            Some(above) => {
                 if is_word_of(Word::Table, &last.name) {
                     return Place::Foster {
                         table: last.id,
@@ -69,19 +70,17 @@ fn fostered(all: &[OpenElement]) -> Place
                 }
             }
         }
-        items = rest;
     }
     Place::Page
 }
 
 /// The end of the first element of the stack.
-#[tactic(auto, using(std::proofs::lemmas::Grind::common_steps, crate::proofs::Top::first_open_reverse))]
 pub fn root_place(stack: &Stack) -> Place
     ensures { result ≡ end_of (first_open stack.now) }
 {
-    match stack.as_slice().split_first() {
+    match first_element(stack) {
         None => Place::Page,
-        Some((first, _)) => Place::Inside(first.id),
+        Some(first) => Place::Inside(first.id),
     }
 }
 
@@ -89,15 +88,8 @@ pub fn root_place(stack: &Stack) -> Place
 pub fn second_is_body(stack: &Stack) -> bool
     ensures { result ≡ is_the Word.Body (second_open stack.now) }
 {
-    second_of_items_is_body(stack.as_slice())
-}
-
-#[tactic(auto, using(std::proofs::lemmas::Grind::common_steps, crate::proofs::Top::second_open_reverse, crate::proofs::Top::second_open_few))]
-fn second_of_items_is_body(items: &[OpenElement]) -> bool
-    ensures { result ≡ is_the Word.Body (second_open (reverse items.now)) }
-{
-    match items {
-        [_, second, ..] => is_word_of(Word::Body, &second.name),
-        [] | [_] => false,
+    match second_element(stack) {
+        None => false,
+        Some(second) => is_word_of(Word::Body, &second.name),
     }
 }

@@ -1,10 +1,10 @@
 //! Reset the insertion mode appropriately (13.2.4.1).
 
-ghost use Rattle.std.specs.Prelude.{◌≡◌, ◌∷◌, reverse, MatchOption};
+ghost use Rattle.std.specs.Prelude.{◌≡◌, ◌∷◌, MatchOption};
 ghost use Rattle.standard.specs.Instructions.{is_table_mode as is_of_table};
 ghost use Rattle.standard.specs.Reset.{select_mode, template_mode, root_mode, reset_mode};
 
-use html_types::{Mode, Modes, Name, NodeId, OpenElement, Stack, Word};
+use html_types::{Elements, Mode, Modes, Name, NodeId, OpenElement, Stack, Word};
 use tag_sets::is_the;
 
 /// Whether this is "in table", "in caption", "in table body", "in row" or "in cell".
@@ -17,20 +17,18 @@ pub fn is_table_mode(mode: Mode) -> bool
     )
 }
 
-/// The mode of a select that stands right below these elements: "in select in table" where it stands in a table, with no
+/// The mode of a select that stands right below the elements that are left of a walk: "in select in table" where it stands in a table, with no
 /// template between.
-fn mode_of_select(all: &[OpenElement]) -> Mode
-    ensures { result ≡ select_mode (reverse all.now) }
+fn mode_of_select(above: Elements<'_>) -> Mode
+    ensures { result ≡ select_mode above.entry }
 {
-    let mut items = all;
-    while let Some((last, rest)) = items.split_last() {
-        if is_the(Word::Template, &last.name) {
+    for element in above {
+        if is_the(Word::Template, &element.name) {
             return Mode::InSelect;
         }
-        if is_the(Word::Table, &last.name) {
+        if is_the(Word::Table, &element.name) {
             return Mode::InSelectInTable;
         }
-        items = rest;
     }
     Mode::InSelect
 }
@@ -55,22 +53,22 @@ fn mode_of_root(head: Option<NodeId>) -> Mode
     }
 }
 
-/// The mode that an element tells, which stands right below these elements.
+/// The mode that an element tells, which stands right below the elements that are left of a walk.
 fn told_mode(
     element: &OpenElement,
-    above: &[OpenElement],
+    above: &Elements<'_>,
     head: Option<NodeId>,
     modes: &Modes,
 ) -> Option<Mode>
-    ensures { let mode = reset_mode (element.now ∷ reverse above.now) head modes.now in MatchOption result
-        (mode ≡ reset_mode (reverse above.now) head modes.now)
+    ensures { let mode = reset_mode (element.now ∷ above.now) head modes.now in MatchOption result
+        (mode ≡ reset_mode above.now head modes.now)
         (λ told. mode ≡ told) }
 {
     let Name::Known(word) = &element.name else {
         return None;
     };
     match *word {
-        Word::Select => Some(mode_of_select(above)),
+        Word::Select => Some(mode_of_select(above.copy())),
         Word::Td | Word::Th => Some(Mode::InCell),
         Word::Tr => Some(Mode::InRow),
         Word::Tbody | Word::Thead | Word::Tfoot => Some(Mode::InTableBody),
@@ -90,12 +88,11 @@ fn told_mode(
 pub fn mode_to_reset_to(stack: &Stack, head: Option<NodeId>, modes: &Modes) -> Mode
     ensures { result ≡ reset_mode stack.now head modes.now }
 {
-    let mut items = stack.as_slice();
-    while let Some((last, rest)) = items.split_last() {
-        if let Some(mode) = told_mode(last, rest, head, modes) {
+    let mut walk = stack.walk();
+    while let Some(element) = walk.next() {
+        if let Some(mode) = told_mode(element, &walk, head, modes) {
             return mode;
         }
-        items = rest;
     }
     Mode::InBody
 }

@@ -255,7 +255,16 @@ impl Builder {
         is_light(&self.state)
     }
 
-    /// A copy.
+    /// Shares the entries of its lists, so that the next copies are cheap.
+    pub fn share(&mut self, alloc: Global) -> Result<(), NoMemory>
+        ensures { self.new ≡ self.old }
+    {
+        self.state.stack.share(alloc)?;
+        self.state.formats.share(alloc)?;
+        Ok(())
+    }
+
+    /// A copy. It copies no more than 16 entries of each list, where they were shared just before.
     pub fn copy(&self, alloc: Global) -> Result<Builder, NoMemory>
         ensures { IfOk result (λ b. b ≡ self.now) }
     {

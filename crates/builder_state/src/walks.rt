@@ -1,18 +1,18 @@
 //! Walks over the stack of open elements (13.2.4.2), from the current node up.
 
-ghost use Rattle.std.specs.Prelude.{◌≡◌, ◌≤◌, ◌<◌, length, reverse, remove, Some, MatchOption};
+ghost use Rattle.std.specs.Prelude.{◌≡◌, ◌≤◌, ◌<◌, length, reverse, remove, Some, IfOk, MatchOption, option_map};
 ghost use Rattle.standard.specs.Elements.{is_meant, is_one_of};
-ghost use Rattle.standard.specs.Stack.{in_scope, on_stack, is_open, current_is, current_id, until, pop_to, pop_to_root, implied, implied_thoroughly, option_in_optgroup, close, item_found, close_item, end_found, other_end, without_open, open_in_scope};
+ghost use Rattle.standard.specs.Stack.{in_scope, on_stack, is_open, current_is, current_id, until, pop_to, pop_to_root, implied, implied_thoroughly, option_in_optgroup, close, item_found, close_item, end_found, other_end, without_open, open_in_scope, first_open, second_open};
 
-use html_types::{Group, NodeId, OpenElement, Scope, Stack, Token, Who, Word};
+use html_types::{Group, NoMemory, NodeId, OpenElement, Scope, Stack, Token, Who, Word};
 use tag_sets::{ends, is_any, is_the, meant};
 
 /// The current node.
 pub fn current_node(stack: &Stack) -> Option<NodeId>
     ensures { result ≡ current_id stack.now }
 {
-    match stack.as_slice().split_last() {
-        Some((last, _)) => Some(last.id),
+    match stack.latest() {
+        Some(last) => Some(last.id),
         None => None,
     }
 }
@@ -21,8 +21,8 @@ pub fn current_node(stack: &Stack) -> Option<NodeId>
 pub fn is_current(stack: &Stack, who: Who, token: &Token) -> bool
     ensures { result ≡ current_is (is_meant who token.now) stack.now }
 {
-    match stack.as_slice().split_last() {
-        Some((last, _)) => meant(who, token, &last.name),
+    match stack.latest() {
+        Some(last) => meant(who, token, &last.name),
         None => false,
     }
 }
@@ -31,15 +31,13 @@ pub fn is_current(stack: &Stack, who: Who, token: &Token) -> bool
 pub fn is_in_scope(stack: &Stack, scope: Scope, who: Who, token: &Token) -> bool
     ensures { result ≡ in_scope scope (is_meant who token.now) stack.now }
 {
-    let mut items = stack.as_slice();
-    while let Some((last, rest)) = items.split_last() {
-        if meant(who, token, &last.name) {
+    for element in stack.walk() {
+        if meant(who, token, &element.name) {
             return true;
         }
-        if ends(scope, &last.name) {
+        if ends(scope, &element.name) {
             return false;
         }
-        items = rest;
     }
     false
 }
@@ -48,12 +46,10 @@ pub fn is_in_scope(stack: &Stack, scope: Scope, who: Who, token: &Token) -> bool
 pub fn is_on_stack(stack: &Stack, who: Who, token: &Token) -> bool
     ensures { result ≡ on_stack (is_meant who token.now) stack.now }
 {
-    let mut items = stack.as_slice();
-    while let Some((last, rest)) = items.split_last() {
-        if meant(who, token, &last.name) {
+    for element in stack.walk() {
+        if meant(who, token, &element.name) {
             return true;
         }
-        items = rest;
     }
     false
 }
@@ -62,12 +58,13 @@ pub fn is_on_stack(stack: &Stack, who: Who, token: &Token) -> bool
 pub fn is_option_in_optgroup(stack: &Stack) -> bool
     ensures { result ≡ option_in_optgroup stack.now }
 {
-    let Some((last, rest)) = stack.as_slice().split_last() else {
+    let mut walk = stack.walk();
+    let Some(last) = walk.next() else {
         return false;
     };
-    match rest.split_last() {
+    match walk.latest() {
         None => false,
-        Some((above, _)) => is_the(Word::Option, &last.name) && is_the(Word::Optgroup, &above.name),
+        Some(above) => is_the(Word::Option, &last.name) && is_the(Word::Optgroup, &above.name),
     }
 }
 
@@ -75,12 +72,10 @@ pub fn is_option_in_optgroup(stack: &Stack) -> bool
 pub fn has_open(stack: &Stack, id: NodeId) -> bool
     ensures { result ≡ is_open id stack.now }
 {
-    let mut items = stack.as_slice();
-    while let Some((last, rest)) = items.split_last() {
-        if last.id.same(id) {
+    for element in stack.walk() {
+        if element.id.same(id) {
             return true;
         }
-        items = rest;
     }
     false
 }
@@ -89,15 +84,13 @@ pub fn has_open(stack: &Stack, id: NodeId) -> bool
 pub fn has_in_scope(stack: &Stack, scope: Scope, id: NodeId) -> bool
     ensures { result ≡ open_in_scope scope id stack.now }
 {
-    let mut items = stack.as_slice();
-    while let Some((last, rest)) = items.split_last() {
-        if last.id.same(id) {
+    for element in stack.walk() {
+        if element.id.same(id) {
             return true;
         }
-        if ends(scope, &last.name) {
+        if ends(scope, &element.name) {
             return false;
         }
-        items = rest;
     }
     false
 }
@@ -107,8 +100,10 @@ pub fn pop_until(stack: &mut Stack, who: Who, token: &Token)
     ensures left { stack.new ≡ until (is_meant who token.now) stack.old }
     ensures shorter { length stack.new ≤ length stack.old }
 {
-    while let Some(last) = stack.pop() {
-        if meant(who, token, &last.name) {
+    while let Some(last) = stack.latest() {
+        let found = meant(who, token, &last.name);
+        stack.pop();
+        if found {
             return;
         }
     }
@@ -119,11 +114,11 @@ pub fn pop_back_to(stack: &mut Stack, group: Group)
     ensures left { stack.new ≡ pop_to (is_one_of group) stack.old }
     ensures shorter { length stack.new ≤ length stack.old }
 {
-    while let Some((last, _)) = stack.as_slice().split_last() {
+    while let Some(last) = stack.latest() {
         if is_any(group, &last.name) {
             return;
         }
-        let _ = stack.pop();
+        stack.pop();
     }
 }
 
@@ -134,7 +129,7 @@ pub fn pop_to_first(stack: &mut Stack)
     ensures shorter { length stack.new ≤ length stack.old }
 {
     while stack.len() > 1 {
-        let _ = stack.pop();
+        stack.pop();
     }
 }
 
@@ -143,11 +138,11 @@ pub fn pop_implied(stack: &mut Stack, but: Who, token: &Token)
     ensures left { stack.new ≡ implied (is_meant but token.now) stack.old }
     ensures shorter { length stack.new ≤ length stack.old }
 {
-    while let Some((last, _)) = stack.as_slice().split_last() {
+    while let Some(last) = stack.latest() {
         if !is_any(Group::ClosedImplicitly, &last.name) || meant(but, token, &last.name) {
             return;
         }
-        let _ = stack.pop();
+        stack.pop();
     }
 }
 
@@ -156,11 +151,11 @@ pub fn pop_implied_thoroughly(stack: &mut Stack)
     ensures left { stack.new ≡ implied_thoroughly stack.old }
     ensures shorter { length stack.new ≤ length stack.old }
 {
-    while let Some((last, _)) = stack.as_slice().split_last() {
+    while let Some(last) = stack.latest() {
         if !is_any(Group::ClosedThoroughly, &last.name) {
             return;
         }
-        let _ = stack.pop();
+        stack.pop();
     }
 }
 
@@ -178,15 +173,13 @@ pub fn close_in_scope(stack: &mut Stack, scope: Scope, who: Who, token: &Token)
 fn finds_item(stack: &Stack, who: Who, token: &Token) -> bool
     ensures { result ≡ item_found (is_meant who token.now) stack.now }
 {
-    let mut items = stack.as_slice();
-    while let Some((last, rest)) = items.split_last() {
-        if meant(who, token, &last.name) {
+    for element in stack.walk() {
+        if meant(who, token, &element.name) {
             return true;
         }
-        if is_any(Group::Special, &last.name) && !is_any(Group::PassedItems, &last.name) {
+        if is_any(Group::Special, &element.name) && !is_any(Group::PassedItems, &element.name) {
             return false;
         }
-        items = rest;
     }
     false
 }
@@ -205,15 +198,13 @@ pub fn close_found_item(stack: &mut Stack, who: Who, token: &Token)
 fn finds_end(stack: &Stack, token: &Token) -> bool
     ensures { result ≡ end_found (is_meant Who.Own token.now) stack.now }
 {
-    let mut items = stack.as_slice();
-    while let Some((last, rest)) = items.split_last() {
-        if meant(Who::Own, token, &last.name) {
+    for element in stack.walk() {
+        if meant(Who::Own, token, &element.name) {
             return true;
         }
-        if is_any(Group::Special, &last.name) {
+        if is_any(Group::Special, &element.name) {
             return false;
         }
-        items = rest;
     }
     false
 }
@@ -230,27 +221,52 @@ pub fn close_other_end(stack: &mut Stack, token: &Token)
 }
 
 /// Where the element of that id stands, counted from the top.
-fn place_of(all: &[OpenElement], id: NodeId) -> Option<usize>
+fn place_of(stack: &Stack, id: NodeId) -> Option<usize>
     ensures { MatchOption result
-        (without_open (Some id) (reverse all.now) ≡ reverse all.now)
-        (λ i. (i < length all.now) × (without_open (Some id) (reverse all.now) ≡ reverse (remove all.now i))) }
+        (without_open (Some id) stack.now ≡ stack.now)
+        (λ i. (i < length stack.now) × (without_open (Some id) stack.now ≡ reverse (remove (reverse stack.now) i))) }
 {
-    let mut items = all;
-    while let Some((last, rest)) = items.split_last() {
-        if last.id.same(id) {
-            return Some(rest.len());
+    let mut walk = stack.walk();
+    while let Some(element) = walk.next() {
+        if element.id.same(id) {
+            return Some(walk.len());
         }
-        items = rest;
     }
     None
 }
 
 /// Takes the element of that id off the stack, wherever it stands there.
-pub fn take_off(stack: &mut Stack, id: NodeId)
-    ensures left { stack.new ≡ without_open (Some id) stack.old }
+#[tactic(auto, using(std::proofs::lemmas::Grind::common_steps, crate::proofs::Fewer::one_fewer))]
+pub fn take_off(stack: &mut Stack, id: NodeId) -> Result<(), NoMemory>
+    ensures left { IfOk result (λ _. stack.new ≡ without_open (Some id) stack.old) }
     ensures shorter { length stack.new ≤ length stack.old }
 {
-    if let Some(place) = place_of(stack.as_slice(), id) {
-        stack.take_out(place);
+    if let Some(place) = place_of(stack, id) {
+        stack.take_out(place)?;
+    }
+    Ok(())
+}
+
+/// The first element of the stack.
+#[tactic(auto, using(std::proofs::lemmas::Grind::common_steps, crate::proofs::Top::first_at, crate::proofs::Top::first_open_none))]
+pub fn first_element(stack: &Stack) -> Option<&OpenElement>
+    ensures { option_map (λ e. e.now) result ≡ first_open stack.now }
+{
+    if stack.len() > 0 {
+        Some(stack.at(0))
+    } else {
+        None
+    }
+}
+
+/// The second element of the stack.
+#[tactic(auto, using(std::proofs::lemmas::Grind::common_steps, crate::proofs::Top::second_at, crate::proofs::Top::second_open_few))]
+pub fn second_element(stack: &Stack) -> Option<&OpenElement>
+    ensures { option_map (λ e. e.now) result ≡ second_open stack.now }
+{
+    if stack.len() > 1 {
+        Some(stack.at(1))
+    } else {
+        None
     }
 }

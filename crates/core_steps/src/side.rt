@@ -523,6 +523,7 @@ impl Side {
         let epoch = self.counts.epoch.checked_add(1).ok_or(NoMemory)?;
         let realm = self.new_realm()?;
         self.writer.renew(realm);
+        self.writer.share()?;
         let begins = self.writer.machine().copy(self.alloc)?;
         self.ledger.rewind(self.alloc)?;
         self.ready = Batches::new(self.alloc);

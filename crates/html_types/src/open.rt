@@ -1,6 +1,6 @@
 //! The open state of tree construction (13.2.4): it names elements by their ids.
 
-ghost use Rattle.std.specs.Prelude.{◌≡◌, ◌↔◌, ◌∷◌, ◌++◌, ◌<◌, [], length, reverse, remove, IsTrue, IfOk, OnOk, OnErr, IfSome, IfNone};
+ghost use Rattle.std.specs.Prelude.{◌≡◌, ◌↔◌, ◌∷◌, [], reverse, IsTrue, IfOk, OnOk, OnErr, IfSome, IfNone};
 
 use crate::instruction::Mode;
 use crate::memory::NoMemory;
@@ -8,7 +8,8 @@ use crate::name::Name;
 use crate::operation::NodeId;
 use crate::text::Text;
 use crate::token::Tag;
-use std::alloc::Global;
+use shared_stack::{Entry, SharedStack, Walk};
+use std::alloc::{AllocError, Global};
 use std::marker::Model;
 
 /// An open element.
@@ -20,11 +21,8 @@ pub struct OpenElement {
     pub html_point: bool,
 }
 
-impl OpenElement {
-    /// A copy.
-    pub fn copy(&self) -> Result<OpenElement, NoMemory>
-        ensures { IfOk result (λ e. e ≡ self.now) }
-    {
+impl Entry for OpenElement {
+    fn copy(&self, _alloc: Global) -> Result<OpenElement, AllocError> {
         let name = self.name.copy()?;
         Ok(OpenElement {
             id: self.id,
@@ -33,111 +31,16 @@ impl OpenElement {
         })
     }
 
-    /// Whether two are the same.
-    pub fn same(&self, other: &OpenElement) -> bool
-        ensures { IsTrue result ↔ (self.now ≡ other.now) }
-    {
+    fn same(&self, other: &OpenElement) -> bool {
         self.id == other.id && self.html_point == other.html_point && self.name.same(&other.name)
     }
 }
 
 /// The stack of open elements (13.2.4.2). Contracts see the list that begins with the current node.
-#[derive(Drop)]
-pub struct Stack {
-    items: Vec<OpenElement>,
-}
+pub type Stack = SharedStack<OpenElement>;
 
-impl Model for Stack {
-    ghost use Rattle.std.specs.Prelude.{List, reverse};
-    ghost use Rattle.html_types.specs.declared.open.OpenElement.{OpenElement};
-
-    ghost Value = { List OpenElement };
-
-    ghost view = { λ s. reverse s.items.items };
-}
-
-impl Stack {
-    /// No open elements, which take no memory.
-    pub fn new(alloc: Global) -> Stack
-        ensures { result ≡ [] }
-    {
-        Stack {
-            items: Vec::new(alloc),
-        }
-    }
-
-    /// How many elements are open.
-    pub fn len(&self) -> usize
-        ensures { result ≡ length self.now }
-    {
-        self.items.len()
-    }
-
-    /// Opens an element, which is then the current node.
-    pub fn push(&mut self, element: OpenElement) -> Result<(), NoMemory>
-        ensures ok { OnOk result (self.new ≡ element ∷ self.old) }
-        ensures err { OnErr result (self.new ≡ self.old) }
-    {
-        self.items.push(element)?;
-        Ok(())
-    }
-
-    /// Takes the current node off.
-    pub fn pop(&mut self) -> Option<OpenElement>
-        ensures some { IfSome result (λ e. self.old ≡ e ∷ self.new) }
-        ensures none { IfNone result (self.old ≡ []) }
-        ensures empty { IfNone result (self.new ≡ []) }
-    {
-        self.items.pop()
-    }
-
-    /// Takes an element out, wherever it stands: the first element of the stack has place 0.
-    pub fn take_out(&mut self, place: usize)
-        requires { place < length self.old }
-        ensures { self.new ≡ reverse (remove (reverse self.old) place) }
-    {
-        let _ = self.items.remove(place);
-    }
-
-    /// The elements, the current node last.
-    pub fn as_slice(&self) -> &[OpenElement]
-        ensures { reverse result.now ≡ self.now }
-    {
-        self.items.as_slice()
-    }
-
-    /// A copy.
-    pub fn copy(&self, alloc: Global) -> Result<Stack, NoMemory>
-        ensures { IfOk result (λ s. s ≡ self.now) }
-    {
-        let mut items = Vec::new(alloc);
-        for element in &self.items {
-            items.push(element.copy()?)?;
-        }
-        Ok(Stack { items })
-    }
-
-    /// Whether two stacks are the same.
-    pub fn same(&self, other: &Stack) -> bool
-        ensures { IsTrue result ↔ (self.now ≡ other.now) }
-    {
-        same_elements(self.as_slice(), other.as_slice())
-    }
-}
-
-fn same_elements(a: &[OpenElement], b: &[OpenElement]) -> bool
-    ensures { IsTrue result ↔ (a.now ≡ b.now) }
-{
-    if a.len() != b.len() {
-        return false;
-    }
-    for i in 0..a.len() {
-        if !a[i].same(&b[i]) {
-            return false;
-        }
-    }
-    true
-}
+/// A walk over the stack of open elements, from the current node up. Contracts see the list of the elements that are left.
+pub type Elements<'a> = Walk<'a, OpenElement>;
 
 /// An entry of the list of active formatting elements: a marker, or an element with the tag that it was made for.
 #[derive(Drop)]
@@ -146,11 +49,8 @@ pub enum Format {
     Element { id: NodeId, tag: Tag },
 }
 
-impl Format {
-    /// A copy.
-    pub fn copy(&self, alloc: Global) -> Result<Format, NoMemory>
-        ensures { IfOk result (λ f. f ≡ self.now) }
-    {
+impl Entry for Format {
+    fn copy(&self, alloc: Global) -> Result<Format, AllocError> {
         match self {
             Format::Marker => Ok(Format::Marker),
             Format::Element { id, tag } => {
@@ -160,10 +60,7 @@ impl Format {
         }
     }
 
-    /// Whether two are the same.
-    pub fn same(&self, other: &Format) -> bool
-        ensures { IsTrue result ↔ (self.now ≡ other.now) }
-    {
+    fn same(&self, other: &Format) -> bool {
         match (self, other) {
             (Format::Marker, Format::Marker) => true,
             (Format::Element { id: i, tag: s }, Format::Element { id: j, tag: t }) => {
@@ -175,95 +72,7 @@ impl Format {
 }
 
 /// The list of active formatting elements (13.2.4.3). Contracts see the list that begins with the latest entry.
-#[derive(Drop)]
-pub struct Formats {
-    items: Vec<Format>,
-}
-
-impl Model for Formats {
-    ghost use Rattle.std.specs.Prelude.{List, reverse};
-    ghost use Rattle.html_types.specs.declared.open.Format.{Format};
-
-    ghost Value = { List Format };
-
-    ghost view = { λ f. reverse f.items.items };
-}
-
-impl Formats {
-    /// No entries, which take no memory.
-    pub fn new(alloc: Global) -> Formats
-        ensures { result ≡ [] }
-    {
-        Formats {
-            items: Vec::new(alloc),
-        }
-    }
-
-    /// Adds an entry at the end.
-    pub fn push(&mut self, entry: Format) -> Result<(), NoMemory>
-        ensures ok { OnOk result (self.new ≡ entry ∷ self.old) }
-        ensures err { OnErr result (self.new ≡ self.old) }
-    {
-        self.items.push(entry)?;
-        Ok(())
-    }
-
-    /// Takes the latest entry off.
-    pub fn pop(&mut self) -> Option<Format>
-        ensures some { IfSome result (λ e. self.old ≡ e ∷ self.new) }
-        ensures none { IfNone result (self.old ≡ []) }
-        ensures empty { IfNone result (self.new ≡ []) }
-    {
-        self.items.pop()
-    }
-
-    /// Takes an entry out, wherever it stands: the earliest has place 0.
-    pub fn take_out(&mut self, place: usize)
-        requires { place < length self.old }
-        ensures { self.new ≡ reverse (remove (reverse self.old) place) }
-    {
-        let _ = self.items.remove(place);
-    }
-
-    /// The entries, the latest last.
-    pub fn as_slice(&self) -> &[Format]
-        ensures { reverse result.now ≡ self.now }
-    {
-        self.items.as_slice()
-    }
-
-    /// A copy.
-    pub fn copy(&self, alloc: Global) -> Result<Formats, NoMemory>
-        ensures { IfOk result (λ f. f ≡ self.now) }
-    {
-        let mut items = Vec::new(alloc);
-        for entry in &self.items {
-            items.push(entry.copy(alloc)?)?;
-        }
-        Ok(Formats { items })
-    }
-
-    /// Whether two lists are the same.
-    pub fn same(&self, other: &Formats) -> bool
-        ensures { IsTrue result ↔ (self.now ≡ other.now) }
-    {
-        same_entries(self.as_slice(), other.as_slice())
-    }
-}
-
-fn same_entries(a: &[Format], b: &[Format]) -> bool
-    ensures { IsTrue result ↔ (a.now ≡ b.now) }
-{
-    if a.len() != b.len() {
-        return false;
-    }
-    for i in 0..a.len() {
-        if !a[i].same(&b[i]) {
-            return false;
-        }
-    }
-    true
-}
+pub type Formats = SharedStack<Format>;
 
 /// The stack of template insertion modes (13.2.4.1). Contracts see the list that begins with the current one.
 #[derive(Drop)]

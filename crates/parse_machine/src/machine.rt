@@ -706,6 +706,13 @@ impl Machine {
         is_light_state(self.tokenizer.state()) && self.builder.is_light()
     }
 
+    /// Shares the entries of the tree construction's lists, so that the next copies are cheap.
+    pub fn share(&mut self, alloc: Global) -> Result<(), NoMemory>
+        ensures { self.new ≡ self.old }
+    {
+        self.builder.share(alloc)
+    }
+
     /// A copy.
     pub fn copy(&self, alloc: Global) -> Result<Machine, NoMemory>
         ensures { IfOk result (λ m. m ≡ self.now) }

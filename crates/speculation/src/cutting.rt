@@ -33,6 +33,7 @@ fn next_batch(
     let start = Snapshot::of(machine);
     let mut ops = Ops::with_capacity(alloc, room)?;
     let ran = machine.run(alloc, table, text.as_str(), &mut ops)?;
+    machine.share(alloc)?;
     let after = Checkpoint::of(alloc, machine)?;
     let used = text.split_front(ran.used)?;
     Ok(Batch {

@@ -69,6 +69,8 @@ fn parse_from(
             machine: None,
         }),
         Some(machine) => {
+            let mut machine = machine;
+            machine.share(alloc)?;
             let start = Checkpoint::of(alloc, &machine)?;
             let machine = parse_piece(alloc, table, machine, piece, &mut batches)?;
             Ok(Parse {

@@ -219,6 +219,13 @@ impl Writer {
         &self.live.machine
     }
 
+    /// Shares what the parser's copies can share, so that the next are cheap.
+    pub fn share(&mut self) -> Result<(), NoMemory>
+        ensures { self.new ≡ self.old }
+    {
+        self.live.machine.share(self.live.alloc)
+    }
+
     /// Does operations that were made of a text ahead of the document. The parser then stands in the state `end`, behind that text.
     pub fn execute(&mut self, ops: Ops, end: Machine) -> Result<(), NoMemory>
         requires bound { AreOpsBound (is_bound self.old.doc.bound) ops }

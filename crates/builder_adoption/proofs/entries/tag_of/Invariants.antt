@@ -1,9 +1,8 @@
-use Rattle.std.proofs.Common.{◌≡◌, length, reverse}
+use Rattle.std.proofs.Common.{◌≡◌}
 use Rattle.standard.specs.Formatting.{tag_of_entry}
 use Rattle.builder_adoption.proofs.entries.tag_of.Given as goal
 
-abbrev pub invariant-loop-last : goal.invariant-loop-last
-invariant-loop-last l = tag_of_entry l.id (reverse l.items) ≡ tag_of_entry l.id l.formats
-
-abbrev pub decreases-loop-last : goal.decreases-loop-last
-decreases-loop-last l = length l.items
+abbrev pub invariant-loop-entry : goal.invariant-loop-entry
+invariant-loop-entry l =
+    goal.iterator-loop-entry.can_next l.entry-iterator × goal.iterator-loop-entry.is_finite l.entry-iterator
+    × (tag_of_entry l.id l.entry-iterator ≡ tag_of_entry l.id l.formats)

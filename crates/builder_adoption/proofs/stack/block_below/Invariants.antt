@@ -1,9 +1,8 @@
-use Rattle.std.proofs.Common.{◌≡◌, length, reverse, None}
+use Rattle.std.proofs.Common.{◌≡◌, None}
 use Rattle.standard.specs.Stack.{block_below}
 use Rattle.builder_adoption.proofs.stack.block_below.Given as goal
 
-abbrev pub invariant-loop-last : goal.invariant-loop-last
-invariant-loop-last l = block_below l.id l.found (reverse l.items) ≡ block_below l.id None l.stack
-
-abbrev pub decreases-loop-last : goal.decreases-loop-last
-decreases-loop-last l = length l.items
+abbrev pub invariant-loop-element : goal.invariant-loop-element
+invariant-loop-element l =
+    goal.iterator-loop-element.can_next l.element-iterator × goal.iterator-loop-element.is_finite l.element-iterator
+    × (block_below l.id l.found l.element-iterator ≡ block_below l.id None l.stack)

@@ -1,11 +1,9 @@
-use Rattle.std.proofs.Common.{◌≡◌, length, reverse}
+use Rattle.std.proofs.Common.{◌≡◌}
 use Rattle.standard.specs.Elements.{is_word}
 use Rattle.standard.specs.Formatting.{entry_named}
 use Rattle.builder_state.proofs.formatting.entry_of.Given as goal
 
-abbrev pub invariant-loop-last : goal.invariant-loop-last
-invariant-loop-last l =
-    entry_named (is_word l.word) (reverse l.items) ≡ entry_named (is_word l.word) l.formats
-
-abbrev pub decreases-loop-last : goal.decreases-loop-last
-decreases-loop-last l = length l.items
+abbrev pub invariant-loop-entry : goal.invariant-loop-entry
+invariant-loop-entry l =
+    goal.iterator-loop-entry.can_next l.entry-iterator × goal.iterator-loop-entry.is_finite l.entry-iterator
+    × (entry_named (is_word l.word) l.entry-iterator ≡ entry_named (is_word l.word) l.formats)

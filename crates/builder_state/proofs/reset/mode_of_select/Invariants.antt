@@ -1,9 +1,8 @@
-use Rattle.std.proofs.Common.{◌≡◌, length, reverse}
+use Rattle.std.proofs.Common.{◌≡◌}
 use Rattle.standard.specs.Reset.{select_mode}
 use Rattle.builder_state.proofs.reset.mode_of_select.Given as goal
 
-abbrev pub invariant-loop-last : goal.invariant-loop-last
-invariant-loop-last l = select_mode (reverse l.items) ≡ select_mode (reverse l.all)
-
-abbrev pub decreases-loop-last : goal.decreases-loop-last
-decreases-loop-last l = length l.items
+abbrev pub invariant-loop-element : goal.invariant-loop-element
+invariant-loop-element l =
+    goal.iterator-loop-element.can_next l.element-iterator × goal.iterator-loop-element.is_finite l.element-iterator
+    × (select_mode l.element-iterator ≡ select_mode l.fn.above)

@@ -1,9 +1,9 @@
-use Rattle.std.proofs.Common.{◌≡◌, length, reverse}
+use Rattle.std.proofs.Common.{◌≡◌, length}
 use Rattle.standard.specs.Reset.{reset_mode}
 use Rattle.builder_state.proofs.reset.mode_to_reset_to.Given as goal
 
-abbrev pub invariant-loop-last : goal.invariant-loop-last
-invariant-loop-last l = reset_mode (reverse l.items) l.head l.modes ≡ reset_mode l.stack l.head l.modes
+abbrev pub invariant-loop-element : goal.invariant-loop-element
+invariant-loop-element l = reset_mode l.walk l.head l.modes ≡ reset_mode l.stack l.head l.modes
 
-abbrev pub decreases-loop-last : goal.decreases-loop-last
-decreases-loop-last l = length l.items
+abbrev pub decreases-loop-element : goal.decreases-loop-element
+decreases-loop-element l = length l.walk

@@ -1,10 +1,9 @@
-use Rattle.std.proofs.Common.{◌≡◌, length, reverse}
+use Rattle.std.proofs.Common.{◌≡◌}
 use Rattle.standard.specs.Elements.{is_meant}
 use Rattle.standard.specs.Stack.{in_scope}
 use Rattle.builder_state.proofs.walks.is_in_scope.Given as goal
 
-abbrev pub invariant-loop-last : goal.invariant-loop-last
-invariant-loop-last l = in_scope l.scope (is_meant l.who l.token) (reverse l.items) ≡ in_scope l.scope (is_meant l.who l.token) l.stack
-
-abbrev pub decreases-loop-last : goal.decreases-loop-last
-decreases-loop-last l = length l.items
+abbrev pub invariant-loop-element : goal.invariant-loop-element
+invariant-loop-element l =
+    goal.iterator-loop-element.can_next l.element-iterator × goal.iterator-loop-element.is_finite l.element-iterator
+    × (in_scope l.scope (is_meant l.who l.token) l.element-iterator ≡ in_scope l.scope (is_meant l.who l.token) l.stack)
