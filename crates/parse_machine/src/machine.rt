@@ -30,7 +30,7 @@ use std::alloc::Global;
 use std::marker::Model;
 use tokenizer::Tokenizer;
 use tokenizer::reading::is_plain;
-use tokenizer::reference::whole_reference;
+use tokenizer::reference::{OpenReference, open_reference, whole_reference};
 use tokenizer::whole::whole_token;
 
 /// A parser: contracts see the tokenizer's state, whether the last character was a CR, and the open state.
@@ -533,6 +533,40 @@ impl Machine {
         }))
     }
 
+    // Inserts what such a reference comes to.
+    fn insert_open(
+        &mut self,
+        alloc: Global,
+        reference: OpenReference<'_>,
+        ops: &mut Ops,
+    ) -> Result<(), NoMemory> {
+        if let Some(characters) = reference.characters {
+            self.insert_characters(alloc, characters, ops)?;
+        }
+        self.insert_run(alloc, reference.rest, ops)
+    }
+
+    // The same of one that no `;` ends.
+    fn take_open_reference(
+        &mut self,
+        alloc: Global,
+        table: &Table,
+        text: &str,
+        from: usize,
+        ops: &mut Ops,
+    ) -> Result<Option<usize>, NoMemory>
+        requires { IsCharBoundary text.now from }
+    {
+        let Some(reference) = open_reference(table, text, from) else {
+            return Ok(None);
+        };
+        if let Some(characters) = reference.characters && has_nul(characters) {
+            return Ok(None);
+        }
+        self.insert_open(alloc, reference, ops)?;
+        Ok(Some(reference.end))
+    }
+
     // Takes the named reference that begins at a place, where it is looked up at once and inserted as it is, and gives the place behind it.
     fn take_reference(
         &mut self,
@@ -557,7 +591,7 @@ impl Machine {
             return Ok(None);
         }
         let Some(reference) = whole_reference(table, text, from) else {
-            return Ok(None);
+            return self.take_open_reference(alloc, table, text, from, ops);
         };
         let characters = reference.characters;
         if has_nul(characters) {
