@@ -1,13 +1,16 @@
 //! A character reference that stands whole in a text: a name is looked up once, and a number is read at once.
 
-ghost use Rattle.std.specs.Prelude.{◌≡◌, ◌<◌, ◌≤◌, [], ◌∷◌, false, length, IfSome};
-ghost use Rattle.std.specs.Str.{IsCharBoundary};
+ghost use Rattle.std.specs.Prelude.{◌≡◌, ◌<◌, ◌≤◌, ◌==◌, ◌||◌, [], ◌∷◌, false, length, Option, IfSome};
+ghost use Rattle.std.specs.Char.{is_ascii_alphanumeric};
+ghost use Rattle.std.specs.Str.{chars, IsCharBoundary};
 ghost use Rattle.html_types.specs.declared.token.Token.TheVariants.{Character};
-ghost use Rattle.standard.specs.Entities.{Entities};
+ghost use Rattle.standard.specs.Entities.{Entity, Entities};
 ghost use Rattle.standard.specs.ReferenceStates.{longer_code};
+ghost use Rattle.entity_table.specs.Held.{Holds};
+ghost use Rattle.entity_table.specs.Matches.{Tells};
 ghost use Rattle.entity_table.specs.View.{characters_in};
 ghost use Rattle.tokenizer.specs.Reference as parts;
-ghost use Rattle.tokenizer.specs.Reference.{Refers, Means, IsDigit, OpensNumber, Counts};
+ghost use Rattle.tokenizer.specs.Reference.{Refers, Means, IsDigit, OpensNumber, Counts, IsHeld, RefersIn, has_nul, standing_for, open_characters};
 ghost use Rattle.tokenizer.specs.Whole.{has_cr, piece, MakesAlone};
 
 use crate::place::{ascii_at, lacks_cr, past};
@@ -121,8 +124,12 @@ pub struct OpenReference<'t> {
     pub end: usize,
 }
 
-// What is held up to a place comes to this.
-fn opened<'t>(held: &'t str, best: Option<Match>, end: usize) -> OpenReference<'t> {
+// What is held up to a place, where this is the longest name in it.
+fn resolved<'t>(held: &'t str, best: Option<Match>, end: usize) -> OpenReference<'t>
+    ensures ends { result.end ≡ end }
+    ensures stands_for { (found : Option Entity) → Tells found best → open_characters result ≡ standing_for (chars held.now) found }
+    ensures no_nul { has_nul (chars held.now) ≡ false → has_nul (chars result.rest.now) ≡ false }
+{
     match best {
         None => OpenReference {
             characters: None,
@@ -139,12 +146,14 @@ fn opened<'t>(held: &'t str, best: Option<Match>, end: usize) -> OpenReference<'
 
 // Names go on over such a character.
 fn is_in_name(c: char) -> bool
+    ensures { result ≡ (is_ascii_alphanumeric c || (c == 59)) }
 {
     c.is_ascii_alphanumeric() || c == ';'
 }
 
 // A CR is read as a line feed.
 fn as_read(c: char) -> char
+    ensures { result ≡ parts.as_read c }
 {
     if c == '\r' { '\n' } else { c }
 }
@@ -156,6 +165,9 @@ pub fn open_reference<'t>(table: &Table, text: &'t str, from: usize) -> Option<O
     ensures boundary { IfSome result (λ r. IsCharBoundary text.now r.end) }
     ensures onward { IfSome result (λ r. from < r.end) }
     ensures within { IfSome result (λ r. r.end < length text.now) }
+    ensures refers { IfSome result (λ r. RefersIn table.now text.now from r.end (open_characters r)) }
+    ensures no_cr { IfSome result (λ r. has_cr (piece text.now from r.end) ≡ false) }
+    ensures no_nul { IfSome result (λ r. has_nul (chars r.rest.now) ≡ false) }
 {
     let Some(begun) = walk_begins(table, text, from) else {
         return None;
@@ -164,7 +176,7 @@ pub fn open_reference<'t>(table: &Table, text: &'t str, from: usize) -> Option<O
     let mut at = begun.at;
     while let Some((c, behind)) = char_at(text, at) {
         match cursor.push(table, as_read(c)) {
-            Step::Stop(best) => return Some(opened(&text[from..at], best, at)),
+            Step::Stop(best) => return Some(resolved(&text[from..at], best, at)),
             Step::More => if !is_in_name(c) {
                 return None;
             },
