@@ -141,24 +141,10 @@ all_space-append (u ∷ us) vs = ap (λ (v : Bool). is_space u && v) (all_space-
     and_assoc true b c = refl
     and_assoc false b c = refl
 
-behind_both : (us vs : List ℕ) (b : Open) → behind_text vs (behind_text us b) ≡ behind_text (us ++ vs) b
+pub behind_both : (us vs : List ℕ) (b : Open) → behind_text vs (behind_text us b) ≡ behind_text (us ++ vs) b
 behind_both us vs b =
     ap (λ (ok : Bool). record b { frameset_ok = ok })
     (ok-behind (keeps_ok b.mode) (all_space vs) (all_space us) b.frameset_ok ∙ ap (λ (v : Bool). (keeps_ok b.mode || v) && b.frameset_ok) (sym (all_space-append us vs)))
-
-texts-append : (p : Place) (us vs : List ℕ) → texts p us ++ texts p vs ≡ texts p (us ++ vs)
-texts-append p us vs = sym (map-append (λ c. op.Text p (c ∷ [])) us vs)
-
-pub inserted_both : (us vs : List ℕ) (p p1 p2 : Parser) (o o1 o2 : List Op) → o1 ≡ o ++ texts (here p.open_state) us → p1 ≡ record p { open_state = behind_text us p.open_state }
-    → o2 ≡ o1 ++ texts (here p1.open_state) vs → o2 ≡ o ++ texts (here p.open_state) (us ++ vs)
-inserted_both us vs p p1 p2 o o1 o2 first done second =
-    second ∙ ap (λ (q : Parser). o1 ++ texts (here q.open_state) vs) done ∙ ap (λ (l : List Op). l ++ texts (here p.open_state) vs) first
-    ∙ append_assoc o (texts (here p.open_state) us) (texts (here p.open_state) vs) ∙ ap (λ (l : List Op). o ++ l) (texts-append (here p.open_state) us vs)
-
-pub done_both : (us vs : List ℕ) (p p1 p2 : Parser) → p1 ≡ record p { open_state = behind_text us p.open_state } → p2 ≡ record p1 { open_state = behind_text vs p1.open_state }
-    → p2 ≡ record p { open_state = behind_text (us ++ vs) p.open_state }
-done_both us vs p p1 p2 first second =
-    second ∙ ap (λ (q : Parser). record q { open_state = behind_text vs q.open_state }) first ∙ ap (λ (b : Open). record p { open_state = b }) (behind_both us vs p.open_state)
 
 pub no_nul_both : (us vs : List ℕ) → list_any (λ c. c == 0) us ≡ false → list_any (λ c. c == 0) vs ≡ false → list_any (λ c. c == 0) (us ++ vs) ≡ false
 no_nul_both us vs h k = list_any-append (λ c. c == 0) us vs ∙ or_from _ _ h k

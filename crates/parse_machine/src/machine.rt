@@ -367,6 +367,7 @@ fn has_nul(characters: Characters) -> bool
     characters.first == '\0' || characters.second == Some('\0')
 }
 
+// Whether a NUL is among the characters that were found.
 fn some_nul(found: Option<Characters>) -> bool
     ensures { result ≡ list_any (λ c. c == 0) (found_characters found) }
 {
@@ -544,14 +545,15 @@ impl Machine {
     }
 
     // Inserts the characters for which such a reference stands.
+    #[tactic(auto, using(std::proofs::lemmas::Grind::common_steps, crate::proofs::References::behind_both))]
     fn insert_open(
         &mut self,
         alloc: Global,
         reference: OpenReference<'_>,
         ops: &mut Ops,
     ) -> Result<(), NoMemory>
-        ensures inserted { IfOk result (λ _. ops.new ≡ ops.old ++ texts (here self.old.open_state) (open_characters reference)) }
-        ensures done { IfOk result (λ _. self.new ≡ record self.old { open_state = behind_text (open_characters reference) self.old.open_state }) }
+        ensures inserted { IfOk result (λ _. ops.new ≡ ops.old ++ texts (here self.old.open_state) (open_characters reference.entry)) }
+        ensures done { IfOk result (λ _. self.new ≡ record self.old { open_state = behind_text (open_characters reference.entry) self.old.open_state }) }
     {
         match reference.characters {
             None => self.insert_run(alloc, reference.rest, ops),
