@@ -1,6 +1,6 @@
 -- A named character reference that is read up to a character with which no name goes on.
-use Rattle.std.proofs.Common.{◌≡◌, ◌↔◌, ℕ, zero, suc, ◌+◌, ◌-◌, ◌≤◌, Bool, true, false, true≢false, ◌==◌, ◌||◌, List, [], ◌∷◌, ◌++◌, length, take, drop, refl, sym, ap, ◌∙◌, append_assoc, arith}
-use Rattle.std.specs.Prelude.{map, IsTrue, if◌then◌else◌, Option, Some, None}
+use Rattle.std.proofs.Common.{◌≡◌, ◌↔◌, ℕ, zero, suc, ◌+◌, ◌-◌, ◌≤◌, Bool, true, false, true≢false, ◌==◌, ◌||◌, List, [], ◌∷◌, ◌++◌, take, drop, refl, sym, ap, ◌∙◌, append_assoc, arith}
+use Rattle.std.specs.Prelude.{IsTrue, if◌then◌else◌, Option, Some, None}
 use Rattle.std.specs.Char.{is_ascii_alphanumeric}
 use Rattle.std.specs.List.{list_any}
 use Rattle.std.specs.Str.{chars, IsUtf8, IsCharBoundary}
@@ -10,18 +10,16 @@ use Rattle.std.proofs.lemmas.List.{append_cancel_left, take-append-drop}
 use Rattle.std.proofs.lemmas.List.Folds.{list_any-append}
 use Rattle.std.proofs.lemmas.Str.{chars-append, IsUtf8-take}
 use Rattle.html_types.specs.declared.reference_state.ReturnState.TheVariants as back
-use Rattle.html_types.specs.declared.token.Token.TheVariants.{Character}
 use Rattle.standard.specs.Class.{class_of}
 use Rattle.standard.specs.Entities.{Entity, Entities, begins_some, longest}
 use Rattle.standard.specs.ReferenceStates.{literally, named_step}
-use Rattle.standard.specs.Step.{data_state}
-use Rattle.standard.specs.Tokenizer.{Reached, after_tokens, read, feed}
+use Rattle.standard.specs.Tokenizer.{Reached, read}
 use Rattle.html_types.specs.declared.class.Class.{Class}
 use Rattle.entity_table.specs.declared.row.Match.{Match}
 use Rattle.entity_table.specs.declared.cursor.Step.TheVariants.{More, Stop}
 use Rattle.entity_table.proofs.Spelling.{in_spelling}
 use Rattle.tokenizer.specs.Reference.{IsHeld, IsFirst, RefersBefore, RefersIn, as_read, has_nul, standing_for}
-use Rattle.tokenizer.specs.Whole.{has_cr, piece}
+use Rattle.tokenizer.specs.Whole.{piece}
 use Rattle.tokenizer.proofs.ReferenceLemmas.{held, stop_row, literally_done, read-again, begun, InName-more, name_state, not_letter, class-begins, class-in_name}
 
 -- ---- what is held

@@ -11,7 +11,7 @@ use Rattle.html_types.specs.declared.state.TokState.{TokState}
 use Rattle.html_types.specs.declared.token.Token.TheVariants.{Character}
 use Rattle.standard.specs.Class.{class_of}
 use Rattle.standard.specs.Entities.{Entity, Entities}
-use Rattle.standard.specs.ReferenceStates.{return_state, literally, longer_code}
+use Rattle.standard.specs.ReferenceStates.{return_state, literally}
 use Rattle.standard.specs.Step.{data_state, in_reference}
 use Rattle.standard.specs.Tokenizer.{after_tokens, read, feed}
 use Rattle.entity_table.specs.View.{characters_in}
