@@ -4,12 +4,10 @@ use Rattle.std.specs.Prelude.{map, if◌then◌else◌, Option, Some, None, Resu
 use Rattle.std.specs.List.{list_any}
 use Rattle.std.specs.Str.{chars, IsUtf8, IsCharBoundary}
 use Rattle.std.proofs.lemmas.Bool.{or_from}
-use Rattle.std.proofs.lemmas.List.{length-append, map-append}
+use Rattle.std.proofs.lemmas.List.{length-append}
 use Rattle.std.proofs.lemmas.List.Folds.{list_any-append}
 use Rattle.html_types.specs.declared.memory.NoMemory.{NoMemory}
 use Rattle.html_types.specs.declared.operation.Op.{Op}
-use Rattle.html_types.specs.declared.operation.Op.TheVariants as op
-use Rattle.html_types.specs.declared.operation.Place.{Place}
 use Rattle.html_types.specs.declared.token.Token.{Token}
 use Rattle.html_types.specs.declared.token.Token.TheVariants.{Character}
 use Rattle.html_types.specs.declared.state.TokState.{TokState}
