@@ -64,7 +64,7 @@ pub struct Row {
 
 // Names with and without `;`, one that another begins, and one that stands for two characters.
 const ENTITIES: &str =
-    "{\"&amp;\":{\"codepoints\":[38]},\"&amp\":{\"codepoints\":[38]},\"&lt;\":{\"codepoints\":[60]},\"&lt\":{\"codepoints\":[60]},\"&not;\":{\"codepoints\":[172]},\"&not\":{\"codepoints\":[172]},\"&notin;\":{\"codepoints\":[8713]},\"&nbsp;\":{\"codepoints\":[160]},\"&acE;\":{\"codepoints\":[8766,819]}}";
+    "{\"&amp;\":{\"codepoints\":[38]},\"&amp\":{\"codepoints\":[38]},\"&lt;\":{\"codepoints\":[60]},\"&lt\":{\"codepoints\":[60]},\"&not;\":{\"codepoints\":[172]},\"&not\":{\"codepoints\":[172]},\"&notin;\":{\"codepoints\":[8713]},\"&nbsp;\":{\"codepoints\":[160]},\"&acE;\":{\"codepoints\":[8766,819]},\"&CounterClockwiseContourIntegral;\":{\"codepoints\":[8755]}}";
 
 /// A run in which nothing fails.
 pub fn page(page: &'static [u8], status: Status, text: &'static str) -> Row {

@@ -115,7 +115,7 @@ fn dumps() -> [Row; 5] {
 }
 
 // Pages that the tokenizer decides: references, comments, doctypes, declarations, script data.
-fn tokens() -> [Row; 23] {
+fn tokens() -> [Row; 25] {
     [
         page(
             b"<!DOCTYPE html><p>Hi",
@@ -146,6 +146,16 @@ fn tokens() -> [Row; 23] {
             b"<a b=&lt c=&lt;d>&acE;&am",
             Status::Done,
             "tree \"<html><head></head><body><a b=\\\"&lt;\\\" c=\\\"&lt;d\\\">∾̳&amp;am</a></body></html>\"\n",
+        ),
+        page(
+            b"<p>&notit; &ampx &CounterClockwiseContourIntegral &CounterClockwiseContourIntegral; &foo bar",
+            Status::Done,
+            "tree \"<html><head></head><body><p>¬it; &amp;x &amp;CounterClockwiseContourIntegral ∳ &amp;foo bar</p></body></html>\"\n",
+        ),
+        page(
+            b"<p>&lt\r\n&not<i>&no&amp\x00&acE&notin\xC3\xA9&am",
+            Status::Done,
+            "tree \"<html><head></head><body><p>&lt;\\n¬<i>&amp;no&amp;&amp;acE¬iné&amp;am</i></p></body></html>\"\n",
         ),
         page(
             b"<\x00",

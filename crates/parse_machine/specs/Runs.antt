@@ -1,5 +1,5 @@
 -- Runs of characters, and tags, that are parsed at once.
-use Rattle.std.specs.Prelude.{◌≡◌, ℕ, Bool, true, false, List, ◌∷◌, ◌++◌, length, take}
+use Rattle.std.specs.Prelude.{◌≡◌, ℕ, Bool, true, false, List, ◌∷◌, ◌++◌, length, take, drop}
 use Rattle.std.specs.List.{list_any}
 use Rattle.std.specs.Str.{chars}
 use Rattle.html_types.specs.declared.operation.Op.{Op}
@@ -14,6 +14,7 @@ use Rattle.standard.specs.Entities.{Entities}
 use Rattle.standard_laws.specs.Laws.{joined}
 use Rattle.standard.specs.Parser.{Parser, parse}
 use Rattle.standard.specs.Step.{data_state}
+use Rattle.tokenizer.specs.Reference.{IsFirst}
 use Rattle.parse_machine.specs.declared.machine.Ran.{Ran}
 
 -- no NUL, CR, `&` or `<` among them
@@ -60,9 +61,9 @@ pub record Takes (es : Entities) (text : List ℕ) (from : ℕ) (ran : Ran) (was
   pub used : (parse es was run).used ≡ length run
   pub stop : ran.stop ≡ (parse es was run).stop
 
--- These characters insert text, though perhaps only where the next is read, whichever that is.
-abbrev pub InsertsText : Entities → List ℕ → Parser → List Op → Parser → Type 0
-InsertsText es run was added now = (c : ℕ) (rest : List ℕ) → parse es was (run ++ c ∷ rest) ≡ joined (record { ops = added; parser = now; used = length run; stop = InputEnd }) (parse es now (c ∷ rest))
+-- These characters insert text, though perhaps only where the next is read, which is the first of those behind them.
+abbrev pub InsertsText : Entities → List ℕ → Parser → List Op → Parser → List ℕ → Type 0
+InsertsText es run was added now behind = (c : ℕ) (rest : List ℕ) → IsFirst c behind → parse es was (run ++ c ∷ rest) ≡ joined (record { ops = added; parser = now; used = length run; stop = InputEnd }) (parse es now (c ∷ rest))
 
 -- So do the characters of the text from one place to another.
 pub record Inserts (es : Entities) (text : List ℕ) (from end : ℕ) (was : Parser) (before : List Op) (now : Parser) (after : List Op) : Type 0 where
@@ -70,7 +71,7 @@ pub record Inserts (es : Entities) (text : List ℕ) (from end : ℕ) (was : Par
   pub added : List Op
   pub front : chars (take end text) ≡ chars (take from text) ++ run
   pub ops : after ≡ before ++ added
-  pub parsed : InsertsText es run was added now
+  pub parsed : InsertsText es run was added now (chars (drop end text))
 
 -- The same, where nothing was inserted at the end of the text.
 pub record Ahead (es : Entities) (text : List ℕ) (from end : ℕ) (was : Parser) (before : List Op) (now : Parser) (after : List Op) : Type 0 where

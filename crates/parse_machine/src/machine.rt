@@ -9,10 +9,11 @@ ghost use Rattle.standard.specs.Tokenizer.{Reached, read, read_end};
 ghost use Rattle.std.specs.Str.{IsCharBoundary};
 ghost use Rattle.standard.specs.Parser as definition;
 ghost use Rattle.standard.specs.Parser.{new_parser, took, after_ops, build, build_end, take_character, finish as finished, parse, AreSame, after_all};
-ghost use Rattle.builder_state.specs.Texts.{behind_text};
+ghost use Rattle.builder_state.specs.Texts.{TakesText, behind_text};
 ghost use Rattle.standard.specs.Instructions.{here, texts};
 ghost use Rattle.std.specs.List.{list_any};
 ghost use Rattle.entity_table.specs.View.{characters_in};
+ghost use Rattle.tokenizer.specs.Reference.{found_characters, open_characters};
 ghost use Rattle.parse_machine.specs.Runs.{ArePlain, reads_runs as state_reads_runs, Ahead, Inserts, ReadsTags, Takes, TakesRuns, TakesRun};
 ghost use Rattle.core_rules.specs.Batches.{end_batch, finishing};
 ghost use Rattle.parse_machine.specs.Machine.{WentTo, EndedTo, Builds, BuildsLast, RanAs, halt_at, EndsAs, stops as stops_at};
@@ -30,7 +31,7 @@ use std::alloc::Global;
 use std::marker::Model;
 use tokenizer::Tokenizer;
 use tokenizer::reading::is_plain;
-use tokenizer::reference::whole_reference;
+use tokenizer::reference::{OpenReference, open_reference, whole_reference};
 use tokenizer::whole::whole_token;
 
 /// A parser: contracts see the tokenizer's state, whether the last character was a CR, and the open state.
@@ -366,6 +367,16 @@ fn has_nul(characters: Characters) -> bool
     characters.first == '\0' || characters.second == Some('\0')
 }
 
+// Whether a NUL is among the characters that were found.
+fn some_nul(found: Option<Characters>) -> bool
+    ensures { result ≡ list_any (λ c. c == 0) (found_characters found) }
+{
+    match found {
+        None => false,
+        Some(characters) => has_nul(characters),
+    }
+}
+
 impl Machine {
     /// The parser at the beginning of a page. Its elements are of that realm. It takes no memory.
     pub fn new(alloc: Global, realm: u64) -> Machine
@@ -533,6 +544,56 @@ impl Machine {
         }))
     }
 
+    // Inserts the characters for which such a reference stands.
+    #[tactic(auto, using(std::proofs::lemmas::Grind::common_steps, crate::proofs::References::behind_both))]
+    fn insert_open(
+        &mut self,
+        alloc: Global,
+        reference: OpenReference<'_>,
+        ops: &mut Ops,
+    ) -> Result<(), NoMemory>
+        ensures inserted { IfOk result (λ _. ops.new ≡ ops.old ++ texts (here self.old.open_state) (open_characters reference.entry)) }
+        ensures done { IfOk result (λ _. self.new ≡ record self.old { open_state = behind_text (open_characters reference.entry) self.old.open_state }) }
+    {
+        match reference.characters {
+            None => self.insert_run(alloc, reference.rest, ops),
+            Some(characters) => {
+                self.insert_characters(alloc, characters, ops)?;
+                self.insert_run(alloc, reference.rest, ops)
+            }
+        }
+    }
+
+    // Takes the named reference that begins at a place, up to a character with which no name goes on, and gives that place.
+    #[inline(never)]
+    fn take_open_reference(
+        &mut self,
+        alloc: Global,
+        table: &Table,
+        text: &str,
+        from: usize,
+        ops: &mut Ops,
+    ) -> Result<Option<usize>, NoMemory>
+        requires boundary { IsCharBoundary text.now from }
+        requires reads { ReadsTags self.old }
+        requires takes { TakesText self.old.open_state }
+        ensures boundary { IfOk result (λ o. IfSome o (λ end. IsCharBoundary text.now end)) }
+        ensures onward { IfOk result (λ o. IfSome o (λ end. from < end)) }
+        ensures within { IfOk result (λ o. IfSome o (λ end. end < length text.now)) }
+        ensures parsed { IfOk result (λ o. IfSome o (λ end. Inserts table.now text.now from end self.old ops.old self.new ops.new)) }
+        ensures none { IfOk result (λ o. o ≡ None → self.new ≡ self.old) }
+        ensures none_added { IfOk result (λ o. o ≡ None → ops.new ≡ ops.old) }
+    {
+        let Some(reference) = open_reference(table, text, from) else {
+            return Ok(None);
+        };
+        if some_nul(reference.characters) {
+            return Ok(None);
+        }
+        self.insert_open(alloc, reference, ops)?;
+        Ok(Some(reference.end))
+    }
+
     // Takes the named reference that begins at a place, where it is looked up at once and inserted as it is, and gives the place behind it.
     fn take_reference(
         &mut self,
@@ -557,7 +618,7 @@ impl Machine {
             return Ok(None);
         }
         let Some(reference) = whole_reference(table, text, from) else {
-            return Ok(None);
+            return self.take_open_reference(alloc, table, text, from, ops);
         };
         let characters = reference.characters;
         if has_nul(characters) {

@@ -2,7 +2,7 @@
 #![tactic(auto)]
 
 mod literal;
-mod named;
+pub mod named;
 pub mod numeric;
 pub mod rows;
 

@@ -80,8 +80,8 @@ fn end_of_match(
     }
 }
 
-// The text without its first characters.
-fn skip(text: &str, count: usize) -> &str
+/// The text without its first characters; empty where it has no more.
+pub fn skip(text: &str, count: usize) -> &str
     ensures { chars result.now ≡ drop count (chars text.now) }
 {
     let mut rest = text.chars();

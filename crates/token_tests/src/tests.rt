@@ -6,7 +6,7 @@ use std::test::Fail;
 
 // Names with and without `;`, one that another begins, and one that stands for two characters.
 const ENTITIES: &[u8] =
-    b"{\"&amp;\":{\"codepoints\":[38]},\"&amp\":{\"codepoints\":[38]},\"&lt;\":{\"codepoints\":[60]},\"&lt\":{\"codepoints\":[60]},\"&not;\":{\"codepoints\":[172]},\"&not\":{\"codepoints\":[172]},\"&notin;\":{\"codepoints\":[8713]},\"&acE;\":{\"codepoints\":[8766,819]}}";
+    b"{\"&amp;\":{\"codepoints\":[38]},\"&amp\":{\"codepoints\":[38]},\"&lt;\":{\"codepoints\":[60]},\"&lt\":{\"codepoints\":[60]},\"&not;\":{\"codepoints\":[172]},\"&not\":{\"codepoints\":[172]},\"&notin;\":{\"codepoints\":[8713]},\"&acE;\":{\"codepoints\":[8766,819]},\"&CounterClockwiseContourIntegral;\":{\"codepoints\":[8755]}}";
 
 fn data(text: &'static str, tokens: &'static str) -> Row {
     Row {
@@ -65,11 +65,18 @@ fn tags() -> [Row; 20] {
 }
 
 // Character references.
-fn references() -> [Row; 22] {
+fn references() -> [Row; 26] {
     [
         data("&notit;", "\u{AC}it;$"),
         data("&notin;", "\u{2209}$"),
         data("&noti", "\u{AC}i$"),
+        data("&notit; ", "\u{AC}it; $"),
+        data("&foo bar", "&amp;foo bar$"),
+        data("&CounterClockwiseContourIntegral;", "\u{2233}$"),
+        data(
+            "&CounterClockwiseContourIntegral ",
+            "&amp;CounterClockwiseContourIntegral $",
+        ),
         data("<a b='&notit;'>", "<a b=\"&notit;\">$"),
         data("<a b='&lt='>", "<a b=\"&lt=\">$"),
         data("<a b='&lt'>", "<a b=\"<\">$"),

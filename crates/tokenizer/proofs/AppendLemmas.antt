@@ -5,7 +5,7 @@ use Rattle.std.proofs.lemmas.Bool.{and_parts}
 use Rattle.std.proofs.lemmas.Bool.Decides.{Decides-eqb}
 use Rattle.html_types.specs.declared.attributes.Attribute.{Attribute}
 use Rattle.html_types.specs.declared.class.Class.{Class}
-use Rattle.html_types.specs.declared.class.Class.TheVariants.{Space, DoubleQuote, Ampersand, SingleQuote, Hyphen, Less, Greater, InputEnd}
+use Rattle.html_types.specs.declared.class.Class.TheVariants.{Space, DoubleQuote, Ampersand, SingleQuote, Greater, InputEnd}
 use Rattle.html_types.specs.declared.mark_state.CommentState.TheVariants.{Inside}
 use Rattle.html_types.specs.declared.mark_state.DoctypeState.TheVariants.{Name, PublicIdentifier, SystemIdentifier, Bogus}
 use Rattle.html_types.specs.declared.mark_state.MarkState.TheVariants.{BogusComment}
@@ -20,9 +20,9 @@ use Rattle.standard.specs.CommentStates.{in_comment}
 use Rattle.standard.specs.DoctypeStates.{in_doctype, doctype_name_row, public_identifier_row, system_identifier_row, bogus_doctype_row}
 use Rattle.standard.specs.Entities.{Entities}
 use Rattle.standard.specs.MarkStates.{bogus_comment_row}
-use Rattle.standard.specs.Step.{Step, in_tag, in_mark, to}
+use Rattle.standard.specs.Step.{in_tag, in_mark, to}
 use Rattle.standard.specs.TagStates.{quoted_row, unquoted_row}
-use Rattle.standard.specs.Tokenizer.{Reached, row, feed}
+use Rattle.standard.specs.Tokenizer.{row, feed}
 use Rattle.tokenizer.specs.declared.part.Part.{Part}
 use Rattle.tokenizer.specs.declared.part.Part.TheVariants as part
 use Rattle.tokenizer.specs.Runs.{LeadsTo, longer}

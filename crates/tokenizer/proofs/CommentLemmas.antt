@@ -8,7 +8,6 @@ use Rattle.html_types.specs.declared.mark_state.CommentState.TheVariants.{Start,
 use Rattle.html_types.specs.declared.mark_state.MarkState.TheVariants.{MarkupDeclarationOpen}
 use Rattle.html_types.specs.declared.token.Token.TheVariants.{Comment}
 use Rattle.html_types.specs.declared.state.TagState.TheVariants.{TagOpen}
-use Rattle.html_types.specs.declared.state.TokState.{TokState}
 use Rattle.standard.specs.Class.{class_of, shown}
 use Rattle.standard.specs.CommentStates.{in_comment, comment_start_row, comment_inside_row, comment_end_dash_row}
 use Rattle.standard.specs.Entities.{Entities}

@@ -2,6 +2,7 @@ pub mod ReadingLemmas
 pub mod WholeLemmas
 pub mod ReferenceLemmas
 pub mod NumberLemmas
+pub mod OpenLemmas
 pub mod CommentLemmas
 pub mod FirstLemmas
 pub mod PartLemmas

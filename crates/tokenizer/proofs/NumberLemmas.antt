@@ -2,12 +2,11 @@
 use Rattle.std.proofs.Common.{◌≡◌, ℕ, Bool, true, false, true≢false, List, [], ◌∷◌, ◌++◌, refl, sym, ap, ◌∙◌, append-nil, append_assoc}
 use Rattle.std.specs.Char.{is_digit}
 use Rattle.html_types.specs.declared.class.Class.{Class}
-use Rattle.html_types.specs.declared.class.Class.TheVariants.{Digit, Alpha, Semicolon}
+use Rattle.html_types.specs.declared.class.Class.TheVariants.{Digit, Alpha}
 use Rattle.html_types.specs.declared.reference_state.ReferenceState.TheVariants as reference
 use Rattle.html_types.specs.declared.reference_state.ReturnState.{ReturnState}
 use Rattle.html_types.specs.declared.reference_state.ReturnState.TheVariants as back
 use Rattle.html_types.specs.declared.token.Token.TheVariants.{Character}
-use Rattle.html_types.specs.declared.state.TokState.{TokState}
 use Rattle.standard.specs.Class.{class_of}
 use Rattle.standard.specs.Entities.{Entities}
 use Rattle.standard.specs.ReferenceStates.{return_state, literally, longer_code, character_of, numeric_row, hexadecimal_start_row}

@@ -31,7 +31,7 @@ use Rattle.tokenizer.specs.Reference.{begins, in_name, InName, Refers, Means}
 use Rattle.tokenizer.specs.Whole.{has_cr}
 use Rattle.tokenizer.proofs.WholeLemmas.{feed-to, feed-again}
 
-abbrev held : ReturnState → List ℕ → TokState
+abbrev pub held : ReturnState → List ℕ → TokState
 held back cs = in_reference (reference.Named back cs)
 
 -- ---- a name that goes on
@@ -63,7 +63,7 @@ ampersand es foreign home rest = feed-to es foreign (return_state home) (in_refe
     at (back.AttributeValueQuoted tag value quote.Single) = refl
     at (back.AttributeValueUnquoted tag value) = refl
 
-begun : (es : Entities) (c : ℕ) → begins (class_of c) ≡ true → begins_some (38 ∷ c ∷ []) es ≡ true → InName es (38 ∷ c ∷ [])
+pub begun : (es : Entities) (c : ℕ) → begins (class_of c) ≡ true → begins_some (38 ∷ c ∷ []) es ≡ true → InName es (38 ∷ c ∷ [])
 begun es c b some foreign back rest =
     let k = class_of c in
     let more = on_row es back (38 ∷ []) k c (begins_in_name k b) some in
@@ -71,7 +71,7 @@ begun es c b some foreign back rest =
     ∙ feed-again es foreign (in_reference (reference.Ampersand back)) (held back (38 ∷ [])) c rest (begins_row back k c b) (ap (λ (r : Step). r.again) more)
     ∙ feed-to es foreign (held back (38 ∷ [])) (held back (38 ∷ c ∷ [])) c rest more
 
-InName-more : (es : Entities) (cs now : List ℕ) (c : ℕ) → now ≡ cs ++ c ∷ [] → in_name (class_of c) ≡ true → begins_some (cs ++ c ∷ []) es ≡ true → InName es cs → InName es now
+pub InName-more : (es : Entities) (cs now : List ℕ) (c : ℕ) → now ≡ cs ++ c ∷ [] → in_name (class_of c) ≡ true → begins_some (cs ++ c ∷ []) es ≡ true → InName es cs → InName es now
 InName-more es cs now c e k some n foreign back rest =
     ap (λ (l : List ℕ). feed es foreign (return_state back) (l ++ rest)) e
     ∙ ap (feed es foreign (return_state back)) (append_assoc cs (c ∷ []) rest)
@@ -85,12 +85,12 @@ InName-same es e n foreign back rest =
 
 -- ---- its end
 
-stop_row : (es : Entities) (back : ReturnState) (cs : List ℕ) (k : Class) (c : ℕ) → begins_some (cs ++ c ∷ []) es ≡ false → named_row es back cs k c ≡ named_step back cs (longest cs es) k
+pub stop_row : (es : Entities) (back : ReturnState) (cs : List ℕ) (k : Class) (c : ℕ) → begins_some (cs ++ c ∷ []) es ≡ false → named_row es back cs k c ≡ named_step back cs (longest cs es) k
 stop_row es back cs InputEnd c e = refl
 stop_row es back cs _ c e = rw e refl
 
 -- where references return to no character is read again
-literally_done : (es : Entities) (foreign : Bool) (back : ReturnState) (us : List ℕ) (k : Class) (c : ℕ) → (row es foreign (literally back us true).state k c).again ≡ false
+pub literally_done : (es : Entities) (foreign : Bool) (back : ReturnState) (us : List ℕ) (k : Class) (c : ℕ) → (row es foreign (literally back us true).state k c).again ≡ false
 literally_done es foreign back.Data us Ampersand c = refl
 literally_done es foreign back.Data us _ c = refl
 literally_done es foreign (back.Rcdata last) us Ampersand c = refl
@@ -123,7 +123,7 @@ whole_step back cs e k same semicolon =
     ∙ ap (λ (l : List ℕ). literally back (e.characters ++ l) true) none
     ∙ ap (λ (l : List ℕ). literally back l true) (append-nil e.characters)
 
-read-again : (es : Entities) (foreign : Bool) (s : TokState) (c : ℕ) (r : Step) → row es foreign s (class_of c) c ≡ r → r.again ≡ true → (row es foreign r.state (class_of c) c).again ≡ false → read es foreign s c ≡ after_tokens r.tokens (read es foreign r.state c)
+pub read-again : (es : Entities) (foreign : Bool) (s : TokState) (c : ℕ) (r : Step) → row es foreign s (class_of c) c ≡ r → r.again ≡ true → (row es foreign r.state (class_of c) c).again ≡ false → read es foreign s c ≡ after_tokens r.tokens (read es foreign r.state c)
 read-again es foreign s c r e more done =
     let k = class_of c in
     settle-again es foreign readings s k c (omega arith) (ap (λ (q : Step). q.again) e ∙ more)
@@ -157,7 +157,7 @@ means es cs best n stops tells whole semicolon foreign back c rest =
     let is = literally back (characters_in best.characters) true in
     n foreign back (c ∷ rest) ∙ feed-after es foreign (held back cs) is.state is.tokens c rest (behind_name es foreign back cs best c (stops c) tells whole semicolon)
 
-name_state : (es : Entities) (foreign : Bool) (cs : List ℕ) → InName es cs → feed es foreign data_state cs ≡ record { tokens = []; state = held back.Data cs }
+pub name_state : (es : Entities) (foreign : Bool) (cs : List ℕ) → InName es cs → feed es foreign data_state cs ≡ record { tokens = []; state = held back.Data cs }
 unfolding feed
 name_state es foreign cs n = ap (feed es foreign data_state) (sym (append-nil cs)) ∙ n foreign back.Data []
 
@@ -171,7 +171,7 @@ refers es cs best n stops tells whole semicolon = record {
 
 -- ---- a name of the table
 
-not_letter : (c n : ℕ) → is_ascii_alphanumeric c ≡ true → is_ascii_alphanumeric n ≡ false → (c == n) ≡ false
+pub not_letter : (c n : ℕ) → is_ascii_alphanumeric c ≡ true → is_ascii_alphanumeric n ≡ false → (c == n) ≡ false
 not_letter c n h k = ne_eqb c n (λ e. true≢false (sym h ∙ ap is_ascii_alphanumeric e ∙ k))
 
 unless : (t : Bool) (x y : Class) → t ≡ false → begins y ≡ true → begins (if t then x else y) ≡ true
@@ -190,7 +190,7 @@ no_digit : (a b d : Bool) → ((a || b) || d) ≡ true → a ≡ false → (b ||
 no_digit true b d h e = absurd (true≢false e)
 no_digit false b d h e = h
 
-class-begins : (c : ℕ) → is_ascii_alphanumeric c ≡ true → begins (class_of c) ≡ true
+pub class-begins : (c : ℕ) → is_ascii_alphanumeric c ≡ true → begins (class_of c) ≡ true
 class-begins c h =
     let no = λ (n : ℕ) (k : is_ascii_alphanumeric n ≡ false). not_letter c n h k in
     unless (c == 0) _ _ (no 0 refl)
@@ -210,7 +210,7 @@ class-begins c h =
     (unless (c == 63) _ _ (no 63 refl)
     (when (is_ascii_alphabetic c) _ _ (no_digit (is_in_range 48 57 c) (is_in_range 65 90 c) (is_in_range 97 122 c) h d) refl)))))))))))))))
 
-class-in_name : (c : ℕ) → in_spelling c ≡ true → in_name (class_of c) ≡ true
+pub class-in_name : (c : ℕ) → in_spelling c ≡ true → in_name (class_of c) ≡ true
 class-in_name c h = by (is_ascii_alphanumeric c) refl
   where
     by : (v : Bool) → is_ascii_alphanumeric c ≡ v → in_name (class_of c) ≡ true

@@ -1,6 +1,8 @@
 -- Character references that stand whole in a text.
-use Rattle.std.specs.Prelude.{◌≡◌, ℕ, Bool, true, false, List, [], ◌∷◌, ◌++◌, map}
+use Rattle.std.specs.Prelude.{◌≡◌, ◌==◌, ℕ, Bool, true, false, if◌then◌else◌, List, [], ◌∷◌, ◌++◌, map, length, drop, Option, Some, None}
 use Rattle.std.specs.Char.{is_digit}
+use Rattle.std.specs.List.{list_any}
+use Rattle.std.specs.Str.{chars}
 use Rattle.html_types.specs.declared.class.Class.{Class}
 use Rattle.html_types.specs.declared.class.Class.TheVariants.{Alpha, Digit, Semicolon}
 use Rattle.html_types.specs.declared.reference_state.ReferenceState.TheVariants.{Named, Decimal, Hexadecimal}
@@ -8,10 +10,14 @@ use Rattle.html_types.specs.declared.reference_state.ReturnState.{ReturnState}
 use Rattle.html_types.specs.declared.state.TokState.{TokState}
 use Rattle.html_types.specs.declared.token.Token.TheVariants.{Character}
 use Rattle.standard.specs.Class.{class_of}
-use Rattle.standard.specs.Entities.{Entities}
-use Rattle.standard.specs.ReferenceStates.{return_state, literally, longer_code}
+use Rattle.standard.specs.Entities.{Entity, Entities}
+use Rattle.standard.specs.ReferenceStates.{return_state, literally}
 use Rattle.standard.specs.Step.{data_state, in_reference}
 use Rattle.standard.specs.Tokenizer.{after_tokens, read, feed}
+use Rattle.entity_table.specs.View.{characters_in}
+use Rattle.entity_table.specs.declared.row.Characters.{Characters}
+use Rattle.tokenizer.specs.Whole.{has_cr, piece}
+use Rattle.tokenizer.specs.declared.reference.OpenReference.{OpenReference}
 
 -- the classes with which a name may begin behind its `&`
 abbrev pub begins : Class → Bool
@@ -39,6 +45,47 @@ pub record Refers (es : Entities) (cs stands_for : List ℕ) : Type 0 where
 abbrev pub Means : Entities → List ℕ → List ℕ → Type 0
 Means es cs stands_for = (foreign : Bool) (back : ReturnState) (c : ℕ) (rest : List ℕ) →
     feed es foreign (return_state back) (cs ++ c ∷ rest) ≡ after_tokens (literally back stands_for true).tokens (feed es foreign (literally back stands_for true).state (c ∷ rest))
+
+-- ---- names that are read up to a character with which none goes on
+
+abbrev pub has_nul : List ℕ → Bool
+has_nul cs = list_any (λ c. c == 0) cs
+
+-- a CR is read as a line feed
+abbrev pub as_read : ℕ → ℕ
+as_read c = if c == 13 then 10 else c
+
+-- The characters were read, and are held as a name.
+pub record IsHeld (es : Entities) (cs : List ℕ) : Type 0 where
+  pub name : InName es cs
+  pub no_cr : has_cr cs ≡ false
+  pub no_nul : has_nul cs ≡ false
+
+-- Read one by one from the data state they make no token, and this character behind them makes first those for which they stand, and then its own of the data state.
+pub record RefersBefore (es : Entities) (c : ℕ) (cs stands_for : List ℕ) : Type 0 where
+  pub silent : (foreign : Bool) → (feed es foreign data_state cs).tokens ≡ []
+  pub behind : (foreign : Bool) → read es foreign (feed es foreign data_state cs).state c ≡ after_tokens (map Character stands_for) (read es foreign data_state c)
+
+-- the characters begin with this one
+abbrev pub IsFirst : ℕ → List ℕ → Type 0
+IsFirst c cs = (rest : List ℕ) × (cs ≡ c ∷ rest)
+
+-- So does the character that stands behind a part of a text.
+abbrev pub RefersIn : Entities → List ℕ → ℕ → ℕ → List ℕ → Type 0
+RefersIn es text from end stands_for = (c : ℕ) → IsFirst c (chars (drop end text)) → RefersBefore es (as_read c) (piece text from end) stands_for
+
+-- what a held name stands for in the data state, where that is the longest name of the table in it
+abbrev pub standing_for : List ℕ → Option Entity → List ℕ
+standing_for held None = held
+standing_for held (Some e) = e.characters ++ drop (length e.name) held
+
+abbrev pub found_characters : Option Characters → List ℕ
+found_characters None = []
+found_characters (Some found) = characters_in found
+
+-- the characters for which such a reference stands
+abbrev pub open_characters : OpenReference → List ℕ
+open_characters r = found_characters r.characters ++ chars r.rest.now
 
 -- ---- numbers, in base 10 or in base 16
 

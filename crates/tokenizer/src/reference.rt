@@ -1,19 +1,23 @@
 //! A character reference that stands whole in a text: a name is looked up once, and a number is read at once.
 
-ghost use Rattle.std.specs.Prelude.{◌≡◌, ◌<◌, ◌≤◌, [], ◌∷◌, false, length, IfSome};
-ghost use Rattle.std.specs.Str.{IsCharBoundary};
+ghost use Rattle.std.specs.Prelude.{◌≡◌, ◌<◌, ◌≤◌, ◌==◌, ◌||◌, [], ◌∷◌, false, length, Option, IfSome};
+ghost use Rattle.std.specs.Char.{is_ascii_alphanumeric};
+ghost use Rattle.std.specs.Str.{chars, IsCharBoundary};
 ghost use Rattle.html_types.specs.declared.token.Token.TheVariants.{Character};
-ghost use Rattle.standard.specs.Entities.{Entities};
+ghost use Rattle.standard.specs.Entities.{Entity, Entities};
 ghost use Rattle.standard.specs.ReferenceStates.{longer_code};
+ghost use Rattle.entity_table.specs.Held.{Holds};
+ghost use Rattle.entity_table.specs.Matches.{Tells};
 ghost use Rattle.entity_table.specs.View.{characters_in};
 ghost use Rattle.tokenizer.specs.Reference as parts;
-ghost use Rattle.tokenizer.specs.Reference.{Refers, Means, IsDigit, OpensNumber, Counts};
+ghost use Rattle.tokenizer.specs.Reference.{Refers, Means, IsDigit, OpensNumber, Counts, IsHeld, RefersIn, has_nul, standing_for, open_characters};
 ghost use Rattle.tokenizer.specs.Whole.{has_cr, piece, MakesAlone};
 
 use crate::place::{ascii_at, lacks_cr, past};
 use char_class::class_of;
-use entity_table::{Characters, Table};
-use html_types::Class;
+use entity_table::{Characters, Cursor, Match, Step, Table};
+use html_types::{Class, char_at};
+use tok_refs::named::skip;
 use tok_refs::numeric::{character_of, with_digit};
 
 /// What a reference stands for, and the place behind it.
@@ -74,6 +78,112 @@ pub fn whole_reference(table: &Table, text: &str, from: usize) -> Option<Referen
     } else {
         None
     }
+}
+
+// A walk along the names of a table, over a `&` and the characters behind it, up to a place.
+#[derive(Clone, Copy)]
+struct Walk {
+    cursor: Cursor,
+    at: usize,
+}
+
+// The walk over the `&` at a place and the character behind it, where a name begins so.
+fn walk_begins(table: &Table, text: &str, from: usize) -> Option<Walk>
+    requires { IsCharBoundary text.now from }
+    ensures boundary { IfSome result (λ w. IsCharBoundary text.now w.at) }
+    ensures onward { IfSome result (λ w. from < w.at) }
+    ensures holds { IfSome result (λ w. Holds table.now w.cursor (piece text.now from w.at)) }
+    ensures held { IfSome result (λ w. IsHeld table.now (piece text.now from w.at)) }
+{
+    let Some(name) = past(text, from, '&') else {
+        return None;
+    };
+    let Some(c) = ascii_at(text, name) else {
+        return None;
+    };
+    if !c.is_ascii_alphanumeric() {
+        return None;
+    }
+    let mut cursor = Cursor::new(table);
+    let _ = cursor.push(table, '&');
+    match cursor.push(table, c) {
+        Step::More => Some(Walk {
+            cursor,
+            at: name + 1,
+        }),
+        Step::Stop(_) => None,
+    }
+}
+
+/// A named character reference that ends at a place, before a character with which no name goes on: what the longest name stands for, and the rest of the text; or
+/// all of it, where it begins with no name.
+#[derive(Clone, Copy)]
+pub struct OpenReference<'t> {
+    pub characters: Option<Characters>,
+    pub rest: &'t str,
+    pub end: usize,
+}
+
+// What is held up to a place, where this is the longest name in it.
+fn resolved<'t>(held: &'t str, best: Option<Match>, end: usize) -> OpenReference<'t>
+    ensures ends { result.end ≡ end }
+    ensures stands_for { (found : Option Entity) → Tells found best → open_characters result ≡ standing_for (chars held.now) found }
+    ensures no_nul { has_nul (chars held.now) ≡ false → has_nul (chars result.rest.now) ≡ false }
+{
+    match best {
+        None => OpenReference {
+            characters: None,
+            rest: held,
+            end,
+        },
+        Some(found) => OpenReference {
+            characters: Some(found.characters),
+            rest: skip(held, found.length),
+            end,
+        },
+    }
+}
+
+// Names go on over such a character.
+fn is_in_name(c: char) -> bool
+    ensures { result ≡ (is_ascii_alphanumeric c || (c == 59)) }
+{
+    c.is_ascii_alphanumeric() || c == ';'
+}
+
+// A CR is read as a line feed.
+fn as_read(c: char) -> char
+    ensures { result ≡ parts.as_read c }
+{
+    if c == '\r' { '\n' } else { c }
+}
+
+/// The named character reference that begins at a place, up to the first character with which no name goes on, where that stands in the text; none at the end of the
+/// text, where the text has none there, or where it is not read so.
+pub fn open_reference<'t>(table: &Table, text: &'t str, from: usize) -> Option<OpenReference<'t>>
+    requires { IsCharBoundary text.now from }
+    ensures boundary { IfSome result (λ r. IsCharBoundary text.now r.end) }
+    ensures onward { IfSome result (λ r. from < r.end) }
+    ensures within { IfSome result (λ r. r.end < length text.now) }
+    ensures refers { IfSome result (λ r. RefersIn table.now text.now from r.end (open_characters r)) }
+    ensures no_cr { IfSome result (λ r. has_cr (piece text.now from r.end) ≡ false) }
+    ensures no_nul { IfSome result (λ r. has_nul (chars r.rest.now) ≡ false) }
+{
+    let Some(begun) = walk_begins(table, text, from) else {
+        return None;
+    };
+    let mut cursor = begun.cursor;
+    let mut at = begun.at;
+    while let Some((c, behind)) = char_at(text, at) {
+        match cursor.push(table, as_read(c)) {
+            Step::Stop(best) => return Some(resolved(&text[from..at], best, at)),
+            Step::More => if !is_in_name(c) {
+                return None;
+            },
+        }
+        at = behind;
+    }
+    None
 }
 
 // What stands before the digits of a number: whether it is hexadecimal, and where they begin.
