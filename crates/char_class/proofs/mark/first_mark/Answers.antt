@@ -1,13 +1,17 @@
-use Rattle.std.proofs.Common.{◌≡◌, length, sym, ◌∙◌, arith}
-use Rattle.std.proofs.lemmas.List.Sums.{position_or_len_is}
-use Rattle.standard.specs.Class.{is_mark}
+use Rattle.std.proofs.Common.{take, ◌∙◌}
+use Rattle.std.proofs.lemmas.List.{length-take-le}
+use Rattle.memchr.specs.Find.{is_byte}
+use Rattle.char_class.proofs.Marks.{first_place, no_place, nul_found}
 use Rattle.char_class.proofs.mark.first_mark.Goals as goal
 
-pub returns-then-is_mark : goal.returns-then-is_mark
-returns-then-is_mark c =
-    sym (position_or_len_is is_mark c.args.bytes.now c.loop-i.i 0 (omega arith) c.loop-i.invariant (λ h. sym c.is_mark.ensures ∙ c.if-is_mark.true))
+pub returns-in-Some : goal.returns-in-Some
+returns-in-Some c =
+    let front = take c.first_but_nul-end.result c.args.bytes.now in
+    nul_found c.args.bytes.now c.first_but_nul-end.result c.in-Some.nul c.first_but_nul-end.ensures.place
+    (first_place (is_byte 0) front c.in-Some.nul c.in-Some.ensures.0 c.in-Some.ensures.1)
 
-pub returns : goal.returns
-returns c =
-    let all : c.loop-i.i ≡ length c.args.bytes.now = omega arith in
-    sym (position_or_len_is is_mark c.args.bytes.now (length c.args.bytes.now) 0 (omega arith) (rw all at c.loop-i.invariant) (λ h. absurd (omega (arith, h))))
+pub returns-in-None : goal.returns-in-None
+returns-in-None c =
+    let front = take c.first_but_nul-end.result c.args.bytes.now in
+    nul_found c.args.bytes.now c.first_but_nul-end.result c.first_but_nul-end.result c.first_but_nul-end.ensures.place
+    (no_place (is_byte 0) front c.in-None.ensures ∙ length-take-le c.first_but_nul-end.result c.args.bytes.now c.first_but_nul-end.ensures.within)

@@ -1,0 +1,37 @@
+-- The first mark, found by two searches.
+use Rattle.std.proofs.Common.{◌≡◌, ℕ, Bool, List, ◌∷◌, length, ◌+◌, ◌∙◌, take, cond, not, get_or, refl, sym, inl, inr}
+use native.Mathlib.Omega.{arith}
+use Rattle.std.specs.List.{position_or_len}
+use Rattle.std.proofs.Math.Numerals.{one-add}
+use Rattle.std.proofs.lemmas.Bool.{false_from_ne_true, cases_Bool}
+use Rattle.std.proofs.lemmas.List.Recursion.{is_position_or_len}
+use Rattle.std.proofs.lemmas.List.Sums.{position_or_len_is}
+use Rattle.std.proofs.lemmas.Grind.{common_steps}
+use Rattle.memchr.specs.Find.{NoneBefore, Nowhere, Passes, is_byte, is_byte3}
+use Rattle.standard.specs.Class.{is_mark, first_mark}
+
+pub first_place : (p : ℕ → Bool) (bytes : List ℕ) (k : ℕ) → NoneBefore (Passes p bytes) 0 (length bytes) k → Passes p bytes k → position_or_len p bytes ≡ k
+first_place p bytes k none here =
+    position_or_len_is p bytes k 0 (omega (arith, none.high)) (λ j h. false_from_ne_true (p (get_or bytes j 0)) (none.before j (omega arith) h)) (λ _. here)
+
+pub no_place : (p : ℕ → Bool) (bytes : List ℕ) → Nowhere (Passes p bytes) 0 (length bytes) → position_or_len p bytes ≡ length bytes
+no_place p bytes none =
+    position_or_len_is p bytes (length bytes) 0 (omega arith) (λ j h. false_from_ne_true (p (get_or bytes j 0)) (none j (omega arith) h)) (λ h. absurd (omega (arith, h)))
+
+-- the first mark by both searches
+abbrev found : List ℕ → ℕ
+found bytes = position_or_len (is_byte 0) (take (position_or_len (is_byte3 60 38 13) bytes) bytes)
+
+found_step : (x : ℕ) (xs : List ℕ) → found (x ∷ xs) ≡ cond (is_mark x) 0 (1 + found xs)
+found_step x xs = elim (cases_Bool (is_byte3 60 38 13 x)) [
+  | inl other ↦ grind (arith, common_steps, other)
+  | inr plain ↦
+      let reads : found (x ∷ xs) ≡ cond (not (is_byte 0 x)) (1 + found xs) 0 = rw plain rw (one-add (position_or_len (is_byte3 60 38 13) xs)) refl in
+      grind (arith, common_steps, plain, reads)
+]
+
+pub nul_before : (bytes : List ℕ) → first_mark bytes ≡ found bytes
+nul_before bytes = sym (is_position_or_len found is_mark refl found_step bytes)
+
+pub nul_found : (bytes : List ℕ) (end k : ℕ) → end ≡ position_or_len (is_byte3 60 38 13) bytes → position_or_len (is_byte 0) (take end bytes) ≡ k → k ≡ first_mark bytes
+nul_found bytes end k at nul = sym (nul_before bytes ∙ rw (sym at) nul)
