@@ -9,6 +9,9 @@ returns-clause-ok g c = if_ok _ (λ o out. ran_out _ _ _ _ _ _ _ _ o c.journal-j
 pub returns-clause-err : goal.returns-clause-err
 returns-clause-err g c = err_weaker _ _ _ (λ gives. gave_up _ _ _ _ _ _ _ _ c.journal-journal.ensures.replayed gives) c.take_turns-ended.ensures.err
 
+pub returns-clause-part : goal.returns-clause-part
+returns-clause-part g c = err_weaker _ _ _ (λ gives. gives.part c.journal-journal.ensures.replayed) c.take_turns-ended.ensures.err
+
 pub returns-clause-replays : goal.returns-clause-replays
 returns-clause-replays g c =
     let left = left_behind _ _ _ _ _ _ _ _ _ c.take_turns-ended.ensures.ok c.take_turns-ended.ensures.err in
