@@ -40,7 +40,7 @@ pub with_front : (t now t' : Option (List ℕ)) (a b : List ℕ) → Took t now 
 with_front None now t' a b first second = tt
 with_front (Some old) now t' a b first second =
     let there = subst (λ t. TookFront t t' b) first second in
-    (there.0, there.1, there.2, there.3 ∙ ap Some (append_assoc old a there.0))
+    (there.0, there.1, there.2, there.3)
 
 pub with_none : (t t' : Option (List ℕ)) (a : List ℕ) → Took t t' a → TookWithFront t t' a []
 with_none t t' a took = with_front t t' t' a [] took (front_nothing t' [])
