@@ -59,10 +59,7 @@ module _ (es : Entities) (ahead : ℕ) (dump : Bool) (path dir : List ℕ) (befo
     in_part = λ e. part (front-of r e gives);
   }
     where
-      abbrev text : List ℕ
-      text = result_with dump (result_of o) s.desk.own.side.doc.tree
-
-      front-of : (r : Status) → is_answered r ≡ false → Gives rose now' t' (status_of o, text) r → TookFront now' t' text
+      front-of : (r : Status) → is_answered r ≡ false → Gives rose now' t' (status_of o, result_with dump (result_of o) s.desk.own.side.doc.tree) r → TookFront now' t' (result_with dump (result_of o) s.desk.own.side.doc.tree)
       front-of status.WriteFault e gives = gives.1
       front-of status.NoMemory e gives = gives
       front-of status.Done e gives = absurd (true≢false e)
@@ -73,13 +70,13 @@ module _ (es : Entities) (ahead : ℕ) (dump : Bool) (path dir : List ℕ) (befo
       front-of status.ReadFault e gives = absurd (true≢false e)
       front-of status.Absent e gives = absurd (true≢false e)
 
-      part : TookFront now' t' text → WritesInPart es ahead t t' (IsDueNext dump s)
+      part : TookFront now' t' (result_with dump (result_of o) s.desk.own.side.doc.tree) → WritesInPart es ahead t t' (IsDueNext dump s)
       part front = record {
         before = s;
         replays = replays;
-        due = text;
+        due = result_with dump (result_of o) s.desk.own.side.doc.tree;
         is_due = inr (record { same = refl; result = result_of o; going = out.going; phase = out.phase; text_is = refl });
-        took = with_front t now' t' (flat_map line_text s.desk.own.side.lines) text out.took front;
+        took = with_front t now' t' (flat_map line_text s.desk.own.side.lines) (result_with dump (result_of o) s.desk.own.side.doc.tree) out.took front;
       }
 
       All : Status → Type 0
