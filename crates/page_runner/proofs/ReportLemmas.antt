@@ -1,8 +1,8 @@
 -- What is reported of a page that was run.
-use Rattle.std.proofs.Common.{◌≡◌, ℕ, Bool, false, List, Option, inl, inr, ◌∙◌}
+use Rattle.std.proofs.Common.{◌≡◌, ℕ, Bool, true, false, true≢false, List, Option, flat_map, refl, inl, inr, ◌∙◌}
 use Rattle.std.specs.Prelude.{IsTrue}
 use Rattle.standard.specs.Entities.{Entities}
-use Rattle.standard.specs.Output.{result_with}
+use Rattle.standard.specs.Output.{line_text, result_with}
 use Rattle.core_steps.specs.Sides.{Shown}
 use Rattle.outside.specs.Outside.{Seen, KeepsOthers}
 use Rattle.outside.specs.declared.traits.Port.TheVariants.{Page}
@@ -11,14 +11,15 @@ use Rattle.page_turns.specs.declared.page.Failure.{Failure}
 use Rattle.page_runner.specs.declared.status.Status.{Status}
 use Rattle.page_runner.specs.declared.status.Status.TheVariants as status
 use Rattle.page_turns.specs.Given.{NoFault}
-use Rattle.page_turns.specs.Taken.{Took}
+use Rattle.page_turns.specs.Taken.{Took, TookFront}
 use Rattle.page_turns.specs.Shown.{result_of}
 use Rattle.page_runner.specs.Shown.{status_of}
 use Rattle.page_turns.specs.Turns.{Leaves, RunsOut}
 use Rattle.page_runner.specs.Answers.{status_for, is_answered, Gives, IsBegun}
 use Rattle.page_turns.specs.Replaying.{ReplaysTo}
-use Rattle.page_runner.specs.Reports.{IsMet, IsWritten, Reports}
-use Rattle.page_turns.proofs.PageTakenLemmas.{took_then}
+use Rattle.page_turns.specs.WrittenInPart.{IsDue, WritesInPart}
+use Rattle.page_runner.specs.Reports.{IsMet, IsWritten, IsDueNext, Reports}
+use Rattle.page_turns.proofs.PageTakenLemmas.{took_then, with_front}
 use Rattle.page_runner.proofs.RunLemmas.{status_is, failure_unanswered, may_page, fetch_since, file_page_since}
 
 -- What was met outside is in the journal.
@@ -36,13 +37,14 @@ is_met es ahead path dir before after s begun left = record {
 
 module _ (es : Entities) (ahead : ℕ) (dump : Bool) (path dir : List ℕ) (before after : Seen) (begun : IsBegun path before) (t t' : Option (List ℕ)) (s : Shown) (left : Leaves es ahead dir before after s) (replays : ReplaysTo es ahead s) where
   -- the parse gave up
-  pub reports_failure : (f : Failure) → Reports es ahead dump path dir before after t t' s (status_for f)
-  reports_failure f = record {
+  pub reports_failure : (f : Failure) → WritesInPart es ahead t t' (IsDue s) → Reports es ahead dump path dir before after t t' s (status_for f)
+  reports_failure f part = record {
     entities = left.entities;
     ahead_is = left.ahead_is;
     met = is_met es ahead path dir before after s begun left;
     replays = replays;
     written = λ e. absurd (failure_unanswered f e);
+    in_part = λ _. record { before = part.before; replays = part.replays; due = part.due; is_due = inl part.is_due; took = part.took };
   }
 
   -- or it is over
@@ -54,8 +56,29 @@ module _ (es : Entities) (ahead : ℕ) (dump : Bool) (path dir : List ℕ) (befo
     met = is_met es ahead path dir before after s begun left;
     replays = replays;
     written = λ e. here (all-of r e gives);
+    in_part = λ e. part (front-of r e gives);
   }
     where
+      front-of : (r : Status) → is_answered r ≡ false → Gives rose now' t' (status_of o, result_with dump (result_of o) s.desk.own.side.doc.tree) r → TookFront now' t' (result_with dump (result_of o) s.desk.own.side.doc.tree)
+      front-of status.WriteFault e gives = gives.1
+      front-of status.NoMemory e gives = gives
+      front-of status.Done e gives = absurd (true≢false e)
+      front-of status.Usage e gives = absurd (true≢false e)
+      front-of status.Entities e gives = absurd (true≢false e)
+      front-of status.BadUtf8 e gives = absurd (true≢false e)
+      front-of (status.Limit which) e gives = absurd (true≢false e)
+      front-of status.ReadFault e gives = absurd (true≢false e)
+      front-of status.Absent e gives = absurd (true≢false e)
+
+      part : TookFront now' t' (result_with dump (result_of o) s.desk.own.side.doc.tree) → WritesInPart es ahead t t' (IsDueNext dump s)
+      part front = record {
+        before = s;
+        replays = replays;
+        due = result_with dump (result_of o) s.desk.own.side.doc.tree;
+        is_due = inr (record { same = refl; result = result_of o; going = out.going; phase = out.phase; text_is = refl });
+        took = with_front t now' t' (flat_map line_text s.desk.own.side.lines) (result_with dump (result_of o) s.desk.own.side.doc.tree) out.took front;
+      }
+
       All : Status → Type 0
       All r = (r ≡ status_of o) × Took now' t' (result_with dump (result_of o) s.desk.own.side.doc.tree)
 
@@ -90,4 +113,5 @@ reports_since es ahead dump path dir before now after t t' s r keeps quiet repor
       };
       replays = reports.replays;
       written = reports.written;
+      in_part = reports.in_part;
     }

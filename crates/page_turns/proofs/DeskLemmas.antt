@@ -143,6 +143,13 @@ sends-first-left (x ∷ xs) d q =
     let pieces : (d.asked ++ x ∷ []) ++ xs ≡ d.asked ++ d.to_send = append_assoc d.asked (x ∷ []) xs ∙ ap (λ ys. d.asked ++ ys) (sym q) in
     in-left d.phase d (record d { asked = d.asked ++ x ∷ []; to_send = xs; begins = None; sent = suc d.sent }) refl (ap (λ ys. length (text_of (d.left ∷ ys))) pieces)
 
+sends-first-own : (ps : List Piece) (d : Desk) → (sends_first ps d).own ≡ d.own
+sends-first-own [] d = refl
+sends-first-own (x ∷ xs) d = refl
+
+pub sends-own : (d : Desk) → (sends d).own ≡ d.own
+sends-own d = sends-first-own d.to_send d
+
 pub sends-left : (d : Desk) → left_to_do (sends d) ≡ left_to_do d
 sends-left d = sends-first-left d.to_send d refl
 

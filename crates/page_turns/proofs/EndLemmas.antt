@@ -18,6 +18,7 @@ use Rattle.page_turns.specs.Taken.{Took, TookFront}
 use Rattle.page_turns.specs.Shown.{result_of}
 use Rattle.page_turns.specs.Pages.{PageRead, page_at, world_of, ComesTo, EndsWithScripts, FrontWithScripts}
 use Rattle.page_turns.specs.Turns.{LeavesAlone, Leaves, GivesUp, RunsOut}
+use Rattle.page_turns.specs.WrittenInPart.{IsDue, WritesInPart}
 use Rattle.page_turns.proofs.PageTakenLemmas.{front_longer}
 use Rattle.page_turns.proofs.DeskLemmas.{shows-phase}
 use Rattle.page_turns.proofs.SameWorlds.{serial-same, serial-back}
@@ -112,6 +113,10 @@ left_behind es ahead dir before after t t' s (Err e) out gives = gives.left
 -- the sink took a front
 pub gave_up : (es : Entities) (ahead : ℕ) (dir : List ℕ) (before after : Seen) (t t' : Option (List ℕ)) (s : Shown) → IsReplayed s → GivesUp es ahead dir before after t t' s → FrontWithScripts es dir before after t t'
 gave_up es ahead dir before after t t' s replayed gives = front_here es ahead dir before after gives.shown (gives.replayed replayed) gives.leaves t t' gives.front
+
+-- all lines of the events before the refused one, and a front of what that one was to write
+pub gave_part : (es : Entities) (ahead : ℕ) (dir : List ℕ) (before after : Seen) (t t' : Option (List ℕ)) (s : Shown) → IsReplayed s → GivesUp es ahead dir before after t t' s → WritesInPart es ahead t t' (IsDue s)
+gave_part es ahead dir before after t t' s replayed gives = gives.part replayed
 
 -- or all
 pub ran_out : (es : Entities) (ahead : ℕ) (dir : List ℕ) (before after : Seen) (t t' : Option (List ℕ)) (s : Shown) (o : Told) → IsReplayed s → RunsOut es ahead dir before after t t' s o → EndsWithScripts es dir before after s.desk.own.side.doc t t' o

@@ -1,9 +1,10 @@
 -- Where a run gives up, or is over, and what is still to come of it.
-use Rattle.std.proofs.Common.{◌≡◌, ℕ, suc, ◌≤◌, ◌<◌, ◌+◌, ◌-◌, ◌*◌, nat_lt, List, [], ◌∷◌, length, Bool, true, false, true≢false, Option, Some, None, flat_map, refl, sym, ap, subst, ◌∙◌, inl, inr, length-append, arith}
+use Rattle.std.proofs.Common.{◌≡◌, ℕ, suc, ◌≤◌, ◌<◌, ◌+◌, ◌-◌, ◌*◌, nat_lt, List, [], ◌∷◌, ◌++◌, length, Bool, true, false, true≢false, Option, Some, None, flat_map, refl, sym, ap, subst, ◌∙◌, inl, inr, length-append, arith}
 use Rattle.std.specs.Prelude.{IsTrue, not, ◌&&◌, ◌||◌, is_none, is_some}
 use Rattle.std.proofs.lemmas.Bool.{and_parts, lt-ltb, ltb-false, ltb-true}
 use Rattle.std.proofs.lemmas.Grind.{flat_map-append}
 use Rattle.html_types.specs.declared.script.Ending.{Ending}
+use Rattle.html_types.specs.declared.script.Line.{Line}
 use Rattle.outside.specs.Outside.{Seen, KeepsOthers}
 use Rattle.outside.specs.declared.traits.Port.TheVariants as port
 use Rattle.standard.specs.Entities.{Entities}
@@ -27,16 +28,18 @@ use Rattle.page_turns.specs.Shown.{result_of}
 use Rattle.page_turns.specs.Pages.{PageFor}
 use Rattle.page_turns.specs.Turns.{Load, under_way, weight_of, Asks, Answers, while_open, while_awaiting, ReadsPiece, ReadsInPart, StaysRead, RunsOn, RunsInPart, unwritten, part_written, Arrives, BeginsAwaited, StopsIn, Holds, text_to_come, steps_to_come, turns_to_come, Leaves, LeavesAlone, GivesUp, RunsOut}
 use Rattle.page_turns.proofs.KeepsLemmas.{later-others, later-entities, entities-then, entities-others}
-use Rattle.page_turns.proofs.PageTakenLemmas.{front_of_all, front_then}
+use Rattle.page_turns.specs.WrittenInPart.{HasDone, IsDue, no_line, lines_of_do, WritesInPart}
+use Rattle.page_turns.proofs.PageTakenLemmas.{front_nothing, front_of_all, front_then, with_front, with_none}
+use Rattle.page_turns.proofs.ReplayLemmas.{replays-to}
 use Rattle.page_turns.proofs.MeetLemmas.{fetches_as, fetches-then, fetches-past, fetch_cut}
 use Rattle.page_turns.proofs.TextLemmas.{same-refl, none-found}
 use Rattle.page_turns.proofs.DeskLemmas as desk
 use Rattle.page_turns.proofs.ReachLemmas.{reached_whole, knows-met, scripts_with}
 use Rattle.page_turns.proofs.ReadLemmas.{page_for, for_past}
 use Rattle.page_turns.proofs.Stuck.{never-free}
-use Rattle.page_turns.specs.Along.{IsSentSoFar, MayDo, Goes}
-use Rattle.page_turns.proofs.AlongLemmas.{goes_stays, goes_did, goes_arrived}
-use Rattle.page_turns.proofs.TurnLemmas.{holds_open, holds_sent, holds_answered, holds_took, holds_ran, holds_arrived, awaits-in, not-arrived, keeps-desk, took-desk}
+use Rattle.page_turns.specs.Along.{IsSentSoFar, Stays, Did, MayDo, Goes}
+use Rattle.page_turns.proofs.AlongLemmas.{stays_read, goes_stays, goes_did, goes_arrived}
+use Rattle.page_turns.proofs.TurnLemmas.{holds_open, holds_sent, holds_answered, holds_took, holds_ran, holds_arrived, awaits-in, not-arrived, keeps-desk, more-lines, took-desk}
 
 none-left : (n taken sent : ℕ) → n + taken ≡ sent → nat_lt 0 (sent - taken) ≡ false → n ≡ 0
 none-left n taken sent count quiet = let le = ltb-false 0 (sent - taken) quiet in omega (arith, count, le)
@@ -83,9 +86,33 @@ module _ (es : Entities) (ahead : ℕ) (dir : List ℕ) (before : Seen) (t : Opt
     }
 
     module _ (replayed : IsReplayed s) where
+      -- all lines of what is shown were written
+      part_none : (s' : Shown) → s'.entities ≡ es → s'.ahead ≡ ahead → s'.desk.own.side.lines ≡ s.desk.own.side.lines → IsReplayed s' → WritesInPart es ahead t t' (IsDue s')
+      part_none s' entities credit same there = record {
+        before = s';
+        replays = replays-to es ahead s' entities credit there;
+        due = [];
+        is_due = no_line refl refl;
+        took = with_none t t' (flat_map line_text s'.desk.own.side.lines) (subst (λ g. Took t t' (flat_map line_text g)) (sym (same ∙ h.inside.lines)) h.took);
+      }
+
+      -- of the lines of a Do a front was written
+      part_done : (t'' : Option (List ℕ)) (s' : Shown) (more : List Line) → HasDone s s' more → TookFront t' t'' (flat_map line_text more) → WritesInPart es ahead t t'' (IsDue s')
+      part_done t'' s' more did front = record {
+        before = s;
+        replays = replays-to es ahead s h.inside.entities h.inside.ahead_is replayed;
+        due = flat_map line_text more;
+        is_due = lines_of_do more did refl;
+        took = with_front t t' t'' (flat_map line_text s.desk.own.side.lines) (flat_map line_text more) (subst (λ g. Took t t' (flat_map line_text g)) (sym h.inside.lines) h.took) front;
+      }
+
       -- whatever else the document's side has become
-      pub gives_up : (s' : Shown) → StaysRead s s' → GivesUp es ahead dir before now t t' s'
-      gives_up s' stays = record { left = left-stays now s s' stays leaves_now; shown = s; replayed = λ _. replayed; leaves = leaves_now; alone = alone_now; front = front-of t' s h.inside.lines h.took }
+      gives_up_as : (s' : Shown) → StaysRead s s' → (IsReplayed s' → WritesInPart es ahead t t' (IsDue s')) → GivesUp es ahead dir before now t t' s'
+      gives_up_as s' stays part = record { left = left-stays now s s' stays leaves_now; shown = s; replayed = λ _. replayed; leaves = leaves_now; alone = alone_now; front = front-of t' s h.inside.lines h.took; part = part }
+
+      -- with no line more
+      pub gives_up : (s' : Shown) → StaysRead s s' → s'.desk.own.side.lines ≡ s.desk.own.side.lines → GivesUp es ahead dir before now t t' s'
+      gives_up s' stays same = gives_up_as s' stays (part_none s' (ap (λ (z : Shown). z.entities) stays ∙ h.inside.entities) (ap (λ (z : Shown). z.ahead) stays ∙ h.inside.ahead_is) same)
 
       -- while the page was read on
       pub gives_up_reading : (after : Seen) (s' : Shown) → s.journal.ending ≡ None → ReadsInPart now after reader s s' → KeepsOthers port.Page now after → after.begun ≡ now.begun → GivesUp es ahead dir before after t t' s'
@@ -108,10 +135,11 @@ module _ (es : Entities) (ahead : ℕ) (dir : List ℕ) (before : Seen) (t : Opt
             leaves = left;
             alone = alone-of after s'.journal.fetches s'.journal.pieces s'.journal.ending (entities-then before now after h.outside.keeps (entities-others port.Page now after (λ e. cc e) keeps)) (ap (λ b. b port.Page) begun ∙ h.outside.begun) left.page left.fetches;
             front = subst (λ (x : Serial). TookFront t t' (flat_map line_text x.side.lines)) (sym part.own) (front-of t' s h.inside.lines h.took);
+            part = part_none s' left.entities left.ahead_is (ap (λ (x : Serial). x.side.lines) part.own);
           }
 
       -- while a script was fetched
-      pub gives_up_fetching : (after : Seen) (s' : Shown) → StaysRead s s' → BeginsAwaited dir now after s.desk → KeepsOthers port.Script now after → GivesUp es ahead dir before after t t' s'
+      pub gives_up_fetching : (after : Seen) (s' : Shown) → Stays s s' → BeginsAwaited dir now after s.desk → KeepsOthers port.Script now after → GivesUp es ahead dir before after t t' s'
       gives_up_fetching after s' stays (name, awaits, begins) keeps =
           let waits_for = awaits-in es ahead dir before t s.desk.phase s.desk name awaits in
           let parts : (is_lawful name ≡ true) × (is_among name s.desk.arrived ≡ false) = not-arrived es ahead dir before t (is_lawful name) (is_among name s.desk.arrived) waits_for.2 in
@@ -120,25 +148,35 @@ module _ (es : Entities) (ahead : ℕ) (dir : List ℕ) (before : Seen) (t : Opt
           let fetches : Fetches false dir before after [] s.journal.fetches =
           fetches-then before now after (later-entities before now h.outside.keeps) (later-others port.Script now after keeps) true false dir [] s.journal.fetches s.journal.fetches refl h.outside.fetches (fetch_cut dir name now after parts.0 s.journal.fetches none begins) in
           let leaves : Leaves es ahead dir before after s = record { entities = h.inside.entities; ahead_is = h.inside.ahead_is; page = for; fetches = fetches; known = h.inside.known } in
+          let left = left-stays after s s' (stays_read s s' stays) leaves in
           record {
-            left = left-stays after s s' stays leaves;
+            left = left;
             shown = s;
             replayed = λ _. replayed;
             leaves = leaves;
             alone = alone-of after s.journal.fetches s.journal.pieces s.journal.ending (entities-then before now after h.outside.keeps (entities-others port.Script now after (λ e. cc e) keeps)) (keeps.begun port.Page (λ e. cc e) ∙ h.outside.begun) for fetches;
             front = front-of t' s h.inside.lines h.took;
+            part = part_none s' left.entities left.ahead_is (ap (λ (z : Shown). z.desk.own.side.lines) stays);
           }
 
+      -- before the lines of a Do were taken
+      gives_up_unwritten : (s' : Shown) → StaysRead s s' → MayDo s s' → GivesUp es ahead dir before now t t' s'
+      gives_up_unwritten s' stays (inl none) = gives_up s' stays (ap (λ (z : Shown). z.desk.own.side.lines) none)
+      gives_up_unwritten s' stays (inr did) =
+          let (more, lines) = more-lines es ahead dir before t l s s' h.inside did.does in
+          gives_up_as s' stays (λ _. part_done t' s' more (record { journal = ap (λ (z : Shown). z.journal) did.others; lines = lines }) (front_nothing t' (flat_map line_text more)))
+
       -- while lines were written
-      pub gives_up_running : (t'' : Option (List ℕ)) (s' : Shown) → StaysRead s s' → RunsInPart t' t'' s s' → GivesUp es ahead dir before now t t'' s'
-      gives_up_running t'' s' stays (unwritten same) = subst (λ z. GivesUp es ahead dir before now t z s') (sym same) (gives_up s' stays)
-      gives_up_running t'' s' stays (part_written more o lines took) = record {
+      pub gives_up_running : (t'' : Option (List ℕ)) (s' : Shown) → StaysRead s s' → MayDo s s' → RunsInPart t' t'' s s' → GivesUp es ahead dir before now t t'' s'
+      gives_up_running t'' s' stays may (unwritten same) = subst (λ z. GivesUp es ahead dir before now t z s') (sym same) (gives_up_unwritten s' stays may)
+      gives_up_running t'' s' stays may (part_written more o lines took) = record {
         left = left-stays now s s' stays leaves_now;
         shown = s';
         replayed = λ r. r;
         leaves = left-stays now s s' stays leaves_now;
         alone = alone_now;
         front = subst (λ x. TookFront t t'' x) (sym (ap (flat_map line_text) lines ∙ flat_map-append line_text s.given more)) (front_then t t' t'' (flat_map line_text s.given) (flat_map line_text more) h.took took);
+        part = λ _. part_done t'' s' more (record { journal = ap (λ (z : Shown). z.journal) o; lines = lines ∙ ap (λ ls. ls ++ more) (sym h.inside.lines) }) took;
       }
 
       -- ---- never stuck

@@ -15,6 +15,7 @@ pub mod LineLemmas
 pub mod StepLemmas
 pub mod StopLemmas
 pub mod EndLemmas
+pub mod DoLines
 pub mod AlongLemmas
 pub mod MessageLemmas
 pub mod TurnLemmas

@@ -4,7 +4,7 @@ use Rattle.std.specs.Prelude.{true, false}
 use Rattle.outside.specs.Outside.{Seen}
 use Rattle.outside.specs.declared.traits.Port.TheVariants as port
 use Rattle.page_turns.specs.Given.{FaultsRose, NoFault}
-use Rattle.page_turns.specs.Taken.{Took, TookFront}
+use Rattle.page_turns.specs.Taken.{Took, TookFront, TookWithFront}
 use Rattle.page_turns.specs.Pages.{AreTaken, IsReadFrom}
 
 -- ---- a sink
@@ -35,6 +35,15 @@ front_longer (Some old) t' a b front = (front.0, front.1 ++ b, ap (λ l. l ++ b)
 pub front_of_all : (t t' : Option (List ℕ)) (a : List ℕ) → Took t t' a → TookFront t t' a
 front_of_all None t' a took = tt
 front_of_all (Some old) t' a took = (a, [], sym (append-nil a), took)
+
+pub with_front : (t now t' : Option (List ℕ)) (a b : List ℕ) → Took t now a → TookFront now t' b → TookWithFront t t' a b
+with_front None now t' a b first second = tt
+with_front (Some old) now t' a b first second =
+    let there = subst (λ t. TookFront t t' b) first second in
+    (there.0, there.1, there.2, there.3)
+
+pub with_none : (t t' : Option (List ℕ)) (a : List ℕ) → Took t t' a → TookWithFront t t' a []
+with_none t t' a took = with_front t t' t' a [] took (front_nothing t' [])
 
 -- ---- a port
 

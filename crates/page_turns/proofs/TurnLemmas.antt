@@ -31,7 +31,9 @@ use Rattle.page_turns.proofs.KeepsLemmas.{later-others, later-entities, entities
 use Rattle.page_turns.proofs.PageTakenLemmas.{took_nothing, took_then}
 use Rattle.page_turns.proofs.TextLemmas.{none-found, found-first, lawful-found}
 use Rattle.page_turns.proofs.MeetLemmas.{fetches_same, fetches-then, fetches-past, fetch_one, known_more}
+use Rattle.standard_laws.specs.Laws.{GoesOnFrom}
 use Rattle.page_turns.proofs.DeskLemmas as desk
+use Rattle.page_turns.proofs.DoLines.{do-lines}
 use Rattle.page_turns.proofs.ReachLemmas.{knows-met, found_or, scripts_with}
 use Rattle.page_turns.proofs.ReadLemmas.{first_open, at_past}
 
@@ -240,6 +242,11 @@ module _ (es : Entities) (ahead : ℕ) (dir : List ℕ) (before : Seen) (t : Opt
   pub keeps-desk : (l : Load) (s s' : Shown) → Inside es ahead l s → DoesShow s.entities s.journal.fetches s.desk s'.desk → desk.Keeps s.desk s'.desk
   keeps-desk l s s' i does =
       let (d, it, shows) = did l s s' i does in desk.do-keeps (record { entities = s.entities; scripts = scripts_with s.journal.fetches (λ name. missing) }) s.desk d s'.desk it shows
+
+  -- its lines stand behind those that were there
+  pub more-lines : (l : Load) (s s' : Shown) → Inside es ahead l s → DoesShow s.entities s.journal.fetches s.desk s'.desk → GoesOnFrom s.desk.own.side.lines s'.desk.own.side.lines
+  more-lines l s s' i does =
+      let (d, it, shows) = did l s s' i does in do-lines (record { entities = s.entities; scripts = scripts_with s.journal.fetches (λ name. missing) }) s.desk d s'.desk it shows
 
   lines-then : (a b c : Option (List ℕ)) (x y : List Line) → Took a b (flat_map line_text x) → Took b c (flat_map line_text y) → Took a c (flat_map line_text (x ++ y))
   lines-then a b c x y p q = subst (λ u. Took a c u) (sym (flat_map-append line_text x y)) (took_then a b c (flat_map line_text x) (flat_map line_text y) p q)

@@ -7,3 +7,4 @@ pub mod Turns
 pub mod Along
 pub mod Messages
 pub mod Replaying
+pub mod WrittenInPart

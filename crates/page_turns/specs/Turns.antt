@@ -27,6 +27,7 @@ use Rattle.page_turns.specs.Taken.{Took, TookFront}
 use Rattle.page_turns.specs.Scripts.{MayMeet, BeginsFile, Fetches, AreKnown, ReadScriptsTo, NamesOnce}
 use Rattle.page_turns.specs.Shown.{result_of}
 use Rattle.page_turns.specs.Pages.{PageOpen, PageFor, PageAt, ReadsOn}
+use Rattle.page_turns.specs.WrittenInPart.{IsDue, WritesInPart}
 
 -- ---- what is under way
 
@@ -205,7 +206,8 @@ pub record LeavesAlone (dir : List ℕ) (before after : Seen) : Type 0 where
   pub scripts : ReadScriptsTo SCRIPT_LIMIT dir before after
   pub names : NamesOnce dir (before.begun port.Script) (after.begun port.Script)
 
--- The sink took a front of the lines of what is shown, or was before the last events.
+-- The sink took a front of the lines of what is shown, or was before the last events: all lines of the events before the refused one, and a front
+-- of what that one was to write.
 pub record GivesUp (es : Entities) (ahead : ℕ) (dir : List ℕ) (before after : Seen) (taken taken' : Option (List ℕ)) (s : Shown) : Type 0 where
   pub left : Leaves es ahead dir before after s
   pub shown : Shown
@@ -213,6 +215,7 @@ pub record GivesUp (es : Entities) (ahead : ℕ) (dir : List ℕ) (before after 
   pub leaves : Leaves es ahead dir before after shown
   pub alone : LeavesAlone dir before after
   pub front : TookFront taken taken' (flat_map line_text shown.desk.own.side.lines)
+  pub part : IsReplayed s → WritesInPart es ahead taken taken' (IsDue s)
 
 -- The parse is over, and the sink took its lines.
 pub record RunsOut (es : Entities) (ahead : ℕ) (dir : List ℕ) (before after : Seen) (taken taken' : Option (List ℕ)) (s : Shown) (o : Told) : Type 0 where

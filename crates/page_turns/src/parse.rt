@@ -8,6 +8,7 @@ ghost use Rattle.page_turns.specs.Turns.{no_load, LeavesAlone, Leaves, RunsOut};
 ghost use Rattle.page_turns.specs.Along.{Goes};
 ghost use Rattle.page_turns.specs.Messages.{TakenSoFar, MayTakeMore};
 ghost use Rattle.page_turns.specs.Replaying.{ReplaysTo};
+ghost use Rattle.page_turns.specs.WrittenInPart.{IsDue, WritesInPart};
 
 use crate::counterpart::Counterpart;
 use crate::job::Job;
@@ -20,7 +21,8 @@ use speculation::InForce;
 use std::alloc::Global;
 
 /// Parses the page that was begun, with this counterpart, and writes its lines. Where memory runs out or the sink fails it has taken a front of
-/// what is written of the page. The document's side and the counterpart were just made.
+/// what is written of the page: all lines of the events before the refused one, and a front of what that one was to write. The document's side
+/// and the counterpart were just made.
 pub fn parse_page<E: InForce, L: Counterpart<E>, F: Outside, K: Sink>(
     alloc: Global,
     job: &Job<'_>,
@@ -42,6 +44,7 @@ pub fn parse_page<E: InForce, L: Counterpart<E>, F: Outside, K: Sink>(
         doc.new.desk.own.side.doc (K.taken out.old) (K.taken out.new) outcome) }
     ensures err { OnErr result (FrontWithScripts job.now.table.now (string_bytes job.now.dir) (F.seen files.old) (F.seen files.new)
         (K.taken out.old) (K.taken out.new)) }
+    ensures part { OnErr result (WritesInPart job.now.table.now job.now.ahead (K.taken out.old) (K.taken out.new) (IsDue doc.new)) }
     ensures out { IfOk result (λ outcome. RunsOut job.now.table.now job.now.ahead (string_bytes job.now.dir) (F.seen files.old) (F.seen files.new)
         (K.taken out.old) (K.taken out.new) doc.new outcome) }
     ensures replays { ReplaysTo job.now.table.now job.now.ahead doc.new }

@@ -30,7 +30,7 @@ returns-in-Err-clause-reports g c =
     let at = g.F.Outside.seen in
     rw c.status_for.ensures
     (reports_failure c.args.job.now.table.now c.args.job.now.ahead c.args.job.now.dump (string_bytes c.args.job.now.page) (string_bytes c.args.job.now.dir) (at c.args.files.now) (at c.parse_page.new.files) c.requires.begun _ _ _
-    c.parse_page.ensures.left c.parse_page.ensures.replays c.in-Err.failure)
+    c.parse_page.ensures.left c.parse_page.ensures.replays c.in-Err.failure c.in-Err.ensures.part)
 
 pub returns-in-Ok-clause-answer : goal.returns-in-Ok-clause-answer
 returns-in-Ok-clause-answer g c =

@@ -1,9 +1,11 @@
 use Rattle.std.proofs.Common.{◌∙◌, sym, ap, subst, refl, arith}
 use Rattle.core_rules.specs.declared.event.Event.TheVariants as event
 use Rattle.core_rules.specs.Desk.{sends}
+use Rattle.standard.specs.Serial.{Serial}
 use Rattle.core_steps.specs.Sides.{Shown}
 use Rattle.page_turns.specs.Turns.{Arrives, BeginsAwaited}
 use Rattle.page_turns.proofs.LineLemmas.{on_err}
+use Rattle.page_turns.proofs.DeskLemmas.{sends-own}
 use Rattle.page_turns.proofs.StepLemmas.{stays_spent, stays_journaled}
 use Rattle.page_turns.proofs.AlongLemmas.{goes_first, goes_same, goes_stays, goes_sent, goes_took, goes_read, stays_read}
 use Rattle.page_turns.proofs.AlongLemmas as along
@@ -21,11 +23,11 @@ returns-in-Some-clause-ok g c =
 
 pub returns-in_err-request-clause-err : goal.returns-in_err-request-clause-err
 returns-in_err-request-clause-err g c =
-    on_err _ _ (gives_up _ _ _ _ _ _ _ _ _ _ c.turns.invariant.holds c.may_read-may_read.ensures.replayed _ (stays_spent c.turns.doc c.send.new.self c.in_err-request.ensures.err))
+    on_err _ _ (gives_up _ _ _ _ _ _ _ _ _ _ c.turns.invariant.holds c.may_read-may_read.ensures.replayed _ (stays_spent c.turns.doc c.send.new.self c.in_err-request.ensures.err) (ap (λ (z : Shown). z.desk.own.side.lines) c.in_err-request.ensures.err))
 
 pub returns-in_err-ask-clause-err : goal.returns-in_err-ask-clause-err
 returns-in_err-ask-clause-err g c =
-    on_err _ _ (gives_up _ _ _ _ _ _ _ _ _ _ c.turns.invariant.holds c.may_read-may_read.ensures.replayed _ (stays_journaled event.Send (sends c.turns.doc.desk) c.turns.doc c.send.new.self c.in_ok-request.ensures.sent))
+    on_err _ _ (gives_up _ _ _ _ _ _ _ _ _ _ c.turns.invariant.holds c.may_read-may_read.ensures.replayed _ (stays_journaled event.Send (sends c.turns.doc.desk) c.turns.doc c.send.new.self c.in_ok-request.ensures.sent) (ap (λ (z : Shown). z.desk.own.side.lines) c.in_ok-request.ensures.sent ∙ ap (λ (o : Serial). o.side.lines) (sends-own c.turns.doc.desk)))
 
 pub turns-preserved-in-Continue-branch-2 : goal.turns-preserved-in-Continue-branch-2
 turns-preserved-in-Continue-branch-2 g c =
@@ -53,7 +55,7 @@ returns-in_err-read_on-clause-err g c =
 
 pub returns-in_err-answer-clause-err : goal.returns-in_err-answer-clause-err
 returns-in_err-answer-clause-err g c =
-    on_err _ _ (gives_up _ _ _ _ _ _ _ _ _ _ c.turns.invariant.holds c.may_read-may_read.ensures.replayed _ refl)
+    on_err _ _ (gives_up _ _ _ _ _ _ _ _ _ _ c.turns.invariant.holds c.may_read-may_read.ensures.replayed _ refl refl)
 
 pub turns-preserved-then-branch : goal.turns-preserved-then-branch
 turns-preserved-then-branch g c =
@@ -77,7 +79,7 @@ turns-smaller-in-Continue-branch-5 g c =
 
 pub returns-in_err-take_reply-clause-err : goal.returns-in_err-take_reply-clause-err
 returns-in_err-take_reply-clause-err g c =
-    on_err _ _ (gives_up _ _ _ _ _ _ _ _ _ _ c.turns.invariant.holds c.may_read-may_read.ensures.replayed _ (stays_read c.turns.doc c.take_reply.new.doc c.in_err-take_reply.ensures.stays))
+    on_err _ _ (gives_up _ _ _ _ _ _ _ _ _ _ c.turns.invariant.holds c.may_read-may_read.ensures.replayed _ (stays_read c.turns.doc c.take_reply.new.doc c.in_err-take_reply.ensures.stays) (ap (λ (z : Shown). z.desk.own.side.lines) c.in_err-take_reply.ensures.stays))
 
 pub turns-preserved-in-Continue-branch-6 : goal.turns-preserved-in-Continue-branch-6
 turns-preserved-in-Continue-branch-6 g c =
@@ -89,7 +91,7 @@ turns-smaller-in-Continue-branch-6 g c =
 
 pub returns-in_err-run_on-clause-err : goal.returns-in_err-run_on-clause-err
 returns-in_err-run_on-clause-err g c =
-    on_err _ _ (gives_up_running _ _ _ _ _ _ _ _ _ _ c.turns.invariant.holds c.may_read-may_read.ensures.replayed _ _ c.in_err-run_on.ensures.stays c.in_err-run_on.ensures.err)
+    on_err _ _ (gives_up_running _ _ _ _ _ _ _ _ _ _ c.turns.invariant.holds c.may_read-may_read.ensures.replayed _ _ c.in_err-run_on.ensures.stays c.run_on.ensures.did c.in_err-run_on.ensures.err)
 
 pub fetch_awaited-requires-clause-awaits : goal.fetch_awaited-requires-clause-awaits
 fetch_awaited-requires-clause-awaits g c =
@@ -105,7 +107,7 @@ turns-smaller g c =
 
 pub returns-in_err-fetch_awaited-clause-err : goal.returns-in_err-fetch_awaited-clause-err
 returns-in_err-fetch_awaited-clause-err g c =
-    on_err _ _ (gives_up_fetching _ _ _ _ _ _ _ _ _ _ c.turns.invariant.holds c.may_read-may_read.ensures.replayed _ _ (stays_read c.turns.doc c.fetch_awaited.new.doc c.in_err-fetch_awaited.ensures.stays) (subst (λ d. BeginsAwaited d (g.F.Outside.seen c.turns.files) (g.F.Outside.seen c.fetch_awaited.new.files) c.turns.doc.desk) c.as_str.ensures.value c.fetch_awaited.ensures.begins) c.fetch_awaited.ensures.others)
+    on_err _ _ (gives_up_fetching _ _ _ _ _ _ _ _ _ _ c.turns.invariant.holds c.may_read-may_read.ensures.replayed _ _ c.in_err-fetch_awaited.ensures.stays (subst (λ d. BeginsAwaited d (g.F.Outside.seen c.turns.files) (g.F.Outside.seen c.fetch_awaited.new.files) c.turns.doc.desk) c.as_str.ensures.value c.fetch_awaited.ensures.begins) c.fetch_awaited.ensures.others)
 
 pub returns-in-Some-clause-goes : goal.returns-in-Some-clause-goes
 returns-in-Some-clause-goes g c =

@@ -1,5 +1,5 @@
 use Rattle.page_turns.proofs.LineLemmas.{if_ok, err_weaker}
-use Rattle.page_turns.proofs.EndLemmas.{left_alone, left_behind, gave_up, ran_out}
+use Rattle.page_turns.proofs.EndLemmas.{left_alone, left_behind, gave_up, gave_part, ran_out}
 use Rattle.page_turns.proofs.ReplayLemmas.{replays-to}
 use Rattle.page_turns.proofs.parse.parse_page.Goals as goal
 
@@ -8,6 +8,9 @@ returns-clause-ok g c = if_ok _ (λ o out. ran_out _ _ _ _ _ _ _ _ o c.journal-j
 
 pub returns-clause-err : goal.returns-clause-err
 returns-clause-err g c = err_weaker _ _ _ (λ gives. gave_up _ _ _ _ _ _ _ _ c.journal-journal.ensures.replayed gives) c.take_turns-ended.ensures.err
+
+pub returns-clause-part : goal.returns-clause-part
+returns-clause-part g c = err_weaker _ _ _ (λ gives. gave_part _ _ _ _ _ _ _ _ c.journal-journal.ensures.replayed gives) c.take_turns-ended.ensures.err
 
 pub returns-clause-replays : goal.returns-clause-replays
 returns-clause-replays g c =
