@@ -17,8 +17,6 @@ mod places;
 mod reset;
 mod space;
 mod state;
-#[cfg(test)]
-mod tests;
 mod walks;
 mod weight;
 

@@ -2,10 +2,10 @@
 use Rattle.std.proofs.Common.{◌≡◌, ◌++◌, List, [], ◌∷◌, refl}
 use Rattle.std.specs.Prelude.{codes}
 use Rattle.std.specs.Str.{chars}
-use Rattle.page_maker.specs.declared.page.Script.{Script}
+use Rattle.page_maker.specs.declared.page.MadeScript.{MadeScript}
 use Rattle.page_maker.specs.Made.{named_script, made_scripts}
 
-pub two_scripts : (none one two : List Script) (e f : Script)
+pub two_scripts : (none one two : List MadeScript) (e f : MadeScript)
     → none ≡ []
     → e ≡ named_script (chars (codes "e")) (chars (codes "document.write(\"<br>\");"))
     → f ≡ named_script (chars (codes "f")) (chars (codes "document.write(\"<!--\");"))

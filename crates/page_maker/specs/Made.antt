@@ -1,6 +1,6 @@
 -- The page that a number makes, as characters, and its scripts.
 use Rattle.std.specs.Prelude.{ℕ, zero, suc, ◌+◌, ◌*◌, ◌/◌, ◌%◌, ◌==◌, if◌then◌else◌, List, [], ◌∷◌, ◌++◌, codes, decimal}
-use Rattle.page_maker.specs.declared.page.Script.{Script}
+use Rattle.page_maker.specs.declared.page.MadeScript.{MadeScript}
 
 -- ---- the numbers
 
@@ -42,9 +42,9 @@ made_page number count = codes "<!DOCTYPE html><body>" ++ items number count
 
 -- ---- the scripts
 
-abbrev pub named_script : List ℕ → List ℕ → Script
+abbrev pub named_script : List ℕ → List ℕ → MadeScript
 named_script name text = record { name = name; text = text }
 
 -- those that the items of kinds 5 and 7 name
-abbrev pub made_scripts : List Script
+abbrev pub made_scripts : List MadeScript
 made_scripts = named_script (codes "e") (codes "document.write(\"<br>\");") ∷ named_script (codes "f") (codes "document.write(\"<!--\");") ∷ []

@@ -7,4 +7,4 @@ mod page;
 #[cfg(test)]
 mod tests;
 
-pub use page::{Made, Script, make};
+pub use page::{Made, MadeScript, make};

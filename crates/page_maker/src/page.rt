@@ -11,7 +11,7 @@ use std::alloc::Global;
 
 /// A script's file.
 #[derive(Drop)]
-pub struct Script {
+pub struct MadeScript {
     /// What a page's `src` names it by.
     pub name: Text,
     /// What stands in it.
@@ -24,7 +24,7 @@ pub struct Made {
     /// The page's text.
     pub page: Text,
     /// The scripts, by name.
-    pub scripts: Vec<Script>,
+    pub scripts: Vec<MadeScript>,
 }
 
 // The page of that many items.
@@ -41,15 +41,15 @@ fn make_page(alloc: Global, number: u32, count: u32) -> Result<Text, NoMemory>
     Ok(page)
 }
 
-fn named_script(alloc: Global, name: &str, text: &str) -> Result<Script, NoMemory>
+fn named_script(alloc: Global, name: &str, text: &str) -> Result<MadeScript, NoMemory>
     ensures { IfOk result (λ made. made ≡ named_script (chars name.now) (chars text.now)) }
 {
     let name = Text::from_str(alloc, name)?;
     let text = Text::from_str(alloc, text)?;
-    Ok(Script { name, text })
+    Ok(MadeScript { name, text })
 }
 
-fn make_scripts(alloc: Global) -> Result<Vec<Script>, NoMemory>
+fn make_scripts(alloc: Global) -> Result<Vec<MadeScript>, NoMemory>
     ensures { IfOk result (λ scripts. scripts.items ≡ made_scripts) }
 {
     let line_break = named_script(alloc, "e", "document.write(\"<br>\");")?;

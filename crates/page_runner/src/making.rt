@@ -18,7 +18,7 @@ use core_steps::Tally;
 use entity_table::Table;
 use html_types::NoMemory;
 use outside::{Failed, Gate, NeverFails, Sink};
-use page_maker::{Made, Script, make};
+use page_maker::{Made, MadeScript, make};
 use page_turns::{Failure, Job, write_all};
 use speculation::InForce;
 use std::alloc::{AllocError, Global};
@@ -36,7 +36,7 @@ pub(crate) enum MadeRun {
 }
 
 // Adds the file of a script.
-fn add_script(alloc: Global, files: &mut NeverFails, script: &Script) -> Result<(), NoMemory>
+fn add_script(alloc: Global, files: &mut NeverFails, script: &MadeScript) -> Result<(), NoMemory>
     ensures { OnOk result (Adds (codes "scripts/" ++ encode_utf8_all script.now.name) (encode_utf8_all script.now.text) files.old files.new) }
 {
     let name = script.name.as_str();

@@ -3,8 +3,6 @@
 #![tactic(auto)]
 
 mod machine;
-#[cfg(test)]
-mod tests;
 mod token;
 mod weight;
 

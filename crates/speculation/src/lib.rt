@@ -9,8 +9,6 @@ pub mod deciding;
 pub mod in_force;
 pub mod reply;
 pub mod request;
-#[cfg(test)]
-mod tests;
 pub mod worker;
 
 pub use batch::{Batch, Batches, Halt};

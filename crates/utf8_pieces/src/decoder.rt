@@ -65,18 +65,6 @@ impl Decoder {
         Ok(fed)
     }
 
-    /// How many more bytes it looks at: up to one past the limit, and none behind an ending.
-    pub fn room(&self) -> usize
-        ensures { (limit : ℕ) (read : List ℕ) → HasRead limit self.now read
-            → result ≡ (if is_some (shown limit read) then 0 else min (limit + 1 - length read) (2 ^ 64 - 1)) }
-    {
-        if self.shown.is_some() {
-            0
-        } else {
-            self.room.saturating_add(1)
-        }
-    }
-
     /// The ending, where no more bytes come: because of a fault, or because the file ends. A fault inside a character
     /// is a fault.
     pub fn close(&self, fault: bool) -> Ending

@@ -6,8 +6,6 @@ mod left;
 mod live;
 mod nesting;
 mod rest;
-#[cfg(test)]
-mod tests;
 mod writer;
 
 pub use left::{Left, Overrun};

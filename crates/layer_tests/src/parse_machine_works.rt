@@ -1,6 +1,6 @@
 //! With ample memory a copy is made; `run` and `finish` are called by the program's own run.
 
-use crate::Machine;
+use parse_machine::Machine;
 use html_types::NodeId;
 use std::test::Fail;
 

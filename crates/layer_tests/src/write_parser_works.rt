@@ -1,6 +1,6 @@
 //! Calls with ample memory, on pages whose scripts write scripts.
 
-use crate::{Left, Writer};
+use write_parser::{Left, Writer};
 use entity_table::Table;
 use html_types::{Ending, Line, NoMemory, Stop};
 use serialiser::document;

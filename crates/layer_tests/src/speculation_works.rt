@@ -1,7 +1,6 @@
 //! With ample memory a state is held. `Worker::answer` is called by the crates above.
 
-use crate::checkpoint::Checkpoint;
-use crate::deciding::decide;
+use speculation::{Checkpoint, decide};
 use core_rules::Verdict;
 use html_types::NodeId;
 use parse_machine::Machine;

@@ -1,4 +1,4 @@
-use crate::{Builder, Pushed, is_space};
+use builder_state::{Builder, Pushed, is_space};
 use html_types::{
     Attributes, Flow, Instr, Mode, Name, NodeId, OpenElement, Ops, Place, Tag, Token, Word,
 };

@@ -1,0 +1,93 @@
+use op_exec::{Doc, Put, ScriptKind};
+use html_types::{Attribute, Attributes, Name, NoMemory, NodeId, Op, Ops, Place, Space, Text};
+use std::alloc::Global;
+
+#[test]
+#[tactic(auto, unfolding(standard::specs::Act::act, standard::specs::Act::acts))]
+fn a_script_that_stands_nowhere_is_still(rt: HostRuntime) -> Result<(), NoMemory> {
+    let alloc = rt.alloc();
+    let id = NodeId { realm: 1, n: 0 };
+    let mut doc = Doc::new(alloc)?;
+    let name = Name::of(alloc, "script")?;
+    let attributes = Attributes::new(alloc);
+    doc.apply(Op::Make {
+        id,
+        name,
+        attributes,
+    })?;
+    assert!(rt; doc.script_kind(id) == ScriptKind::Still);
+    assert!(rt; doc.script_text(id)?.is_empty());
+    assert!(rt; doc.script_src(id)?.is_none());
+    Ok(())
+}
+
+#[test]
+fn a_template_has_contents(rt: HostRuntime) -> Result<(), NoMemory> {
+    let alloc = rt.alloc();
+    let mut doc = Doc::new(alloc)?;
+    doc.apply(Op::Make {
+        id: NodeId { realm: 1, n: 0 },
+        name: Name::of(alloc, "template")?,
+        attributes: Attributes::new(alloc),
+    })?;
+    assert!(rt; doc.tree().len() == 3);
+    assert_eq!(rt; doc.tree().contents(1), Some(2));
+    Ok(())
+}
+
+#[test]
+fn a_foreign_template_has_no_contents(rt: HostRuntime) -> Result<(), NoMemory> {
+    let alloc = rt.alloc();
+    let mut doc = Doc::new(alloc)?;
+    doc.apply(Op::Make {
+        id: NodeId { realm: 1, n: 0 },
+        name: Name::other(alloc, Space::Svg, "template")?,
+        attributes: Attributes::new(alloc),
+    })?;
+    assert!(rt; doc.tree().len() == 2);
+    assert_eq!(rt; doc.tree().contents(1), None);
+    Ok(())
+}
+
+fn with_id(alloc: Global, id: &str) -> Result<Attributes, NoMemory> {
+    let mut attributes = Attributes::new(alloc);
+    let name = Text::from_str(alloc, "id")?;
+    let value = Text::from_str(alloc, id)?;
+    attributes.push(Attribute { name, value })?;
+    Ok(attributes)
+}
+
+#[test]
+#[tactic(auto, unfolding(standard::specs::Act::act, standard::specs::Act::acts))]
+fn an_element_does_not_move_into_itself(rt: HostRuntime) -> Result<(), NoMemory> {
+    let alloc = rt.alloc();
+    let id = NodeId { realm: 1, n: 0 };
+    let mut doc = Doc::new(alloc)?;
+    doc.apply(Op::Make {
+        id,
+        name: Name::of(alloc, "div")?,
+        attributes: with_id(alloc, "a")?,
+    })?;
+    doc.apply(Op::Put {
+        node: id,
+        place: Place::Page,
+    })?;
+    let Some(found) = doc.find_id("a") else {
+        return Err(NoMemory);
+    };
+    assert!(rt; doc.move_last(found, found)? == Put::Impossible);
+    Ok(())
+}
+
+#[test]
+#[tactic(auto, unfolding(standard::specs::Act::AreOpsBound))]
+fn the_document_takes_no_text(rt: HostRuntime) -> Result<(), NoMemory> {
+    let alloc = rt.alloc();
+    let mut doc = Doc::new(alloc)?;
+    let mut ops = Ops::new(alloc);
+    ops.push_character(alloc, Place::Page, 'x')?;
+    ops.push_character(alloc, Place::Page, 'y')?;
+    doc.apply_all(ops)?;
+    assert_eq!(rt; doc.tree().len(), 1);
+    Ok(())
+}
