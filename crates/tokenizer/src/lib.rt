@@ -8,7 +8,7 @@ pub mod part;
 mod place;
 pub mod reading;
 pub mod reference;
-pub mod run;
+pub mod tokenizer;
 pub mod whole;
 
-pub use run::{Pause, Paused, Tokenizer};
+pub use tokenizer::Tokenizer;

@@ -1,37 +1,21 @@
 //! The tokenizer: its state, and the tokens that it has made and not yet given.
 
-ghost use Rattle.std.specs.Prelude.{◌≡◌, ◌↔◌, ◌≤◌, false, [], ◌∷◌, take, length, IfOk, OnOk, IfSome, IfNone, IsTrue};
-ghost use Rattle.std.specs.Str.{chars, IsCharBoundary};
+ghost use Rattle.std.specs.Prelude.{◌≡◌, ◌↔◌, ◌≤◌, false, [], ◌∷◌, IfOk, OnOk, IfSome, IfNone, IsTrue};
+ghost use Rattle.std.specs.Str.{IsCharBoundary};
 ghost use Rattle.standard.specs.Step.{data_state};
-ghost use Rattle.standard.specs.Tokenizer.{read, reading, read_end, onward, after_tokens};
-ghost use Rattle.tokenizer.specs.Runs.{IsNext, IsQuietBefore, LeadsTo, UsesAll};
+ghost use Rattle.standard.specs.Tokenizer.{read, reading, read_end, after_tokens};
+ghost use Rattle.tokenizer.specs.Runs.{LeadsTo};
 ghost use Rattle.tokenizer.specs.Whole.{has_cr, piece};
 
 use crate::append::append;
 use crate::discard::discard;
-use crate::reading::{READINGS, add_in_place, is_plain, settle};
+use crate::reading::{READINGS, add_in_place, settle};
 use char_class::class_of;
 use entity_table::Table;
-use html_types::{Class, NoMemory, TextState, TokState, Token, Tokens, char_at, eq_state};
+use html_types::{Class, NoMemory, TextState, TokState, Token, Tokens, eq_state};
 use std::alloc::Global;
 use std::marker::Model;
 use std::mem;
-
-/// Why a run stopped.
-#[derive(Drop)]
-pub enum Pause {
-    /// The next token.
-    Token(Token),
-    /// All of the text is used, and no token is left.
-    InputEnd,
-}
-
-/// Why a run stopped, and how many bytes of its text it used.
-#[derive(Drop)]
-pub struct Paused {
-    pub pause: Pause,
-    pub used: usize,
-}
 
 /// A tokenizer: a contract sees the tokens that it has made and not yet given, and its state. After a call that answers
 /// NoMemory it is some tokenizer, of use for nothing but to be dropped.
@@ -106,6 +90,24 @@ impl Tokenizer {
         self.waiting.same(&other.waiting) && eq_state(&self.state, &other.state)
     }
 
+    /// Reads a character, with the named character references of `table`; `foreign` says that the adjusted current node isn't
+    /// an HTML element. The tokens that it makes wait behind those that wait already.
+    pub fn read_character(
+        &mut self,
+        alloc: Global,
+        table: &Table,
+        foreign: bool,
+        c: char,
+    ) -> Result<(), NoMemory>
+        ensures { OnOk result (self.new ≡ after_tokens self.old.tokens (read table.now foreign self.old.state c)) }
+    {
+        let class = class_of(c);
+        if add_in_place(&mut self.state, class, c)? {
+            return Ok(());
+        }
+        self.settle_in(alloc, table, foreign, class, c)
+    }
+
     /// Reads the end of the input, with the named character references of `table`; `foreign` says that the adjusted current
     /// node isn't an HTML element. The tokens that it makes wait behind those that wait already.
     pub fn finish(&mut self, alloc: Global, table: &Table, foreign: bool) -> Result<(), NoMemory>
@@ -135,84 +137,6 @@ impl Tokenizer {
         ensures state { self.new.state ≡ self.old.state }
     {
         self.waiting.pop()
-    }
-
-    /// Gives the next token: the first that waits, else the first that the text makes, of which no more is used than that
-    /// needs. `InputEnd` comes where no token waits and all of the text makes none. Named character references are those of
-    /// `table`; `foreign` says that the adjusted current node isn't an HTML element, and holds up to that token.
-    pub fn run(
-        &mut self,
-        alloc: Global,
-        table: &Table,
-        foreign: bool,
-        text: &str,
-    ) -> Result<Paused, NoMemory>
-        ensures boundary { IfOk result (λ r. IsCharBoundary text.now r.used) }
-        ensures next { IfOk result
-            (λ r. IsNext (onward table.now foreign self.old (chars (take r.used text.now))) r.pause self.new) }
-        ensures first { IfOk result
-            (λ r. IsQuietBefore table.now foreign self.old (chars (take r.used text.now))) }
-        ensures all { IfOk result (λ r. UsesAll r text.now) }
-    {
-        if let Some(token) = self.waiting.pop() {
-            return Ok(Paused {
-                pause: Pause::Token(token),
-                used: 0,
-            });
-        }
-        let mut used = 0;
-        while let Some((c, behind)) = char_at(text, used) {
-            used = behind;
-            let class = class_of(c);
-            if is_plain(&self.state, class) {
-                return Ok(Paused {
-                    pause: Pause::Token(Token::Character(c)),
-                    used,
-                });
-            }
-            self.read_class(alloc, table, foreign, class, c)?;
-            if let Some(token) = self.waiting.pop() {
-                return Ok(Paused {
-                    pause: Pause::Token(token),
-                    used,
-                });
-            }
-        }
-        Ok(Paused {
-            pause: Pause::InputEnd,
-            used,
-        })
-    }
-
-    /// Reads a character, with the named character references of `table`; `foreign` says that the adjusted current node isn't
-    /// an HTML element. The tokens that it makes wait behind those that wait already.
-    pub fn read_character(
-        &mut self,
-        alloc: Global,
-        table: &Table,
-        foreign: bool,
-        c: char,
-    ) -> Result<(), NoMemory>
-        ensures { OnOk result (self.new ≡ after_tokens self.old.tokens (read table.now foreign self.old.state c)) }
-    {
-        self.read_class(alloc, table, foreign, class_of(c), c)
-    }
-
-    // Reads a character of this class.
-    fn read_class(
-        &mut self,
-        alloc: Global,
-        table: &Table,
-        foreign: bool,
-        class: Class,
-        c: char,
-    ) -> Result<(), NoMemory>
-        ensures { OnOk result (self.new ≡ after_tokens self.old.tokens (reading table.now foreign self.old.state class c)) }
-    {
-        if add_in_place(&mut self.state, class, c)? {
-            return Ok(());
-        }
-        self.settle_in(alloc, table, foreign, class, c)
     }
 
     // Reads a character of this class, or the end, by the rows.
