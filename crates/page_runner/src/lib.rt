@@ -9,8 +9,6 @@ mod on_two;
 mod report;
 mod running;
 mod status;
-#[cfg(test)]
-mod tests;
 mod words;
 
 pub use command::{ENTITIES_LIMIT, run};

@@ -1,10 +1,12 @@
-//! Rows that cross crates: what `run` answers and writes over files and a sink in memory.
+//! Rows that cross crates: what `run` answers and writes over files and a sink in memory. With them the tests of `page_turns` and `page_runner`.
 #![tactic(auto)]
 
 #[cfg(test)]
 mod cases;
 #[cfg(test)]
 mod faults;
+#[cfg(test)]
+mod files;
 #[cfg(test)]
 mod foreign;
 #[cfg(test)]
@@ -19,3 +21,5 @@ mod tables;
 mod tests;
 #[cfg(test)]
 mod turns;
+#[cfg(test)]
+mod words;

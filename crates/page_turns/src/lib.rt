@@ -12,8 +12,6 @@ mod page;
 mod parse;
 mod reader;
 mod scripts;
-#[cfg(test)]
-mod tests;
 mod write;
 
 pub use counterpart::Counterpart;

@@ -1,6 +1,8 @@
-use crate::{read_whole, write_all};
+//! Files that are read to a limit, and a sink that takes so many bytes.
+
 use core_steps::Fetch;
 use outside::{Failed, MemFiles, MemSink, Port};
+use page_turns::{read_whole, write_all};
 use std::test::Fail;
 
 #[test]

@@ -1,4 +1,6 @@
-use crate::{CommandWords, MakeWords, Refused, read_words};
+//! The words of a command.
+
+use page_runner::{CommandWords, MakeWords, Refused, read_words};
 use std::alloc::{AllocError, Global};
 use std::test::Fail;
 
