@@ -3,26 +3,16 @@
 #![tactic(auto)]
 
 #[cfg(test)]
-mod builder_body_works;
+mod builder;
 #[cfg(test)]
-mod builder_head_works;
+mod executing;
 #[cfg(test)]
-mod builder_rest_works;
+mod machine;
 #[cfg(test)]
-mod builder_state_works;
+mod nodes;
 #[cfg(test)]
-mod builder_table_works;
+mod serialised;
 #[cfg(test)]
-mod doc_tree_works;
+mod tree;
 #[cfg(test)]
-mod op_exec_works;
-#[cfg(test)]
-mod parse_machine_works;
-#[cfg(test)]
-mod serialiser_works;
-#[cfg(test)]
-mod speculation_works;
-#[cfg(test)]
-mod tokenizer_works;
-#[cfg(test)]
-mod write_parser_works;
+mod written;

@@ -2,9 +2,9 @@
 
 use crate::spelling::{MANY, spelling};
 use entity_table::Table;
-use html_types::{NoMemory, RawText, TextState, TokState, Tokens, Word, eq_state};
+use html_types::{NoMemory, RawText, TextState, TokState, Tokens, Word, char_at};
 use std::alloc::Global;
-use tokenizer::{Pause, Paused, Tokenizer};
+use tokenizer::Tokenizer;
 
 /// Where the tokenizer begins.
 #[derive(Clone, Copy)]
@@ -28,102 +28,144 @@ pub struct Row {
     pub tokens: &'static str,
 }
 
-/// What the pieces of a text give: the tokens up to the end of the file, the tokenizer before that end, and behind it.
-#[derive(Drop)]
-struct Given {
-    tokens: Tokens,
-    before: Tokenizer,
-    behind: Tokenizer,
+/// How a text is read.
+#[derive(Clone, Copy, PartialEq, Eq)]
+enum Way {
+    ByCharacter,
+    /// What the state only adds to what it holds, or drops, is taken at once in front of each character.
+    InRuns,
 }
 
-impl Given {
-    fn same(&self, other: &Given) -> bool {
-        self.tokens.same(&other.tokens)
-            && eq_state(self.before.state(), other.before.state())
-            && eq_state(self.behind.state(), other.behind.state())
-    }
+// A tokenizer, and the tokens that it gave.
+#[derive(Drop)]
+struct Reader {
+    tokenizer: Tokenizer,
+    tokens: Tokens,
 }
 
 fn raw(raw: RawText, word: Word) -> TokState {
     TokState::Text(TextState::Raw(raw, Some(word)))
 }
 
-fn begin(alloc: Global, start: Start) -> Tokenizer {
-    let mut tokenizer = Tokenizer::new(alloc);
-    match start {
-        Start::Data => {}
-        Start::Title => tokenizer.load(raw(RawText::Rcdata, Word::Title)),
-        Start::Style => tokenizer.load(raw(RawText::Rawtext, Word::Style)),
-        Start::Script => tokenizer.load(raw(RawText::ScriptData, Word::Script)),
-    }
-    tokenizer
-}
-
-// Adds the tokens of a piece, of which there are few. What the state only adds to what it holds is taken at once at the beginning of the piece
-// and behind each token, so that cut texts are read so from every place, and whole ones character by character.
-fn read(
-    alloc: Global,
-    table: &Table,
-    foreign: bool,
-    tokenizer: &mut Tokenizer,
-    piece: &str,
-    tokens: &mut Tokens,
-) -> Result<(), NoMemory> {
-    let mut place = 0;
-    for _ in 0..MANY {
-        let Some((_, ahead)) = piece.split_at_checked(place) else {
-            break;
-        };
-        let added = tokenizer.append(ahead, 0)?;
-        let Some((_, rest)) = ahead.split_at_checked(added) else {
-            break;
-        };
-        let Paused { pause, used } = tokenizer.run(alloc, table, foreign, rest)?;
-        place = place.saturating_add(added).saturating_add(used);
-        match pause {
-            Pause::Token(token) => tokens.push(token)?,
-            Pause::InputEnd => break,
+impl Reader {
+    fn begin(alloc: Global, start: Start) -> Reader {
+        let mut tokenizer = Tokenizer::new(alloc);
+        match start {
+            Start::Data => {}
+            Start::Title => tokenizer.load(raw(RawText::Rcdata, Word::Title)),
+            Start::Style => tokenizer.load(raw(RawText::Rawtext, Word::Style)),
+            Start::Script => tokenizer.load(raw(RawText::ScriptData, Word::Script)),
+        }
+        Reader {
+            tokenizer,
+            tokens: Tokens::new(alloc),
         }
     }
-    Ok(())
+
+    // Takes the tokens that wait, of which there are few.
+    fn take_waiting(&mut self) -> Result<(), NoMemory> {
+        for _ in 0..MANY {
+            let Some(token) = self.tokenizer.pop() else {
+                break;
+            };
+            self.tokens.push(token)?;
+        }
+        Ok(())
+    }
+
+    // Takes what the state only adds to what it holds, or drops, and gives the rest of the text.
+    fn take_run<'a>(&mut self, text: &'a str) -> Result<&'a str, NoMemory> {
+        let end = self.tokenizer.append(text, 0)?;
+        Ok(&text[end..])
+    }
+
+    // Reads the first character of a text, and gives the rest; none where there is no character.
+    fn take_character<'a>(
+        &mut self,
+        alloc: Global,
+        table: &Table,
+        foreign: bool,
+        text: &'a str,
+    ) -> Result<Option<&'a str>, NoMemory> {
+        let Some((c, behind)) = char_at(text, 0) else {
+            return Ok(None);
+        };
+        self.tokenizer.read_character(alloc, table, foreign, c)?;
+        self.take_waiting()?;
+        Ok(Some(&text[behind..]))
+    }
+
+    fn read(
+        &mut self,
+        alloc: Global,
+        table: &Table,
+        foreign: bool,
+        way: Way,
+        piece: &str,
+    ) -> Result<(), NoMemory> {
+        let mut rest = piece;
+        for _ in 0..=piece.len() {
+            if way == Way::InRuns {
+                rest = self.take_run(rest)?;
+            }
+            let Some(behind) = self.take_character(alloc, table, foreign, rest)? else {
+                break;
+            };
+            rest = behind;
+        }
+        Ok(())
+    }
+
+    fn finish(&mut self, alloc: Global, table: &Table, foreign: bool) -> Result<(), NoMemory> {
+        self.tokenizer.finish(alloc, table, foreign)?;
+        self.take_waiting()
+    }
+}
+
+// What the pieces of a text give: the tokenizer before the end of the file, and the reader behind it.
+#[derive(Drop)]
+struct Given {
+    before: Tokenizer,
+    reader: Reader,
+}
+
+impl Given {
+    fn same(&self, other: &Given) -> bool {
+        self.reader.tokens.same(&other.reader.tokens)
+            && self.before.same(&other.before)
+            && self.reader.tokenizer.same(&other.reader.tokenizer)
+    }
 }
 
 fn read_pieces(
     alloc: Global,
     table: &Table,
     row: &Row,
+    way: Way,
     pieces: &[&str],
 ) -> Result<Given, NoMemory> {
-    let mut tokens = Tokens::new(alloc);
-    let mut tokenizer = begin(alloc, row.start);
+    let mut reader = Reader::begin(alloc, row.start);
     for piece in pieces {
-        read(
-            alloc,
-            table,
-            row.foreign,
-            &mut tokenizer,
-            piece,
-            &mut tokens,
-        )?;
+        reader.read(alloc, table, row.foreign, way, piece)?;
     }
-    let before = tokenizer.copy(alloc)?;
-    tokenizer.finish(alloc, table, row.foreign)?;
-    read(alloc, table, row.foreign, &mut tokenizer, "", &mut tokens)?;
-    Ok(Given {
-        tokens,
-        before,
-        behind: tokenizer,
-    })
+    let before = reader.tokenizer.copy(alloc)?;
+    reader.finish(alloc, table, row.foreign)?;
+    Ok(Given { before, reader })
+}
+
+// What the whole text gives, character by character.
+fn read_whole(alloc: Global, table: &Table, row: &Row) -> Result<Given, NoMemory> {
+    read_pieces(alloc, table, row, Way::ByCharacter, &[row.text])
 }
 
 /// Whether the whole text gives the row's tokens.
 pub fn gives(alloc: Global, table: &Table, row: &Row) -> Result<bool, NoMemory> {
-    let mut whole = read_pieces(alloc, table, row, &[row.text])?;
-    let spelled = spelling(alloc, &mut whole.tokens)?;
+    let mut whole = read_whole(alloc, table, row)?;
+    let spelled = spelling(alloc, &mut whole.reader.tokens)?;
     Ok(spelled.as_str() == row.tokens)
 }
 
-// Whether the pieces give what the whole text does.
+// Whether the pieces, read in runs, give what the whole text does.
 fn agrees(
     alloc: Global,
     table: &Table,
@@ -131,13 +173,13 @@ fn agrees(
     whole: &Given,
     pieces: &[&str],
 ) -> Result<bool, NoMemory> {
-    let parts = read_pieces(alloc, table, row, pieces)?;
+    let parts = read_pieces(alloc, table, row, Way::InRuns, pieces)?;
     Ok(parts.same(whole))
 }
 
 /// Whether the text gives the same in two pieces, wherever it is cut.
 pub fn gives_in_two(alloc: Global, table: &Table, row: &Row) -> Result<bool, NoMemory> {
-    let whole = read_pieces(alloc, table, row, &[row.text])?;
+    let whole = read_whole(alloc, table, row)?;
     for place in 0..=row.text.len() {
         if let Some((front, back)) = row.text.split_at_checked(place) {
             if !agrees(alloc, table, row, &whole, &[front, back])? {
@@ -169,7 +211,7 @@ fn agrees_behind(
 
 /// Whether the text gives the same in three pieces, wherever it is cut.
 pub fn gives_in_three(alloc: Global, table: &Table, row: &Row) -> Result<bool, NoMemory> {
-    let whole = read_pieces(alloc, table, row, &[row.text])?;
+    let whole = read_whole(alloc, table, row)?;
     for place in 0..=row.text.len() {
         if let Some((front, rest)) = row.text.split_at_checked(place) {
             if !agrees_behind(alloc, table, row, &whole, front, rest)? {

@@ -1,20 +1,8 @@
+//! Nodes are put in a tree, moved and found.
+
+use crate::nodes::{attribute, element};
 use doc_tree::{Put, Tree};
-use html_types::{Attribute, Attributes, Kind, Name, NoMemory, Text};
-use std::alloc::Global;
-
-fn with_id(alloc: Global, id: &str) -> Result<Attributes, NoMemory> {
-    let mut attributes = Attributes::new(alloc);
-    let name = Text::from_str(alloc, "id")?;
-    let value = Text::from_str(alloc, id)?;
-    attributes.push(Attribute { name, value })?;
-    Ok(attributes)
-}
-
-fn element(alloc: Global, name: &str) -> Result<Kind, NoMemory> {
-    let name = Name::of(alloc, name)?;
-    let attributes = Attributes::new(alloc);
-    Ok(Kind::Element { name, attributes })
-}
+use html_types::{Kind, NoMemory, Text};
 
 #[test]
 fn text_joins_before_an_element(rt: HostRuntime) -> Result<(), NoMemory> {
@@ -36,8 +24,8 @@ fn the_first_in_tree_order_is_found(rt: HostRuntime) -> Result<(), NoMemory> {
     let mut tree = Tree::new(alloc)?;
     let late = tree.make(element(alloc, "p")?)?;
     let early = tree.make_template(element(alloc, "div")?)?;
-    tree.add_attributes(late, &with_id(alloc, "x")?)?;
-    tree.add_attributes(early, &with_id(alloc, "x")?)?;
+    tree.add_attributes(late, &attribute(alloc, "id", "x")?)?;
+    tree.add_attributes(early, &attribute(alloc, "id", "x")?)?;
     tree.put_last(late, 0)?;
     assert_eq!(rt; tree.find_id("x"), Some(late));
     Ok(())

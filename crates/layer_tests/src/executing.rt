@@ -1,6 +1,8 @@
+//! Operations are executed on a document.
+
+use crate::nodes::attribute;
+use html_types::{Attributes, Name, NoMemory, NodeId, Op, Ops, Place, Space};
 use op_exec::{Doc, Put, ScriptKind};
-use html_types::{Attribute, Attributes, Name, NoMemory, NodeId, Op, Ops, Place, Space, Text};
-use std::alloc::Global;
 
 #[test]
 #[tactic(auto, unfolding(standard::specs::Act::act, standard::specs::Act::acts))]
@@ -49,14 +51,6 @@ fn a_foreign_template_has_no_contents(rt: HostRuntime) -> Result<(), NoMemory> {
     Ok(())
 }
 
-fn with_id(alloc: Global, id: &str) -> Result<Attributes, NoMemory> {
-    let mut attributes = Attributes::new(alloc);
-    let name = Text::from_str(alloc, "id")?;
-    let value = Text::from_str(alloc, id)?;
-    attributes.push(Attribute { name, value })?;
-    Ok(attributes)
-}
-
 #[test]
 #[tactic(auto, unfolding(standard::specs::Act::act, standard::specs::Act::acts))]
 fn an_element_does_not_move_into_itself(rt: HostRuntime) -> Result<(), NoMemory> {
@@ -66,7 +60,7 @@ fn an_element_does_not_move_into_itself(rt: HostRuntime) -> Result<(), NoMemory>
     doc.apply(Op::Make {
         id,
         name: Name::of(alloc, "div")?,
-        attributes: with_id(alloc, "a")?,
+        attributes: attribute(alloc, "id", "a")?,
     })?;
     doc.apply(Op::Put {
         node: id,

@@ -1,13 +1,13 @@
-//! Calls with ample memory, on pages whose scripts write scripts.
+//! Pages whose scripts write scripts, with ample memory.
 
-use write_parser::{Left, Writer};
 use entity_table::Table;
 use html_types::{Ending, Line, NoMemory, Stop};
 use serialiser::document;
 use std::alloc::Global;
 use std::test::Fail;
+use write_parser::{Left, Writer};
 
-/// A page up to the end tag of its first script, which runs.
+// A page up to the end tag of its first script, which runs.
 fn page(alloc: Global, table: &Table, text: &str) -> Result<Writer, NoMemory> {
     let mut writer = Writer::new(alloc, 1)?;
     if let Stop::Script(id) = writer.parse(table, text)?.stop {

@@ -1,16 +1,22 @@
+//! Rows of instructions, and one rule of each crate of insertion modes.
+
+use builder_body::body;
+use builder_head::head;
+use builder_rest::rest;
 use builder_state::{Builder, Pushed, is_space};
+use builder_table::table;
 use html_types::{
-    Attributes, Flow, Instr, Mode, Name, NodeId, OpenElement, Ops, Place, Tag, Token, Word,
+    Attributes, Flow, Instr, Mode, Name, Next, NodeId, OpenElement, Ops, Place, Tag, Token, Word,
 };
 use std::alloc::Global;
 use std::test::Fail;
 
-fn start_tag(alloc: Global, word: Word) -> Token {
-    Token::StartTag(Tag {
+fn tag(alloc: Global, word: Word) -> Tag {
+    Tag {
         name: Name::Known(word),
         attributes: Attributes::new(alloc),
         self_closing: false,
-    })
+    }
 }
 
 #[test]
@@ -18,7 +24,7 @@ fn opens_elements(rt: HostRuntime) -> Result<(), Fail> {
     let alloc = rt.alloc();
     let mut builder = Builder::new(alloc, 7);
     let mut ops = Ops::new(alloc);
-    let token = start_tag(alloc, Word::Li);
+    let token = Token::StartTag(tag(alloc, Word::Li));
     let row = [Instr::InsertRootA, Instr::Insert, Instr::SkipLineFeed];
     assert_eq!(rt; builder.run(alloc, &row, &token, &mut ops)?, Flow::On);
     assert_eq!(rt; builder.reconstruct(alloc, &mut ops)?, Flow::On);
@@ -72,5 +78,56 @@ fn copies_are_the_same(rt: HostRuntime) -> Result<(), Fail> {
 fn a_carriage_return_is_white_space(rt: HostRuntime) -> Result<(), Fail> {
     assert!(rt; is_space('\r'));
     assert!(rt; !is_space('\u{b}'));
+    Ok(())
+}
+
+#[test]
+fn no_doctype(rt: HostRuntime) -> Result<(), Fail> {
+    let alloc = rt.alloc();
+    let mut builder = Builder::new(alloc, 0);
+    let mut ops = Ops::new(alloc);
+    let token = Token::Character('a');
+    let next = head(alloc, &mut builder, Mode::Initial, &token, &mut ops)?;
+    assert_eq!(rt; next, Next::Again);
+    assert_eq!(rt; builder.mode(), Mode::BeforeHtml);
+    assert_eq!(rt; ops.as_slice().len(), 0);
+    Ok(())
+}
+
+// `</p>` with no p open makes an empty one.
+#[test]
+fn a_lone_end_tag_of_p(rt: HostRuntime) -> Result<(), Fail> {
+    let alloc = rt.alloc();
+    let mut builder = Builder::new(alloc, 0);
+    let mut ops = Ops::new(alloc);
+    let token = Token::EndTag(tag(alloc, Word::P));
+    let next = body(alloc, &mut builder, Mode::InBody, &token, &mut ops)?;
+    assert_eq!(rt; next, Next::Done);
+    assert_eq!(rt; ops.as_slice().len(), 2);
+    Ok(())
+}
+
+// White space in a table waits until something else comes.
+#[test]
+fn space_waits(rt: HostRuntime) -> Result<(), Fail> {
+    let alloc = rt.alloc();
+    let mut builder = Builder::new(alloc, 0);
+    let mut ops = Ops::new(alloc);
+    let token = Token::Character(' ');
+    let next = table(alloc, &mut builder, Mode::InTableText, &token, &mut ops)?;
+    assert_eq!(rt; next, Next::Done);
+    assert_eq!(rt; ops.as_slice().len(), 0);
+    Ok(())
+}
+
+#[test]
+fn frameset_ends(rt: HostRuntime) -> Result<(), Fail> {
+    let alloc = rt.alloc();
+    let mut builder = Builder::new(alloc, 0);
+    let mut ops = Ops::new(alloc);
+    let token = Token::EndOfFile;
+    let next = rest(alloc, &mut builder, Mode::InFrameset, &token, &mut ops)?;
+    assert_eq!(rt; next, Next::Finished);
+    assert_eq!(rt; ops.as_slice().len(), 0);
     Ok(())
 }
