@@ -2,22 +2,35 @@
 use Rattle.std.specs.Prelude.{◌≡◌, ℕ, Bool, true, false, ◌&&◌, ◌||◌, List, []}
 use Rattle.html_types.specs.declared.open.Open.{Open}
 use Rattle.html_types.specs.declared.instruction.Mode.{Mode}
-use Rattle.html_types.specs.declared.instruction.Mode.TheVariants.{InBody, InCell, InText}
+use Rattle.html_types.specs.declared.instruction.Mode.TheVariants.{InBody, InText, InCaption, InCell, InSelect, InSelectInTable, InTemplate}
 use Rattle.standard.specs.Foreign.{is_foreign}
 use Rattle.standard.specs.Formatting.{lost, kept}
 use Rattle.standard.specs.Instructions.{all_space}
 
--- the modes whose characters go by the rules of "in body", and "text", whose characters are inserted
+-- the modes whose characters go by the rules of "in body", and those whose characters are only inserted
 abbrev pub takes_characters : Mode → Bool
 takes_characters InBody = true
-takes_characters InCell = true
 takes_characters InText = true
+takes_characters InCaption = true
+takes_characters InCell = true
+takes_characters InSelect = true
+takes_characters InSelectInTable = true
+takes_characters InTemplate = true
 takes_characters _ = false
 
--- the mode in which a character doesn't matter to a frameset
+-- the modes in which a character doesn't matter to a frameset
 abbrev pub keeps_ok : Mode → Bool
 keeps_ok InText = true
+keeps_ok InSelect = true
+keeps_ok InSelectInTable = true
 keeps_ok _ = false
+
+-- the modes in which a character reopens the formatting elements that were lost
+abbrev pub reopens : Mode → Bool
+reopens InText = false
+reopens InSelect = false
+reopens InSelectInTable = false
+reopens _ = true
 
 -- A character is inserted: it goes by the mode, reopens no formatting element, isn't left out and isn't foster parented.
 pub record TakesText (b : Open) : Type 0 where
@@ -25,8 +38,8 @@ pub record TakesText (b : Open) : Type 0 where
   pub skip : b.skip_line_feed ≡ false
   pub foster : b.foster ≡ false
   pub in_html : is_foreign b ≡ false
-  pub none_lost : lost b.stack b.formats ≡ []
-  pub all_kept : kept b.stack b.formats ≡ b.formats
+  pub none_lost : reopens b.mode ≡ true → lost b.stack b.formats ≡ []
+  pub all_kept : reopens b.mode ≡ true → kept b.stack b.formats ≡ b.formats
 
 -- the open state behind such a text
 abbrev pub behind_text : List ℕ → Open → Open

@@ -61,7 +61,7 @@ pub fn insert_body_character(
     Ok(Flow::On)
 }
 
-/// Inserts characters where there is nothing to reopen: by the rules of "in body", or of "text" in that mode.
+/// Inserts characters where there is nothing to reopen: by the rules of "in body", or as those of "text" and of "in select" do.
 pub fn insert_body_text(
     alloc: Global,
     state: &mut Open,
@@ -97,7 +97,7 @@ pub fn insert_body_one(
 fn keeps_ok(mode: Mode) -> bool
     ensures { result ≡ mode_keeps_ok mode }
 {
-    matches!(&mode, Mode::InText)
+    matches!(&mode, Mode::InText | Mode::InSelect | Mode::InSelectInTable)
 }
 
 /// Whether a frameset may still replace the body behind a text.

@@ -1,15 +1,16 @@
 //! The builder of a tree: the open state with at most 512 open elements.
 
-ghost use Rattle.std.specs.Prelude.{◌≡◌, ◌≤◌, ◌↔◌, ◌++◌, ◌∷◌, [], List, length, IsTrue, IsFalse, IfOk, false};
+ghost use Rattle.std.specs.Prelude.{◌≡◌, ◌≤◌, ◌↔◌, ◌++◌, ◌∷◌, [], List, length, IsTrue, IsFalse, IfOk, true, false};
 ghost use Rattle.std.specs.Str.{chars};
 ghost use Rattle.standard.specs.Instructions.{config, on, here, reconstruct, run, texts, body_character};
 ghost use Rattle.standard.specs.Foreign as foreign;
+ghost use Rattle.standard.specs.Formatting.{lost, kept};
 ghost use Rattle.standard.specs.Adoption.{adopted, adopt};
 ghost use Rattle.html_types.specs.declared.operation.Op.{Op};
 ghost use Rattle.standard.specs.Rules.{answer, answer_of, rules_for};
 ghost use Rattle.standard.specs.Parser.{opening};
 ghost use Rattle.builder_state.specs.Push.{opened};
-ghost use Rattle.builder_state.specs.Texts.{takes_characters as mode_takes_characters, TakesText, behind_text};
+ghost use Rattle.builder_state.specs.Texts.{takes_characters as mode_takes_characters, reopens as mode_reopens, TakesText, behind_text};
 
 use crate::at_once::{answer_row, asked};
 use crate::closing::close_latest;
@@ -136,10 +137,11 @@ impl Builder {
             && !self.state.skip_line_feed
             && !self.state.foster
             && !self.is_foreign()
-            && none_lost(&self.state.formats, &self.state.stack)
+            && reopens_none(&self.state)
     }
 
-    /// Inserts a text's characters where there is nothing to reopen: by the rules of "in body" (13.2.6.4.7), or of "text" in that mode.
+    /// Inserts a text's characters where there is nothing to reopen: by the rules of "in body" (13.2.6.4.7), or as those of "text" and of "in
+    /// select" do (13.2.6.4.8, 13.2.6.4.16).
     pub fn insert_body_text(
         &mut self,
         alloc: Global,
@@ -330,7 +332,31 @@ fn first_state(alloc: Global, realm: u64) -> Open
 fn takes_characters(mode: Mode) -> bool
     ensures { result ≡ mode_takes_characters mode }
 {
-    matches!(&mode, Mode::InBody | Mode::InCell | Mode::InText)
+    matches!(
+        &mode,
+        Mode::InBody
+            | Mode::InText
+            | Mode::InCaption
+            | Mode::InCell
+            | Mode::InSelect
+            | Mode::InSelectInTable
+            | Mode::InTemplate
+    )
+}
+
+/// Whether a character reopens the formatting elements that were lost, in the mode.
+fn reopens(mode: Mode) -> bool
+    ensures { result ≡ mode_reopens mode }
+{
+    !matches!(&mode, Mode::InText | Mode::InSelect | Mode::InSelectInTable)
+}
+
+/// Whether no character reopens a formatting element.
+fn reopens_none(state: &Open) -> bool
+    ensures lost { IsTrue result → mode_reopens state.now.mode ≡ true → lost state.now.stack state.now.formats ≡ [] }
+    ensures kept { IsTrue result → mode_reopens state.now.mode ≡ true → kept state.now.stack state.now.formats ≡ state.now.formats }
+{
+    !reopens(state.mode) || none_lost(&state.formats, &state.stack)
 }
 
 /// Whether the element pointers are the same.

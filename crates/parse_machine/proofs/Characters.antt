@@ -11,7 +11,7 @@ use Rattle.html_types.specs.declared.instruction.Flow.TheVariants.{On, Skip, Lea
 use Rattle.html_types.specs.declared.instruction.Instr.{Instr}
 use Rattle.html_types.specs.declared.instruction.Instr.TheVariants.{Reconstruct, InsertText, NotOk}
 use Rattle.html_types.specs.declared.instruction.Mode.{Mode}
-use Rattle.html_types.specs.declared.instruction.Mode.TheVariants.{InBody, InCell, InText}
+use Rattle.html_types.specs.declared.instruction.Mode.TheVariants.{InBody, InText, InCaption, InCell, InSelect, InSelectInTable, InTemplate}
 use Rattle.html_types.specs.declared.instruction.Next.TheVariants as next
 use Rattle.standard.specs.WhiteSpace.{is_space}
 use Rattle.standard.specs.Formatting.{lost, kept}
@@ -105,23 +105,57 @@ character_in_body c b o x h e =
     let q : Config = reconstruct b o in
     e ∙ sym (one_round 8191 InBody (Character c) b r.open_state o r.ops r.flow (row-runs c b o h) (text-ends c q.open_state q.ops q.flow (rebuilt-ends b o)))
 
--- the same where the mode is "in cell", whose rules take a character to those of "in body"
+-- the same in the modes whose rules take a character to those of "in body"
+
+second_round : (c : ℕ) (b : Open) (o : List Op) → (c == 0) ≡ false → process 8191 InBody (Character c) b o ≡ answer_of (body_character c b o)
+second_round c b o h =
+    let r : Config = body_character c b o in
+    let q : Config = reconstruct b o in
+    one_round 8190 InBody (Character c) b r.open_state o r.ops r.flow (row-runs c b o h) (text-ends c q.open_state q.ops q.flow (rebuilt-ends b o))
+
+in_caption : (n : ℕ) (c : ℕ) (b : Open) (o : List Op) → process (suc (suc n)) InCaption (Character c) b o ≡ process (suc n) InBody (Character c) b o
+unfolding process by_mode run row
+in_caption n c b o = refl
 
 in_cell : (n : ℕ) (c : ℕ) (b : Open) (o : List Op) → process (suc (suc n)) InCell (Character c) b o ≡ process (suc n) InBody (Character c) b o
 unfolding process by_mode run row
 in_cell n c b o = refl
 
+in_template : (n : ℕ) (c : ℕ) (b : Open) (o : List Op) → process (suc (suc n)) InTemplate (Character c) b o ≡ process (suc n) InBody (Character c) b o
+unfolding process by_mode run row
+in_template n c b o = refl
+
+pub body_in_caption : (c : ℕ) (b : Open) (o : List Op) → (c == 0) ≡ false → process rounds InCaption (Character c) b o ≡ answer_of (body_character c b o)
+body_in_caption c b o h = in_caption 8190 c b o ∙ second_round c b o h
+
 pub body_in_cell : (c : ℕ) (b : Open) (o : List Op) → (c == 0) ≡ false → process rounds InCell (Character c) b o ≡ answer_of (body_character c b o)
-body_in_cell c b o h =
-    let r : Config = body_character c b o in
-    let q : Config = reconstruct b o in
-    in_cell 8190 c b o ∙ one_round 8190 InBody (Character c) b r.open_state o r.ops r.flow (row-runs c b o h) (text-ends c q.open_state q.ops q.flow (rebuilt-ends b o))
+body_in_cell c b o h = in_cell 8190 c b o ∙ second_round c b o h
 
--- and where it is "text", which only inserts it
+pub body_in_template : (c : ℕ) (b : Open) (o : List Op) → (c == 0) ≡ false → process rounds InTemplate (Character c) b o ≡ answer_of (body_character c b o)
+body_in_template c b o h = in_template 8190 c b o ∙ second_round c b o h
 
-text_round : (n : ℕ) (c : ℕ) (b : Open) (o : List Op) → process (suc n) InText (Character c) b o ≡ answer b (o ++ op.Text (here b) (c ∷ []) ∷ []) next.Done
+-- and in those that only insert it
+
+abbrev inserted : ℕ → Open → List Op → Answer
+inserted c b o = answer b (o ++ op.Text (here b) (c ∷ []) ∷ []) next.Done
+
+text_round : (n : ℕ) (c : ℕ) (b : Open) (o : List Op) → process (suc n) InText (Character c) b o ≡ inserted c b o
 unfolding process by_mode run row
 text_round n c b o = refl
 
+select_round : (n : ℕ) (c : ℕ) (b : Open) (o : List Op) → (c == 0) ≡ false → process (suc n) InSelect (Character c) b o ≡ inserted c b o
+unfolding process by_mode run row
+select_round n c b o h = rw h refl
+
+table_round : (n : ℕ) (c : ℕ) (b : Open) (o : List Op) → process (suc (suc n)) InSelectInTable (Character c) b o ≡ process (suc n) InSelect (Character c) b o
+unfolding process by_mode run row
+table_round n c b o = refl
+
 pub in_text_mode : (c : ℕ) (b : Open) (o : List Op) → process rounds InText (Character c) b o ≡ answer b (o ++ op.Text (here b) (c ∷ []) ∷ []) next.Done
 in_text_mode c b o = text_round 8191 c b o
+
+pub in_select_mode : (c : ℕ) (b : Open) (o : List Op) → (c == 0) ≡ false → process rounds InSelect (Character c) b o ≡ answer b (o ++ op.Text (here b) (c ∷ []) ∷ []) next.Done
+in_select_mode c b o h = select_round 8191 c b o h
+
+pub in_select_in_table_mode : (c : ℕ) (b : Open) (o : List Op) → (c == 0) ≡ false → process rounds InSelectInTable (Character c) b o ≡ answer b (o ++ op.Text (here b) (c ∷ []) ∷ []) next.Done
+in_select_in_table_mode c b o h = table_round 8190 c b o ∙ select_round 8190 c b o h
