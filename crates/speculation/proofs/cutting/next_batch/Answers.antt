@@ -13,7 +13,7 @@ returns-clause-batch c =
     has-run c.args.table.now c.args.machine.now c.as_str.result.now c.args.text.now c.run.new.self c.in_ok-ops.ops c.run.new.ops c.in_ok-ran.ran c.as_str.utf8 c.as_str.ensures
     c.in_ok-ops.ensures c.in_ok-ran.ensures.parsed c.in_ok-ran.ensures.boundary in
     is-first c.args.table.now c.args.machine.now c.args.text.now c.of-start.result.value c.in_ok-used.used c.run.new.ops c.in_ok-after.after c.in_ok-ran.ran.stop
-    c.of-start.ensures (c.in_ok-used.ensures.front ∙ h.front) h.operations (c.in_ok-after.ensures ∙ h.state) h.stop
+    c.of-start.ensures (c.in_ok-used.ensures.front ∙ h.front) h.operations (c.in_ok-after.ensures ∙ (c.share.ensures ∙ h.state)) h.stop
 
 pub returns-clause-rest : goal.returns-clause-rest
 returns-clause-rest c =
