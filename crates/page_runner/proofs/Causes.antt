@@ -19,7 +19,7 @@ use Rattle.page_runner.proofs.PageFaults.{fault_ends, fault_met}
 use Rattle.page_runner.specs.declared.words.MakeWords.{MakeWords}
 use Rattle.page_runner.specs.Making.{page_made, file_among, made_world, MakesTo}
 use Rattle.page_maker.specs.Made.{made_scripts}
-use Rattle.page_maker.specs.declared.page.Script.{Script}
+use Rattle.page_maker.specs.declared.page.MadeScript.{MadeScript}
 use Rattle.html_types.specs.Text.{same_text}
 
 -- ---- which answers have the status
@@ -108,7 +108,7 @@ module _ (asked : PageAsked) (before after' : Seen) where
 -- ---- the made page
 
 -- no name has a file that is faulted
-file-not_faulted : (scripts : List Script) (name : List ℕ) → file_among scripts name ≡ fetched.faulted → ⊥
+file-not_faulted : (scripts : List MadeScript) (name : List ℕ) → file_among scripts name ≡ fetched.faulted → ⊥
 file-not_faulted [] name e = absurd (cc e)
 file-not_faulted (script ∷ scripts) name e = by (same_text script.name name) e (λ f. file-not_faulted scripts name f)
   where

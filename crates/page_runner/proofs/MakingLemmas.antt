@@ -33,7 +33,7 @@ use Rattle.core_steps.specs.Sides.{Shown, ShowsIn, IsReplayed}
 use Rattle.core_steps.specs.declared.tally.Tally.{Tally}
 use Rattle.core_steps.specs.Tallies.{nodes_below, tally_of}
 use Rattle.page_maker.specs.Made.{made_page, named_script, made_scripts}
-use Rattle.page_maker.specs.declared.page.Script.{Script as ScriptFile}
+use Rattle.page_maker.specs.declared.page.MadeScript.{MadeScript as ScriptFile}
 use Rattle.made_laws.proofs.MadePages.{is-in_ascii, is-read_as_made}
 use Rattle.page_turns.specs.declared.outcome.Outcome.TheVariants as told
 use Rattle.page_turns.specs.Given.{Given, unmet, missing as absent, faulted as failed, got as given, file_at, FaultsRose, NoFault}

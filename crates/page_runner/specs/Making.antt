@@ -15,7 +15,7 @@ use Rattle.core_steps.specs.Sides.{Shown, IsReplayed}
 use Rattle.core_steps.specs.Tallies.{nodes_below, tally_of}
 use Rattle.core_steps.specs.declared.tally.Tally.{Tally}
 use Rattle.page_maker.specs.Made.{made_page, made_scripts}
-use Rattle.page_maker.specs.declared.page.Script.{Script}
+use Rattle.page_maker.specs.declared.page.MadeScript.{MadeScript}
 use Rattle.page_turns.specs.Scripts.{path_of, fetched_of}
 use Rattle.page_runner.specs.declared.making.MadeRun.{MadeRun}
 use Rattle.page_runner.specs.declared.making.MadeRun.TheVariants as made
@@ -32,7 +32,7 @@ abbrev pub page_made : MakeWords → Page
 page_made asked = record { text = made_page asked.number asked.count; ending = End }
 
 -- the file of the script of that name; its text is ASCII, so its characters are its bytes
-abbrev pub file_among : List Script → List ℕ → Fetched
+abbrev pub file_among : List MadeScript → List ℕ → Fetched
 file_among [] name = missing
 file_among (script ∷ scripts) name = if same_text script.name name then got script.text else file_among scripts name
 
