@@ -4,11 +4,14 @@ ghost use Rattle.std.specs.Prelude.{◌≡◌, false, IfOk, Some, codes, unwrap_
 ghost use Rattle.std.specs.Str.{chars};
 ghost use Rattle.standard.specs.Tree.{attribute};
 ghost use Rattle.standard.specs.Foreign as definition;
+ghost use Rattle.standard.specs.Rules.{rules_for as rules_of};
+ghost use Rattle.builder_state.specs.Texts.{text_rules as rules_of_text};
 
 use crate::inputs::{is_spelled, value_of};
 use foreign_tables::{math_attribute, svg_attribute, svg_name};
 use html_types::{
-    Attribute, Attributes, Name, NoMemory, NodeId, Open, OpenElement, Space, Tag, Text, Token, Word,
+    Attribute, Attributes, Mode, Name, NoMemory, NodeId, Open, OpenElement, Space, Tag, Text,
+    Token, Word,
 };
 use std::alloc::Global;
 use tag_sets::{is_annotation_text, is_math_text, is_svg_point, is_the};
@@ -120,6 +123,24 @@ pub fn goes_foreign(state: &Open, token: &Token) -> bool
         None => false,
         Some(element) => !goes_by_mode(element, token),
     }
+}
+
+/// The rules that a token goes by (13.2.6): those of the insertion mode, or those for foreign content.
+pub fn rules_for(state: &Open, token: &Token) -> Mode
+    ensures { result ≡ rules_of token.now state.now }
+{
+    if goes_foreign(state, token) {
+        Mode::InForeign
+    } else {
+        state.mode
+    }
+}
+
+/// The rules that characters go by, each by the same.
+pub fn text_rules(state: &Open) -> Mode
+    ensures { result ≡ rules_of_text state.now }
+{
+    rules_for(state, &Token::Character('\0'))
 }
 
 /// Whether the adjusted current node (13.2.4.2) is an element of MathML or SVG.

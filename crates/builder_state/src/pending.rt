@@ -3,8 +3,9 @@
 ghost use Rattle.std.specs.Prelude.{◌≡◌, ◌≤◌, ◌++◌, ◌∷◌, [], ◌&&◌, ◌||◌, length, IfOk};
 ghost use Rattle.std.specs.Str.{chars};
 ghost use Rattle.standard.specs.Instructions.{config, on, append_pending, all_space, texts, here, body_character, body_characters, insert_pending};
-ghost use Rattle.builder_state.specs.Texts.{keeps_ok as mode_keeps_ok, behind_text};
+ghost use Rattle.builder_state.specs.Texts.{keeps_ok as mode_keeps_ok, text_rules as rules_of_text, behind_text};
 
+use crate::foreign::text_rules;
 use crate::insert::{place_now, reopen_lost};
 use crate::space::is_space;
 use html_types::{Flow, Mode, NoMemory, Open, Ops, Place, Text, Token};
@@ -61,7 +62,8 @@ pub fn insert_body_character(
     Ok(Flow::On)
 }
 
-/// Inserts characters where there is nothing to reopen: by the rules of "in body", or as those of "text" and of "in select" do.
+/// Inserts characters where there is nothing to reopen: by the rules of "in body", or as those of "text", of "in select" and for foreign
+/// content do.
 pub fn insert_body_text(
     alloc: Global,
     state: &mut Open,
@@ -73,7 +75,7 @@ pub fn insert_body_text(
     ensures stack { state.new.stack ≡ state.old.stack }
 {
     ops.push_text(alloc, place_now(state), text)?;
-    state.frameset_ok = stays_ok(state.mode, state.frameset_ok, text);
+    state.frameset_ok = stays_ok(state, text);
     Ok(())
 }
 
@@ -89,29 +91,32 @@ pub fn insert_body_one(
     ensures stack { state.new.stack ≡ state.old.stack }
 {
     ops.push_character(alloc, place_now(state), c)?;
-    state.frameset_ok = stays_ok_behind(state.mode, state.frameset_ok, c);
+    state.frameset_ok = stays_ok_behind(state, c);
     Ok(())
 }
 
-/// Whether a character doesn't matter to a frameset in the mode.
-fn keeps_ok(mode: Mode) -> bool
-    ensures { result ≡ mode_keeps_ok mode }
+/// Whether a character doesn't matter to a frameset, by these rules.
+fn keeps_ok(rules: Mode) -> bool
+    ensures { result ≡ mode_keeps_ok rules }
 {
-    matches!(&mode, Mode::InText | Mode::InSelect | Mode::InSelectInTable)
+    matches!(
+        &rules,
+        Mode::InText | Mode::InSelect | Mode::InSelectInTable
+    )
 }
 
 /// Whether a frameset may still replace the body behind a text.
-fn stays_ok(mode: Mode, ok: bool, text: &str) -> bool
-    ensures { result ≡ ((mode_keeps_ok mode || all_space (chars text.now)) && ok) }
+fn stays_ok(state: &Open, text: &str) -> bool
+    ensures { result ≡ ((mode_keeps_ok (rules_of_text state.now) || all_space (chars text.now)) && state.now.frameset_ok) }
 {
-    ok && (keeps_ok(mode) || is_all_space(text))
+    state.frameset_ok && (keeps_ok(text_rules(state)) || is_all_space(text))
 }
 
 /// Whether it may behind a character.
-fn stays_ok_behind(mode: Mode, ok: bool, c: char) -> bool
-    ensures { result ≡ ((mode_keeps_ok mode || all_space (c ∷ [])) && ok) }
+fn stays_ok_behind(state: &Open, c: char) -> bool
+    ensures { result ≡ ((mode_keeps_ok (rules_of_text state.now) || all_space (c ∷ [])) && state.now.frameset_ok) }
 {
-    ok && (keeps_ok(mode) || is_space(c))
+    state.frameset_ok && (keeps_ok(text_rules(state)) || is_space(c))
 }
 
 /// Inserts characters by the rules of "in body", up to one at which an element more than 512 would be open.

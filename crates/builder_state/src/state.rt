@@ -7,14 +7,14 @@ ghost use Rattle.standard.specs.Foreign as foreign;
 ghost use Rattle.standard.specs.Formatting.{lost, kept};
 ghost use Rattle.standard.specs.Adoption.{adopted, adopt};
 ghost use Rattle.html_types.specs.declared.operation.Op.{Op};
-ghost use Rattle.standard.specs.Rules.{answer, answer_of, rules_for};
+ghost use Rattle.standard.specs.Rules.{answer, answer_of, rules_for as rules_of};
 ghost use Rattle.standard.specs.Parser.{opening};
 ghost use Rattle.builder_state.specs.Push.{opened};
 ghost use Rattle.builder_state.specs.Texts.{takes_characters as mode_takes_characters, reopens as mode_reopens, TakesText, behind_text};
 
 use crate::at_once::{answer_row, asked};
 use crate::closing::close_latest;
-use crate::foreign::{goes_foreign, is_foreign};
+use crate::foreign::{is_foreign, rules_for, text_rules};
 use crate::formatting::none_lost;
 use crate::insert::{LIMIT, place_now, reopen_lost};
 use crate::machine::run_row;
@@ -133,15 +133,15 @@ impl Builder {
     pub fn takes_text(&self) -> bool
         ensures { IsTrue result → TakesText self.now }
     {
-        takes_characters(self.state.mode)
+        let rules = text_rules(&self.state);
+        takes_characters(rules)
             && !self.state.skip_line_feed
             && !self.state.foster
-            && !self.is_foreign()
-            && reopens_none(&self.state)
+            && reopens_none(rules, &self.state)
     }
 
-    /// Inserts a text's characters where there is nothing to reopen: by the rules of "in body" (13.2.6.4.7), or as those of "text" and of "in
-    /// select" do (13.2.6.4.8, 13.2.6.4.16).
+    /// Inserts a text's characters where there is nothing to reopen: by the rules of "in body" (13.2.6.4.7), or as those of "text", of "in
+    /// select" and for foreign content do (13.2.6.4.8, 13.2.6.4.16, 13.2.6.5).
     pub fn insert_body_text(
         &mut self,
         alloc: Global,
@@ -205,13 +205,9 @@ impl Builder {
 
     /// The rules that a token goes by (13.2.6): those of the insertion mode, or those for foreign content.
     pub fn rules_for(&self, token: &Token) -> Mode
-        ensures { result ≡ rules_for token.now self.now }
+        ensures { result ≡ rules_of token.now self.now }
     {
-        if goes_foreign(&self.state, token) {
-            Mode::InForeign
-        } else {
-            self.state.mode
-        }
+        rules_for(&self.state, token)
     }
 
     /// Whether the adjusted current node (13.2.4.2) is an element of MathML or SVG.
@@ -328,12 +324,12 @@ fn first_state(alloc: Global, realm: u64) -> Open
     }
 }
 
-/// Whether the mode's characters go by the rules of "in body", or are inserted in any case.
-fn takes_characters(mode: Mode) -> bool
-    ensures { result ≡ mode_takes_characters mode }
+/// Whether the rules send characters to those of "in body", or insert them in any case.
+fn takes_characters(rules: Mode) -> bool
+    ensures { result ≡ mode_takes_characters rules }
 {
     matches!(
-        &mode,
+        &rules,
         Mode::InBody
             | Mode::InText
             | Mode::InCaption
@@ -341,22 +337,26 @@ fn takes_characters(mode: Mode) -> bool
             | Mode::InSelect
             | Mode::InSelectInTable
             | Mode::InTemplate
+            | Mode::InForeign
     )
 }
 
-/// Whether a character reopens the formatting elements that were lost, in the mode.
-fn reopens(mode: Mode) -> bool
-    ensures { result ≡ mode_reopens mode }
+/// Whether a character reopens the formatting elements that were lost, by these rules.
+fn reopens(rules: Mode) -> bool
+    ensures { result ≡ mode_reopens rules }
 {
-    !matches!(&mode, Mode::InText | Mode::InSelect | Mode::InSelectInTable)
+    !matches!(
+        &rules,
+        Mode::InText | Mode::InSelect | Mode::InSelectInTable | Mode::InForeign
+    )
 }
 
-/// Whether no character reopens a formatting element.
-fn reopens_none(state: &Open) -> bool
-    ensures lost { IsTrue result → mode_reopens state.now.mode ≡ true → lost state.now.stack state.now.formats ≡ [] }
-    ensures kept { IsTrue result → mode_reopens state.now.mode ≡ true → kept state.now.stack state.now.formats ≡ state.now.formats }
+/// Whether no character reopens a formatting element, by these rules.
+fn reopens_none(rules: Mode, state: &Open) -> bool
+    ensures lost { IsTrue result → mode_reopens rules ≡ true → lost state.now.stack state.now.formats ≡ [] }
+    ensures kept { IsTrue result → mode_reopens rules ≡ true → kept state.now.stack state.now.formats ≡ state.now.formats }
 {
-    !reopens(state.mode) || none_lost(&state.formats, &state.stack)
+    !reopens(rules) || none_lost(&state.formats, &state.stack)
 }
 
 /// Whether the element pointers are the same.

@@ -1,5 +1,5 @@
 -- A character by the rules of "in body": what its row comes to.
-use Rattle.std.proofs.Common.{◌≡◌, ◌==◌, ℕ, Bool, true, false, List, [], ◌∷◌, ◌++◌, reverse, refl, sym, ap, ◌∙◌, suc}
+use Rattle.std.proofs.Common.{◌≡◌, ◌==◌, ◌&&◌, ℕ, Bool, true, false, List, [], ◌∷◌, ◌++◌, reverse, refl, sym, ap, ◌∙◌, suc}
 use Rattle.std.specs.Prelude.{if◌then◌else◌}
 use Rattle.html_types.specs.declared.token.Tag.{Tag}
 use Rattle.html_types.specs.declared.token.Token.{Token}
@@ -11,7 +11,7 @@ use Rattle.html_types.specs.declared.instruction.Flow.TheVariants.{On, Skip, Lea
 use Rattle.html_types.specs.declared.instruction.Instr.{Instr}
 use Rattle.html_types.specs.declared.instruction.Instr.TheVariants.{Reconstruct, InsertText, NotOk}
 use Rattle.html_types.specs.declared.instruction.Mode.{Mode}
-use Rattle.html_types.specs.declared.instruction.Mode.TheVariants.{InBody, InText, InCaption, InCell, InSelect, InSelectInTable, InTemplate}
+use Rattle.html_types.specs.declared.instruction.Mode.TheVariants.{InBody, InText, InCaption, InCell, InSelect, InSelectInTable, InTemplate, InForeign}
 use Rattle.html_types.specs.declared.instruction.Next.TheVariants as next
 use Rattle.standard.specs.WhiteSpace.{is_space}
 use Rattle.standard.specs.Formatting.{lost, kept}
@@ -159,3 +159,15 @@ in_select_mode c b o h = select_round 8191 c b o h
 
 pub in_select_in_table_mode : (c : ℕ) (b : Open) (o : List Op) → (c == 0) ≡ false → process rounds InSelectInTable (Character c) b o ≡ answer b (o ++ op.Text (here b) (c ∷ []) ∷ []) next.Done
 in_select_in_table_mode c b o h = table_round 8190 c b o ∙ select_round 8190 c b o h
+
+-- and by the rules for foreign content
+
+foreign_round : (n : ℕ) (c : ℕ) (b : Open) (o : List Op) (space : Bool) → (c == 0) ≡ false → is_space c ≡ space
+    → process (suc n) InForeign (Character c) b o ≡ answer (record b { frameset_ok = space && b.frameset_ok }) (o ++ op.Text (here b) (c ∷ []) ∷ []) next.Done
+unfolding process by_mode run row
+foreign_round n c b o true h e = rw h (rw e refl)
+foreign_round n c b o false h e = rw h (rw e refl)
+
+pub in_foreign_content : (c : ℕ) (b : Open) (o : List Op) → (c == 0) ≡ false
+    → process rounds InForeign (Character c) b o ≡ answer (record b { frameset_ok = is_space c && b.frameset_ok }) (o ++ op.Text (here b) (c ∷ []) ∷ []) next.Done
+in_foreign_content c b o h = foreign_round 8191 c b o (is_space c) h refl

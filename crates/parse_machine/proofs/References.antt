@@ -23,7 +23,7 @@ use Rattle.standard.specs.Tokenizer.{Reached, after_tokens, read, feed}
 use Rattle.standard.specs.Parser.{Parser, parser, Took, took, after_ops, build, built, take_character, Parsed, and_rest, parse}
 use Rattle.standard_laws.specs.Laws.{joined, unless_stopped}
 use Rattle.standard_laws.proofs.Parse.{parse-append}
-use Rattle.builder_state.specs.Texts.{keeps_ok, TakesText, behind_text}
+use Rattle.builder_state.specs.Texts.{text_rules, keeps_ok, TakesText, behind_text}
 use Rattle.tokenizer.specs.Whole.{has_cr, piece}
 use Rattle.tokenizer.specs.Reference.{Refers, IsFirst, RefersBefore, RefersIn, as_read}
 use Rattle.tokenizer.proofs.OpenLemmas.{chars_behind}
@@ -48,7 +48,7 @@ or-second false b e = e
 or-second true b e = cc
 
 none_behind : (b : Open) → b ≡ behind_text [] b
-none_behind b = ap (λ (ok : Bool). record b { frameset_ok = ok }) (nothing_behind (keeps_ok b.mode) b.frameset_ok)
+none_behind b = ap (λ (ok : Bool). record b { frameset_ok = ok }) (nothing_behind (keeps_ok (text_rules b)) b.frameset_ok)
 
 built_characters : (s : TokState) (cr : Bool) (us : List ℕ) (ts : List Token) (b : Open) → TakesText b → list_any (λ c. c == 0) us ≡ false
     → build s cr (map Character us ++ ts) b ≡ after_ops (texts (here b) us) (build s cr ts (behind_text us b))
@@ -61,7 +61,7 @@ built_characters s cr (u ∷ us) ts b h no_nul =
     ∙ sym one
     ∙ ap (after_ops (added u b)) (built_characters s cr us ts (behind u b) (still_takes u b h) (or-second (u == 0) _ no_nul))
     ∙ after_ops-after (added u b) (texts (here b) us) (build s cr ts (behind_text us (behind u b)))
-    ∙ ap (λ (ok : Bool). after_ops (texts (here b) (u ∷ us)) (build s cr ts (record b { frameset_ok = ok }))) (ok-behind (keeps_ok b.mode) (all_space us) (is_space u) b.frameset_ok)
+    ∙ ap (λ (ok : Bool). after_ops (texts (here b) (u ∷ us)) (build s cr ts (record b { frameset_ok = ok }))) (ok-behind (keeps_ok (text_rules b)) (all_space us) (is_space u) b.frameset_ok)
 
 -- the character behind a reference
 taken_behind : (es : Entities) (s : TokState) (b : Open) (us : List ℕ) (c : ℕ) → read es (is_foreign b) s (as_read c) ≡ after_tokens (map Character us) (read es (is_foreign b) data_state (as_read c)) → TakesText b → list_any (λ c. c == 0) us ≡ false
@@ -142,7 +142,7 @@ all_space-append (u ∷ us) vs = ap (λ (v : Bool). is_space u && v) (all_space-
 pub behind_both : (us vs : List ℕ) (b : Open) → behind_text vs (behind_text us b) ≡ behind_text (us ++ vs) b
 behind_both us vs b =
     ap (λ (ok : Bool). record b { frameset_ok = ok })
-    (ok-behind (keeps_ok b.mode) (all_space vs) (all_space us) b.frameset_ok ∙ ap (λ (v : Bool). (keeps_ok b.mode || v) && b.frameset_ok) (sym (all_space-append us vs)))
+    (ok-behind (keeps_ok (text_rules b)) (all_space vs) (all_space us) b.frameset_ok ∙ ap (λ (v : Bool). (keeps_ok (text_rules b) || v) && b.frameset_ok) (sym (all_space-append us vs)))
 
 pub no_nul_both : (us vs : List ℕ) → list_any (λ c. c == 0) us ≡ false → list_any (λ c. c == 0) vs ≡ false → list_any (λ c. c == 0) (us ++ vs) ≡ false
 no_nul_both us vs h k = list_any-append (λ c. c == 0) us vs ∙ or_from _ _ h k
