@@ -27,6 +27,28 @@ pub fn named_row(
 ) -> Result<Transition, NoMemory>
     ensures { IfOk result (Follows (rows.named_row table.now back held class c) out.old out.new) }
 {
+    if !matches!(&class, Class::InputEnd) && table.goes_on(held.as_str(), c) {
+        held.push(c)?;
+        return to(
+            TokState::Reference(ReferenceState::Named(back, held)),
+            out,
+        );
+    }
+    walked_row(alloc, table, back, held, class, c, out)
+}
+
+// The same row, by a walk along the names.
+fn walked_row(
+    alloc: Global,
+    table: &Table,
+    back: ReturnState,
+    mut held: Text,
+    class: Class,
+    c: char,
+    out: &mut Tokens,
+) -> Result<Transition, NoMemory>
+    ensures { IfOk result (Follows (rows.named_row table.now back held class c) out.old out.new) }
+{
     // The state holds the text alone, so that equal states are equal data.
     let mut cursor = Cursor::over(table, held.as_str());
     match class {
