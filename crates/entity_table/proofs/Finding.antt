@@ -69,7 +69,7 @@ none (e ∷ es) text apart =
     let other : bytes_eq e.name text ≡ false = false_from_ne_true (bytes_eq e.name text) (λ t. apart 0 (omega arith) ((bytes_eq-Decides e.name text).0 t)) in
     rw other (none es text (λ k h. apart (suc k) (omega arith)))
 
-named_at : (names : List (List ℕ)) (k : ℕ) → list_all is_name names ≡ true → k < length names → is_name (name_at names k) ≡ true
+pub named_at : (names : List (List ℕ)) (k : ℕ) → list_all is_name names ≡ true → k < length names → is_name (name_at names k) ≡ true
 named_at [] k h lt = absurd (omega arith)
 named_at (n ∷ ns) zero h lt = (and_parts (is_name n) (list_all is_name ns) h).0
 named_at (n ∷ ns) (suc k) h lt = named_at ns k (and_parts (is_name n) (list_all is_name ns) h).1 (omega arith)
@@ -97,7 +97,7 @@ same_name rows es bytes k e names lt is =
     let name : is_name bytes ≡ true = subst (λ (n : List ℕ). is_name n ≡ true) is (named_at (row_names rows) k names.named (omega arith)) in
     ap (λ (ns : List (List ℕ)). name_at ns k) (ap names_of (sym e) ∙ names_of-rows rows) ∙ is ∙ sym (chars-IsAscii bytes (name_ascii bytes name))
 
-length-rows : (rows : List Row) (es : Entities) → rows_in rows ≡ es → length rows ≡ length es
+pub length-rows : (rows : List Row) (es : Entities) → rows_in rows ≡ es → length rows ≡ length es
 length-rows rows es e = sym (length-map rows entity_in) ∙ ap length e
 
 pub found_row : (rows : List Row) (es : Entities) (bytes : List ℕ) (k : ℕ) (r : Row) (m : Match) → rows_in rows ≡ es → AreNames (row_names rows) → k < length rows → name_at (row_names rows) k ≡ bytes → r ≡ get_or rows k r → IsMatch (entity_in r) m

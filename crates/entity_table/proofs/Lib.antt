@@ -1,5 +1,6 @@
 pub mod Reading
 pub mod Fronts
+pub mod Going
 pub mod Longest
 pub mod Narrowing
 pub mod Pushing

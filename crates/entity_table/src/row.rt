@@ -1,7 +1,7 @@
 //! One named character reference.
 
-ghost use Rattle.std.specs.Prelude.{◌≡◌, drop, string_bytes};
-ghost use Rattle.standard.specs.Entities.{ends_in_semicolon as ends_in};
+ghost use Rattle.std.specs.Prelude.{◌≡◌, ◌++◌, [], ◌∷◌, true, drop, string_bytes, IsTrue};
+ghost use Rattle.standard.specs.Entities.{ends_in_semicolon as ends_in, is_front};
 ghost use Rattle.entity_table.specs.Matches.{IsMatch};
 ghost use Rattle.entity_table.specs.Parts.{is_below, is_up_to};
 ghost use Rattle.entity_table.specs.View.{entity_in};
@@ -64,4 +64,14 @@ pub(crate) fn goes_up_to(row: &Row, depth: usize, c: char) -> bool
         Some(next) => char::from(*next) <= c,
         None => true,
     }
+}
+
+/// Whether the name begins with a text and goes on behind it with `c`.
+pub(crate) fn goes_on(row: &Row, text: &str, c: char) -> bool
+    ensures { IsTrue result → is_front (text.now ++ c ∷ []) (string_bytes row.now.name) ≡ true }
+{
+    let depth = text.len();
+    row.name.as_bytes().starts_with(text.as_bytes())
+        && !goes_below(row, depth, c)
+        && goes_up_to(row, depth, c)
 }

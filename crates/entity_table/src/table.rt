@@ -1,6 +1,6 @@
 //! The table of all named character references.
 
-ghost use Rattle.std.specs.Prelude.{◌≡◌, ℕ, List, [], ◌∷◌, ◌++◌, true, false, Some, None, IfOk, IfErr, IfSome};
+ghost use Rattle.std.specs.Prelude.{◌≡◌, ℕ, List, [], ◌∷◌, ◌++◌, true, false, Some, None, IfOk, IfErr, IfSome, IsTrue};
 ghost use Rattle.std.specs.Str.{chars};
 ghost use Rattle.standard.specs.Entities.{begins_some, entities_of, is_name, longest};
 ghost use Rattle.entity_table.specs.Matches.{Tells};
@@ -10,7 +10,7 @@ ghost use Rattle.entity_table.specs.View.{rows_in};
 
 use crate::guess::Guesses;
 use crate::read;
-use crate::row::{Match, Row, as_match};
+use crate::row::{Match, Row, as_match, goes_on};
 use crate::search::place_of;
 use html_types::NoMemory;
 use std::alloc::{AllocError, AllocFailed, Global};
@@ -107,6 +107,17 @@ impl Table {
         match place_of(rows, self.names.guesses.row_of(name), name) {
             Some(place) => Some(as_match(&rows[place])),
             None => None,
+        }
+    }
+
+    /// Whether some name begins with a text and a character behind it. Where the answer is no, some name may begin so all the same, and a cursor tells.
+    pub fn goes_on(&self, text: &str, c: char) -> bool
+        ensures { IsTrue result → IsTrue (begins_some (chars text.now ++ c ∷ []) self.now) }
+    {
+        let rows = self.rows();
+        match rows.get(self.names.guesses.row_of_front(text, c)) {
+            Some(row) => goes_on(row, text, c),
+            None => false,
         }
     }
 

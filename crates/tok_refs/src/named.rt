@@ -1,9 +1,9 @@
 //! Named references: the longest name, and what stands in its place.
 
-ghost use Rattle.std.specs.Prelude.{◌≡◌, ◌++◌, drop, Option, IfOk};
+ghost use Rattle.std.specs.Prelude.{◌≡◌, ◌++◌, ◌&&◌, not, drop, Option, IfOk};
 ghost use Rattle.std.specs.Str.{chars};
 ghost use Rattle.char_class.specs.Steps.{Follows};
-ghost use Rattle.standard.specs.Entities.{Entity};
+ghost use Rattle.standard.specs.Entities.{Entity, ends_in_semicolon};
 ghost use Rattle.standard.specs.ReferenceStates as rows;
 ghost use Rattle.entity_table.specs.Matches.{IsMatch, Tells};
 ghost use Rattle.entity_table.specs.View.{characters_in};
@@ -17,6 +17,28 @@ use std::alloc::Global;
 
 /// 13.2.5.73 Named character reference state
 pub fn named_row(
+    alloc: Global,
+    table: &Table,
+    back: ReturnState,
+    mut held: Text,
+    class: Class,
+    c: char,
+    out: &mut Tokens,
+) -> Result<Transition, NoMemory>
+    ensures { IfOk result (Follows (rows.named_row table.now back held class c) out.old out.new) }
+{
+    if !matches!(&class, Class::InputEnd) && table.goes_on(held.as_str(), c) {
+        held.push(c)?;
+        return to(
+            TokState::Reference(ReferenceState::Named(back, held)),
+            out,
+        );
+    }
+    walked_row(alloc, table, back, held, class, c, out)
+}
+
+// The same row, by a walk along the names.
+fn walked_row(
     alloc: Global,
     table: &Table,
     back: ReturnState,
@@ -72,7 +94,7 @@ fn end_of_match(
         → IfOk result (Follows (rows.named_step back held.now (Option.Some e) class) out.old out.new) }
 {
     let rest = skip(held.as_str(), found.length);
-    if is_in_attribute(&back) && !found.ends_in_semicolon && goes_on(class_behind(rest, class)) {
+    if is_in_attribute(&back) && is_kept(found, rest, class) {
         literally(back, held.as_str(), out)
     } else {
         let text = replace(alloc, found.characters, rest)?;
@@ -105,6 +127,15 @@ fn is_in_attribute(back: &ReturnState) -> bool
     }
 }
 
+/// Whether a name stays as it was written in an attribute's value: it has no `;`, and what is behind it, in the rest of what was held or else the character of a
+/// class, is a `=`, a letter or a digit, for historical reasons.
+pub fn is_kept(found: Match, rest: &str, class: Class) -> bool
+    ensures { (e : Entity) → IsMatch e found
+        → result ≡ (not (ends_in_semicolon e.name) && rows.goes_on (rows.class_behind (chars rest.now) class)) }
+{
+    !found.ends_in_semicolon && goes_on(class_behind(rest, class))
+}
+
 // The class of the character next behind a name: of the rest of what was held, or else of the one at hand.
 fn class_behind(rest: &str, class: Class) -> Class
     ensures { result ≡ rows.class_behind (chars rest.now) class }
@@ -115,8 +146,7 @@ fn class_behind(rest: &str, class: Class) -> Class
     }
 }
 
-// Whether this is a `=`, a letter or a digit: for historical reasons a name without `;` before it is no reference in an
-// attribute.
+// Whether this is a `=`, a letter or a digit.
 fn goes_on(class: Class) -> bool
     ensures { result ≡ rows.goes_on class }
 {

@@ -3,6 +3,7 @@ pub mod WholeLemmas
 pub mod ReferenceLemmas
 pub mod NumberLemmas
 pub mod OpenLemmas
+pub mod ValueLemmas
 pub mod CommentLemmas
 pub mod FirstLemmas
 pub mod PartLemmas

@@ -104,13 +104,17 @@ piece-read text from at behind c u b h k e =
     append_cancel_left (chars (take from text)) (piece text from behind) (piece text from at ++ c ∷ [])
     (sym (front text from behind u b (omega (arith, h, k))) ∙ e ∙ ap (λ (l : List ℕ). l ++ c ∷ []) (front text from at u b h) ∙ append_assoc (chars (take from text)) (piece text from at) (c ∷ []))
 
+-- what a piece begins with stands behind its place
+pub first_behind : (text : List ℕ) (from to c : ℕ) → IsUtf8 text → IsCharBoundary text from → IsCharBoundary text to → from ≤ to → IsFirst c (piece text from to) → IsFirst c (chars (drop from text))
+first_behind text from to c u b k h first =
+    (first.0 ++ chars (drop to text), chars_behind text (piece text from to) from to u b k (front text from to u b h) ∙ ap (λ (l : List ℕ). l ++ chars (drop to text)) first.1)
+
 -- ---- the whole
 
-pub refers_in : (es : Entities) (text us : List ℕ) (from at behind c : ℕ) → IsUtf8 text → IsCharBoundary text at → IsCharBoundary text behind → chars (take behind text) ≡ chars (take at text) ++ c ∷ []
-    → IsHeld es (piece text from at) → begins_some (piece text from at ++ as_read c ∷ []) es ≡ false → us ≡ standing_for (piece text from at) (longest (piece text from at) es) → RefersIn es text from at us
-refers_in es text us from at behind c u b k e h stops is d first =
-    let same : c ≡ d = first_is text at behind c d u b k e first in
-    refers_before es (piece text from at) us (as_read d) h (ap (λ (n : ℕ). begins_some (piece text from at ++ as_read n ∷ []) es) (sym same) ∙ stops) is
+pub refers_in : (es : Entities) (text us : List ℕ) (from at c : ℕ) → IsHeld es (piece text from at) → begins_some (piece text from at ++ as_read c ∷ []) es ≡ false → us ≡ standing_for (piece text from at) (longest (piece text from at) es)
+    → ((d : ℕ) → IsFirst d (chars (drop at text)) → c ≡ d) → RefersIn es text from at us
+refers_in es text us from at c h stops is next d first =
+    refers_before es (piece text from at) us (as_read d) h (ap (λ (n : ℕ). begins_some (piece text from at ++ as_read n ∷ []) es) (sym (next d first)) ∙ stops) is
 
 pub stopped : (some : Bool) (best : Option Match) → (Stop best ≡ More) ↔ IsTrue some → some ≡ false
 stopped false best h = refl

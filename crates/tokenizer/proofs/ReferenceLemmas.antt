@@ -102,7 +102,7 @@ literally_done es foreign (back.AttributeValueQuoted tag value quote.Single) us 
 literally_done es foreign (back.AttributeValueUnquoted tag value) us Ampersand c = refl
 literally_done es foreign (back.AttributeValueUnquoted tag value) us _ c = refl
 
-literally_again : (back : ReturnState) (us : List ℕ) → (literally back us true).again ≡ true
+pub literally_again : (back : ReturnState) (us : List ℕ) → (literally back us true).again ≡ true
 literally_again back.Data us = refl
 literally_again (back.Rcdata last) us = refl
 literally_again (back.AttributeValueQuoted tag value q) us = refl
@@ -131,7 +131,7 @@ read-again es foreign s c r e more done =
     ∙ ap (after_tokens r.tokens) (settle-done es foreign 4 r.state k c (omega arith) done ∙ sym (settle-done es foreign readings r.state k c (omega arith) done))
 
 -- a character that makes first these tokens and then those of another state
-feed-after : (es : Entities) (foreign : Bool) (s t : TokState) (ts : List Token) (c : ℕ) (rest : List ℕ) → read es foreign s c ≡ after_tokens ts (read es foreign t c) → feed es foreign s (c ∷ rest) ≡ after_tokens ts (feed es foreign t (c ∷ rest))
+pub feed-after : (es : Entities) (foreign : Bool) (s t : TokState) (ts : List Token) (c : ℕ) (rest : List ℕ) → read es foreign s c ≡ after_tokens ts (read es foreign t c) → feed es foreign s (c ∷ rest) ≡ after_tokens ts (feed es foreign t (c ∷ rest))
 unfolding feed
 feed-after es foreign s t ts c rest e =
     let n = read es foreign t c in

@@ -327,7 +327,7 @@ feed-before_unquoted es foreign c rest tag n h =
 
 -- a value's characters, some as they are and some by references
 
-value_run : (es : Entities) (foreign : Bool) (o : Option Quote) (cs rest : List ℕ) (tag : PartialTag) (a : Attribute) → all_of (value_part o) cs ≡ true →
+pub value_run : (es : Entities) (foreign : Bool) (o : Option Quote) (cs rest : List ℕ) (tag : PartialTag) (a : Attribute) → all_of (value_part o) cs ≡ true →
     feed es foreign (return_state (value_of o tag a)) (cs ++ rest) ≡ feed es foreign (return_state (value_of o tag (record a { value = a.value ++ cs }))) rest
 value_run es foreign (Some q) cs rest tag a h = feed-value es foreign q cs rest tag a h
 value_run es foreign None cs rest tag a h = feed-unquoted es foreign cs rest tag a h
@@ -340,21 +340,16 @@ reads_before : (es : Entities) (o : Option Quote) (cs value ys : List ℕ) → R
 reads_before es o cs value [] r foreign tag a c rest = r foreign tag a c rest
 reads_before es o cs value (y ∷ ys) r foreign tag a c rest = r foreign tag a y (ys ++ c ∷ rest)
 
-Reads-reference : (es : Entities) (o : Option Quote) (cs us : List ℕ) → Means es cs us → Reads es o cs us
+pub Reads-reference : (es : Entities) (o : Option Quote) (cs us : List ℕ) → Means es cs us → Reads es o cs us
 Reads-reference es (Some q) cs us m foreign tag a c rest = m foreign (back.AttributeValueQuoted tag (Some a) q) c rest
 Reads-reference es None cs us m foreign tag a c rest = m foreign (back.AttributeValueUnquoted tag (Some a)) c rest
 
-pub Reads-more : (es : Entities) (o : Option Quote) (cs value reference us run : List ℕ) → Reads es o cs value → Means es reference us → all_of (value_part o) run ≡ true → Reads es o (cs ++ (reference ++ run)) ((value ++ us) ++ run)
-Reads-more es o cs value reference us run r m h foreign tag a c rest =
-    let b : Attribute = record a { value = a.value ++ value } in
-    let d : Attribute = record a { value = (a.value ++ value) ++ us } in
-    ap (feed es foreign (return_state (value_of o tag a))) (append_assoc cs (reference ++ run) (c ∷ rest))
-    ∙ reads_before es o cs value (reference ++ run) r foreign tag a c rest
-    ∙ ap (feed es foreign (return_state (value_of o tag b))) (append_assoc reference run (c ∷ rest))
-    ∙ reads_before es o reference us run (Reads-reference es o reference us m) foreign tag b c rest
-    ∙ value_run es foreign o run (c ∷ rest) tag d h
-    ∙ ap (λ (v : List ℕ). feed es foreign (return_state (value_of o tag (record a { value = v }))) (c ∷ rest))
-    (append_assoc (a.value ++ value) us run ∙ append_assoc a.value value (us ++ run) ∙ ap (λ (l : List ℕ). a.value ++ l) (sym (append_assoc value us run)))
+pub Reads-append : (es : Entities) (o : Option Quote) (cs value ds more : List ℕ) → Reads es o cs value → Reads es o ds more → Reads es o (cs ++ ds) (value ++ more)
+Reads-append es o cs value ds more r t foreign tag a c rest =
+    ap (feed es foreign (return_state (value_of o tag a))) (append_assoc cs ds (c ∷ rest))
+    ∙ reads_before es o cs value ds r foreign tag a c rest
+    ∙ t foreign tag (record a { value = a.value ++ value }) c rest
+    ∙ ap (λ (v : List ℕ). feed es foreign (return_state (value_of o tag (record a { value = v }))) (c ∷ rest)) (append_assoc a.value value more)
 
 pub Reads-same : {xs ys vs ws : List ℕ} (es : Entities) (o : Option Quote) → xs ≡ ys → vs ≡ ws → Reads es o ys ws → Reads es o xs vs
 Reads-same {xs} {ys} {vs} {ws} es o e f r = subst (λ (l : List ℕ). Reads es o l vs) (sym e) (subst (λ (v : List ℕ). Reads es o ys v) (sym f) r)

@@ -1,17 +1,17 @@
 -- Character references that stand whole in a text.
-use Rattle.std.specs.Prelude.{◌≡◌, ◌==◌, ℕ, Bool, true, false, if◌then◌else◌, List, [], ◌∷◌, ◌++◌, map, length, drop, Option, Some, None}
+use Rattle.std.specs.Prelude.{◌≡◌, ◌==◌, ◌&&◌, not, ℕ, Bool, true, false, if◌then◌else◌, List, [], ◌∷◌, ◌++◌, map, length, drop, Option, Some, None}
 use Rattle.std.specs.Char.{is_digit}
 use Rattle.std.specs.List.{list_any}
 use Rattle.std.specs.Str.{chars}
 use Rattle.html_types.specs.declared.class.Class.{Class}
-use Rattle.html_types.specs.declared.class.Class.TheVariants.{Alpha, Digit, Semicolon}
+use Rattle.html_types.specs.declared.class.Class.TheVariants.{Alpha, Digit, Hash, Semicolon}
 use Rattle.html_types.specs.declared.reference_state.ReferenceState.TheVariants.{Named, Decimal, Hexadecimal}
 use Rattle.html_types.specs.declared.reference_state.ReturnState.{ReturnState}
 use Rattle.html_types.specs.declared.state.TokState.{TokState}
 use Rattle.html_types.specs.declared.token.Token.TheVariants.{Character}
 use Rattle.standard.specs.Class.{class_of}
-use Rattle.standard.specs.Entities.{Entity, Entities}
-use Rattle.standard.specs.ReferenceStates.{return_state, literally}
+use Rattle.standard.specs.Entities.{Entity, Entities, ends_in_semicolon}
+use Rattle.standard.specs.ReferenceStates.{return_state, is_in_attribute, literally, goes_on, class_behind}
 use Rattle.standard.specs.Step.{data_state, in_reference}
 use Rattle.standard.specs.Tokenizer.{after_tokens, read, feed}
 use Rattle.entity_table.specs.View.{characters_in}
@@ -86,6 +86,33 @@ found_characters (Some found) = characters_in found
 -- the characters for which such a reference stands
 abbrev pub open_characters : OpenReference → List ℕ
 open_characters r = found_characters r.characters ++ chars r.rest.now
+
+-- ---- references in an attribute's value, up to a character with which no name goes on
+
+-- nothing is replaced, where that is the longest name in what was held, and this class is behind that
+abbrev pub is_kept : List ℕ → Option Entity → Class → Bool
+is_kept held None k = false
+is_kept held (Some e) k = not (ends_in_semicolon e.name) && goes_on (class_behind (drop (length e.name) held) k)
+
+-- what was held stands for this in a value
+abbrev pub in_value : List ℕ → Option Entity → Class → List ℕ
+in_value held found k = if is_kept held found k then held else standing_for held found
+
+-- the classes of characters before which a `&` begins no reference
+abbrev pub leaves_ampersand : Class → Bool
+leaves_ampersand Alpha = false
+leaves_ampersand Digit = false
+leaves_ampersand Hash = false
+leaves_ampersand _ = true
+
+-- In a value they come to those for which they stand where this character is behind them, and it is read behind the value.
+abbrev pub MeansBefore : Entities → ℕ → List ℕ → List ℕ → Type 0
+MeansBefore es c cs stands_for = (foreign : Bool) (back : ReturnState) (rest : List ℕ) → is_in_attribute back ≡ true →
+    feed es foreign (return_state back) (cs ++ c ∷ rest) ≡ after_tokens (literally back stands_for true).tokens (feed es foreign (literally back stands_for true).state (c ∷ rest))
+
+-- So they do with the character that stands behind a part of a text.
+abbrev pub MeansIn : Entities → List ℕ → ℕ → ℕ → List ℕ → Type 0
+MeansIn es text from end stands_for = (c : ℕ) → IsFirst c (chars (drop end text)) → MeansBefore es c (piece text from end) stands_for
 
 -- ---- numbers, in base 10 or in base 16
 

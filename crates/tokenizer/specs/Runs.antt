@@ -3,7 +3,7 @@ use Rattle.std.specs.Prelude.{◌≡◌, ℕ, Bool, List, [], ◌++◌, Option, 
 use Rattle.html_types.specs.declared.attributes.Attribute.{Attribute}
 use Rattle.standard.specs.Entities.{Entities}
 use Rattle.html_types.specs.declared.state.TokState.{TokState}
-use Rattle.standard.specs.Tokenizer.{Reached, feed}
+use Rattle.standard.specs.Tokenizer.{feed}
 
 -- a held value with more characters; a dropped one stays so
 abbrev pub longer : Option Attribute → List ℕ → Option Attribute

@@ -197,6 +197,10 @@ abbrev pub Reads : Entities → Option Quote → List ℕ → List ℕ → Type 
 Reads es o cs value = (foreign : Bool) (tag : PartialTag) (a : Attribute) (c : ℕ) (rest : List ℕ) →
     feed es foreign (return_state (value_of o tag a)) (cs ++ c ∷ rest) ≡ feed es foreign (return_state (value_of o tag (record a { value = a.value ++ value }))) (c ∷ rest)
 
+-- they go on a value
+abbrev pub ReadsOn : Entities → Option Quote → List ℕ → List ℕ → List ℕ → Type 0
+ReadsOn es o cs old new = (added : List ℕ) × (new ≡ old ++ added) × Reads es o cs added
+
 -- behind an attribute's name, they give it this value, and a part or the end follows
 abbrev pub HasValue : Entities → Behind → List ℕ → List ℕ → Type 0
 HasValue es b cs value = (foreign : Bool) (tag : PartialTag) (name rest : List ℕ) → has_name name tag.attributes ≡ false → begins_part b rest ≡ true →

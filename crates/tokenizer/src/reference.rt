@@ -1,23 +1,23 @@
 //! A character reference that stands whole in a text: a name is looked up once, and a number is read at once.
 
-ghost use Rattle.std.specs.Prelude.{◌≡◌, ◌<◌, ◌≤◌, ◌==◌, ◌||◌, [], ◌∷◌, false, length, Option, IfSome};
+ghost use Rattle.std.specs.Prelude.{◌≡◌, ◌++◌, ◌<◌, ◌≤◌, ◌==◌, ◌||◌, ℕ, [], ◌∷◌, false, drop, length, Option, IfSome};
 ghost use Rattle.std.specs.Char.{is_ascii_alphanumeric};
 ghost use Rattle.std.specs.Str.{chars, IsCharBoundary};
 ghost use Rattle.html_types.specs.declared.token.Token.TheVariants.{Character};
-ghost use Rattle.standard.specs.Entities.{Entity, Entities};
+ghost use Rattle.standard.specs.Entities.{Entity, Entities, begins_some, longest};
 ghost use Rattle.standard.specs.ReferenceStates.{longer_code};
 ghost use Rattle.entity_table.specs.Held.{Holds};
 ghost use Rattle.entity_table.specs.Matches.{Tells};
 ghost use Rattle.entity_table.specs.View.{characters_in};
 ghost use Rattle.tokenizer.specs.Reference as parts;
-ghost use Rattle.tokenizer.specs.Reference.{Refers, Means, IsDigit, OpensNumber, Counts, IsHeld, RefersIn, has_nul, standing_for, open_characters};
+ghost use Rattle.tokenizer.specs.Reference.{Refers, Means, IsDigit, OpensNumber, Counts, IsFirst, IsHeld, MeansIn, RefersIn, has_nul, standing_for, open_characters};
 ghost use Rattle.tokenizer.specs.Whole.{has_cr, piece, MakesAlone};
 
 use crate::place::{ascii_at, lacks_cr, past};
 use char_class::class_of;
 use entity_table::{Characters, Cursor, Match, Step, Table};
 use html_types::{Class, char_at};
-use tok_refs::named::skip;
+use tok_refs::named::{self, skip};
 use tok_refs::numeric::{character_of, with_digit};
 
 /// What a reference stands for, and the place behind it.
@@ -158,6 +158,48 @@ fn as_read(c: char) -> char
     if c == '\r' { '\n' } else { c }
 }
 
+// What is held of a name up to a place, where a character stands with which no name goes on: the longest name in it.
+#[derive(Clone, Copy)]
+struct HeldName {
+    best: Option<Match>,
+    end: usize,
+    next: char,
+}
+
+// The name that begins at a place, where such a character stands behind it in the text; none where it is not read so.
+fn held_name(table: &Table, text: &str, from: usize) -> Option<HeldName>
+    requires { IsCharBoundary text.now from }
+    ensures boundary { IfSome result (λ n. IsCharBoundary text.now n.end) }
+    ensures onward { IfSome result (λ n. from < n.end) }
+    ensures within { IfSome result (λ n. n.end < length text.now) }
+    ensures held { IfSome result (λ n. IsHeld table.now (piece text.now from n.end)) }
+    ensures stops { IfSome result (λ n. begins_some (piece text.now from n.end ++ parts.as_read n.next ∷ []) table.now ≡ false) }
+    ensures longest { IfSome result (λ n. Tells (longest (piece text.now from n.end) table.now) n.best) }
+    ensures next { IfSome result (λ n. (c : ℕ) → IsFirst c (chars (drop n.end text.now)) → n.next ≡ c) }
+{
+    let Some(begun) = walk_begins(table, text, from) else {
+        return None;
+    };
+    let mut cursor = begun.cursor;
+    let mut at = begun.at;
+    while let Some((c, behind)) = char_at(text, at) {
+        match cursor.push(table, as_read(c)) {
+            Step::Stop(best) => {
+                return Some(HeldName {
+                    best,
+                    end: at,
+                    next: c,
+                });
+            }
+            Step::More => if !is_in_name(c) {
+                return None;
+            },
+        }
+        at = behind;
+    }
+    None
+}
+
 /// The named character reference that begins at a place, up to the first character with which no name goes on, where that stands in the text; none at the end of the
 /// text, where the text has none there, or where it is not read so.
 pub fn open_reference<'t>(table: &Table, text: &'t str, from: usize) -> Option<OpenReference<'t>>
@@ -169,21 +211,102 @@ pub fn open_reference<'t>(table: &Table, text: &'t str, from: usize) -> Option<O
     ensures no_cr { IfSome result (λ r. has_cr (piece text.now from r.end) ≡ false) }
     ensures no_nul { IfSome result (λ r. has_nul (chars r.rest.now) ≡ false) }
 {
-    let Some(begun) = walk_begins(table, text, from) else {
+    let Some(name) = held_name(table, text, from) else {
         return None;
     };
-    let mut cursor = begun.cursor;
-    let mut at = begun.at;
-    while let Some((c, behind)) = char_at(text, at) {
-        match cursor.push(table, as_read(c)) {
-            Step::Stop(best) => return Some(resolved(&text[from..at], best, at)),
-            Step::More => if !is_in_name(c) {
-                return None;
-            },
-        }
-        at = behind;
+    Some(resolved(&text[from..name.end], name.best, name.end))
+}
+
+// Whether what is held stays as it was written in an attribute's value, before a character of this class.
+fn is_kept(held: &str, best: Option<Match>, next: Class) -> bool
+    ensures { (found : Option Entity) → Tells found best → result ≡ parts.is_kept (chars held.now) found next }
+{
+    match best {
+        None => false,
+        Some(found) => named::is_kept(found, skip(held, found.length), next),
     }
-    None
+}
+
+// What is held up to a place, where it stays as it was written.
+fn as_written<'t>(held: &'t str, end: usize) -> OpenReference<'t>
+    ensures ends { result.end ≡ end }
+    ensures stands_for { open_characters result ≡ chars held.now }
+{
+    OpenReference {
+        characters: None,
+        rest: held,
+        end,
+    }
+}
+
+// What is held up to a place in an attribute's value, before a character of this class.
+fn resolved_in_value<'t>(
+    held: &'t str,
+    best: Option<Match>,
+    end: usize,
+    next: Class,
+) -> OpenReference<'t>
+    ensures ends { result.end ≡ end }
+    ensures stands_for { (found : Option Entity) → Tells found best → open_characters result ≡ parts.in_value (chars held.now) found next }
+{
+    if is_kept(held, best, next) {
+        as_written(held, end)
+    } else {
+        resolved(held, best, end)
+    }
+}
+
+// Before a character of this class a `&` begins no reference.
+fn leaves_ampersand(class: Class) -> bool
+    ensures { result ≡ parts.leaves_ampersand class }
+{
+    !matches!(class, Class::Alpha | Class::Digit | Class::Hash)
+}
+
+// A `&` at a place that begins no reference, as the character behind it tells.
+fn lone_ampersand<'t>(text: &'t str, from: usize) -> Option<OpenReference<'t>>
+    requires { IsCharBoundary text.now from }
+    ensures boundary { IfSome result (λ r. IsCharBoundary text.now r.end) }
+    ensures onward { IfSome result (λ r. from < r.end) }
+    ensures means { IfSome result (λ r. (es : Entities) → MeansIn es text.now from r.end (open_characters r)) }
+{
+    let Some(end) = past(text, from, '&') else {
+        return None;
+    };
+    let Some((c, _)) = char_at(text, end) else {
+        return None;
+    };
+    if leaves_ampersand(class_of(c)) {
+        Some(as_written(&text[from..end], end))
+    } else {
+        None
+    }
+}
+
+/// What a `&` at a place in an attribute's value comes to with the characters behind it, up to the first with which no name goes on, where that stands in the text; none
+/// at the end of the text, where the text has no `&` there, or where it is not read so.
+pub fn open_reference_in_value<'t>(
+    table: &Table,
+    text: &'t str,
+    from: usize,
+) -> Option<OpenReference<'t>>
+    requires { IsCharBoundary text.now from }
+    ensures boundary { IfSome result (λ r. IsCharBoundary text.now r.end) }
+    ensures onward { IfSome result (λ r. from < r.end) }
+    ensures means { IfSome result (λ r. MeansIn table.now text.now from r.end (open_characters r)) }
+{
+    let Some(name) = held_name(table, text, from) else {
+        return lone_ampersand(text, from);
+    };
+    if name.next == '\r' {
+        return None;
+    }
+    Some(resolved_in_value(
+        &text[from..name.end],
+        name.best,
+        name.end,
+        class_of(name.next),
+    ))
 }
 
 // What stands before the digits of a number: whether it is hexadecimal, and where they begin.

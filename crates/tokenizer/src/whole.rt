@@ -5,14 +5,15 @@ ghost use Rattle.std.specs.Str.{chars, IsCharBoundary};
 ghost use Rattle.entity_table.specs.View.{characters_in};
 ghost use Rattle.standard.specs.Entities.{Entities};
 ghost use Rattle.standard.specs.Step.{finished, tag_token};
-ghost use Rattle.tokenizer.specs.Whole.{all_of, is_gap, begins_name, begins_with, has_cr, quote_mark, close_text, may_close, piece, Opens, Reads, Gives, HasValue, MakesAlone};
+ghost use Rattle.tokenizer.specs.Whole.{all_of, is_gap, begins_name, begins_with, has_cr, quote_mark, close_text, may_close, piece, Opens, Reads, ReadsOn, Gives, HasValue, MakesAlone};
 ghost use Rattle.tokenizer.specs.Whole as parts;
+ghost use Rattle.tokenizer.specs.Reference.{open_characters};
 ghost use Rattle.tokenizer.specs.declared.part.Part.TheVariants as part;
 
 use crate::comment::whole_comment;
 use crate::part::{Part, is_of, rest_of};
 use crate::place::{ascii_at, lacks_cr, past};
-use crate::reference::{reference_at, whole_number};
+use crate::reference::{OpenReference, open_reference_in_value, reference_at, whole_number};
 use char_class::class_of;
 use entity_table::{Characters, Table};
 use html_types::{Attribute, Attributes, Class, Name, NoMemory, Quote, Tag, TagKind, Text, Token};
@@ -208,6 +209,69 @@ fn push_characters(value: &mut Text, characters: Characters) -> Result<(), NoMem
     Ok(())
 }
 
+// Adds the characters for which such a reference stands.
+fn push_open(value: &mut Text, reference: OpenReference<'_>) -> Result<(), NoMemory>
+    ensures { OnOk result (value.new ≡ value.old ++ open_characters reference.entry) }
+{
+    if let Some(characters) = reference.characters {
+        push_characters(value, characters)?;
+    }
+    value.push_str(reference.rest)
+}
+
+// Adds what a `&` in a value, which begins no reference that ends with a `;`, comes to with what stands behind it, and gives the place behind that; none where it is
+// not read so.
+fn push_open_reference(
+    table: &Table,
+    text: &str,
+    from: usize,
+    quoting: Option<Quote>,
+    value: &mut Text,
+) -> Result<Option<usize>, NoMemory>
+    requires { IsCharBoundary text.now from }
+    ensures boundary { IfOk result (λ o. IfSome o (λ end. IsCharBoundary text.now end)) }
+    ensures onward { IfOk result (λ o. IfSome o (λ end. from < end)) }
+    ensures reads { IfOk result (λ o. IfSome o (λ end. ReadsOn table.now quoting (piece text.now from end) value.old value.new)) }
+    ensures none { IfOk result (λ o. o ≡ None → value.new ≡ value.old) }
+{
+    let Some(reference) = open_reference_in_value(table, text, from) else {
+        return Ok(None);
+    };
+    let end = reference.end;
+    let Some(behind) = part_end(text, end, value_part(quoting)) else {
+        return Ok(None);
+    };
+    push_open(value, reference)?;
+    value.push_str(&text[end..behind])?;
+    Ok(Some(behind))
+}
+
+// Adds what the reference at a place in a value comes to and what stands behind it up to the next, and gives that place; none where no reference is read so.
+fn push_reference(
+    table: &Table,
+    text: &str,
+    from: usize,
+    quoting: Option<Quote>,
+    value: &mut Text,
+) -> Result<Option<usize>, NoMemory>
+    requires { IsCharBoundary text.now from }
+    ensures boundary { IfOk result (λ o. IfSome o (λ end. IsCharBoundary text.now end)) }
+    ensures onward { IfOk result (λ o. IfSome o (λ end. from < end)) }
+    ensures reads { IfOk result (λ o. IfSome o (λ end. ReadsOn table.now quoting (piece text.now from end) value.old value.new)) }
+    ensures none { IfOk result (λ o. o ≡ None → value.new ≡ value.old) }
+{
+    if text.as_bytes().get(from) != Some(&b'&') {
+        return Ok(None);
+    }
+    let Some(reference) = reference_at(table, text, from) else {
+        return push_open_reference(table, text, from, quoting, value);
+    };
+    push_characters(value, reference.characters)?;
+    let behind = rest_of(text, reference.end, value_part(quoting));
+    value.push_str(&text[reference.end..behind])?;
+    Ok(Some(behind))
+}
+
 // What stands in a value from a place on, with the references among it.
 fn value_from(
     alloc: Global,
@@ -221,13 +285,9 @@ fn value_from(
     ensures onward { IfOk result (λ h. from ≤ h.end) }
     ensures reads { IfOk result (λ h. Reads table.now quoting (piece text.now from h.end) h.value) }
 {
-    let part = value_part(quoting);
-    let mut end = rest_of(text, from, part);
+    let mut end = rest_of(text, from, value_part(quoting));
     let mut value = Text::from_str(alloc, &text[from..end])?;
-    while let Some(reference) = reference_at(table, text, end) {
-        push_characters(&mut value, reference.characters)?;
-        let behind = rest_of(text, reference.end, part);
-        value.push_str(&text[reference.end..behind])?;
+    while let Some(behind) = push_reference(table, text, end, quoting, &mut value)? {
         end = behind;
     }
     Ok(Held { value, end })

@@ -3,7 +3,7 @@ use Rattle.std.specs.Str.{IsCharBoundary}
 use Rattle.entity_table.specs.Held.{Holds}
 use Rattle.tokenizer.specs.Reference.{IsHeld}
 use Rattle.tokenizer.specs.Whole.{piece}
-use Rattle.tokenizer.proofs.reference.open_reference.Given as goal
+use Rattle.tokenizer.proofs.reference.held_name.Given as goal
 
 -- what was read is held, and the cursor holds it
 abbrev pub invariant-loop-c : goal.invariant-loop-c

@@ -2,7 +2,7 @@ use Rattle.std.proofs.Common.{subst}
 use Rattle.standard.specs.Entities.{longest}
 use Rattle.entity_table.specs.Held.{Holds}
 use Rattle.tok_refs.proofs.NameRow.{step-at_end, step-at_other, none_goes_on, IfOk-row}
-use Rattle.tok_refs.proofs.named.named_row.Goals as goal
+use Rattle.tok_refs.proofs.named.walked_row.Goals as goal
 
 pub returns-in-InputEnd : goal.returns-in-InputEnd
 returns-in-InputEnd c =
