@@ -119,13 +119,6 @@ impl Ledger {
         self.sent
     }
 
-    /// How many of the replies that were taken were dropped.
-    pub fn dropped(&self) -> usize
-        ensures { result ≡ self.now.dropped }
-    {
-        self.dropped
-    }
-
     /// Whether credit is left and a piece is to be sent.
     pub fn can_keep(&self) -> bool
         ensures { result ≡ can_keep self.now }

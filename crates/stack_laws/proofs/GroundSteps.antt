@@ -47,7 +47,7 @@ use Rattle.standard.specs.Formatting.{likes, without_earliest, list_element, cle
 use Rattle.standard.specs.Instructions.{Config, config, on, holds, room, pushed, for_tag, list_current, enlist, original_or, pop_mode, form_closed, form_closed_in_template, end_form, push_head}
 use Rattle.rule_laws.specs.Naming.{AreOpenBound, IsBoundIfAny, AreFresh, Holds}
 use Rattle.rule_laws.specs.Proper.{is_main_mode}
-use Rattle.stack_laws.specs.Grounded.{is_vital, is_guard, is_formatting, is_known, is_special, with_name, core, templates_among, has_no, is_orderly, reaches, is_rooted, is_loose, is_loose_if_any, is_apart, are_apart, are_listed, Firm, has_facts, no_words, stands, main_mode, is_text_mode, is_text_like, has_kept, has_text_top, is_template_mode, GroundOf}
+use Rattle.stack_laws.specs.Grounded.{is_vital, is_guard, is_formatting, is_known, is_special, with_name, core, templates_among, has_no, is_orderly, reaches, is_rooted, is_loose, is_loose_if_any, is_apart, are_apart, are_listed, Firm, has_facts, no_words, stands, main_mode, is_text_mode, is_text_like, has_kept, has_text_at_bottom, is_template_mode, GroundOf}
 use Rattle.rule_laws.specs.Proper.{is_early, is_late}
 use Rattle.stack_laws.proofs.Basics.{split}
 use Rattle.stack_laws.proofs.Basics.{both}
@@ -96,7 +96,7 @@ knowing-sound k a es fs form m m0 ms ok s = record {
 
 -- ---- a row that ends
 
-top-by : (text : Bool) (k : Know) (t : Token) (es : List OpenElement) → (if text then is_text_top k else true) ≡ true → Knows k t es → (if text then has_text_top es else true) ≡ true
+top-by : (text : Bool) (k : Know) (t : Token) (es : List OpenElement) → (if text then is_text_top k else true) ≡ true → Knows k t es → (if text then has_text_at_bottom es else true) ≡ true
 top-by true text_top t es h k = k
 top-by true nothing t es h k = absurd (true≢false (sym h))
 top-by true (scoped s w) t es h k = absurd (true≢false (sym h))
@@ -138,7 +138,7 @@ rests-ground a t b h p =
       firm = s.firm;
       kept = kept-by a.keeps b.mode b.original refl (not-true a.waits g4.1) s.none_kept s.one_kept s.texts;
       stand = claim-stands a.claim (main_mode b.mode b.original) b.stack g.0 s.claimed;
-      top = subst (λ v. (if v then has_text_top b.stack else true) ≡ true) (sym s.is_text) (top-by a.text a.know t b.stack g4.0 k);
+      bottom = subst (λ v. (if v then has_text_at_bottom b.stack else true) ≡ true) (sym s.is_text) (top-by a.text a.know t b.stack g4.0 k);
       late = s.late;
       matches = o.0;
       marked = o.1;
@@ -386,12 +386,12 @@ to-template is same (e ∷ es) o h = by (is e.name) refl (same e.name) h (to-tem
   where
     by : (v : Bool) → is e.name ≡ v → is e.name ≡ is_word word.Template e.name → is_word word.Template e.name || on_stack (is_word word.Template) es ≡ true → (on_stack (is_word word.Template) es ≡ true → ToTemplate es (until is es))
         → ToTemplate (e ∷ es) (if v then es else until is es)
-    by true g q k rest = record { top = e; is = sym q ∙ g; drops = inl refl }
+    by true g q k rest = record { bottom = e; is = sym q ∙ g; drops = inl refl }
     by false g q k rest =
         let no : is_word word.Template e.name ≡ false = sym q ∙ g in
         let there : on_stack (is_word word.Template) es ≡ true = subst (λ v. v || on_stack (is_word word.Template) es ≡ true) no k in
         let t = rest there in
-        record { top = t.top; is = t.is; drops = inr (ap not (vital-neither e.name (above-template e es o (template-core es there)) no), t.drops) }
+        record { bottom = t.bottom; is = t.is; drops = inr (ap not (vital-neither e.name (above-template e es o (template-core es there)) no), t.drops) }
 
 untemplated : At → At
 untemplated a = record a { claim = lost; know = nothing; bare = false; debt = owes_pop }
@@ -428,8 +428,8 @@ until-stepped by_template w a t b h m k p =
     let s = plain-sound a b h p.0 in
     let d = to-template (is_meant w t) k.1 b.stack s.firm.order k.0 in
     let ds : List OpenElement = until (is_meant w t) b.stack in
-    let x = sound-dropped (λ v. not (is_vital v)) (λ n. not (is_known is_vital n)) not-vital refl a b.stack (d.top ∷ ds) b.formats b.form b.mode b.original b.template_modes b.frameset_ok d.drops s in
-    (resound a ds b (sound-untemplated (dropping (λ v. not (is_vital v)) a) d.top ds b.formats b.form b.mode b.original b.template_modes b.frameset_ok d.is m x), tt)
+    let x = sound-dropped (λ v. not (is_vital v)) (λ n. not (is_known is_vital n)) not-vital refl a b.stack (d.bottom ∷ ds) b.formats b.form b.mode b.original b.template_modes b.frameset_ok d.drops s in
+    (resound a ds b (sound-untemplated (dropping (λ v. not (is_vital v)) a) d.bottom ds b.formats b.form b.mode b.original b.template_modes b.frameset_ok d.is m x), tt)
   where
     resound : (a' : At) (es : List OpenElement) (b' : Open)
         → Sound (record (dropping (λ v. not (is_vital v)) a') { claim = lost; know = nothing; bare = false; debt = owes_pop }) es b'.formats b'.form b'.mode b'.original b'.template_modes b'.frameset_ok
@@ -443,7 +443,7 @@ top-drops : (q : Name → Bool) (es : List OpenElement) → (current_is q es ≡
 top-drops q [] h = refl
 top-drops q (e ∷ es) h = inr (h, drops-none q es)
 
-text-guard : (es : List OpenElement) → has_text_top es ≡ true → current_is (λ n. is_known (λ w. not (is_guard w)) n) es ≡ true
+text-guard : (es : List OpenElement) → has_text_at_bottom es ≡ true → current_is (λ n. is_known (λ w. not (is_guard w)) n) es ≡ true
 text-guard [] h = absurd (true≢false (sym h))
 text-guard (e ∷ es) h = h
 
@@ -1258,7 +1258,7 @@ text-entered m k text a t b is like keeps same known p =
       subst (λ x. Knows k t x) (sym same) known,
     )
 
-text-top : (es : List OpenElement) → current_is (is_known (λ w. not (is_guard w))) es ≡ true → has_text_top es ≡ true
+text-top : (es : List OpenElement) → current_is (is_known (λ w. not (is_guard w))) es ≡ true → has_text_at_bottom es ≡ true
 text-top [] h = h
 text-top (e ∷ es) h = h
 

@@ -47,7 +47,7 @@ use Rattle.standard.specs.Instructions.{Config, config, on, room, made, pushed, 
 use Rattle.standard.specs.Rules.{Answer, answer, next_of, row, by_mode, adopting, with_adoption, rules_for, round_after, go_round, process, rounds, is_line_feed, settled_answer, construct}
 use Rattle.rule_laws.specs.Naming.{AreFresh, Serves, known_after_all, IsNextBound}
 use Rattle.rule_laws.specs.Proper.{is_main_mode}
-use Rattle.stack_laws.specs.Grounded.{is_vital, is_guard, is_formatting, is_known, is_special, with_name, core, templates_among, has_no, is_rooted, is_loose, Firm, has_facts, stands, main_mode, is_text_mode, is_text_like, has_kept, no_words, has_text_top, is_late_if_any, Ground, GroundOf, templates_in, HasRoot, GroundedStand, OpeningIsGrounded, GroundedUnlessDeep, TokensStayGrounded}
+use Rattle.stack_laws.specs.Grounded.{is_vital, is_guard, is_formatting, is_known, is_special, with_name, core, templates_among, has_no, is_rooted, is_loose, Firm, has_facts, stands, main_mode, is_text_mode, is_text_like, has_kept, no_words, has_text_at_bottom, is_late_if_any, Ground, GroundOf, templates_in, HasRoot, GroundedStand, OpeningIsGrounded, GroundedUnlessDeep, TokensStayGrounded}
 use Rattle.rule_laws.specs.Proper.{is_early, is_late}
 use Rattle.stack_laws.proofs.Basics.{split}
 use Rattle.rule_laws.proofs.AdoptionFreshness.{AdoptedFits, adopt-fits}
@@ -150,7 +150,7 @@ ground-core b es fs form ok c e o f n g =
       firm = f;
       kept = g.kept;
       stand = stands-by (main_mode b.mode b.original) g.stand;
-      top = subst (λ v. (if v then has_text_top es else true) ≡ true) (sym n) refl;
+      bottom = subst (λ v. (if v then has_text_at_bottom es else true) ≡ true) (sym n) refl;
       late = g.late;
       matches = g.matches ∙ ap templates_among (sym c);
       marked = λ x. subst (λ ws. has_no word.Template ws ≡ true) (sym c) (g.marked (o x));
@@ -164,7 +164,7 @@ ground-core b es fs form ok c e o f n g =
 
 -- ---- the rules for foreign content
 
-foreign-text : (v : Bool) (es : List OpenElement) → is_foreign_top es ≡ true → (if v then has_text_top es else true) ≡ true → v ≡ false
+foreign-text : (v : Bool) (es : List OpenElement) → is_foreign_top es ≡ true → (if v then has_text_at_bottom es else true) ≡ true → v ≡ false
 foreign-text true [] f h = absurd (true≢false (sym f))
 foreign-text true (e ∷ es) f h = absurd (true≢false (sym h ∙ foreign-spares (λ w. not (is_guard w)) e.name f))
 foreign-text false es f h = refl
@@ -182,7 +182,7 @@ no-empty (x ∷ es) ds f e = absurd (true≢false (sym e))
 
 foreign-left : (b : Open) (ds : List OpenElement) → is_foreign_top b.stack ≡ true → Drops (λ n. not (is_html n)) b.stack ds → GroundOf b → GroundOf (record b { stack = ds })
 foreign-left b ds f d g =
-    let n = foreign-text (is_text_mode b.mode) b.stack f g.top in
+    let n = foreign-text (is_text_mode b.mode) b.stack f g.bottom in
     ground-core b ds b.formats b.form b.frameset_ok (core-dropped (λ n'. not (is_html n')) (foreign-spares is_guard) b.stack ds d) (no-empty b.stack ds (foreign-full (main_mode b.mode b.original) b.stack f g.stand)) (λ x. x)
     (firm-dropped (λ n'. not (is_html n')) (foreign-spares is_vital) b.stack ds b.formats b.form d g.firm) n g
 
@@ -266,7 +266,7 @@ module _ (known : NodeId → Bool) where
   foreign-ground t b o fit g f = by t
     where
       begin : (t' : Token) → Stands (fitting true (is_some b.original) foreign_top) t' b
-      begin t' = fitting-stands true foreign_top t' b g refl f (λ e. foreign-full (main_mode b.mode b.original) b.stack f g.stand) (foreign-text (is_text_mode b.mode) b.stack f g.top)
+      begin t' = fitting-stands true foreign_top t' b g refl f (λ e. foreign-full (main_mode b.mode b.original) b.stack f g.stand) (foreign-text (is_text_mode b.mode) b.stack f g.bottom)
 
       out : GroundOf (record b { stack = pop_foreign b.stack })
       out = foreign-left b (pop_foreign b.stack) f (pop_foreign-drops b.stack) g
@@ -555,7 +555,7 @@ module _ (known : NodeId → Bool) where
   some-late m None h l = absurd (true≢false (sym h))
   some-late m (Some x) h l = l
 
-  text-top : (v : Bool) (es : List OpenElement) → v ≡ true → (if v then has_text_top es else true) ≡ true → has_text_top es ≡ true
+  text-top : (v : Bool) (es : List OpenElement) → v ≡ true → (if v then has_text_at_bottom es else true) ≡ true → has_text_at_bottom es ≡ true
   text-top true es e h = h
   text-top false es e h = absurd (true≢false (sym e))
 
@@ -577,7 +577,7 @@ module _ (known : NodeId → Bool) where
       let some : is_some b.original ≡ true = text-kept b.mode b.original g.kept (ap is_main_mode k) in
       let w = (table-late t (main_mode b.mode b.original) (some-late b.mode b.original some g.late)).0 in
       text-next t c.open_state c.flow
-      (walked known nowhere (row mode.InText t) (start (main_mode b.mode b.original) true true text_top) false t b o fit (start-stands true true text_top t b g refl (text-top (is_text_mode b.mode) b.stack text g.top) some text) w)
+      (walked known nowhere (row mode.InText t) (start (main_mode b.mode b.original) true true text_top) false t b o fit (start-stands true true text_top t b g refl (text-top (is_text_mode b.mode) b.stack text g.bottom) some text) w)
   row-after mode.InTableText t b o fit g k =
       let c : Config = run t (on b o) (row mode.InTableText t) in
       let some : is_some b.original ≡ true = text-kept b.mode b.original g.kept (ap is_main_mode k) in
@@ -708,7 +708,7 @@ tokens-grounded t b o h =
     (with-ids known (known_after_all known a.ops) a.next a.open_state (alone known t b h.ground h.ids.1) (alone-ids known t b h.ids.1))
 
 pub opening-grounded : OpeningIsGrounded
-opening-grounded realm = record { ground = record { firm = record { order = refl; root = refl; apart = refl; entries = refl; owner = refl }; stand = refl; top = refl; kept = refl; late = refl; matches = refl; marked = λ e. refl; template_modes = refl }; ids = (λ id. false, record { stack_bound = tt; formats_bound = tt; head_bound = tt; form_bound = tt; coming = λ k. refl }) }
+opening-grounded realm = record { ground = record { firm = record { order = refl; root = refl; apart = refl; entries = refl; owner = refl }; stand = refl; bottom = refl; kept = refl; late = refl; matches = refl; marked = λ e. refl; template_modes = refl }; ids = (λ id. false, record { stack_bound = tt; formats_bound = tt; head_bound = tt; form_bound = tt; coming = λ k. refl }) }
 
 counted : (es : List OpenElement) → templates_among (core es) ≡ templates_in es
 counted [] = refl

@@ -25,7 +25,7 @@ use Rattle.standard.specs.Rows.{has_word}
 use Rattle.standard.specs.Elements.{is_word, is_meant}
 use Rattle.standard.specs.Stack.{is_empty, in_scope, on_stack, current_is, without_open}
 use Rattle.rule_laws.specs.Proper.{is_main_mode}
-use Rattle.stack_laws.specs.Grounded.{is_vital, is_guard, is_known, core, templates_among, has_no, reaches, Firm, has_facts, stands, main_mode, is_text_mode, is_text_like, has_text_top, is_late_if_any, is_template_mode}
+use Rattle.stack_laws.specs.Grounded.{is_vital, is_guard, is_known, core, templates_among, has_no, reaches, Firm, has_facts, stands, main_mode, is_text_mode, is_text_like, has_text_at_bottom, is_late_if_any, is_template_mode}
 use Rattle.stack_laws.proofs.Basics.{split}
 use Rattle.stack_laws.proofs.Basics.{both}
 use Rattle.stack_laws.proofs.Cores.{not-true, not-false, to-false, Drops, through-drops, has_no-left, has_no-kept, templates-kept, reaches-left}
@@ -214,7 +214,7 @@ Knows (topped w) t es = current_is (is_meant w t) es ≡ true
 Knows open_top t es = current_is (λ n. not (is_known is_vital n)) es ≡ true
 Knows not_html t es = current_is (is_word word.Html) es ≡ false
 Knows has_template t es = on_stack (is_word word.Template) es ≡ true
-Knows text_top t es = has_text_top es ≡ true
+Knows text_top t es = has_text_at_bottom es ≡ true
 Knows foreign_top t es = is_foreign_top es ≡ true
 Knows headed t es = Unit {0}
 Knows (headed_topped w) t es = current_is (is_meant w t) es ≡ true

@@ -153,9 +153,9 @@ is_text_mode mode.InText = true
 is_text_mode _ = false
 
 -- in the mode "text" the current node is of HTML, and none that counts
-abbrev pub has_text_top : List OpenElement → Bool
-has_text_top [] = false
-has_text_top (e ∷ es) = is_known (λ w. not (is_guard w)) e.name
+abbrev pub has_text_at_bottom : List OpenElement → Bool
+has_text_at_bottom [] = false
+has_text_at_bottom (e ∷ es) = is_known (λ w. not (is_guard w)) e.name
 
 abbrev pub is_late_if_any : Option Mode → Bool
 is_late_if_any None = true
@@ -185,7 +185,7 @@ has_kept m (Some original) = is_text_like m
 pub record Ground (es : List OpenElement) (fs : List Format) (form : Option NodeId) (m : Mode) (original : Option Mode) (ms : List Mode) (ok : Bool) : Type 0 where
   pub firm : Firm es fs form
   pub stand : stands (main_mode m original) es ≡ true
-  pub top : (if is_text_mode m then has_text_top es else true) ≡ true
+  pub bottom : (if is_text_mode m then has_text_at_bottom es else true) ≡ true
   pub kept : has_kept m original ≡ true
   pub late : is_late_if_any original ≡ true
   -- as many template insertion modes as template elements
