@@ -6,6 +6,7 @@ use std::alloc::{AllocError, Global};
 
 // How many sums are told apart: some four for each name of the standard, and for each front of one.
 const NAME_SUMS: usize = 8192;
+
 const FRONT_SUMS: usize = 32768;
 
 // The sum of a text with one more byte, or with an ASCII character.

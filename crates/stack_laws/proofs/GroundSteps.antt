@@ -386,12 +386,12 @@ to-template is same (e ∷ es) o h = by (is e.name) refl (same e.name) h (to-tem
   where
     by : (v : Bool) → is e.name ≡ v → is e.name ≡ is_word word.Template e.name → is_word word.Template e.name || on_stack (is_word word.Template) es ≡ true → (on_stack (is_word word.Template) es ≡ true → ToTemplate es (until is es))
         → ToTemplate (e ∷ es) (if v then es else until is es)
-    by true g q k rest = record { bottom = e; is = sym q ∙ g; drops = inl refl }
+    by true g q k rest = record { top = e; is = sym q ∙ g; drops = inl refl }
     by false g q k rest =
         let no : is_word word.Template e.name ≡ false = sym q ∙ g in
         let there : on_stack (is_word word.Template) es ≡ true = subst (λ v. v || on_stack (is_word word.Template) es ≡ true) no k in
         let t = rest there in
-        record { bottom = t.bottom; is = t.is; drops = inr (ap not (vital-neither e.name (above-template e es o (template-core es there)) no), t.drops) }
+        record { top = t.top; is = t.is; drops = inr (ap not (vital-neither e.name (above-template e es o (template-core es there)) no), t.drops) }
 
 untemplated : At → At
 untemplated a = record a { claim = lost; know = nothing; bare = false; debt = owes_pop }
@@ -428,8 +428,8 @@ until-stepped by_template w a t b h m k p =
     let s = plain-sound a b h p.0 in
     let d = to-template (is_meant w t) k.1 b.stack s.firm.order k.0 in
     let ds : List OpenElement = until (is_meant w t) b.stack in
-    let x = sound-dropped (λ v. not (is_vital v)) (λ n. not (is_known is_vital n)) not-vital refl a b.stack (d.bottom ∷ ds) b.formats b.form b.mode b.original b.template_modes b.frameset_ok d.drops s in
-    (resound a ds b (sound-untemplated (dropping (λ v. not (is_vital v)) a) d.bottom ds b.formats b.form b.mode b.original b.template_modes b.frameset_ok d.is m x), tt)
+    let x = sound-dropped (λ v. not (is_vital v)) (λ n. not (is_known is_vital n)) not-vital refl a b.stack (d.top ∷ ds) b.formats b.form b.mode b.original b.template_modes b.frameset_ok d.drops s in
+    (resound a ds b (sound-untemplated (dropping (λ v. not (is_vital v)) a) d.top ds b.formats b.form b.mode b.original b.template_modes b.frameset_ok d.is m x), tt)
   where
     resound : (a' : At) (es : List OpenElement) (b' : Open)
         → Sound (record (dropping (λ v. not (is_vital v)) a') { claim = lost; know = nothing; bare = false; debt = owes_pop }) es b'.formats b'.form b'.mode b'.original b'.template_modes b'.frameset_ok

@@ -209,7 +209,7 @@ foreign-drops-by name all (e ∷ d ∷ es) top g =
     by false false p left rest = rest (ap not p)
 
 pub foreign-drops : (name : List ℕ) (es : List OpenElement) → is_foreign_top es ≡ true → DropsIfAny (λ n. not (is_html n)) es (foreign_end name es es)
-foreign-drops name es bottom = foreign-drops-by name es es top (drops-none (λ n. not (is_html n)) es)
+foreign-drops name es top = foreign-drops-by name es es top (drops-none (λ n. not (is_html n)) es)
 
 pub foreign-spares : (p : Word → Bool) → Spares p (λ n. not (is_html n))
 foreign-spares p (Known w) h = absurd (true≢false (sym h))

@@ -29,10 +29,7 @@ pub fn named_row(
 {
     if !matches!(&class, Class::InputEnd) && table.goes_on(held.as_str(), c) {
         held.push(c)?;
-        return to(
-            TokState::Reference(ReferenceState::Named(back, held)),
-            out,
-        );
+        return to(TokState::Reference(ReferenceState::Named(back, held)), out);
     }
     walked_row(alloc, table, back, held, class, c, out)
 }

@@ -12,7 +12,7 @@ returns-then-not-goes_below c = λ up.
     let text = c.args.text.now in
     let name = string_bytes c.args.row.now.name in
     elim c.if-starts_with.branch [
-      then-starts_with w ↦
+      | then-starts_with w ↦
           let bytes = (starts_is Decides-eqb c.as_bytes.result.now c.as_bytes-2.result.now c.starts_with.result c.starts_with.ensures.value).0 w.if-starts_with.true in
           goes_on text name c.args.c (front_of text name c.as_bytes-2.result.now c.as_bytes.result.now c.as_bytes-2.ensures.value c.as_bytes.ensures.value bytes)
           (sym w.goes_below.ensures ∙ not-true w.goes_below.result (sym w.value-is ∙ c.if-not-goes_below.true)) (sym c.goes_up_to.ensures ∙ up)
