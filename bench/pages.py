@@ -28,6 +28,9 @@ KINDS = {
     "fostered": ("<table>", "<i>x</i>y", ""),
     "svg": ("<ul>", '<li><a href="#x"><svg width="16" height="16" viewBox="0 0 16 16" aria-hidden="true">'
             '<path fill="none" d="M8 0a8 8 0 1 0 0 16A8 8 0 0 0 8 0z"/></svg> Icon</a>\n', "</ul>"),
+    "svg text": ("<svg><text>", WORDS, ""),
+    # a `&` between the parts of an address, as most pages have it
+    "links": ("<p>", '<a href="/page/index.php?id={n}&b=2">text</a> ', ""),
     "attributes": ("<i-i", " a{n}=1", ">"),
     "html tags": ("", "<html a{n}=1>", ""),
     "scripts": ("<body>", '<script>document.write("<i>x</i>");</script>', ""),
