@@ -1,7 +1,8 @@
 -- The journal, and what is found in it.
-use Rattle.std.specs.Prelude.{◌≡◌, ℕ, Bool, true, false, List, [], ◌∷◌, Option, Some, None, String, option_map, if◌then◌else◌}
+use Rattle.std.specs.Prelude.{◌≡◌, ℕ, Bool, true, false, List, [], ◌∷◌, Option, Some, None, String, option_map, map, if◌then◌else◌}
 use Rattle.std.specs.BTreeMap.{BTreeMap, get_by_text}
 use Rattle.std.specs.Str.{chars, IsUtf8}
+use Rattle.std.specs.declared.snapshot.Snapshot.{Snapshot}
 use Rattle.html_types.specs.Text.{same_text}
 use Rattle.standard.specs.Scripts.{Fetched}
 use Rattle.core_rules.specs.Journal.{Journal}
@@ -11,6 +12,10 @@ use Rattle.core_steps.specs.Fetches.{fetched_of}
 -- nothing is read, fetched or done
 abbrev pub empty_journal : Journal
 empty_journal = record { pieces = []; ending = None; fetches = []; events = [] }
+
+-- the texts of the pieces that were read
+abbrev pub pieces_read : List (Snapshot (List ℕ)) → List (List ℕ)
+pieces_read = map (λ (p : Snapshot (List ℕ)). p.value)
 
 -- what came of the script of that name, where it was fetched
 abbrev pub found : List ℕ → List (List ℕ × Fetched) → Option Fetched

@@ -1,6 +1,6 @@
 //! The journal of a run.
 
-ghost use Rattle.std.specs.Prelude.{◌≡◌, ◌++◌, ◌∷◌, [], None, Some, OnOk, OnErr, IfSome, IfNone};
+ghost use Rattle.std.specs.Prelude.{◌≡◌, ◌++◌, ◌∷◌, [], None, Some, OnOk, OnErr, IfSome, IfNone, length};
 ghost use Rattle.std.specs.Str.{chars};
 ghost use Rattle.core_rules.specs.declared.event.Event.TheVariants.{Arrive as arrived};
 ghost use Rattle.core_steps.specs.Fetches.{fetched_of};
@@ -16,11 +16,11 @@ use std::marker::Model;
 use std::snapshot::Snapshot;
 
 /// What a run leaves behind: the pieces of the page's text as they were read, its ending where that was read, each name that was fetched with
-/// what came of it, the latest first, and the events of the document's side.
+/// what came of it, the latest first, and the events of the document's side. The pieces are held no more: only contracts see their texts.
 #[derive(Drop)]
 pub struct Journal {
     alloc: Global,
-    pieces: Vec<SharedText>,
+    pieces: Vec<Snapshot<SharedText>>,
     ending: Option<Ending>,
     fetches: BTreeMap<String, Fetch>,
     // The same, the latest last. A contract sees them in this order.
@@ -34,11 +34,11 @@ impl Model for Journal {
     ghost use Rattle.core_rules.specs.Journal as rules;
     ghost use Rattle.std.specs.Prelude.{reverse};
     ghost use Rattle.core_steps.specs.Fetches.{fetches_of};
-    ghost use Rattle.core_steps.specs.Journals.{AreIndexed};
+    ghost use Rattle.core_steps.specs.Journals.{AreIndexed, pieces_read};
 
     ghost Value = { rules.Journal };
 
-    ghost view = { λ j. record { pieces = j.pieces.items; ending = j.ending; fetches = fetches_of (reverse j.fetched.items); events = j.events.items } };
+    ghost view = { λ j. record { pieces = pieces_read j.pieces.items; ending = j.ending; fetches = fetches_of (reverse j.fetched.items); events = j.events.items } };
 
     ghost invariant = { λ j. AreIndexed j.fetches (fetches_of (reverse j.fetched.items)) };
 }
@@ -59,11 +59,11 @@ impl Journal {
         }
     }
 
-    /// The pieces that were read.
-    pub fn pieces(&self) -> &[SharedText]
-        ensures { result.now ≡ self.now.pieces }
+    /// How many pieces were read.
+    pub fn piece_count(&self) -> usize
+        ensures { result ≡ length self.now.pieces }
     {
-        self.pieces.as_slice()
+        self.pieces.len()
     }
 
     /// The page's ending, where it was read.
@@ -95,8 +95,8 @@ impl Journal {
     }
 
     /// Adds a piece that was read.
-    pub(crate) fn add_piece(&mut self, piece: SharedText) -> Result<(), NoMemory>
-        ensures ok { OnOk result (self.new ≡ record self.old { pieces = self.old.pieces ++ piece ∷ [] }) }
+    pub(crate) fn add_piece(&mut self, piece: Snapshot<SharedText>) -> Result<(), NoMemory>
+        ensures ok { OnOk result (self.new ≡ record self.old { pieces = self.old.pieces ++ piece.value ∷ [] }) }
         ensures err { OnErr result (self.new ≡ self.old) }
     {
         self.pieces.push(piece)?;

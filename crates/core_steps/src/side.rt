@@ -112,9 +112,9 @@ impl Side {
         ensures journal { OnErr result (self.new.journal ≡ self.old.journal) }
     {
         let text = SharedText::of(self.alloc, String::from_str(self.alloc, text)?)?;
-        let copy = text.copy()?;
+        let read = Snapshot::of(&text);
         self.ledger.add(Piece::new(text, None))?;
-        self.journal.add_piece(copy)
+        self.journal.add_piece(read)
     }
 
     /// Adds the page's ending, behind all pieces.

@@ -123,7 +123,7 @@ fn why_refused<E: InForce>(pair: &Pair<E>) -> Option<Why> {
 }
 
 fn count_pieces<E: InForce>(pair: &Pair<E>) -> u64 {
-    pair.journal().pieces().len() as u64
+    pair.journal().piece_count() as u64
 }
 
 fn written_of<E: InForce>(alloc: Global, pair: &mut Pair<E>) -> Result<Written, NoMemory> {

@@ -1,4 +1,5 @@
 pub mod Text
+pub mod Letters
 pub mod Words
 pub mod Names
 pub mod Attributes

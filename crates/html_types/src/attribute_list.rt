@@ -82,6 +82,18 @@ impl AttributeList {
         }
     }
 
+    /// No attributes, with room for so many.
+    pub(crate) fn with_capacity(alloc: Global, capacity: usize) -> Result<AttributeList, NoMemory>
+        ensures { IfOk result (λ a. a ≡ []) }
+    {
+        let list = Vec::with_capacity(alloc, capacity)?;
+        Ok(AttributeList {
+            alloc,
+            list,
+            index: None,
+        })
+    }
+
     /// Adds an attribute at the end.
     pub(crate) fn push(&mut self, attribute: Attribute) -> Result<(), NoMemory>
         ensures ok { OnOk result (self.new ≡ self.old ++ attribute ∷ []) }
@@ -153,7 +165,7 @@ impl AttributeList {
     pub(crate) fn copy(&self, alloc: Global) -> Result<AttributeList, NoMemory>
         ensures { IfOk result (λ a. a ≡ self.now) }
     {
-        let mut copied = AttributeList::new(alloc);
+        let mut copied = AttributeList::with_capacity(alloc, self.list.len())?;
         for attribute in &self.list {
             copied.push(attribute.copy(alloc)?)?;
         }

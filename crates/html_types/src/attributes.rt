@@ -73,7 +73,8 @@ impl Attributes {
         match &mut self.shared {
             Some(shared) => Arc::make_mut(shared)?.push(attribute),
             None => {
-                let mut list = AttributeList::new(self.alloc);
+                // Most elements that have attributes have one.
+                let mut list = AttributeList::with_capacity(self.alloc, 1)?;
                 list.push(attribute)?;
                 self.shared = Some(Arc::new(self.alloc, list)?);
                 Ok(())

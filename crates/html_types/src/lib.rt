@@ -8,6 +8,7 @@ pub mod attributes;
 pub mod children;
 pub mod class;
 pub mod instruction;
+mod letters;
 pub mod mark_state;
 pub mod memory;
 pub mod name;

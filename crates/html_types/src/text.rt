@@ -5,23 +5,26 @@ ghost use Rattle.std.specs.Str.{chars, IsCharBoundary};
 ghost use Rattle.std.specs.Char.{to_ascii_lowercase};
 ghost use Rattle.html_types.specs.Text.{same_text};
 
+use crate::letters::Letters;
 use crate::memory::NoMemory;
 use std::alloc::Global;
 use std::marker::Model;
 
-/// A text: the list of its characters.
+/// A text: the list of its characters. A short one takes no memory.
 #[derive(Drop)]
 pub struct Text {
-    string: String,
+    alloc: Global,
+    letters: Letters,
 }
 
 impl Model for Text {
-    ghost use Rattle.std.specs.Prelude.{List, ℕ, string_bytes};
+    ghost use Rattle.std.specs.Prelude.{List, ℕ};
     ghost use Rattle.std.specs.Str.{chars};
+    ghost use Rattle.html_types.specs.Letters.{letter_bytes};
 
     ghost Value = { List ℕ };
 
-    ghost view = { λ t. chars (string_bytes t.string) };
+    ghost view = { λ t. chars (letter_bytes t.letters) };
 }
 
 impl Text {
@@ -30,7 +33,8 @@ impl Text {
         ensures { result ≡ [] }
     {
         Text {
-            string: String::new(alloc),
+            alloc,
+            letters: Letters::new(),
         }
     }
 
@@ -39,7 +43,9 @@ impl Text {
         ensures ok { OnOk result (self.new ≡ self.old ++ c ∷ []) }
         ensures err { OnErr result (self.new ≡ self.old) }
     {
-        self.string.push(c)?;
+        // That the bytes are UTF-8 is known of a str.
+        let _read = self.letters.as_str();
+        self.letters.push(self.alloc, c)?;
         Ok(())
     }
 
@@ -48,7 +54,9 @@ impl Text {
         ensures ok { OnOk result (self.new ≡ self.old ++ chars added.now) }
         ensures err { OnErr result (self.new ≡ self.old) }
     {
-        self.string.push_str(added)?;
+        // That the bytes are UTF-8 is known of a str.
+        let _read = self.letters.as_str();
+        self.letters.push_str(self.alloc, added)?;
         Ok(())
     }
 
@@ -56,7 +64,7 @@ impl Text {
     pub fn as_str(&self) -> &str
         ensures { chars result.now ≡ self.now }
     {
-        self.string.as_str()
+        self.letters.as_str()
     }
 
     /// Whether two texts are the same.
@@ -64,49 +72,48 @@ impl Text {
         ensures value { result ≡ same_text self.now other.now }
         ensures exact { IsTrue result ↔ (self.now ≡ other.now) }
     {
-        self.string == other.string
+        self.as_str() == other.as_str()
     }
 
     /// A copy.
     pub fn copy(&self, alloc: Global) -> Result<Text, NoMemory>
         ensures { IfOk result (λ t. t ≡ self.now) }
     {
-        let string = String::from_str(alloc, self.string.as_str())?;
-        Ok(Text { string })
+        Text::from_str(alloc, self.as_str())
     }
 
     // What it takes its memory from.
     pub(crate) fn allocator(&self) -> Global {
-        *self.string.allocator()
+        self.alloc
     }
 
     /// The text of those characters.
     pub fn from_str(alloc: Global, text: &str) -> Result<Text, NoMemory>
         ensures { IfOk result (λ t. t ≡ chars text.now) }
     {
-        let string = String::from_str(alloc, text)?;
-        Ok(Text { string })
+        let letters = Letters::of(alloc, text)?;
+        Ok(Text { alloc, letters })
     }
 
     /// Whether it is this word.
     pub fn is(&self, word: &str) -> bool
         ensures { result ≡ same_text self.now (chars word.now) }
     {
-        self.string.as_str() == word
+        self.as_str() == word
     }
 
     /// How many characters it has.
     pub fn len(&self) -> usize
         ensures { result ≡ length self.now }
     {
-        self.string.as_str().chars().count()
+        self.as_str().chars().count()
     }
 
     /// Whether it has no characters.
     pub fn is_empty(&self) -> bool
         ensures { IsTrue result ↔ (self.now ≡ []) }
     {
-        self.string.as_str().is_empty()
+        self.as_str().is_empty()
     }
 
     /// A copy with ASCII letters in lower case.

@@ -4,5 +4,5 @@ use Rattle.html_types.proofs.text.Text.is.Goals as goal
 
 pub returns : goal.returns
 returns c =
-    rw (← c.self.view_is, ← c.as_str.ensures.value)
+    rw (← c.as_str.ensures)
     (c.eq.ensures ∙ same_text-chars _ _ c.as_str.utf8 c.utf8.word)
