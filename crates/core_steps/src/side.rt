@@ -411,6 +411,13 @@ impl Side {
         Ok(realm)
     }
 
+    // This is in hand from here on.
+    fn set_stage(&mut self, stage: Stage)
+        ensures { self.new ≡ at_stage stage self.old }
+    {
+        self.stage = stage;
+    }
+
     // The end tag of a script was met. One that runs is in hand from here on, and what it writes has ids of its own.
     fn meet_end_tag(&mut self, id: NodeId) -> Result<(), NoMemory>
         requires bound { IsTrue (is_bound self.old.writer.doc.bound id) }
@@ -424,7 +431,7 @@ impl Side {
         let held = self.writer.machine().copy(self.alloc)?;
         let realm = self.new_realm()?;
         self.writer.renew(realm);
-        self.stage = Stage::Tagged(id, held);
+        self.set_stage(Stage::Tagged(id, held));
         Ok(())
     }
 
