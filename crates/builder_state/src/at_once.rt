@@ -17,7 +17,7 @@ use html_types::{Flow, Format, Instr, Next, NoMemory, Open, Ops, Token, Who};
 use std::alloc::Global;
 
 /// What became of an instruction.
-#[derive(Clone, Copy, Debug, PartialEq, Eq)]
+#[derive(Clone, Copy)]
 pub(crate) enum AtOnce {
     /// It was done, and the row goes on.
     On,

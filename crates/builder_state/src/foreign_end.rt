@@ -33,7 +33,7 @@ pub fn break_out(state: &mut Open, ops: &Ops) -> Flow
 }
 
 /// What the search for an end tag's element meets first, from the current node up.
-#[derive(Clone, Copy, Debug, PartialEq, Eq)]
+#[derive(Clone, Copy)]
 pub enum End {
     /// The first element of the stack.
     Nothing,

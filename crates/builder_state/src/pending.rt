@@ -7,7 +7,7 @@ ghost use Rattle.builder_state.specs.Texts.{keeps_ok as mode_keeps_ok, text_rule
 
 use crate::foreign::text_rules;
 use crate::insert::{place_now, reopen_lost};
-use crate::space::is_space;
+use char_class::is_space;
 use html_types::{Flow, Mode, NoMemory, Open, Ops, Place, Text, Token};
 use std::alloc::Global;
 use std::mem;

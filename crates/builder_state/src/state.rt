@@ -29,7 +29,7 @@ use std::marker::Model;
 use std::mem;
 
 /// Whether an element was pushed.
-#[derive(Clone, Copy, Debug, PartialEq, Eq)]
+#[derive(Clone, Copy, PartialEq, Eq)]
 pub enum Pushed {
     Done,
     /// 512 elements are open, and nothing is changed.
@@ -37,7 +37,7 @@ pub enum Pushed {
 }
 
 /// What the adoption agency algorithm (13.2.6.4.7) came to.
-#[derive(Clone, Copy, Debug, PartialEq, Eq)]
+#[derive(Clone, Copy)]
 pub enum Adopted {
     Done,
     /// At a turn no entry behind the last marker has the name: the token goes by "any other end tag".

@@ -5,7 +5,9 @@
 pub mod class;
 pub mod mark;
 pub mod next;
+mod space;
 
 pub use class::{class_of, name_char, shown};
 pub use mark::first_mark;
 pub use next::Transition;
+pub use space::is_space;

@@ -1,7 +1,7 @@
 //! The verdict on what was parsed ahead of a script.
 
 /// What becomes of the text that was parsed ahead, now that a script has ended and all that it wrote is used.
-#[derive(Clone, Copy, Debug, PartialEq, Eq)]
+#[derive(Clone, Copy, PartialEq, Eq)]
 pub enum Verdict {
     /// The parser's state is the one from which that text was parsed: what was made of it is executed.
     Keep,

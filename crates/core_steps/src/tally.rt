@@ -6,7 +6,7 @@ ghost use Rattle.core_steps.specs.Tallies.{nodes_below};
 use doc_tree::Tree;
 
 /// What a run comes to in numbers.
-#[derive(Clone, Copy, Debug, PartialEq, Eq)]
+#[derive(Clone, Copy)]
 pub struct Tally {
     /// The scripts that were executed.
     pub scripts: u64,

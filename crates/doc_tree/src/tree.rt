@@ -31,7 +31,7 @@ impl Model for Tree {
 }
 
 /// What became of a node that was to be put somewhere.
-#[derive(Clone, Copy, PartialEq, Eq, Debug)]
+#[derive(Clone, Copy, PartialEq, Eq)]
 pub enum Put {
     Done,
     /// The place lies under the node, or in a Document that has an element and would get another.

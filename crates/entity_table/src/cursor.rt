@@ -25,7 +25,7 @@ pub struct Cursor {
 }
 
 /// What a character makes of the text that is held.
-#[derive(Clone, Copy, Debug, PartialEq, Eq)]
+#[derive(Clone, Copy, PartialEq, Eq)]
 pub enum Step {
     /// Some name begins with the text.
     More,

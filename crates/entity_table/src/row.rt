@@ -7,14 +7,14 @@ ghost use Rattle.entity_table.specs.Parts.{is_below, is_up_to};
 ghost use Rattle.entity_table.specs.View.{entity_in};
 
 /// The one or two characters that a name stands for.
-#[derive(Clone, Copy, Debug, PartialEq, Eq)]
+#[derive(Clone, Copy, PartialEq, Eq)]
 pub struct Characters {
     pub first: char,
     pub second: Option<char>,
 }
 
 /// What was found: a name's length in characters, `&` and `;` counted, whether it ends in `;`, and what it stands for.
-#[derive(Clone, Copy, Debug, PartialEq, Eq)]
+#[derive(Clone, Copy, PartialEq, Eq)]
 pub struct Match {
     pub length: usize,
     pub ends_in_semicolon: bool,

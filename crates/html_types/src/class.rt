@@ -1,7 +1,7 @@
 //! Classes of characters: all that the tokenizer's rows tell apart.
 
 /// What a row of the tokenizer sees of the next character, or the end of the input.
-#[derive(Clone, Copy, Debug, PartialEq, Eq)]
+#[derive(Clone, Copy)]
 pub enum Class {
     /// U+0000
     Nul,

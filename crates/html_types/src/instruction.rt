@@ -5,7 +5,7 @@ use crate::operation::NodeId;
 use crate::word::Word;
 
 /// The insertion modes (13.2.4.1), and the rules for foreign content.
-#[derive(Clone, Copy, Debug, PartialEq, Eq)]
+#[derive(Clone, Copy, PartialEq, Eq)]
 pub enum Mode {
     Initial,
     BeforeHtml,
@@ -35,7 +35,7 @@ pub enum Mode {
 }
 
 /// How the tokenizer reads on behind a start tag.
-#[derive(Clone, Copy, Debug, PartialEq, Eq)]
+#[derive(Clone, Copy)]
 pub enum TokenizerSwitch {
     Rcdata,
     Rawtext,
@@ -44,7 +44,7 @@ pub enum TokenizerSwitch {
 }
 
 /// Where "has an element in scope" stops (13.2.4.2).
-#[derive(Clone, Copy, Debug, PartialEq, Eq)]
+#[derive(Clone, Copy)]
 pub enum Scope {
     Default,
     ListItem,
@@ -54,7 +54,7 @@ pub enum Scope {
 }
 
 /// Sets of names that the rules speak of.
-#[derive(Clone, Copy, Debug, PartialEq, Eq)]
+#[derive(Clone, Copy)]
 pub enum Group {
     /// h1 to h6
     Headings,
@@ -85,7 +85,7 @@ pub enum Group {
 }
 
 /// Which elements an instruction means.
-#[derive(Clone, Copy, Debug, PartialEq, Eq)]
+#[derive(Clone, Copy)]
 pub enum Who {
     /// Those with the token's own name.
     Own,
@@ -95,7 +95,7 @@ pub enum Who {
 }
 
 /// A question about the open state.
-#[derive(Clone, Copy, Debug, PartialEq, Eq)]
+#[derive(Clone, Copy)]
 pub enum Test {
     InScope(Scope, Who),
     Current(Who),
@@ -125,7 +125,7 @@ pub enum Test {
 }
 
 /// An instruction of a row. One that leaves the row stands last.
-#[derive(Clone, Copy, Debug, PartialEq, Eq)]
+#[derive(Clone, Copy)]
 pub enum Instr {
     /// Only where the test holds is the token looked at any further.
     Need(Test),
@@ -262,7 +262,7 @@ pub enum Instr {
 }
 
 /// What comes behind the adoption agency algorithm.
-#[derive(Clone, Copy, Debug, PartialEq, Eq)]
+#[derive(Clone, Copy)]
 pub enum Then {
     /// The token is done.
     Nothing,
@@ -273,7 +273,7 @@ pub enum Then {
 }
 
 /// How the adoption agency algorithm goes on behind a turn.
-#[derive(Clone, Copy, Debug, PartialEq, Eq)]
+#[derive(Clone, Copy)]
 pub enum Turn {
     More,
     Over,
@@ -282,7 +282,7 @@ pub enum Turn {
 }
 
 /// What is asked of the caller once a token's row is at its end.
-#[derive(Clone, Copy, Debug, PartialEq, Eq)]
+#[derive(Clone, Copy)]
 pub enum Next {
     Done,
     /// The adoption agency algorithm (13.2.6.4.7), and what comes behind it.
@@ -303,7 +303,7 @@ pub enum Next {
 }
 
 /// How a row goes on behind an instruction.
-#[derive(Clone, Copy, Debug, PartialEq, Eq)]
+#[derive(Clone, Copy)]
 pub enum Flow {
     On,
     /// The next instruction is left out.
@@ -312,7 +312,7 @@ pub enum Flow {
 }
 
 /// Why the parser stops in a text.
-#[derive(Clone, Copy, Debug, PartialEq, Eq)]
+#[derive(Clone, Copy, PartialEq, Eq)]
 pub enum Stop {
     /// All text is used.
     InputEnd,
@@ -323,7 +323,7 @@ pub enum Stop {
 }
 
 /// What the end of the input comes to.
-#[derive(Clone, Copy, Debug, PartialEq, Eq)]
+#[derive(Clone, Copy, PartialEq, Eq)]
 pub enum Finish {
     /// Parsing stopped (13.2.7).
     Finished,

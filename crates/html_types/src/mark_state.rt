@@ -62,7 +62,7 @@ pub enum DoctypeState {
 }
 
 /// The states of CDATA sections.
-#[derive(Clone, Copy, Debug, PartialEq, Eq)]
+#[derive(Clone, Copy, PartialEq, Eq)]
 pub enum CdataState {
     /// 13.2.5.69 CDATA section state
     Section,

@@ -12,7 +12,7 @@ use crate::word::Word;
 use std::alloc::Global;
 
 /// The namespaces of elements.
-#[derive(Clone, Copy, Debug, PartialEq, Eq)]
+#[derive(Clone, Copy, PartialEq, Eq)]
 pub enum Space {
     Html,
     MathMl,

@@ -13,7 +13,7 @@ use std::alloc::Global;
 use std::marker::Model;
 
 /// The id of an element: the n-th of its realm.
-#[derive(Clone, Copy, Debug, PartialEq, Eq, PartialOrd, Ord)]
+#[derive(Clone, Copy, PartialEq, Eq, PartialOrd, Ord)]
 pub struct NodeId {
     pub realm: u64,
     pub n: u64,
@@ -41,7 +41,7 @@ impl NodeId {
 }
 
 /// Where a node goes. It is looked up when the operation is executed, on the tree as it is then.
-#[derive(Clone, Copy, Debug, PartialEq, Eq)]
+#[derive(Clone, Copy, PartialEq, Eq)]
 pub enum Place {
     /// The end of the Document.
     Page,

@@ -8,7 +8,7 @@ use std::alloc::Global;
 use std::marker::Model;
 
 /// How the bytes of a page end.
-#[derive(Clone, Copy, Debug, PartialEq, Eq)]
+#[derive(Clone, Copy, PartialEq, Eq)]
 pub enum Ending {
     /// At the end of the file.
     End,
@@ -21,7 +21,7 @@ pub enum Ending {
 }
 
 /// Why a parse is refused.
-#[derive(Clone, Copy, Debug, PartialEq, Eq)]
+#[derive(Clone, Copy, PartialEq, Eq)]
 pub enum Why {
     BadUtf8,
     /// More than 512 open elements.

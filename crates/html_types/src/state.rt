@@ -13,7 +13,7 @@ use crate::word::Word;
 use std::alloc::Global;
 
 /// How the text of an element is read, up to its own end tag.
-#[derive(Clone, Copy, Debug, PartialEq, Eq)]
+#[derive(Clone, Copy, PartialEq, Eq)]
 pub enum RawText {
     /// Character references are read.
     Rcdata,

@@ -12,14 +12,14 @@ use std::collections::VecDeque;
 use std::marker::Model;
 
 /// Whether a tag begins or ends an element.
-#[derive(Clone, Copy, Debug, PartialEq, Eq)]
+#[derive(Clone, Copy, PartialEq, Eq)]
 pub enum TagKind {
     Start,
     End,
 }
 
 /// A quotation mark.
-#[derive(Clone, Copy, Debug, PartialEq, Eq)]
+#[derive(Clone, Copy, PartialEq, Eq)]
 pub enum Quote {
     Single,
     Double,

@@ -6,7 +6,7 @@ ghost use Rattle.html_types.specs.Names.{known_word, HasAllFrom};
 ghost use Rattle.html_types.specs.Words.{word_text, same_word};
 
 /// A name that the rules speak of.
-#[derive(Clone, Copy, Debug, PartialEq, Eq)]
+#[derive(Clone, Copy, PartialEq, Eq)]
 pub enum Word {
     A,
     Address,

@@ -1,13 +1,10 @@
-//! Rows of instructions, and one rule of each crate of insertion modes.
+//! Rows of instructions, and rules of some insertion modes.
 
-use builder_body::body;
-use builder_head::head;
-use builder_rest::rest;
-use builder_state::{Builder, Pushed, is_space};
-use builder_table::table;
+use builder_state::{Builder, Pushed};
 use html_types::{
     Attributes, Flow, Instr, Mode, Name, Next, NodeId, OpenElement, Ops, Place, Tag, Token, Word,
 };
+use insertion_modes::{is_space, row};
 use std::alloc::Global;
 use std::test::Fail;
 
@@ -87,7 +84,7 @@ fn no_doctype(rt: HostRuntime) -> Result<(), Fail> {
     let mut builder = Builder::new(alloc, 0);
     let mut ops = Ops::new(alloc);
     let token = Token::Character('a');
-    let next = head(alloc, &mut builder, Mode::Initial, &token, &mut ops)?;
+    let next = builder.answer_row(alloc, row(Mode::Initial, &token), &token, &mut ops)?;
     assert_eq!(rt; next, Next::Again);
     assert_eq!(rt; builder.mode(), Mode::BeforeHtml);
     assert_eq!(rt; ops.as_slice().len(), 0);
@@ -101,7 +98,7 @@ fn a_lone_end_tag_of_p(rt: HostRuntime) -> Result<(), Fail> {
     let mut builder = Builder::new(alloc, 0);
     let mut ops = Ops::new(alloc);
     let token = Token::EndTag(tag(alloc, Word::P));
-    let next = body(alloc, &mut builder, Mode::InBody, &token, &mut ops)?;
+    let next = builder.answer_row(alloc, row(Mode::InBody, &token), &token, &mut ops)?;
     assert_eq!(rt; next, Next::Done);
     assert_eq!(rt; ops.as_slice().len(), 2);
     Ok(())
@@ -114,7 +111,7 @@ fn space_waits(rt: HostRuntime) -> Result<(), Fail> {
     let mut builder = Builder::new(alloc, 0);
     let mut ops = Ops::new(alloc);
     let token = Token::Character(' ');
-    let next = table(alloc, &mut builder, Mode::InTableText, &token, &mut ops)?;
+    let next = builder.answer_row(alloc, row(Mode::InTableText, &token), &token, &mut ops)?;
     assert_eq!(rt; next, Next::Done);
     assert_eq!(rt; ops.as_slice().len(), 0);
     Ok(())
@@ -126,7 +123,7 @@ fn frameset_ends(rt: HostRuntime) -> Result<(), Fail> {
     let mut builder = Builder::new(alloc, 0);
     let mut ops = Ops::new(alloc);
     let token = Token::EndOfFile;
-    let next = rest(alloc, &mut builder, Mode::InFrameset, &token, &mut ops)?;
+    let next = builder.answer_row(alloc, row(Mode::InFrameset, &token), &token, &mut ops)?;
     assert_eq!(rt; next, Next::Finished);
     assert_eq!(rt; ops.as_slice().len(), 0);
     Ok(())

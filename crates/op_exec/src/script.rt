@@ -10,7 +10,7 @@ ghost use Rattle.standard.specs.Prepare.{is_javascript, strip};
 use doc_tree::Tree;
 
 /// How a script runs when its end tag is met.
-#[derive(Clone, Copy, Debug, PartialEq, Eq)]
+#[derive(Clone, Copy, PartialEq, Eq)]
 pub enum ScriptKind {
     /// Its own text.
     Inline,

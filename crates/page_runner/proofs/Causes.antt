@@ -10,13 +10,13 @@ use Rattle.standard.specs.Serial.{Result, finished, refused, Outcome, IsSerial}
 use Rattle.page_runner.specs.declared.command.TheConstants.{ENTITIES_LIMIT}
 use Rattle.page_runner.specs.declared.status.Status.{Status}
 use Rattle.page_runner.specs.declared.status.Status.TheVariants as status
-use Rattle.page_runner.specs.Words.{PageAsked, Asked, for_page, for_make}
+use Rattle.command_words.specs.Words.{PageAsked, Asked, for_page, for_make}
 use Rattle.page_turns.specs.Given.{Given, unmet, missing, faulted, got, MayGive}
 use Rattle.page_turns.specs.Scripts.{MayFetch}
 use Rattle.page_turns.specs.Pages.{world_of}
 use Rattle.page_runner.specs.Answers.{PageMet, MayGivePage, IsParsed, status_with, answer_to_page, answer_over, answer_to, table_of, Gives, RunsTo, Exactly, AbsenceRose, FaultRose}
 use Rattle.page_runner.proofs.PageFaults.{fault_ends, fault_met}
-use Rattle.page_runner.specs.declared.words.MakeWords.{MakeWords}
+use Rattle.command_words.specs.declared.words.MakeWords.{MakeWords}
 use Rattle.page_runner.specs.Making.{page_made, file_among, made_world, MakesTo}
 use Rattle.page_maker.specs.Made.{made_scripts}
 use Rattle.page_maker.specs.declared.page.MadeScript.{MadeScript}

@@ -16,7 +16,7 @@ use Rattle.standard_laws.proofs.Fuel.{one_outcome}
 use Rattle.page_runner.specs.declared.command.TheConstants.{ENTITIES_LIMIT}
 use Rattle.page_runner.specs.declared.status.Status.{Status}
 use Rattle.page_runner.specs.declared.status.Status.TheVariants as status
-use Rattle.page_runner.specs.Words.{PageAsked, Asked, for_page, for_make}
+use Rattle.command_words.specs.Words.{PageAsked, Asked, for_page, for_make}
 use Rattle.page_turns.specs.Given.{Given, unmet, missing, faulted, got, FaultsRose, NoFault, AbsencesRose, file_at, MayGive}
 use Rattle.page_turns.specs.Taken.{Took}
 use Rattle.page_turns.specs.Scripts.{path_of, IsAbsent, MayFetch, AreScriptsOf, fetched_of, world_in}

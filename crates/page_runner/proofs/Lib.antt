@@ -1,5 +1,3 @@
-pub mod GrammarLemmas
-pub mod WordsExamples
 pub mod PageFaults
 pub mod RunLemmas
 pub mod OnTwoLemmas

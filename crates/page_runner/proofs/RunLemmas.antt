@@ -25,8 +25,8 @@ use Rattle.page_turns.specs.declared.page.Failure.{Failure}
 use Rattle.page_turns.specs.declared.page.Failure.TheVariants as failures
 use Rattle.page_runner.specs.declared.status.Status.{Status}
 use Rattle.page_runner.specs.declared.status.Status.TheVariants as status
-use Rattle.page_runner.specs.declared.words.MakeWords.{MakeWords}
-use Rattle.page_runner.specs.Words.{PageAsked, Asked, for_page, for_make}
+use Rattle.command_words.specs.declared.words.MakeWords.{MakeWords}
+use Rattle.command_words.specs.Words.{PageAsked, Asked, for_page, for_make}
 use Rattle.page_runner.specs.Making.{Makes, MakesTo}
 use Rattle.page_turns.specs.Given.{Given, unmet, missing, faulted, got, FaultsRose, NoFault, AbsencesRose, file_at, MayGive, AreRead, ReadTo, untouched, unbegun, begun, KeepsEntities}
 use Rattle.page_turns.specs.Taken.{Took, TookFront}

@@ -21,8 +21,8 @@ use Rattle.page_runner.specs.declared.making.MadeRun.{MadeRun}
 use Rattle.page_runner.specs.declared.making.MadeRun.TheVariants as made
 use Rattle.page_runner.specs.declared.status.Status.{Status}
 use Rattle.page_runner.specs.declared.status.Status.TheVariants as status
-use Rattle.page_runner.specs.declared.words.MakeWords.{MakeWords}
-use Rattle.page_runner.specs.Words.{Asked, for_make}
+use Rattle.command_words.specs.declared.words.MakeWords.{MakeWords}
+use Rattle.command_words.specs.Words.{Asked, for_make}
 use Rattle.page_runner.specs.Answers.{status_with, Gives}
 
 -- ---- what is parsed

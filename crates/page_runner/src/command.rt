@@ -3,7 +3,7 @@ ghost use Rattle.std.specs.Prelude.{◌≡◌, ◌≤◌, ◌<◌, [], ◌∷◌
 ghost use Rattle.std.specs.String.{string_bytes};
 ghost use Rattle.standard.specs.Output.{result_with};
 ghost use Rattle.outside.specs.Outside.{Rose, Begun, KeepsOthers};
-ghost use Rattle.page_runner.specs.Words.{for_page, asked, shown};
+ghost use Rattle.command_words.specs.Words.{for_page, asked, shown};
 ghost use Rattle.page_turns.specs.Given.{ReadTo};
 ghost use Rattle.page_turns.specs.Taken.{Took, TookFront};
 ghost use Rattle.page_turns.specs.Shown.{result_of};
@@ -15,7 +15,7 @@ ghost use Rattle.page_runner.specs.Answers.{status_for, table_of, is_finished, G
 use crate::making::run_make;
 use crate::on_two::page_on_two;
 use crate::status::{Limit, Status};
-use crate::words::{CommandWords, PageWords, Refused, read_words};
+use command_words::{CommandWords, PageWords, Refused, read_words};
 use core_steps::Fetch;
 use entity_table::{Table, TableFault};
 use html_types::{NoMemory, Why};

@@ -9,7 +9,6 @@ mod on_two;
 mod report;
 mod running;
 mod status;
-mod words;
 
 pub use command::{ENTITIES_LIMIT, run};
 pub use core_steps::Tally;
@@ -18,4 +17,3 @@ pub use on_two::page_on_two;
 pub use page_turns::Job;
 pub use report::Report;
 pub use status::{Limit, Status};
-pub use words::{CommandWords, MakeWords, PageWords, Refused, read_words};

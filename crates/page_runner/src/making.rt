@@ -13,7 +13,7 @@ use crate::nowhere::Nowhere;
 use crate::on_two::page_on_two;
 use crate::report::Report;
 use crate::status::Status;
-use crate::words::MakeWords;
+use command_words::MakeWords;
 use core_steps::Tally;
 use entity_table::Table;
 use html_types::NoMemory;

@@ -2,7 +2,7 @@
 use html_types::Why;
 
 /// What the parse of a page comes to.
-#[derive(Clone, Copy, Debug, PartialEq, Eq)]
+#[derive(Clone, Copy, PartialEq, Eq)]
 pub enum Outcome {
     /// It finished.
     Finished,

@@ -25,7 +25,7 @@ use speculation::InForce;
 use std::alloc::{AllocError, Global};
 
 /// Why a call that was going on gave up.
-#[derive(Clone, Copy, Debug, PartialEq, Eq)]
+#[derive(Clone, Copy, PartialEq, Eq)]
 pub enum Failure {
     /// Memory ran out.
     Memory,

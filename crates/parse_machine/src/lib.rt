@@ -2,6 +2,7 @@
 //! the stop depend on the state and the text alone.
 #![tactic(auto)]
 
+mod after_adoption;
 mod machine;
 mod token;
 mod weight;

@@ -55,14 +55,14 @@ impl Model for Machine {
 }
 
 /// Why the machine stopped in a text, and how many bytes of it were used.
-#[derive(Clone, Copy, Debug, PartialEq, Eq)]
+#[derive(Clone, Copy)]
 pub struct Ran {
     pub stop: Stop,
     pub used: usize,
 }
 
 /// What the page's ending comes to.
-#[derive(Clone, Copy, Debug, PartialEq, Eq)]
+#[derive(Clone, Copy)]
 pub enum PageEnd {
     /// Parsing stopped (13.2.7).
     Finished,
@@ -106,7 +106,7 @@ fn read_as(reading: TokenizerSwitch, token: &Token) -> TokState
 }
 
 // What became of the first token that waited.
-#[derive(Clone, Copy, Debug, PartialEq, Eq)]
+#[derive(Clone, Copy)]
 pub(crate) enum Went {
     /// There was none.
     AllUsed,
@@ -181,7 +181,7 @@ fn build_waiting(
 }
 
 // What became of the first of the last tokens.
-#[derive(Clone, Copy, Debug, PartialEq, Eq)]
+#[derive(Clone, Copy)]
 pub(crate) enum Ended {
     /// The next is to be processed.
     On,

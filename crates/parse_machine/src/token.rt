@@ -6,12 +6,10 @@ ghost use Rattle.html_types.specs.declared.token.Token.TheVariants as token;
 ghost use Rattle.standard.specs.Rules.{rules_for, answer, by_mode, adopting, by_rules, process, rounds, is_line_feed as is_line_feed_in, construct as constructed};
 ghost use Rattle.parse_machine.specs.Rounds.{rounded, round_of};
 
+use crate::after_adoption::after_adopt;
 use builder_adoption::adopt;
-use builder_body::{after_adopt, body, foreign};
-use builder_head::head;
-use builder_rest::rest;
 use builder_state::Builder;
-use builder_table::table;
+use insertion_modes::row;
 use html_types::{Mode, Next, NoMemory, Ops, Then, Token, Word};
 use std::alloc::Global;
 
@@ -25,6 +23,7 @@ fn is_line_feed(token: &Token) -> bool
 }
 
 // By the rules of one mode.
+#[tactic(auto, unfolding(standard::specs::Rules::by_mode))]
 fn by_mode(
     alloc: Global,
     builder: &mut Builder,
@@ -34,27 +33,7 @@ fn by_mode(
 ) -> Result<Next, NoMemory>
     ensures { IfOk result (λ n. answer builder.new ops.new n ≡ by_mode mode token.now builder.old ops.old) }
 {
-    match mode {
-        Mode::Initial | Mode::BeforeHtml | Mode::BeforeHead | Mode::InHead | Mode::AfterHead =>
-            head(alloc, builder, mode, token, ops),
-        Mode::InBody | Mode::InText => body(alloc, builder, mode, token, ops),
-        Mode::InForeign => foreign(alloc, builder, token, ops),
-        Mode::InTable
-        | Mode::InTableText
-        | Mode::InCaption
-        | Mode::InColumnGroup
-        | Mode::InTableBody
-        | Mode::InRow
-        | Mode::InCell => table(alloc, builder, mode, token, ops),
-        Mode::InSelect
-        | Mode::InSelectInTable
-        | Mode::InTemplate
-        | Mode::AfterBody
-        | Mode::InFrameset
-        | Mode::AfterFrameset
-        | Mode::AfterAfterBody
-        | Mode::AfterAfterFrameset => rest(alloc, builder, mode, token, ops),
-    }
+    builder.answer_row(alloc, row(mode, token), token, ops)
 }
 
 // The adoption agency algorithm (13.2.6.4.7), and the rest of the row that asked for it.
@@ -91,7 +70,7 @@ fn by_rules(
 }
 
 // The rules that the token is to go by, or what comes next.
-#[derive(Clone, Copy, Debug, PartialEq, Eq)]
+#[derive(Clone, Copy)]
 pub(crate) enum Round {
     Once(Mode),
     Over(Next),

@@ -3,7 +3,7 @@
 use html_types::Text;
 
 /// A limit of a page.
-#[derive(Clone, Copy, Debug, PartialEq, Eq)]
+#[derive(Clone, Copy, PartialEq, Eq)]
 pub enum Overrun {
     /// More than 512 open elements.
     Depth,

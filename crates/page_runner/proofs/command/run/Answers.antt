@@ -1,6 +1,6 @@
 use Rattle.std.proofs.Common.{map}
 use Rattle.std.specs.String.{string_bytes}
-use Rattle.page_runner.specs.Words.{asked}
+use Rattle.command_words.specs.Words.{asked}
 use Rattle.page_runner.proofs.Complete.{completes}
 use Rattle.page_runner.proofs.Causes.{usage, absent, read_fault, write_fault}
 use Rattle.page_runner.proofs.command.run.Goals as goal

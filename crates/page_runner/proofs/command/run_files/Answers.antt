@@ -1,7 +1,7 @@
 use Rattle.std.specs.String.{string_bytes}
 use Rattle.outside.specs.declared.traits.Port.TheVariants.{Entities}
 use Rattle.page_runner.specs.declared.command.TheConstants.{ENTITIES_LIMIT}
-use Rattle.page_runner.specs.Words.{shown}
+use Rattle.command_words.specs.Words.{shown}
 use Rattle.page_runner.proofs.RunLemmas.{answers_without, answers_on, none_is, table_is, read_to_is, stops_early, stops_on, begins_early, begins_on}
 use Rattle.page_runner.proofs.command.run_files.Goals as goal
 

@@ -1,6 +1,6 @@
 use Rattle.std.proofs.Common.{map}
 use Rattle.std.specs.String.{string_bytes}
-use Rattle.page_runner.specs.Words.{asked, shown, for_page}
+use Rattle.command_words.specs.Words.{asked, shown, for_page}
 use Rattle.page_runner.proofs.RunLemmas.{runs_usage, runs_no_memory, runs_asked, runs_made, stops_at_once, stops_asked, begins_nothing, begins_asked, makes_none, makes_page, makes_made}
 use Rattle.page_runner.proofs.MakingLemmas.{makes-no_memory}
 use Rattle.page_runner.proofs.command.run_words.Goals as goal
