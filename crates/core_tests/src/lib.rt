@@ -5,7 +5,11 @@
 #[cfg(test)]
 mod batches;
 #[cfg(test)]
+mod builder;
+#[cfg(test)]
 mod events;
+#[cfg(test)]
+mod machine;
 #[cfg(test)]
 mod orders;
 #[cfg(test)]

@@ -1,10 +1,11 @@
 //! Rows of instructions, and rules of some insertion modes.
 
 use builder_state::{Builder, Pushed};
+use char_class::is_space;
 use html_types::{
     Attributes, Flow, Instr, Mode, Name, Next, NodeId, OpenElement, Ops, Place, Tag, Token, Word,
 };
-use insertion_modes::{is_space, row};
+use insertion_modes::row;
 use std::alloc::Global;
 use std::test::Fail;
 
