@@ -14,11 +14,11 @@ use Rattle.core_steps.specs.declared.fetch.Fetch.{Fetch}
 use Rattle.core_steps.specs.declared.fetch.Fetch.TheVariants as fetches
 use Rattle.core_steps.specs.Fetches.{fetched_of, names_of}
 use Rattle.core_steps.specs.Journals.{found}
+use Rattle.core_steps.proofs.FileLemmas.{cut-statements}
 use Rattle.page_turns.specs.declared.scripts.TheConstants.{SCRIPT_LIMIT}
 use Rattle.page_turns.specs.Given.{given_of, NoFault, AbsencesRose, file_at, MayGive, AreRead, ReadTo, untouched, unbegun, begun}
 use Rattle.page_turns.specs.Scripts.{Met, path_of, IsAbsent, MayFetch, ReadScriptsTo, none_begun, last, MayMeet, AreDistinct, NamesOnce, BeginsFile, left_alone, begun_once, BeginsNew, Fetches, AreKnown}
 use Rattle.page_turns.proofs.KeepsLemmas.{begun_none, begun_then, rose-on, rose-stays, Later}
-use Rattle.page_turns.proofs.FetchLemmas.{cut-statements}
 use Rattle.page_turns.proofs.TextLemmas.{same-text, same-refl, none-there}
 
 -- ---- one fetch
