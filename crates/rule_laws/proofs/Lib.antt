@@ -16,15 +16,15 @@ pub mod Renaming
 pub mod RenamingTexts
 mod Counts
 mod Readings
-mod Calm
+pub mod Calm
 mod Pending
-mod Resets
+pub mod Resets
 mod Depth
-mod Takes
+pub mod Takes
 mod Walk
-mod Rows
+pub mod Rows
 mod Rounds
-mod Thinned
+pub mod Thinned
 mod Closed
 mod Proper
 mod ProperModes

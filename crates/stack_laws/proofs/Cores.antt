@@ -15,11 +15,11 @@ use Rattle.html_types.specs.declared.open.Format.TheVariants.{Marker, Element}
 use Rattle.standard.specs.Elements.{is_word}
 use Rattle.standard.specs.Stack.{is_open}
 use Rattle.stack_laws.specs.Grounded.{is_vital, is_guard, is_formatting, is_known, is_special, with_name, templates_among, has_no, is_placed, is_orderly, reaches, is_rooted, is_loose, is_loose_if_any, is_apart, are_apart, are_listed}
-use Rattle.stack_laws.proofs.Basics.{split}
-use Rattle.stack_laws.proofs.Basics.{both}
+use Rattle.rule_laws.proofs.Calm.{split}
+use Rattle.rule_laws.proofs.Takes.{both}
 use Rattle.rule_laws.proofs.FreshnessDocs.{same-true}
 use Rattle.rule_laws.proofs.FreshnessOps.{same-itself}
-use Rattle.stack_laws.proofs.Basics.{Thinned}
+use Rattle.rule_laws.proofs.Thinned.{Thinned}
 
 -- ---- tests
 

@@ -27,11 +27,11 @@ use Rattle.standard.specs.Adoption.{Turned, turned, turn_with, turn_at, turn, tu
 use Rattle.standard.specs.Act.{AreOpsBound}
 use Rattle.rule_laws.specs.Naming.{AreOpenBound, AreFresh, Serves, known_after_all}
 use Rattle.stack_laws.specs.Grounded.{is_vital, is_guard, is_formatting, is_known, is_special, with_name, core, is_orderly, is_rooted, is_loose, is_apart, are_apart, are_listed, Firm, FirmOf}
-use Rattle.stack_laws.proofs.Basics.{split}
-use Rattle.stack_laws.proofs.Basics.{both}
+use Rattle.rule_laws.proofs.Calm.{split}
+use Rattle.rule_laws.proofs.Takes.{both}
 use Rattle.rule_laws.proofs.FreshnessDocs.{same-true}
 use Rattle.rule_laws.proofs.FreshnessOps.{same-itself}
-use Rattle.stack_laws.proofs.Basics.{Thinned, thin-same}
+use Rattle.rule_laws.proofs.Thinned.{Thinned, thin-same}
 use Rattle.rule_laws.proofs.FreshnessTexts.{later-later, fresh-follows}
 use Rattle.rule_laws.proofs.AdoptionFreshness.{turn_at-fits}
 use Rattle.stack_laws.proofs.Popped.{drops-thinned, Spares, firm-dropped, vital-guard}

@@ -19,8 +19,8 @@ use Rattle.standard.specs.Elements.{is_word}
 use Rattle.standard.specs.Stack.{is_open, is_empty}
 use Rattle.rule_laws.specs.Naming.{AreOpenBound, AreFormatsBound, IsBoundIfAny}
 use Rattle.stack_laws.specs.Grounded.{is_vital, is_guard, is_formatting, is_known, is_special, with_name, core, templates_among, no_words, has_no, is_placed, is_orderly, reaches, is_rooted, is_loose, is_loose_if_any, is_apart, are_apart, are_listed, Firm, has_facts, stands, main_mode}
-use Rattle.stack_laws.proofs.Basics.{split}
-use Rattle.stack_laws.proofs.Basics.{both}
+use Rattle.rule_laws.proofs.Calm.{split}
+use Rattle.rule_laws.proofs.Takes.{both}
 use Rattle.rule_laws.proofs.FreshnessDocs.{same-true}
 use Rattle.stack_laws.proofs.Cores.{not-false, neither, to-false, has_no-kept, templates-kept, reaches-more, loose-closed}
 use Rattle.stack_laws.proofs.Popped.{template-vital}

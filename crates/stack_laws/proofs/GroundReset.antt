@@ -18,8 +18,8 @@ use Rattle.standard.specs.Elements.{is_word, is_one_of}
 use Rattle.standard.specs.Reset.{select_mode, template_mode, root_mode, reset_mode}
 use Rattle.stack_laws.specs.Grounded.{is_vital, is_guard, is_known, with_name, core, no_words, has_no, is_orderly, reaches, has_facts, is_template_mode}
 use Rattle.rule_laws.specs.Proper.{is_late}
-use Rattle.stack_laws.proofs.Basics.{split}
-use Rattle.stack_laws.proofs.Basics.{both}
+use Rattle.rule_laws.proofs.Calm.{split}
+use Rattle.rule_laws.proofs.Takes.{both}
 use Rattle.stack_laws.proofs.Cores.{either-false, neither}
 use Rattle.stack_laws.proofs.GroundAdoption.{guardless}
 

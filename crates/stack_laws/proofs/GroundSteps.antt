@@ -49,20 +49,20 @@ use Rattle.rule_laws.specs.Naming.{AreOpenBound, IsBoundIfAny, AreFresh, Holds}
 use Rattle.rule_laws.specs.Proper.{is_main_mode}
 use Rattle.stack_laws.specs.Grounded.{is_vital, is_guard, is_formatting, is_known, is_special, with_name, core, templates_among, has_no, is_orderly, reaches, is_rooted, is_loose, is_loose_if_any, is_apart, are_apart, are_listed, Firm, has_facts, no_words, stands, main_mode, is_text_mode, is_text_like, has_kept, has_text_at_bottom, is_template_mode, GroundOf}
 use Rattle.rule_laws.specs.Proper.{is_early, is_late}
-use Rattle.stack_laws.proofs.Basics.{split}
-use Rattle.stack_laws.proofs.Basics.{both}
+use Rattle.rule_laws.proofs.Calm.{split}
+use Rattle.rule_laws.proofs.Takes.{both}
 use Rattle.rule_laws.proofs.FreshnessDocs.{same-true}
 use Rattle.rule_laws.proofs.FreshnessTexts.{fresh-follows}
 use Rattle.rule_laws.proofs.FreshnessOps.{same-itself}
 use Rattle.rule_laws.proofs.FreshnessWalks.{without_open-bound}
-use Rattle.stack_laws.proofs.Basics.{Thinned, thin-same, thin-without_open}
+use Rattle.rule_laws.proofs.Thinned.{Thinned, thin-same, thin-without_open}
 use Rattle.stack_laws.proofs.Cores.{loose-closed, orderly-left, rooted-left, has_no-kept, not-true, not-false, neither, to-false, Drops, drops-none, loose-thinned, apart-all-thinned, listed-by, owner-by, loose-push}
 use Rattle.stack_laws.proofs.Popped.{rooted-words, closes, passes, item_stop, until-drops, implied-drops, form-drops, reach-drops, reach-top, scope-implied, is_foreign_top, foreign-spares}
 use Rattle.stack_laws.proofs.GroundAdoption.{guardless, guard-special, formatting-special, entry-listed}
 use Rattle.stack_laws.proofs.Grounds.{Own, own_named, own_of, meant_word, meant-same, spares_meant, spares-meant, spared, spared-spares, Claim, the, fits, lost, Know, nothing, scoped, topped, open_top, not_html, has_template, text_top, foreign_top, headed, headed_topped, Debt, even, owes_ok, owes_mode, owes_pop, At, is_even, is_plainly, is_text_top, is_claimed, rests, knowing, Claimed, Owes, Sound, seen, Knows, SoundOf, Stands, vitals, dropping, sound-dropped}
 use Rattle.stack_laws.proofs.GroundPushes.{Unseen, is_low, templated, rooted, sound-pushed, sound-templated, sound-rooted}
 use Rattle.stack_laws.proofs.GroundReset.{reset-facts, templates-late}
-use Rattle.stack_laws.proofs.Basics.{reset-holds}
+use Rattle.rule_laws.proofs.Resets.{reset-holds}
 use Rattle.stack_laws.proofs.GroundRows.{learn, unlearn, is_pushable, may_push, pushing_know, pushing, is_early_claim, is_formatting_tag, pop_words, may_pop, is_head_claim, same_who, Until, by_scope, by_template, by_claim, never, until_by, until_claim, is_the, passed_words, closed_words, item_words, may_until, until_at, only_words, context_know, implied_know, thorough_know, tops, is_all_of, owes_template, enters, may_enter, entering, is_owes_mode, may_pop_mode, popped_debt, paid_ok, is_headed, without_head, is_topped_own}
 
 -- ---- the stack that is seen

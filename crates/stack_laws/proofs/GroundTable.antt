@@ -19,7 +19,7 @@ use Rattle.rule_laws.specs.Proper.{is_main_mode, is_early, is_late}
 use Rattle.rule_laws.specs.Rounds.{is_insertion_mode}
 use Rattle.stack_laws.proofs.Grounds.{own_named, own_of, Own, no_tag, other_name, own_word, nothing, text_top}
 use Rattle.stack_laws.proofs.GroundRows.{grounds, start}
-use Rattle.stack_laws.proofs.Basics.{modes, every, each, character_rows, character-rows}
+use Rattle.rule_laws.proofs.Rows.{modes, every, each, character_rows, character-rows}
 
 -- by the rules of a mode, where the main mode is that one; by those of others at most so many times
 unfoldable pub keeps_ground : ℕ → Own → (Mode → List Instr) → Mode → Mode → Bool

@@ -49,7 +49,7 @@ use Rattle.rule_laws.specs.Naming.{AreFresh, Serves, known_after_all, IsNextBoun
 use Rattle.rule_laws.specs.Proper.{is_main_mode}
 use Rattle.stack_laws.specs.Grounded.{is_vital, is_guard, is_formatting, is_known, is_special, with_name, core, templates_among, has_no, is_rooted, is_loose, Firm, has_facts, stands, main_mode, is_text_mode, is_text_like, has_kept, no_words, has_text_at_bottom, is_late_if_any, Ground, GroundOf, templates_in, HasRoot, GroundedStand, OpeningIsGrounded, GroundedUnlessDeep, TokensStayGrounded}
 use Rattle.rule_laws.specs.Proper.{is_early, is_late}
-use Rattle.stack_laws.proofs.Basics.{split}
+use Rattle.rule_laws.proofs.Calm.{split}
 use Rattle.rule_laws.proofs.AdoptionFreshness.{AdoptedFits, adopt-fits}
 use Rattle.rule_laws.proofs.Framing.{construct-framed}
 use Rattle.rule_laws.proofs.Freshness.{Fits, turn-fits, by_mode-fits, adoption-fits, construct-fits}
@@ -62,7 +62,7 @@ use Rattle.stack_laws.proofs.GroundRows.{is_formatting_tag, grounds, is_bare_mod
 use Rattle.stack_laws.proofs.GroundTable.{keeps_ground, depth, main_ground, text_ground, table_text_ground, ground-table}
 use Rattle.stack_laws.proofs.GroundSteps.{IsMain, plain-seen, LinkOk, foreign-pushed, not-early, core-without, empty-without, firm-without, loose-sub}
 use Rattle.stack_laws.proofs.GroundWalk.{Final, walked}
-use Rattle.stack_laws.proofs.Basics.{character_rows, character-rows}
+use Rattle.rule_laws.proofs.Rows.{character_rows, character-rows}
 
 -- it asks for no adoption
 abbrev calm : Flow → Bool

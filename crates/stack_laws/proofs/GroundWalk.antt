@@ -43,9 +43,9 @@ use Rattle.standard.specs.Formatting.{clear_to_marker, entry_named, kept, lost a
 use Rattle.standard.specs.Instructions.{Config, config, on, holds, room, made, pushed, insert, insert_root, insert_in, here, tag_of, void, void_as, named, for_tag, reopen, reopen_all, reconstruct, body_text, body_character, body_characters, none_pending, insert_pending, all_space, texts, append_pending, insert_text, insert_comment, append_doctype, end_of, add_attributes, detach_second, pop_mode, stop_at_script, adopt_name, adopt_own, adopt_anchor, step, run}
 use Rattle.rule_laws.specs.Naming.{AreFresh, known_after_all}
 use Rattle.stack_laws.specs.Grounded.{is_vital, is_guard, is_formatting, is_known, is_special, core, templates_among, has_no, is_loose, are_listed, GroundOf, main_mode, is_template_mode}
-use Rattle.stack_laws.proofs.Basics.{split, run-left}
-use Rattle.stack_laws.proofs.Basics.{popped-hold}
-use Rattle.stack_laws.proofs.Basics.{both}
+use Rattle.rule_laws.proofs.Calm.{split, run-left}
+use Rattle.rule_laws.proofs.Resets.{popped-hold}
+use Rattle.rule_laws.proofs.Takes.{both}
 use Rattle.rule_laws.proofs.Freshness.{Fits, reopen-fits, body_character-fits, turn-fits}
 use Rattle.rule_laws.proofs.FreshnessTexts.{fresh-follows}
 use Rattle.rule_laws.proofs.FreshnessWalks.{kept-bound}

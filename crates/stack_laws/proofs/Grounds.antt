@@ -26,8 +26,8 @@ use Rattle.standard.specs.Elements.{is_word, is_meant}
 use Rattle.standard.specs.Stack.{is_empty, in_scope, on_stack, current_is, without_open}
 use Rattle.rule_laws.specs.Proper.{is_main_mode}
 use Rattle.stack_laws.specs.Grounded.{is_vital, is_guard, is_known, core, templates_among, has_no, reaches, Firm, has_facts, stands, main_mode, is_text_mode, is_text_like, has_text_at_bottom, is_late_if_any, is_template_mode}
-use Rattle.stack_laws.proofs.Basics.{split}
-use Rattle.stack_laws.proofs.Basics.{both}
+use Rattle.rule_laws.proofs.Calm.{split}
+use Rattle.rule_laws.proofs.Takes.{both}
 use Rattle.stack_laws.proofs.Cores.{not-true, not-false, to-false, Drops, through-drops, has_no-left, has_no-kept, templates-kept, reaches-left}
 use Rattle.stack_laws.proofs.Popped.{Spares, firm-dropped, template-vital, is_foreign_top}
 use Rattle.stack_laws.proofs.GroundAdoption.{core-dropped}

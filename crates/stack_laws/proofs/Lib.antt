@@ -1,4 +1,3 @@
-mod Basics
 mod Cores
 mod Popped
 mod GroundAdoption

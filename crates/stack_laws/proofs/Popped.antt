@@ -19,8 +19,8 @@ use Rattle.standard.specs.Foreign.{is_html, is_html_or_point, is_text_point, is_
 use Rattle.standard.specs.Stack.{in_scope, until, pop_to, pop_to_root, implied, implied_thoroughly, close, item_found, close_item, end_found, other_end}
 use Rattle.standard.specs.Instructions.{pop_foreign, foreign_end}
 use Rattle.stack_laws.specs.Grounded.{is_vital, is_guard, is_known, is_special, with_name, core, no_words, has_no, is_orderly, reaches, is_rooted, Firm}
-use Rattle.stack_laws.proofs.Basics.{split}
-use Rattle.stack_laws.proofs.Basics.{Thinned, thin-same}
+use Rattle.rule_laws.proofs.Calm.{split}
+use Rattle.rule_laws.proofs.Thinned.{Thinned, thin-same}
 use Rattle.stack_laws.proofs.Cores.{not-true, either-false, neither, to-false, Drops, drops-none, drops-more, drops-trans, through-drops, orderly-left, has_no-left, rooted-left, loose-thinned, apart-all-thinned, listed-by, owner-by}
 
 -- ---- what is popped is left out, and the rest stays firm
