@@ -16,7 +16,7 @@ reads-once false p left now v x y a b = a ∙ sym b
 reads-once true None left now v x y a b = a ∙ sym b
 reads-once true (Some held) left now v x y (c, i, a) (k, j, b) = a ∙ (ap (λ z. judged z v) (one-verdict held now c k i j) ∙ sym b)
 
-watched-once : (m : Moment) (v x y : Watch) → Watched m v x → Watched m v y → x ≡ y
+pub watched-once : (m : Moment) (v x y : Watch) → Watched m v x → Watched m v y → x ≡ y
 watched-once (reading s) v x y a b = reads-once (nat_le (length s.input) v.page_left) v.after_tag (length s.input) s.parser v x y a b
 watched-once (tag_ended i s) v x y a b = a ∙ sym b
 watched-once (awaits name s) v x y a b = a ∙ sym b

@@ -46,13 +46,13 @@ pipe-with es e (tagged i held) d b s k x n h = record { hand = h.hand; pieces = 
 pipe-with es e (waits name held) d b s k x n h = record { hand = h.hand; pieces = h.pieces }
 pipe-with es e (done r) d b s k x n h = tt
 
-free-of : (p : Phase) → is_free p ≡ true → p ≡ free
+pub free-of : (p : Phase) → is_free p ≡ true → p ≡ free
 free-of free q = refl
 free-of (tagged i held) q = absurd (true≢false (sym q))
 free-of (waits name held) q = absurd (true≢false (sym q))
 free-of (done r) q = absurd (true≢false (sym q))
 
-nil-of : (bs : List Batch) → is_empty bs ≡ true → bs ≡ []
+pub nil-of : (bs : List Batch) → is_empty bs ≡ true → bs ≡ []
 nil-of [] q = refl
 nil-of (b ∷ bs) q = absurd (true≢false (sym q))
 

@@ -8,20 +8,8 @@ use Rattle.standard.specs.Serial.{World, Moment, reading, tag_ended, awaits, ove
 use Rattle.core_rules.specs.declared.verdict.Verdict.{Verdict}
 use Rattle.core_rules.specs.declared.verdict.Verdict.TheVariants.{Keep, Rewind}
 use Rattle.core_rules.specs.Verdict.{Watch, runs, at_tag, judged, Reads, Watched, Watches, stays, goes_on}
-use Rattle.core_laws.proofs.OneResult.{one-verdict, one-next}
-
--- ---- one thing at a moment
-
-reads-once : (b : Bool) (p : Option Parser) (left : ℕ) (now : Parser) (v x y : Watch) → Reads b p left now v x → Reads b p left now v y → x ≡ y
-reads-once false p left now v x y a b = a ∙ sym b
-reads-once true None left now v x y a b = a ∙ sym b
-reads-once true (Some held) left now v x y (c, i, a) (k, j, b) = a ∙ (ap (λ z. judged z v) (one-verdict held now c k i j) ∙ sym b)
-
-watched-once : (m : Moment) (v x y : Watch) → Watched m v x → Watched m v y → x ≡ y
-watched-once (reading s) v x y a b = reads-once (nat_le (length s.input) v.page_left) v.after_tag (length s.input) s.parser v x y a b
-watched-once (tag_ended i s) v x y a b = a ∙ sym b
-watched-once (awaits name s) v x y a b = a ∙ sym b
-watched-once (over o) v x y a b = a ∙ sym b
+use Rattle.core_laws.proofs.OneResult.{one-next}
+use Rattle.core_laws.proofs.Comparing.{watched-once}
 
 -- ---- a moment's own step
 

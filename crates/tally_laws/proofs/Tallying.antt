@@ -28,7 +28,7 @@ use Rattle.core_rules.specs.declared.verdict.Verdict.TheVariants.{Keep, Rewind}
 use Rattle.core_rules.specs.Batches.{Piece, Batch, text_batch, finish_batch, end_batch, Halt, at, finishing, refusing, answer}
 use Rattle.core_rules.specs.Verdict.{Watch, first_watch, runs, at_tag, judged, Watches, stays}
 use Rattle.core_rules.specs.Settling.{Settles, is_empty}
-use Rattle.core_rules.specs.Desk.{Phase, free, tagged, waits, done, Desk, first_desk, pieces_with, is_free, stale, wants_reply, can_do_in, sends_first, with_batches, drops, answer_called_for, takes, at_end_tag, behind_halt, with_executed, executes, decided, Concludes, RunsOn, DoesIn, Moves, MovesBy}
+use Rattle.core_rules.specs.Desk.{Phase, free, tagged, waits, done, Desk, first_desk, pieces_with, stale, wants_reply, can_do_in, sends_first, with_batches, drops, answer_called_for, takes, at_end_tag, behind_halt, with_executed, executes, decided, Concludes, RunsOn, DoesIn, Moves, MovesBy}
 use Rattle.core_rules.specs.Core.{Setup, whole_page}
 use Rattle.core_rules.specs.StandsFor.{own_moment, text_of, page_left}
 use Rattle.core_laws.specs.Alike.{own_of, Okay, AreAlike}
@@ -39,7 +39,7 @@ use Rattle.core_laws.proofs.Cutting.{IsText, IsLast, first-batch, answered-by-no
 use Rattle.core_laws.proofs.Watching.{at_left, IsWatch, watches-then, watches-next, watches-batch, watches-lead}
 use Rattle.core_laws.proofs.Known.{InPhase, InHand, InWatch, Known, with_input, Reads, reads}
 use Rattle.core_laws.proofs.Ledger.{Piped, Pipe, again-text, page-text, last-piece}
-use Rattle.core_laws.proofs.Moving.{Holding, moves-hold}
+use Rattle.core_laws.proofs.Moving.{Holding, free-of, nil-of, moves-hold}
 use Rattle.core_laws.proofs.Standing.{first-holds}
 use Rattle.tally_laws.specs.TallyLaws.{Tallies, TalliesAsSerial}
 use Rattle.tally_laws.proofs.Places.{InPlace, none-in_hand, some-in_hand, same-with_none, same-with_some, over-stays, OneGoesOn, one-goes_on}
@@ -62,16 +62,6 @@ CountsIn (tagged i held) realm side m v = Realms 1 realm v
 CountsIn (waits name held) realm side m v = Realms 1 realm v
 CountsIn (done finished) realm side m v = Realms 0 realm v × EndsSo side m
 CountsIn (done (refused y)) realm side m v = Unit {0}
-
-free-of : (p : Phase) → is_free p ≡ true → p ≡ free
-free-of free q = refl
-free-of (tagged i held) q = absurd (true≢false (sym q))
-free-of (waits name held) q = absurd (true≢false (sym q))
-free-of (done r) q = absurd (true≢false (sym q))
-
-nil-of : (bs : List Batch) → is_empty bs ≡ true → bs ≡ []
-nil-of [] q = refl
-nil-of (b ∷ bs) q = absurd (true≢false (sym q))
 
 module _ (e : Ending) (w : World) (m0 : Moment) (v0 : Watch) where
   abbrev Stands : List ℕ → Desk → Type 0
