@@ -1,5 +1,6 @@
 pub mod TextLemmas
 pub mod CharLemmas
+pub mod CaseLemmas
 pub mod WordLemmas
 pub mod ListLemmas
 pub mod Counts

@@ -6,38 +6,22 @@ use Rattle.std.specs.List.{prefix_len, suffix_len, list_all, list_any}
 use Rattle.std.specs.Char.{is_ascii_whitespace, to_ascii_lowercase}
 use Rattle.std.specs.Str.{chars, IsUtf8, IsTrimAscii}
 use Rattle.std.specs.Cmp.Lexicographic.{bytes_decides}
-use Rattle.std.proofs.lemmas.Bool.{and_parts, both_ways, ltb-true}
+use Rattle.std.proofs.lemmas.Bool.{both_ways}
 use Rattle.std.proofs.lemmas.Bool.Decides.{nat_tests, same_from_decides}
 use Rattle.std.proofs.lemmas.List.{get_or-take, length-drop, length-reverse, reverse-append, reverse-reverse}
 use Rattle.std.proofs.Math.Seq.{drop-append_seam}
 use Rattle.std.proofs.lemmas.List.Folds.{length-prefix_len}
 use Rattle.std.proofs.lemmas.List.Sums.{prefix_len_passes, suffix_len-le-length}
-use Rattle.std.proofs.lemmas.List.Elements.{All-same, All-nil, All-cons, All-head, All-tail, All-append, All-push, All-from_get_or}
+use Rattle.std.proofs.lemmas.List.Elements.{All-same, All-head, All-tail, All-append, All-push, All-from_get_or}
 use Rattle.std.proofs.lemmas.Str.{chars-IsAscii, encodes-chars, encodes-IsAscii}
 use Rattle.std.proofs.lemmas.Str.Ascii.{IsAscii-from_all, trim_ascii_is}
 use Rattle.html_types.specs.Text.{same_text}
+use Rattle.html_types.proofs.CaseLemmas.{Small, All-unlower, All-lower, All-from_test}
 use Rattle.html_types.proofs.TextLemmas.{nil-from_bytes}
 use Rattle.standard.specs.Prepare.{strip, strip_start, is_type, javascript_types, is_javascript}
 
-abbrev Small : ℕ → Type 0
-Small c = c < 128
-
 space-small : (c : ℕ) → is_ascii_whitespace c ≡ true → c < 128
 space-small c space = grind (arith, nat_tests)
-
-lower-small : (c : ℕ) → to_ascii_lowercase c < 128 → c < 128
-lower-small c small = grind (arith, nat_tests)
-
-small-lower : (c : ℕ) → c < 128 → to_ascii_lowercase c < 128
-small-lower c small = grind (arith, nat_tests)
-
-All-unlower : (cs : List ℕ) → All Small (map to_ascii_lowercase cs) → All Small cs
-All-unlower [] small = All-nil Small
-All-unlower (c ∷ cs) small = All-cons Small c cs (lower-small c (All-head Small _ _ small)) (All-unlower cs (All-tail Small _ _ small))
-
-All-lower : (cs : List ℕ) → All Small cs → All Small (map to_ascii_lowercase cs)
-All-lower [] small = All-nil Small
-All-lower (c ∷ cs) small = All-cons Small _ _ (small-lower c (All-head Small c cs small)) (All-lower cs (All-tail Small c cs small))
 
 -- the white space that a text begins with
 All-prefix : (cs : List ℕ) → All Small (take (prefix_len is_ascii_whitespace cs) cs)
@@ -98,12 +82,6 @@ same-from_chars bs rs name utf8 trim small same =
     let all = IsAscii-from_all (chars bs) (All-unstrip (chars bs) stripped) in
     let chars-are : chars bs ≡ bs = sym (encodes-IsAscii (chars bs) all) ∙ encodes-chars bs utf8 in
     ap (map to_ascii_lowercase) (stripped-bytes bs rs trim) ∙ ap (λ xs. map to_ascii_lowercase (strip xs)) (sym chars-are) ∙ same
-
-All-from_test : (cs : List ℕ) → IsTrue (list_all (λ b. nat_lt b 128) cs) → All Small cs
-All-from_test [] test = All-nil Small
-All-from_test (c ∷ cs) test =
-    let parts = and_parts (nat_lt c 128) (list_all (λ b. nat_lt b 128) cs) test in
-    All-cons Small c cs (ltb-true c 128 parts.0) (All-from_test cs parts.1)
 
 -- comparing the bytes compares the characters
 pub same_type : (bs rs name : List ℕ) (r : Bool) → IsUtf8 bs → IsTrimAscii bs rs → IsTrue (list_all (λ b. nat_lt b 128) name)
