@@ -18,7 +18,7 @@ use std::marker::Model;
 use std::sync::Arc;
 
 /// Why a file is no table.
-#[derive(Clone, Copy, PartialEq, Eq)]
+#[derive(Clone, Copy, Debug, PartialEq, Eq)]
 pub enum TableFault {
     /// The file isn't JSON, or isn't of the shape.
     NotTable,
