@@ -7,8 +7,6 @@ mod read;
 pub mod row;
 mod search;
 pub mod table;
-#[cfg(test)]
-mod tests;
 
 pub use cursor::{Cursor, Step};
 pub use row::{Characters, Match};

@@ -4,7 +4,5 @@
 mod items;
 mod numbers;
 mod page;
-#[cfg(test)]
-mod tests;
 
 pub use page::{Made, MadeScript, make};

@@ -4,8 +4,6 @@
 mod reading;
 mod script;
 mod string;
-#[cfg(test)]
-mod tests;
 
 pub use reading::read;
 pub use script::Script;

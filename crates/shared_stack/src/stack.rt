@@ -8,9 +8,6 @@ use crate::walk::Walk;
 use std::alloc::{AllocError, Global};
 use std::marker::Model;
 
-#[cfg(test)]
-mod tests;
-
 // Where a list has more entries of its own, `share` makes all its entries shared.
 const MOST_OWN: usize = 16;
 

@@ -3,8 +3,6 @@
 
 mod bytes;
 mod decoder;
-#[cfg(test)]
-mod tests;
 
 pub use bytes::without_mark;
 pub use decoder::{Decoder, Fed};

@@ -1,4 +1,5 @@
-//! The rows. Their tokens are written from the standard's rules (13.2.5).
+//! Texts whose tokens are the standard's, however the texts are cut: the rows. Their tokens are
+//! written from the standard's rules (13.2.5).
 
 use crate::cuts::{Row, Start, gives, gives_in_three, gives_in_two};
 use entity_table::Table;

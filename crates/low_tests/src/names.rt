@@ -1,6 +1,6 @@
-//! Calls with ample memory, on a file of a few names, and files that are refused.
+//! Character references: calls on a file of a few names, and files that are refused.
 
-use crate::{Characters, Cursor, Match, Step, Table, TableFault};
+use entity_table::{Characters, Cursor, Match, Step, Table, TableFault};
 use std::test::Fail;
 
 const SIX: &[u8] =
@@ -22,12 +22,12 @@ fn finds_the_longest(rt: HostRuntime) -> Result<(), Fail> {
     let read = Table::read(rt.alloc(), SIX)?;
     let table = read.copy()?;
     let mut cursor = Cursor::over(&table, "&not");
-    assert_eq!(rt; cursor.push(&table, 'i'), Step::More);
-    assert_eq!(rt; cursor.best(), one(4, false, '¬'));
-    assert_eq!(rt; cursor.push(&table, 't'), Step::Stop(one(4, false, '¬')));
-    assert_eq!(rt; cursor.push(&table, ';'), Step::Stop(one(4, false, '¬')));
-    assert_eq!(rt; Cursor::over(&table, "&notin;x").best(), one(7, true, '∉'));
-    assert_eq!(rt; Cursor::over(&table, "&lt").best(), one(3, false, '<'));
+    assert!(rt; cursor.push(&table, 'i') == Step::More);
+    assert!(rt; cursor.best() == one(4, false, '¬'));
+    assert!(rt; cursor.push(&table, 't') == Step::Stop(one(4, false, '¬')));
+    assert!(rt; cursor.push(&table, ';') == Step::Stop(one(4, false, '¬')));
+    assert!(rt; Cursor::over(&table, "&notin;x").best() == one(7, true, '∉'));
+    assert!(rt; Cursor::over(&table, "&lt").best() == one(3, false, '<'));
     Ok(())
 }
 
@@ -39,19 +39,19 @@ fn gives_both_characters(rt: HostRuntime) -> Result<(), Fail> {
         second: Some('\u{333}'),
     };
     let found = Cursor::over(&table, "&acE;").best();
-    assert_eq!(rt; found.map(|m| m.characters), Some(characters));
-    assert_eq!(rt; Cursor::new(&table).push(&table, 'a'), Step::Stop(None));
+    assert!(rt; found.map(|m| m.characters) == Some(characters));
+    assert!(rt; Cursor::new(&table).push(&table, 'a') == Step::Stop(None));
     Ok(())
 }
 
 #[test]
 fn finds_whole_names(rt: HostRuntime) -> Result<(), Fail> {
     let table = Table::read(rt.alloc(), SIX)?;
-    assert_eq!(rt; table.find("&not;"), one(5, true, '¬'));
-    assert_eq!(rt; table.find("&not"), one(4, false, '¬'));
-    assert_eq!(rt; table.find("&no"), None);
-    assert_eq!(rt; table.find("&notit;"), None);
-    assert_eq!(rt; table.find("amp;"), None);
+    assert!(rt; table.find("&not;") == one(5, true, '¬'));
+    assert!(rt; table.find("&not") == one(4, false, '¬'));
+    assert!(rt; table.find("&no").is_none());
+    assert!(rt; table.find("&notit;").is_none());
+    assert!(rt; table.find("amp;").is_none());
     Ok(())
 }
 

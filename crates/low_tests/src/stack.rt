@@ -1,11 +1,19 @@
-use super::*;
+//! Lists whose copies share their older entries: copies, edits at places that are shared and not,
+//! and which entries a copy copies.
+
+use shared_stack::{Entry, SharedStack};
+use std::alloc::{AllocError, Global};
 use std::test::Fail;
 
+// A letter. A capital one has no copy, as if there were no memory for it.
 #[derive(Drop)]
 struct Letter(u8);
 
 impl Entry for Letter {
     fn copy(&self, _alloc: Global) -> Result<Letter, AllocError> {
+        if self.0.is_ascii_uppercase() {
+            return Err(AllocError);
+        }
         Ok(Letter(self.0))
     }
 
@@ -67,14 +75,18 @@ fn a_copy_stays_as_it_is(rt: HostRuntime) -> Result<(), Fail> {
     Ok(())
 }
 
+// Shared entries need no copies of their own: only then a list of capital letters can be copied.
 #[test]
 fn only_many_entries_become_shared(rt: HostRuntime) -> Result<(), Fail> {
-    let mut few = stack_of(rt.alloc(), b"abcdefghijklmnop")?;
+    let mut few = stack_of(rt.alloc(), b"Abcdefghijklmnop")?;
     few.share(rt.alloc())?;
-    assert_eq!(rt; few.own.len(), 16);
-    let many = shared(rt.alloc())?;
-    assert_eq!(rt; many.own.len(), 1);
-    assert_eq!(rt; many.older.len(), 20);
+    assert!(rt; few.copy(rt.alloc()).is_err());
+    let mut many = stack_of(rt.alloc(), b"ABCDEFGHIJKLMNOPQRST")?;
+    many.share(rt.alloc())?;
+    many.push(Letter(b'u'))?;
+    assert!(rt; many.copy(rt.alloc()).is_ok());
+    many.push(Letter(b'V'))?;
+    assert!(rt; many.copy(rt.alloc()).is_err());
     Ok(())
 }
 

@@ -1,8 +1,10 @@
-use crate::{Decoder, Ending};
+//! Pages in two pieces: their texts, and how they end.
+
 use html_types::Text;
 use std::alloc::Global;
 use std::process::Abort;
 use std::test::Fail;
+use utf8_pieces::{Decoder, Ending};
 
 // Reads two pieces of a page of at most 4 bytes, and compares its text and ending.
 fn expect<R: Abort>(
@@ -17,7 +19,7 @@ fn expect<R: Abort>(
     text.push_str(decoder.feed(alloc, pieces.0)?.text.as_str())?;
     text.push_str(decoder.feed(alloc, pieces.1)?.text.as_str())?;
     assert_eq!(rt; text.as_str(), wanted.0);
-    assert_eq!(rt; decoder.close(fault), wanted.1);
+    assert!(rt; decoder.close(fault) == wanted.1, "{}", wanted.0);
     Ok(())
 }
 

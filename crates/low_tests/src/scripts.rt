@@ -1,5 +1,7 @@
-use crate::read;
+//! Texts that are scripts, and texts that aren't.
+
 use html_types::{NoMemory, Statement};
+use script_lang::read;
 use std::alloc::Global;
 use std::test::Fail;
 

@@ -1,4 +1,6 @@
-use crate::make;
+//! A made page and its scripts, worked out.
+
+use page_maker::make;
 use std::test::Fail;
 
 #[test]

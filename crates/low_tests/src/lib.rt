@@ -1,0 +1,27 @@
+//! Tests of the crates below the layers, each through its public calls: `shared_stack`, `op_queue`,
+//! `page_maker`, `outside`, `utf8_pieces`, `entity_table`, `script_lang`, `char_class` and
+//! `tokenizer`. They stand in a crate of their own, since a crate that has tests is proved twice.
+#![tactic(auto)]
+
+#[cfg(test)]
+mod cuts;
+#[cfg(test)]
+mod files;
+#[cfg(test)]
+mod lanes;
+#[cfg(test)]
+mod making;
+#[cfg(test)]
+mod marks;
+#[cfg(test)]
+mod names;
+#[cfg(test)]
+mod pieces;
+#[cfg(test)]
+mod scripts;
+#[cfg(test)]
+mod spelling;
+#[cfg(test)]
+mod stack;
+#[cfg(test)]
+mod tokens;
