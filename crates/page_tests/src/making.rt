@@ -1,6 +1,6 @@
 //! Pages that are made from a number.
 
-use crate::rows::call_run;
+use crate::calls::status_on_two;
 use html_types::NoMemory;
 use outside::{MemFiles, MemSink, OpenGate};
 use page_runner::Status;
@@ -39,7 +39,7 @@ fn gives<R: Threads + Wait + Copy + Send + Sync + 'static>(
     let mut files = MemFiles::new(alloc, &[])?;
     let mut sink = MemSink::new(alloc, row.sink)?;
     let gate = Arc::new(alloc, OpenGate)?;
-    let status = call_run(rt, alloc, &words, &mut files, &mut sink, &gate);
+    let status = status_on_two(rt, alloc, &words, &mut files, &mut sink, &gate);
     Ok(status == row.status && sink.bytes() == row.text.as_bytes())
 }
 

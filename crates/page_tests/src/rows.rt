@@ -1,11 +1,10 @@
 //! A run over files and a sink in memory.
 
-ghost use Rattle.std.specs.Prelude.{◌<◌, ◌≤◌};
-
+use crate::calls::{status_in_place, status_on_two};
 use entity_table::{Table, TableFault};
 use html_types::NoMemory;
 use outside::{MemFiles, MemSink, OpenGate, Port};
-use page_runner::{Job, Status, page_in_place, run};
+use page_runner::{Job, Status};
 use std::alloc::Global;
 use std::sync::{Arc, Wait};
 use std::thread::Threads;
@@ -144,27 +143,6 @@ impl PageRun {
     }
 }
 
-// The calls of the program stand alone, as they promise much that no test asks for: it would be known at each goal behind them.
-
-/// Runs the command that the words give.
-pub fn call_run<R: Threads + Wait + Copy + Send + Sync + 'static>(
-    rt: &R,
-    alloc: Global,
-    words: &[String],
-    files: &mut MemFiles,
-    sink: &mut MemSink,
-    gate: &Arc<OpenGate, Global>,
-) -> Status {
-    run(rt, alloc, words, files, sink, gate)
-}
-
-fn call_in_place(alloc: Global, job: &Job<'_>, files: &mut MemFiles, sink: &mut MemSink) -> Status
-    requires piece { (0 < job.now.piece) × (job.now.piece ≤ 65536) }
-    requires ahead { (0 < job.now.ahead) × (job.now.ahead ≤ 64) }
-{
-    page_in_place(alloc, job, files, sink).outcome
-}
-
 fn read_table(alloc: Global, entities: &str) -> Result<Table, TableFault> {
     Table::read(alloc, entities.as_bytes())
 }
@@ -179,7 +157,7 @@ fn run_on_two<R: Threads + Wait + Copy + Send + Sync + 'static>(
 ) -> Result<Status, NoMemory> {
     let words = words(alloc, piece, dump)?;
     let gate = Arc::new(alloc, OpenGate)?;
-    Ok(call_run(rt, alloc, &words, files, sink, &gate))
+    Ok(status_on_two(rt, alloc, &words, files, sink, &gate))
 }
 
 fn run_in_place(
@@ -200,7 +178,7 @@ fn run_in_place(
         ahead: 8,
         dump: row.dump,
     };
-    Ok(call_in_place(alloc, &job, files, sink))
+    Ok(status_in_place(alloc, &job, files, sink))
 }
 
 fn run_over<R: Threads + Wait + Copy + Send + Sync + 'static>(

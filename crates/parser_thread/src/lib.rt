@@ -6,9 +6,7 @@ mod messages;
 mod running;
 mod seat;
 mod side;
-#[cfg(test)]
-mod tests;
 
 pub use messages::{FromParser, ToParser};
-pub use running::{Lanes, ParserThread, start};
+pub use running::{Lanes, ParserThread, start, start_here};
 pub use side::{Ends, work};

@@ -8,7 +8,7 @@ ghost use Rattle.parser_thread.specs.Running.{IsRunning};
 
 use crate::messages::{FromParser, ToParser};
 use crate::seat::{Outfit, ParserLanes, Seat, take_seat};
-use crate::side::Ends;
+use crate::side::{Ends, ParserSide};
 use entity_table::Table;
 use html_types::NoMemory;
 use op_queue::{Met, Put, Take, lane, meet};
@@ -115,6 +115,44 @@ pub fn start<
         ask,
         replies,
         seat,
+        table,
+        gate,
+        alloc,
+    })
+}
+
+/// The same with the parser's side in the calling thread, as where no thread can be made.
+pub fn start_here<E: InForce, G: Gate + Drop>(
+    alloc: Global,
+    table: &Table,
+    ahead: usize,
+    gate: &Arc<G, Global>,
+) -> Result<ParserThread<E, G>, NoMemory>
+    requires table { table.now ≡ E.entities }
+    requires ahead { ahead ≤ 64 }
+    ensures running { IfOk result (λ t. IsRunning E.InForce t) }
+    ensures asked { IfOk result (λ t. t.ask.put ≡ []) }
+    ensures taken { IfOk result (λ t. t.replies.taken ≡ []) }
+{
+    let Beginning {
+        ask,
+        replies,
+        table,
+        gate,
+        refused: _refused,
+        outfit,
+    } = begin::<E, G>(alloc, table, ahead, gate)?;
+    let Outfit {
+        lanes,
+        table: _table,
+        gate: _gate,
+        refused: _told,
+    } = outfit;
+    let ParserLanes { asked, answers } = lanes;
+    Ok(ParserThread {
+        ask,
+        replies,
+        seat: Seat::Here(ParserSide::new(alloc, asked, answers)),
         table,
         gate,
         alloc,

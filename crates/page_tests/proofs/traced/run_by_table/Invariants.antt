@@ -1,4 +1,4 @@
-use Rattle.page_trace.proofs.run.run_by_table.Given as goal
+use Rattle.page_tests.proofs.traced.run_by_table.Given as goal
 
 abbrev pub ghosts-run_begun : goal.ghosts-run_begun
 ghosts-run_begun g a = record { entities = a.job.now.table.now }

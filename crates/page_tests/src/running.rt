@@ -2,7 +2,7 @@
 
 use crate::calls::{status_in_place, status_on_two};
 use crate::delays::{SlowFiles, SlowGate, SlowSink};
-use crate::pages::{ENTITIES, SCRIPTS};
+use crate::thread_pages::{ENTITIES, SCRIPTS};
 use entity_table::{Table, TableFault};
 use html_types::NoMemory;
 use outside::{MemFiles, MemSink, Outside, Sink};

@@ -1,17 +1,15 @@
-//! Two requests are answered in order, in a thread of its own and over the same lanes in this one. The batches that are expected were read off
-//! the page.
+//! The parser's side answers two requests in order, in a thread of its own and over the same lanes in this one. The batches that are expected were
+//! read off the page.
 
 ghost use Rattle.std.specs.Prelude.{◌≡◌};
 ghost use Rattle.parser_thread.specs.Running.{IsRunning};
 
-use crate::messages::FromParser;
-use crate::running::{Beginning, ParserThread, begin, start};
-use crate::seat::{Outfit, ParserLanes, Seat};
-use crate::side::ParserSide;
+use crate::counting::no_entities;
 use entity_table::Table;
 use html_types::{Ending, NoMemory, Text};
 use outside::Gate;
 use page_pieces::{Piece, SharedText};
+use parser_thread::{FromParser, ParserThread, start, start_here};
 use speculation::{InForce, Request};
 use std::alloc::Global;
 use std::marker::Brand;
@@ -110,29 +108,7 @@ fn here<R: Threads + Wait + Sync, E: InForce>(
 ) -> Result<(Option<usize>, Option<usize>), NoMemory>
     requires { table.now ≡ E.entities }
 {
-    let Beginning {
-        ask,
-        replies,
-        table,
-        gate,
-        refused: _refused,
-        outfit,
-    } = begin::<E, LastGiven>(alloc, table, 2, gate)?;
-    let Outfit {
-        lanes,
-        table: _table,
-        gate: _gate,
-        refused: _told,
-    } = outfit;
-    let ParserLanes { asked, answers } = lanes;
-    let running = ParserThread {
-        ask,
-        replies,
-        seat: Seat::Here(ParserSide::new(alloc, asked, answers)),
-        table,
-        gate,
-        alloc,
-    };
+    let running = start_here::<E, LastGiven>(alloc, table, 2, gate)?;
     Ok(both(rt, running, requests))
 }
 
@@ -160,7 +136,7 @@ fn here_by_table<R: Threads + Wait + Sync>(
 #[test]
 fn a_thread_answers_in_order(rt: HostRuntime) -> Result<(), Fail> {
     let alloc = rt.alloc();
-    let table = Table::read(alloc, b"{}")?;
+    let table = no_entities(alloc)?;
     let gate = Arc::new(alloc, LastGiven(AtomicU64::new(0)))?;
     let requests = two_requests(alloc)?;
     let seen = there_by_table(&rt, alloc, &table, &gate, requests)?;
@@ -173,7 +149,7 @@ fn a_thread_answers_in_order(rt: HostRuntime) -> Result<(), Fail> {
 #[test]
 fn the_same_lanes_serve_in_one_thread(rt: HostRuntime) -> Result<(), Fail> {
     let alloc = rt.alloc();
-    let table = Table::read(alloc, b"{}")?;
+    let table = no_entities(alloc)?;
     let gate = Arc::new(alloc, LastGiven(AtomicU64::new(0)))?;
     let requests = two_requests(alloc)?;
     let seen = here_by_table(&rt, alloc, &table, &gate, requests)?;

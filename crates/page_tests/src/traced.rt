@@ -1,4 +1,4 @@
-//! A page is run in the calling thread, and its steps noted.
+//! A page that is run in the calling thread, its steps noted.
 
 ghost use Rattle.std.specs.Prelude.{◌≡◌, ◌<◌, ◌≤◌, [], None, IfOk, IfSome, length};
 ghost use Rattle.core_steps.specs.Sides.{first_shown};

@@ -64,8 +64,8 @@ fn count_in_force<R: Threads + Wait + Copy + Send + Sync + 'static, E: InForce +
     count_of(&report).ok_or(NoMemory)
 }
 
-// The table of a file that lists no entity.
-fn no_entities(alloc: Global) -> Result<Table, NoMemory>
+/// The table of a file that lists no entity.
+pub fn no_entities(alloc: Global) -> Result<Table, NoMemory>
     ensures { IfOk result (λ table. table ≡ []) }
 {
     match Table::read(alloc, b"{}") {

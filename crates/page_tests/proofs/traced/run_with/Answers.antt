@@ -1,4 +1,4 @@
-use Rattle.page_trace.proofs.run.run_with.Goals as goal
+use Rattle.page_tests.proofs.traced.run_with.Goals as goal
 
 pub parse-requires : goal.parse-requires
 parse-requires g c = record {

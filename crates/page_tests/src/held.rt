@@ -1,7 +1,7 @@
 //! Files, a sink and a gate that hold one another until two threads are at work at once.
 
 ghost use Rattle.std.specs.Prelude.{◌+◌};
-ghost use Rattle.thread_tests.specs.Faults.{with_faults};
+ghost use Rattle.page_tests.specs.Faults.{with_faults};
 
 use crate::meeting::Meeting;
 use outside::{Failed, Gate, Outside, Port, Sink};
