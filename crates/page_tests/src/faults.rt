@@ -331,3 +331,22 @@ fn files_are_read_once(rt: HostRuntime) -> Result<(), Fail> {
     );
     Ok(())
 }
+
+// Its 41,944th write passes the limit, and its file is read once.
+#[test]
+fn a_script_that_writes_itself_is_refused(rt: HostRuntime) -> Result<(), Fail> {
+    let row = Row {
+        met: Conditions {
+            piece: 7,
+            ..failing(&[(Port::Script, 4)])
+        },
+        status: Status::Limit(Limit::Writes),
+        ..scripted(
+            b"<script src=\"a\"></script>",
+            &[("a", WRITES_ITSELF)],
+            "refused writes\n",
+        )
+    };
+    assert_eq!(rt; wrong_as_met(&rt, rt.alloc(), &[row], Way::OnTwo)?, None);
+    Ok(())
+}

@@ -19,8 +19,6 @@ mod faults;
 #[cfg(test)]
 mod files;
 #[cfg(test)]
-mod foreign;
-#[cfg(test)]
 mod held;
 #[cfg(test)]
 mod lanes;
@@ -32,10 +30,6 @@ mod meeting;
 mod rows;
 #[cfg(test)]
 mod running;
-#[cfg(test)]
-mod scripts;
-#[cfg(test)]
-mod tables;
 #[cfg(test)]
 mod tests;
 #[cfg(test)]
