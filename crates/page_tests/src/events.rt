@@ -1,8 +1,10 @@
-//! What the two sides did over a page, an event a line. A line has the event, the request's number, its epoch, how many characters of the page stand
-//! before its text, the characters of its text, and what became of a reply.
+//! What the two sides did over a page, an event a line. A line has the event, the request's number,
+//! its epoch, how many characters of the page stand before its text, the characters of its text,
+//! and what became of a reply.
 //!
-//! The page is run in one thread. The document's side does the same events in the same order where the parser's side is in a thread of its own; the
-//! parser's side takes and gives sooner or later there.
+//! The page is run in one thread. The document's side does the same events in the same order where
+//! the parser's side is in a thread of its own; the parser's side takes and gives sooner or later
+//! there.
 
 use crate::exchange::{Asked, Step};
 use crate::trace::{Fate, Row};
@@ -12,7 +14,8 @@ use outside::MemFiles;
 use std::alloc::{AllocError, Global};
 use std::test::Fail;
 
-// A page with a script that is kept, one whose file is awaited, and one that fails. It is read 48 bytes at a time, 4 requests ahead.
+// A page with a script that is kept, one whose file is awaited, and one that fails. It is read 48
+// bytes at a time, 4 requests ahead.
 const PAGE: &[u8] =
     b"<p>one<script>document.write(\"<i>x</i>\");</script> two <script src=\"a\"></script>three<p>four <script>document.write(\"<b>\");</script> five six seven eight <p>nine";
 

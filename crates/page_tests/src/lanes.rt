@@ -1,5 +1,5 @@
-//! The parser's side answers two requests in order, in a thread of its own and over the same lanes in this one. The batches that are expected were
-//! read off the page.
+//! The parser's side answers two requests in order, in a thread of its own and over the same lanes
+//! in this one. The batches that are expected were read off the page.
 
 ghost use Rattle.std.specs.Prelude.{◌≡◌};
 ghost use Rattle.parser_thread.specs.Running.{IsRunning};

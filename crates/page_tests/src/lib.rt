@@ -1,5 +1,6 @@
-//! Rows that cross crates: what `run` answers and writes over files and a sink in memory. With them the tests of `page_turns`, of `page_runner` and of
-//! `parser_thread`, the events of a page, and pages on two threads that hold one another or take a while.
+//! Rows that cross crates: what `run` answers and writes over files and a sink in memory. With them
+//! the tests of `page_turns`, of `page_runner` and of `parser_thread`, the events of a page, and
+//! pages on two threads that hold one another or take a while.
 #![tactic(auto)]
 
 #[cfg(test)]

@@ -1,4 +1,5 @@
-//! Pages that the rows over the built program don't have (`tests/rows`), at each size of read; and words that aren't read.
+//! Pages that the rows over the built program don't have (`tests/rows`), at each size of read; and
+//! words that aren't read.
 
 use crate::rows::{Row, Way, is_usage, page, wrong_at_a_piece};
 use page_runner::{Limit, Status};

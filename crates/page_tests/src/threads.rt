@@ -1,4 +1,5 @@
-//! Pages on two threads that hold one another, pages with delays, and what the document's side parses itself.
+//! Pages on two threads that hold one another, pages with delays, and what the document's side
+//! parses itself.
 
 use crate::counting::{count_page, count_pages, long_comment};
 use crate::running::{Sending, run_alone, run_slowly};
@@ -43,7 +44,8 @@ fn sending_of(seed: u64) -> Sending {
     }
 }
 
-// How many runs with delays, each of another seed and the pages in turn, come to what the page comes to without.
+// How many runs with delays, each of another seed and the pages in turn, come to what the page
+// comes to without.
 fn count_slow<R: Threads + Wait + Copy + Send + Sync + 'static>(
     rt: &R,
     alloc: Global,
@@ -61,7 +63,8 @@ fn count_slow<R: Threads + Wait + Copy + Send + Sync + 'static>(
     Ok(same)
 }
 
-// Each run on two threads is done. On one thread the read gives up, since no second reply is given while it is held.
+// Each run on two threads is done. On one thread the read gives up, since no second reply is given
+// while it is held.
 #[test]
 fn a_held_fetch_meets_the_second_reply(rt: HostRuntime) -> Result<(), Fail> {
     assert_eq!(rt; count_held(&rt, rt.alloc(), Held::Fetch)?, HELD_RUNS);
@@ -76,7 +79,8 @@ fn a_held_write_meets_the_second_reply(rt: HostRuntime) -> Result<(), Fail> {
     Ok(())
 }
 
-// With reads of 1, of 7 and of 4,096 bytes. What the document's side parses is a count that no contract sees.
+// With reads of 1, of 7 and of 4,096 bytes. What the document's side parses is a count that no
+// contract sees.
 #[test]
 fn the_other_side_parses_all_where_no_script_fails(rt: HostRuntime) -> Result<(), Fail> {
     for piece in [0, 6, 4095] {
@@ -87,7 +91,8 @@ fn the_other_side_parses_all_where_no_script_fails(rt: HostRuntime) -> Result<()
     Ok(())
 }
 
-// The state within the comment is too long to be held, so that the document's side parses some of it itself.
+// The state within the comment is too long to be held, so that the document's side parses some of
+// it itself.
 #[test]
 fn a_long_comment_is_parsed_here(rt: HostRuntime) -> Result<(), Fail> {
     let page = long_comment(rt.alloc())?;
