@@ -24,12 +24,12 @@ fn opens_elements(rt: HostRuntime) -> Result<(), Fail> {
     let mut ops = Ops::new(alloc);
     let token = Token::StartTag(tag(alloc, Word::Li));
     let row = [Instr::InsertRootA, Instr::Insert, Instr::SkipLineFeed];
-    assert_eq!(rt; builder.run(alloc, &row, &token, &mut ops)?, Flow::On);
-    assert_eq!(rt; builder.reconstruct(alloc, &mut ops)?, Flow::On);
+    assert!(rt; matches!(builder.run(alloc, &row, &token, &mut ops)?, Flow::On));
+    assert!(rt; matches!(builder.reconstruct(alloc, &mut ops)?, Flow::On));
     assert_eq!(rt; ops.as_slice().len(), 4);
-    assert_eq!(rt; builder.place(), Place::Inside(NodeId { realm: 7, n: 1 }));
-    assert_eq!(rt; builder.next_id(), NodeId { realm: 7, n: 2 });
-    assert_eq!(rt; builder.mode(), Mode::Initial);
+    assert!(rt; builder.place() == Place::Inside(NodeId { realm: 7, n: 1 }));
+    assert!(rt; builder.next_id() == NodeId { realm: 7, n: 2 });
+    assert!(rt; builder.mode() == Mode::Initial);
     assert!(rt; builder.take_skip());
     assert!(rt; !builder.take_skip());
     Ok(())
@@ -46,7 +46,7 @@ fn inserts_pending_text(rt: HostRuntime) -> Result<(), Fail> {
         Instr::InsertPending,
     ];
     let token = Token::Character('x');
-    assert_eq!(rt; builder.run(alloc, &row, &token, &mut ops)?, Flow::On);
+    assert!(rt; matches!(builder.run(alloc, &row, &token, &mut ops)?, Flow::On));
     assert_eq!(rt; ops.as_slice().len(), 3);
     Ok(())
 }
@@ -60,14 +60,12 @@ fn copies_are_the_same(rt: HostRuntime) -> Result<(), Fail> {
     assert!(rt; copied.same(&builder));
     let id = copied.next_id();
     let name = Name::Known(Word::Html);
-    assert_eq!(rt;
-        copied.push(OpenElement {
-            id,
-            name,
-            html_point: false
-        })?,
-        Pushed::Done
-    );
+    let html = OpenElement {
+        id,
+        name,
+        html_point: false,
+    };
+    assert!(rt; matches!(copied.push(html)?, Pushed::Done));
     assert!(rt; !copied.same(&builder));
     Ok(())
 }
@@ -86,8 +84,8 @@ fn no_doctype(rt: HostRuntime) -> Result<(), Fail> {
     let mut ops = Ops::new(alloc);
     let token = Token::Character('a');
     let next = builder.answer_row(alloc, row(Mode::Initial, &token), &token, &mut ops)?;
-    assert_eq!(rt; next, Next::Again);
-    assert_eq!(rt; builder.mode(), Mode::BeforeHtml);
+    assert!(rt; matches!(next, Next::Again));
+    assert!(rt; builder.mode() == Mode::BeforeHtml);
     assert_eq!(rt; ops.as_slice().len(), 0);
     Ok(())
 }
@@ -100,7 +98,7 @@ fn a_lone_end_tag_of_p(rt: HostRuntime) -> Result<(), Fail> {
     let mut ops = Ops::new(alloc);
     let token = Token::EndTag(tag(alloc, Word::P));
     let next = builder.answer_row(alloc, row(Mode::InBody, &token), &token, &mut ops)?;
-    assert_eq!(rt; next, Next::Done);
+    assert!(rt; matches!(next, Next::Done));
     assert_eq!(rt; ops.as_slice().len(), 2);
     Ok(())
 }
@@ -113,7 +111,7 @@ fn space_waits(rt: HostRuntime) -> Result<(), Fail> {
     let mut ops = Ops::new(alloc);
     let token = Token::Character(' ');
     let next = builder.answer_row(alloc, row(Mode::InTableText, &token), &token, &mut ops)?;
-    assert_eq!(rt; next, Next::Done);
+    assert!(rt; matches!(next, Next::Done));
     assert_eq!(rt; ops.as_slice().len(), 0);
     Ok(())
 }
@@ -125,7 +123,7 @@ fn frameset_ends(rt: HostRuntime) -> Result<(), Fail> {
     let mut ops = Ops::new(alloc);
     let token = Token::EndOfFile;
     let next = builder.answer_row(alloc, row(Mode::InFrameset, &token), &token, &mut ops)?;
-    assert_eq!(rt; next, Next::Finished);
+    assert!(rt; matches!(next, Next::Finished));
     assert_eq!(rt; ops.as_slice().len(), 0);
     Ok(())
 }

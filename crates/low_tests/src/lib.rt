@@ -1,10 +1,13 @@
-//! Tests of the crates below the layers, each through its public calls: `shared_stack`, `op_queue`,
-//! `page_maker`, `outside`, `utf8_pieces`, `entity_table`, `script_lang`, `char_class` and
-//! `tokenizer`. They stand in a crate of their own, since a crate that has tests is proved twice.
+//! Tests of the crates below the parser, each through its public calls: `shared_stack`, `op_queue`,
+//! `page_maker`, `command_words`, `outside`, `utf8_pieces`, `entity_table`, `script_lang`,
+//! `char_class`, `tokenizer`, `doc_tree`, `op_exec` and `serialiser`. They stand in a crate of their
+//! own, since a crate that has tests is proved twice.
 #![tactic(auto)]
 
 #[cfg(test)]
 mod cuts;
+#[cfg(test)]
+mod executing;
 #[cfg(test)]
 mod files;
 #[cfg(test)]
@@ -16,12 +19,20 @@ mod marks;
 #[cfg(test)]
 mod names;
 #[cfg(test)]
+mod nodes;
+#[cfg(test)]
 mod pieces;
 #[cfg(test)]
 mod scripts;
+#[cfg(test)]
+mod serialised;
 #[cfg(test)]
 mod spelling;
 #[cfg(test)]
 mod stack;
 #[cfg(test)]
 mod tokens;
+#[cfg(test)]
+mod trees;
+#[cfg(test)]
+mod words;

@@ -45,5 +45,3 @@ mod traced;
 mod trials;
 #[cfg(test)]
 mod turns;
-#[cfg(test)]
-mod words;

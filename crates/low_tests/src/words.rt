@@ -1,7 +1,7 @@
 //! The words of a command.
 
+use command_words::{CommandWords, Refused, read_words};
 use html_types::NoMemory;
-use page_runner::{CommandWords, Refused, read_words};
 use std::alloc::{AllocError, Global};
 use std::test::Fail;
 
