@@ -9,8 +9,8 @@ ghost use Rattle.parse_machine.specs.Rounds.{rounded, round_of};
 use crate::after_adoption::after_adopt;
 use builder_adoption::adopt;
 use builder_state::Builder;
-use insertion_modes::row;
 use html_types::{Mode, Next, NoMemory, Ops, Then, Token, Word};
+use insertion_modes::row;
 use std::alloc::Global;
 
 /// No token goes by more rules than this.
