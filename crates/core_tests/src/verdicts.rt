@@ -144,7 +144,7 @@ fn endings_are_refused_with_their_reason(rt: HostRuntime) -> Result<(), Fail> {
             ending,
         };
         let told = run(alloc, &table, page, &KINDS)?;
-        assert_eq!(rt; told.refused, why);
+        assert!(rt; told.refused == why);
         assert_eq!(rt; told.done, why.is_none());
     }
     Ok(())
