@@ -1,4 +1,5 @@
-"""The Debian packages that other parsers are built of. Debian's cargo and rustc, since a newer rustc refuses the packaged crates."""
+"""The Debian packages that other parsers are built of. Debian's cargo and rustc, since a newer
+rustc refuses the packaged crates."""
 import os, subprocess, sys
 
 # a file of each package

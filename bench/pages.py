@@ -1,7 +1,8 @@
 """The kinds of pages that bench/run and bench/peer measure, and how a run is measured.
 
-"The output left out": a byte that isn't UTF-8 stands behind the page. The program parses the page, builds its tree, meets the byte and
-refuses the page in one line, so the tree is made and its text isn't."""
+"The output left out": a byte that isn't UTF-8 stands behind the page. The program parses the
+page, builds its tree, meets the byte and refuses the page in one line, so the tree is made and
+its text isn't."""
 import os, platform, re, subprocess, sys, time
 
 WORDS = "Some text of an ordinary page, with a few words in it. "
