@@ -3,6 +3,7 @@
 ghost use Rattle.std.specs.Prelude.{◌≡◌, ◌≤◌, ◌++◌, ◌∷◌, [], ◌&&◌, ◌||◌, length, IfOk};
 ghost use Rattle.std.specs.Str.{chars};
 ghost use Rattle.standard.specs.Instructions.{config, on, append_pending, all_space, texts, here, body_character, body_characters, insert_pending};
+ghost use Rattle.standard.specs.WhiteSpace.{is_space as is_white_space};
 ghost use Rattle.builder_state.specs.Texts.{keeps_ok as mode_keeps_ok, text_rules as rules_of_text, behind_text};
 
 use crate::foreign::text_rules;
@@ -23,11 +24,18 @@ pub fn keep_character(state: &mut Open, token: &Token, ops: &Ops) -> Result<(), 
     }
 }
 
+// A function of its own, since `all` can be handed none of another crate.
+fn is_white(c: char) -> bool
+    ensures { result ≡ is_white_space c }
+{
+    is_space(c)
+}
+
 /// Whether all characters are white space.
 fn is_all_space(text: &str) -> bool
     ensures { result ≡ all_space (chars text.now) }
 {
-    text.chars().all(is_space)
+    text.chars().all(is_white)
 }
 
 /// Inserts characters at a place.
