@@ -25,7 +25,7 @@ use std::mem;
 const WRITE_LIMIT: usize = 1_048_576;
 
 /// How the scripts that were begun go on.
-#[derive(Clone, Copy)]
+#[derive(Clone, Copy, PartialEq, Eq)]
 pub(crate) enum Progress {
     On,
     /// No script is left, or the page is refused.
@@ -33,7 +33,7 @@ pub(crate) enum Progress {
 }
 
 /// What a statement did.
-#[derive(Clone, Copy)]
+#[derive(Clone, Copy, PartialEq, Eq)]
 pub(crate) enum Did {
     All,
     /// An element that it names isn't there, or can't be moved so.
