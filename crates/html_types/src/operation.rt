@@ -15,14 +15,14 @@ use std::marker::Model;
 /// The id of an element: the n-th of its realm.
 #[derive(Clone, Copy, PartialEq, Eq, PartialOrd, Ord)]
 pub struct NodeId {
-    pub realm: u64,
-    pub n: u64,
+    pub realm: u32,
+    pub n: u32,
 }
 
 impl NodeId {
     /// The id that comes so many later in the realm.
-    pub fn later(self, by: u64) -> NodeId
-        requires { self.n + by < 2 ^ 64 }
+    pub fn later(self, by: u32) -> NodeId
+        requires { self.n + by < 2 ^ 32 }
         ensures { result ≡ later by self }
     {
         NodeId {
