@@ -185,6 +185,11 @@ impl Ops {
         Ok(Ops { list })
     }
 
+    /// How many operations are kept, a text in one: for how many the next list has room. No contract speaks of it.
+    pub fn stored(&self) -> usize {
+        self.list.len()
+    }
+
     /// Adds an operation at the end.
     pub fn push(&mut self, op: Op) -> Result<(), NoMemory>
         ensures ok { OnOk result (self.new ≡ self.old ++ spelled_one op) }
