@@ -276,7 +276,9 @@ impl Side {
         let failed = epoch.saturating_sub(1);
         Tally {
             scripts: self.writer.executed(),
-            kept: u64::from(*realm).saturating_sub(*epoch).saturating_sub(failed),
+            kept: u64::from(*realm)
+                .saturating_sub(*epoch)
+                .saturating_sub(failed),
             failed,
             nodes: count_nodes(self.writer.doc().tree()),
             written: self.writer.written(),
