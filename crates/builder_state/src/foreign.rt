@@ -20,7 +20,10 @@ use tag_sets::{is_annotation_text, is_math_text, is_svg_point, is_the};
 pub fn adjusted(state: &Open) -> Option<&OpenElement>
     ensures { option_map (λ e. e.now) result ≡ definition.adjusted state.now }
 {
-    state.stack.latest()
+    match &state.context {
+        Some(context) if state.stack.len() == 1 => Some(context),
+        _ => state.stack.latest(),
+    }
 }
 
 /// Whether the name is one of HTML.

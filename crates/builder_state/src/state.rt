@@ -17,13 +17,14 @@ use crate::closing::close_latest;
 use crate::foreign::{is_foreign, rules_for, text_rules};
 use crate::formatting::none_lost;
 use crate::insert::{LIMIT, place_now, reopen_lost};
-use crate::machine::run_row;
+use crate::machine::{reset, run_row};
 use crate::pending::{insert_body_character, insert_body_one, insert_body_text};
 use crate::weight::is_light;
 use html_types::{
-    Flow, Formats, Instr, Mode, Modes, Next, NoMemory, NodeId, Open, OpenElement, Ops, Place,
-    Stack, Text, Token, Word,
+    Context, Flow, Formats, Instr, Mode, Modes, Name, Next, NoMemory, NodeId, Open, OpenElement,
+    Ops, Place, Stack, Text, Token, Word,
 };
+use tag_sets::is_the;
 use std::alloc::Global;
 use std::marker::Model;
 use std::mem;
@@ -70,6 +71,18 @@ impl Builder {
         Builder {
             state: first_state(alloc, realm),
         }
+    }
+
+    /// The open state at the beginning of a fragment, whose ids are of that realm. The caller makes an html element under the first, and, where
+    /// the context is in a form, a form element under the second.
+    pub fn fragment(alloc: Global, context: Context, realm: u64) -> Result<Builder, NoMemory> {
+        let state = fragment_state(alloc, context, realm)?;
+        Ok(Builder { state })
+    }
+
+    /// Whether the page is in quirks mode.
+    pub fn is_quirky(&self) -> bool {
+        self.state.quirks
     }
 
     /// Takes the open state out, for a change that no row makes. The builder is as at the beginning of a page then.
@@ -270,6 +283,7 @@ impl Builder {
         let formats = self.state.formats.copy(alloc)?;
         let template_modes = self.state.template_modes.copy(alloc)?;
         let pending_text = self.state.pending_text.copy(alloc)?;
+        let context = copy_context(&self.state.context)?;
         Ok(Builder {
             state: Open {
                 stack,
@@ -285,6 +299,7 @@ impl Builder {
                 skip_line_feed: self.state.skip_line_feed,
                 foster: self.state.foster,
                 next: self.state.next,
+                context,
             },
         })
     }
@@ -300,6 +315,7 @@ impl Builder {
             && same_pointers(&self.state, &other.state)
             && same_modes(&self.state, &other.state)
             && same_flags(&self.state, &other.state)
+            && same_context(&self.state.context, &other.state.context)
     }
 }
 
@@ -321,7 +337,59 @@ fn first_state(alloc: Global, realm: u32) -> Open
         skip_line_feed: false,
         foster: false,
         next: NodeId { realm, n: 0 },
+        context: None,
     }
+}
+
+fn copy_context(
+    context: &Option<OpenElement>,
+) -> Result<Option<OpenElement>, NoMemory> {
+    match context {
+        None => Ok(None),
+        Some(element) => Ok(Some(OpenElement {
+            id: element.id,
+            name: element.name.copy()?,
+            html_point: element.html_point,
+        })),
+    }
+}
+
+fn same_context(a: &Option<OpenElement>, b: &Option<OpenElement>) -> bool {
+    match (a, b) {
+        (None, None) => true,
+        (Some(x), Some(y)) => {
+            x.id == y.id && x.html_point == y.html_point && x.name.same(&y.name)
+        }
+        _ => false,
+    }
+}
+
+/// The open state at the beginning of a fragment: one html element is open, which the caller makes under the realm's first id; where the
+/// context is in a form, the form element pointer is the realm's second.
+fn fragment_state(alloc: Global, context: Context, realm: u64) -> Result<Open, NoMemory> {
+    let root = NodeId { realm, n: 0 };
+    let mut state = first_state(alloc, realm);
+    state.stack.push(OpenElement {
+        id: root,
+        name: Name::Known(Word::Html),
+        html_point: false,
+    })?;
+    state.next = NodeId { realm, n: 1 };
+    if context.form {
+        state.form = Some(NodeId { realm, n: 1 });
+        state.next = NodeId { realm, n: 2 };
+    }
+    if is_the(Word::Template, &context.name) {
+        state.template_modes.push(Mode::InTemplate)?;
+    }
+    state.quirks = context.quirks;
+    state.context = Some(OpenElement {
+        id: root,
+        name: context.name,
+        html_point: context.html_point,
+    });
+    reset(&mut state);
+    Ok(state)
 }
 
 /// Whether the rules send characters to those of "in body", or insert them in any case.

@@ -180,4 +180,17 @@ pub struct Open {
     pub foster: bool,
     /// The id of the next element that is made.
     pub next: NodeId,
+    /// Of a fragment, the first element of the stack as the context, for which it stands; of a page, none.
+    pub context: Option<OpenElement>,
+}
+
+/// The element whose children a fragment comes to be (13.4).
+#[derive(Drop)]
+pub struct Context {
+    pub name: Name,
+    /// An annotation-xml of MathML whose `encoding` is one of HTML.
+    pub html_point: bool,
+    /// It is a form, or stands under one.
+    pub form: bool,
+    pub quirks: bool,
 }

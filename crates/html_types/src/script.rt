@@ -45,6 +45,8 @@ pub enum Statement {
     Remove(Text),
     /// `document.getElementById("V").append(document.getElementById("W"));`: the second element comes last among the first one's children.
     Append(Text, Text),
+    /// `document.getElementById("V").innerHTML = "W";`
+    SetInner(Text, Text),
     /// `console.log(document.getElementById("V").outerHTML);`
     LogById(Text),
     /// `console.log(document.documentElement.outerHTML);`

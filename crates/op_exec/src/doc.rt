@@ -7,10 +7,13 @@ ghost use Rattle.doc_tree.specs.declared.tree.Put.TheVariants as put;
 
 use crate::bound::Bound;
 use crate::script::{ScriptKind, kind_of_script};
-use doc_tree::{Put, Tree};
-use html_types::{Attributes, Kind, Name, NoMemory, NodeId, Op, Ops, Place, Text};
+use doc_tree::{Put, Tree, value_of};
+use html_types::{
+    Attributes, Context, Kind, Name, NoMemory, NodeId, Op, Ops, Place, Space, Text, Word,
+};
 use std::alloc::Global;
 use std::marker::Model;
+use std::mem;
 
 /// A tree and what ids name in it: a contract sees both.
 #[derive(Drop)]
@@ -78,6 +81,33 @@ fn foster_spot(tree: &Tree, table: usize, above: usize) -> Spot
                 before: None,
             },
         },
+    }
+}
+
+fn is_form(kind: &Kind) -> bool {
+    match kind {
+        Kind::Element { name, .. } => match name {
+            Name::Known(word) => Word::Form.same(*word),
+            Name::Other(_, _) => false,
+        },
+        _ => false,
+    }
+}
+
+// Whether it is an annotation-xml of MathML that is an HTML integration point (13.2.6).
+fn is_html_annotation(name: &Name, attributes: &Attributes) -> bool {
+    let Name::Other(Space::MathMl, text) = name else {
+        return false;
+    };
+    if text.as_str() != "annotation-xml" {
+        return false;
+    }
+    match value_of(attributes, "encoding") {
+        None => false,
+        Some(value) => {
+            value.as_str().eq_ignore_ascii_case("text/html")
+                || value.as_str().eq_ignore_ascii_case("application/xhtml+xml")
+        }
     }
 }
 
@@ -336,6 +366,96 @@ impl Doc {
         ensures err { OnErr result (self.new ≡ self.old) }
     {
         self.tree.put_last(second, first)
+    }
+}
+
+// Fragments (13.4).
+impl Doc {
+    ghost use Rattle.std.specs.Prelude.{[]};
+    ghost use Rattle.act_laws.specs.Staying.{Stays};
+    ghost use Rattle.standard.specs.Act.{acts, is_bound, AreOpsBound};
+    ghost use Rattle.standard.specs.Fragment.{roots_made, with_fragment, exchanged, filled, root_id};
+
+    /// The element as the context of a fragment.
+    pub fn context_of(&self, node: usize, quirks: bool) -> Result<Context, NoMemory> {
+        let form = self.stands_in_form(node);
+        match self.tree.kind(node) {
+            Kind::Element { name, attributes } => Ok(Context {
+                name: name.copy()?,
+                html_point: is_html_annotation(name, attributes),
+                form,
+                quirks,
+            }),
+            _ => Err(NoMemory),
+        }
+    }
+
+    // Whether the element is a form or stands under one.
+    fn stands_in_form(&self, node: usize) -> bool {
+        let mut at = Some(node);
+        'up: while let Some(n) = at {
+            if is_form(self.tree.kind(n)) {
+                return true;
+            }
+            at = self.tree.parent(n);
+        }
+        false
+    }
+
+    // With no id bound: the root of a fragment, and the form element that its form element pointer names.
+    fn make_roots(&mut self, form: bool) -> Result<(), NoMemory>
+        requires { self.old.bound ≡ [] }
+        ensures ok { OnOk result (self.new ≡ acts self.old (roots_made form)) }
+        ensures stays { Stays self.old.tree self.new.tree }
+    {
+        let root = NodeId { realm: 0, n: 0 };
+        self.make(root, Name::Known(Word::Html), Attributes::new(self.alloc))?;
+        if form {
+            let id = NodeId { realm: 0, n: 1 };
+            self.make(id, Name::Known(Word::Form), Attributes::new(self.alloc))?;
+        }
+        Ok(())
+    }
+
+    // The node's children are taken out (a template's: its contents' children), and the root's are put there.
+    fn exchange(&mut self, target: usize) -> Result<(), NoMemory>
+        requires root { IsTrue (is_bound self.old.bound (root_id 0)) }
+        requires here { target < length self.old.tree }
+        ensures ok { OnOk result (self.new ≡ record self.old { tree = exchanged self.old target }) }
+        ensures stays { Stays self.old.tree self.new.tree }
+    {
+        let from = self.node(NodeId { realm: 0, n: 0 });
+        let to = end_of(&self.tree, target).parent;
+        self.tree.take_children(to);
+        self.tree.move_children(from, to)
+    }
+
+    // With no id bound: the fragment's nodes under ids of their own, and then the exchange.
+    fn fill_with(&mut self, target: usize, form: bool, ops: Ops) -> Result<(), NoMemory>
+        requires none { self.old.bound ≡ [] }
+        requires here { target < length self.old.tree }
+        requires bound { AreOpsBound (is_bound (with_fragment self.old.tree form []).bound) ops }
+        ensures ok { OnOk result (self.new.tree ≡ filled self.old.tree target form ops) }
+        ensures stays { Stays self.old.tree self.new.tree }
+    {
+        self.make_roots(form)?;
+        self.apply_all(ops)?;
+        self.exchange(target)
+    }
+
+    /// Takes an element's children out (a template's: its contents' children), and puts there what those operations make under the root of
+    /// a fragment. They name the fragment's elements by ids of its own, of realm 0, of which none is bound behind it; what ids stand for stays.
+    pub fn fill(&mut self, target: usize, form: bool, ops: Ops) -> Result<(), NoMemory>
+        requires here { target < length self.old.tree }
+        requires bound { AreOpsBound (is_bound (with_fragment self.old.tree form []).bound) ops }
+        ensures ok { OnOk result (self.new ≡ record self.old { tree = filled self.old.tree target form ops }) }
+        ensures bound { self.new.bound ≡ self.old.bound }
+        ensures stays { Stays self.old.tree self.new.tree }
+    {
+        let bound = mem::replace(&mut self.bound, Bound::new(self.alloc));
+        let filled = self.fill_with(target, form, ops);
+        self.bound = bound;
+        filled
     }
 }
 

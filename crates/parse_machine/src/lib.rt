@@ -8,5 +8,5 @@ mod token;
 mod weight;
 
 pub use html_types::{Finish, Stop};
-pub use machine::{Machine, PageEnd, Ran};
+pub use machine::{Machine, PageEnd, Ran, parse_fragment};
 pub use token::construct;

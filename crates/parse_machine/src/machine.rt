@@ -24,7 +24,7 @@ use builder_state::Builder;
 use char_class::{class_of, first_mark};
 use entity_table::{Characters, Table};
 use html_types::{
-    Ending, Finish, Name, Next, NoMemory, NodeId, Ops, RawText, Stop, TextState, TokState, Token,
+    Context, Ending, Finish, Name, Next, NoMemory, NodeId, Ops, RawText, Stop, TextState, TokState, Token,
     TokenizerSwitch, Why, Word, char_at,
 };
 use std::alloc::Global;
@@ -377,6 +377,44 @@ fn some_nul(found: Option<Characters>) -> bool
     }
 }
 
+// How the tokenizer reads the text of a fragment (13.4).
+fn reading_in(name: &Name) -> TokState {
+    match name {
+        Name::Known(Word::Title) | Name::Known(Word::Textarea) => {
+            TokState::Text(TextState::Raw(RawText::Rcdata, None))
+        }
+        Name::Known(Word::Style)
+        | Name::Known(Word::Xmp)
+        | Name::Known(Word::Iframe)
+        | Name::Known(Word::Noembed)
+        | Name::Known(Word::Noframes)
+        | Name::Known(Word::Noscript) => TokState::Text(TextState::Raw(RawText::Rawtext, None)),
+        Name::Known(Word::Script) => TokState::Text(TextState::Raw(RawText::ScriptData, None)),
+        Name::Known(Word::Plaintext) => TokState::Text(TextState::Plaintext),
+        _ => TokState::Text(TextState::Data),
+    }
+}
+
+/// What a text comes to as a fragment with that context (13.4): the operations that make its nodes, none at a push that would open element 513.
+/// They name the root, the realm's first id, and where the context is in a form the second; `op_exec` makes both.
+pub fn parse_fragment(
+    alloc: Global,
+    table: &Table,
+    context: Context,
+    text: &str,
+) -> Result<Option<Ops>, NoMemory> {
+    let mut machine = Machine::fragment(alloc, context, 0)?;
+    let mut ops = Ops::new(alloc);
+    let ran = machine.run(alloc, table, text, &mut ops)?;
+    if matches!(&ran.stop, Stop::Deep) {
+        return Ok(None);
+    }
+    match machine.finish(alloc, table, Ending::End, &mut ops)? {
+        PageEnd::Deep => Ok(None),
+        _ => Ok(Some(ops)),
+    }
+}
+
 impl Machine {
     /// The parser at the beginning of a page. Its elements are of that realm. It takes no memory.
     pub fn new(alloc: Global, realm: u32) -> Machine
@@ -387,6 +425,23 @@ impl Machine {
             after_cr: false,
             builder: Builder::new(alloc, realm),
         }
+    }
+
+    /// The parser at the beginning of a fragment with that context (13.4). Its elements are of that realm; the caller makes its root, an html
+    /// element, under the realm's first id, and, where the context is in a form, a form element under the second.
+    pub fn fragment(alloc: Global, context: Context, realm: u64) -> Result<Machine, NoMemory> {
+        let mut tokenizer = Tokenizer::new(alloc);
+        tokenizer.load(reading_in(&context.name));
+        Ok(Machine {
+            tokenizer,
+            after_cr: false,
+            builder: Builder::fragment(alloc, context, realm)?,
+        })
+    }
+
+    /// Whether the page is in quirks mode.
+    pub fn is_quirky(&self) -> bool {
+        self.builder.is_quirky()
     }
 
     // Takes one character.

@@ -28,3 +28,4 @@ pub mod Thinned
 mod Closed
 mod Proper
 mod ProperModes
+pub mod Contexts

@@ -62,6 +62,9 @@ fn statement<'a>(alloc: Global, text: &'a str) -> Result<Option<(Statement, &'a 
     if let Some(moved) = append(alloc, text)? {
         return Ok(Some(moved));
     }
+    if let Some(set) = set_inner(alloc, text)? {
+        return Ok(Some(set));
+    }
     if let Some((value, rest)) = string_between(
         alloc,
         text,
@@ -91,6 +94,19 @@ fn append<'a>(alloc: Global, text: &'a str) -> Result<Option<(Statement, &'a str
     };
     match string_between(alloc, behind, "", "));")? {
         Some((second, rest)) => Ok(Some((Statement::Append(first, second), rest))),
+        None => Ok(None),
+    }
+}
+
+/// The statement that sets what stands in an element, where the text begins with one, and the text behind it.
+fn set_inner<'a>(alloc: Global, text: &'a str) -> Result<Option<(Statement, &'a str)>, NoMemory> {
+    let Some((id, behind)) =
+        string_between(alloc, text, "document.getElementById(", ").innerHTML = ")?
+    else {
+        return Ok(None);
+    };
+    match string_between(alloc, behind, "", ";")? {
+        Some((value, rest)) => Ok(Some((Statement::SetInner(id, value), rest))),
         None => Ok(None),
     }
 }

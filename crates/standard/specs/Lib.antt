@@ -36,5 +36,6 @@ pub mod Prepare
 pub mod Page
 pub mod Scripts
 pub mod Parser
+pub mod Fragment
 pub mod Serial
 pub mod Output

@@ -6,7 +6,7 @@ use Rattle.std.specs.Str.{chars}
 use Prim.Native.String.{String}
 use Rattle.json.specs.Text.{content, plain}
 use Rattle.html_types.specs.declared.script.Statement.{Statement}
-use Rattle.html_types.specs.declared.script.Statement.TheVariants.{Write, WriteLine, Remove, Append, LogById, LogRoot}
+use Rattle.html_types.specs.declared.script.Statement.TheVariants.{Write, WriteLine, Remove, Append, SetInner, LogById, LogRoot}
 
 -- space, TAB, LF and CR
 abbrev pub is_white : ℕ → Bool
@@ -79,8 +79,9 @@ statement t =
     (or_else (with_string WriteLine "document.writeln(" ");" t)
     (or_else (with_string Remove "document.getElementById(" ").remove();" t)
     (or_else (with_strings Append "document.getElementById(" ").append(document.getElementById(" "));" t)
+    (or_else (with_strings SetInner "document.getElementById(" ").innerHTML = " ";" t)
     (or_else (with_string LogById "console.log(document.getElementById(" ").outerHTML);" t)
-    (option_map (λ rest. (LogRoot, rest)) (behind (codes "console.log(document.documentElement.outerHTML);") t))))))
+    (option_map (λ rest. (LogRoot, rest)) (behind (codes "console.log(document.documentElement.outerHTML);") t)))))))
 
 -- The number bounds the statements. One more than the characters is always enough.
 abbrev pub statements_within : ℕ → List ℕ → Option (List Statement)

@@ -5,7 +5,7 @@
 
 ghost use Rattle.standard_laws.specs.Laws.{HasOneOutcome, ParsesInPieces, AdvancesByParse, BatchesLead, WholeBatchesLead, LeavesNothing, EndLeads, FinishLeads, OverIsSerial};
 ghost use Rattle.standard_laws.specs.Laws.{ScriptLeads, ScriptRefuses, StillScripts, ExternalScripts, SyntaxErrors, AwaitsMissing, AwaitsFault, AwaitsGot, AwaitsRefuses, FileSyntaxErrors, LinesBegin, OutputBegins};
-ghost use Rattle.standard_laws.specs.Frames.{FramesEnd, ScriptsEnter, FilesEnter, StillTags, ExternalTags, InlineTags, OutsideTexts, TextsBegin, RestsEnd, RestsStop, RestsRefuse, FrameEnds, WritesFit, WritesRefuse, LinesFit, LinesRefuse, Removes, Appends, ReadsById, ReadsRoot, Throws};
+ghost use Rattle.standard_laws.specs.Frames.{FramesEnd, ScriptsEnter, FilesEnter, StillTags, ExternalTags, InlineTags, OutsideTexts, TextsBegin, RestsEnd, RestsStop, RestsRefuse, FrameEnds, WritesFit, WritesRefuse, LinesFit, LinesRefuse, Removes, Appends, Fills, FillsRefuse, ReadsById, ReadsRoot, Throws};
 
 /// Every page has exactly one outcome.
 pub fn has_one_outcome()
@@ -93,6 +93,8 @@ pub fn statements_run()
     ensures long_line { LinesRefuse }
     ensures remove { Removes }
     ensures append { Appends }
+    ensures fill { Fills }
+    ensures too_deep { FillsRefuse }
     ensures read { ReadsById }
     ensures read_root { ReadsRoot }
     ensures throw { Throws }

@@ -17,7 +17,7 @@ use crate::rest::{Rest, parse_text};
 use entity_table::Table;
 use html_types::{Ending, Line, Lines, NoMemory, NodeId, Ops, Statement, Stop, Text};
 use op_exec::{Doc, Put, ScriptKind};
-use parse_machine::{Machine, PageEnd, Ran};
+use parse_machine::{Machine, PageEnd, Ran, parse_fragment};
 use std::alloc::Global;
 use std::mem;
 
@@ -206,6 +206,20 @@ impl Live {
         }
     }
 
+    // Takes the children of the element with that id out, and puts the fragment of that text there (13.4).
+    fn set_inner(&mut self, table: &Table, id: &Text, text: &Text) -> Result<Did, NoMemory> {
+        let Some(target) = self.doc.find_id(id.as_str()) else {
+            return Ok(Did::Nothing);
+        };
+        let context = self.doc.context_of(target, self.machine.is_quirky())?;
+        let form = context.form;
+        match parse_fragment(self.alloc, table, context, text.as_str())? {
+            None => self.halted = Some(Overrun::Depth),
+            Some(ops) => self.doc.fill(target, form, ops)?,
+        }
+        Ok(Did::All)
+    }
+
     // The script of that number reads the element.
     fn read(&mut self, number: u64, node: Option<usize>) -> Result<Did, NoMemory>
         requires { ForSome node (λ n. n < length self.old.doc.tree) }
@@ -224,6 +238,7 @@ impl Live {
     // Does a statement of the script of that number, which wrote `rest`.
     fn try_statement(
         &mut self,
+        table: &Table,
         number: u64,
         statement: &Statement,
         rest: &mut Rest,
@@ -237,6 +252,7 @@ impl Live {
             Statement::WriteLine(text) => self.write_line(text, rest),
             Statement::Remove(id) => self.remove(id),
             Statement::Append(first, second) => self.append(first, second),
+            Statement::SetInner(id, text) => self.set_inner(table, id, text),
             Statement::LogById(id) => {
                 let node = self.doc.find_id(id.as_str());
                 self.read(number, node)
@@ -251,6 +267,7 @@ impl Live {
     // The same. Where an element of its isn't there, or can't be moved so, that gives a line.
     fn run_statement(
         &mut self,
+        table: &Table,
         number: u64,
         statement: &Statement,
         rest: &mut Rest,
@@ -259,7 +276,7 @@ impl Live {
         requires waits { Waits self.old.pending rest.old }
         ensures { IfOk result (λ did. Does number statement.now self.old rest.old self.new rest.new did) }
     {
-        let did = self.try_statement(number, statement, rest)?;
+        let did = self.try_statement(table, number, statement, rest)?;
         if did == Did::Nothing {
             self.lines.push(Line::Throw(number))?;
         }
@@ -291,7 +308,7 @@ impl Live {
     }
 
     // The next statement of the innermost script, or its end.
-    fn step(&mut self, nesting: &mut Nesting) -> Result<Progress, NoMemory>
+    fn step(&mut self, table: &Table, nesting: &mut Nesting) -> Result<Progress, NoMemory>
         requires going { IsGoing self.old }
         requires waits { Waits self.old.pending nesting.old.top.rest }
         ensures { IfOk result (λ turn. Steps self.old nesting.old self.new nesting.new turn) }
@@ -300,7 +317,7 @@ impl Live {
         let Some(statement) = statements.get(nesting.top.done) else {
             return self.end_script(nesting);
         };
-        match self.run_statement(nesting.top.number, statement, &mut nesting.top.rest)? {
+        match self.run_statement(table, nesting.top.number, statement, &mut nesting.top.rest)? {
             Did::All => nesting.top.done += 1,
             Did::Nothing => nesting.top.done = statements.len(),
         }
@@ -311,12 +328,12 @@ impl Live {
     }
 
     // Runs statements up to a text that is to be parsed, or to the end.
-    fn run_statements(&mut self, nesting: &mut Nesting) -> Result<Progress, NoMemory>
+    fn run_statements(&mut self, table: &Table, nesting: &mut Nesting) -> Result<Progress, NoMemory>
         requires { IsGoing self.old }
         ensures { IfOk result (λ turn. RunsOn self.old nesting.old self.new nesting.new turn) }
     {
         'steps: while !self.goes_on(&nesting.top.rest) {
-            if self.step(nesting)? == Progress::Over {
+            if self.step(table, nesting)? == Progress::Over {
                 return Ok(Progress::Over);
             }
         }
@@ -361,7 +378,7 @@ impl Live {
         ensures { OnOk result (Moves table.now self.old (frames_of nesting.old) self.new []) }
     {
         'texts: loop {
-            if self.run_statements(nesting)? == Progress::Over {
+            if self.run_statements(table, nesting)? == Progress::Over {
                 return Ok(());
             }
             if self.parse_written(table, nesting)? == Progress::Over {
