@@ -14,7 +14,7 @@ use Rattle.html_types.specs.declared.tree.Kind.TheVariants as kind
 use Rattle.standard.specs.Elements.{is_word}
 use Rattle.standard.specs.Tree.{Nodes, Keeps, no_node, kind_of, parent_of, children_of, host_of, is_document, is_element, is_element_at, lone, with_children, relinked, taken_out, detached, moved, is_impossible, put_of, put_before_of, all_put, children_moved, all_out, emptied, with_new, with_more, text_before, text_put, text_added, with_lacking, attributes_added, with_template}
 use Rattle.standard.specs.Act.{Doc, node_of, end_of, spot_of, element_made, put_from, put_at, new_at, text_at, Spot, act, acts}
-use Rattle.standard.specs.Fragment.{roots_made, with_fragment, exchanged, filled, root_id}
+use Rattle.standard.specs.Fragment.{roots_made, all_in_root, with_fragment, exchanged, filled, root_id}
 use Rattle.act_laws.specs.Staying.{Stays}
 use Rattle.act_laws.proofs.Elements.{more, lacking}
 
@@ -141,5 +141,5 @@ unfolding filled emptied
 Stays-filled t n form ops =
     let d : Doc = with_fragment t form ops in
     let p : ℕ = (end_of d.tree n).parent in
-    chain t d.tree (filled t n form ops) (Stays-acts (record { tree = t; bound = [] }) (roots_made form ++ ops))
+    chain t d.tree (filled t n form ops) (Stays-acts (record { tree = t; bound = [] }) (roots_made form ++ all_in_root ops))
     (chain d.tree (emptied d.tree p) (children_moved (emptied d.tree p) (node_of d.bound (root_id 0)) p) (Stays-all_out d.tree (children_of d.tree p)) (Stays-children_moved (emptied d.tree p) (node_of d.bound (root_id 0)) p))

@@ -117,6 +117,47 @@ pub enum Op {
 }
 
 impl Op {
+    /// A copy: names and attributes are shared, texts are copied.
+    pub fn copy(&self, alloc: Global) -> Result<Op, NoMemory>
+        ensures { IfOk result (λ op. op ≡ self.now) }
+    {
+        match self {
+            Op::Make {
+                id,
+                name,
+                attributes,
+            } => Ok(Op::Make {
+                id: *id,
+                name: name.copy()?,
+                attributes: attributes.copy(alloc)?,
+            }),
+            Op::Put { node, place } => Ok(Op::Put {
+                node: *node,
+                place: *place,
+            }),
+            Op::Text { place, text } => Ok(Op::Text {
+                place: *place,
+                text: text.copy(alloc)?,
+            }),
+            Op::Note { place, text } => Ok(Op::Note {
+                place: *place,
+                text: text.copy(alloc)?,
+            }),
+            Op::Doctype { name } => Ok(Op::Doctype {
+                name: name.copy(alloc)?,
+            }),
+            Op::Detach { node } => Ok(Op::Detach { node: *node }),
+            Op::MoveChildren { from, to } => Ok(Op::MoveChildren {
+                from: *from,
+                to: *to,
+            }),
+            Op::AddAttributes { node, attributes } => Ok(Op::AddAttributes {
+                node: *node,
+                attributes: attributes.copy(alloc)?,
+            }),
+        }
+    }
+
     /// Adds the character to the text that this inserts at that place, and says whether it does insert text there.
     fn join(&mut self, place: Place, c: char) -> Result<bool, NoMemory>
         ensures joined { IfOk result (λ r. IsTrue r → spelled_one self.new ≡ spelled_one self.old ++ op.Text place (c ∷ []) ∷ []) }
@@ -224,6 +265,17 @@ impl Ops {
             }
         }
         Ok(false)
+    }
+
+    /// A copy: names and attributes are shared, texts are copied.
+    pub fn copy(&self, alloc: Global) -> Result<Ops, NoMemory>
+        ensures { IfOk result (λ ops. ops ≡ self.now) }
+    {
+        let mut list = Vec::with_capacity(alloc, self.list.len())?;
+        for op in &self.list {
+            list.push(op.copy(alloc)?)?;
+        }
+        Ok(Ops { list })
     }
 
     /// The operations as they are kept, a text in one, given away.

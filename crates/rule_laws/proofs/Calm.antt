@@ -52,10 +52,10 @@ straight-calm a (Leave next.Foster) s = s
 straight-calm a (Leave _) s = refl
 
 -- any two states, of which nothing is said
-abbrev Any : Open → Open → Type 0
+abbrev pub Any : Open → Open → Type 0
 Any b c = Unit {0}
 
-any : IsClosed Any
+pub any : IsClosed Any
 any = record {
   same = λ b. tt;
   onward = λ a b c p q. tt;

@@ -1,6 +1,4 @@
 -- The context of a fragment stays behind every token.
-use Rattle.html_types.specs.declared.token.Token.{Token}
-use Rattle.standard.specs.Rules.{construct}
 use Rattle.std.proofs.Common.{◌≡◌, refl, ◌∙◌, ℕ, zero, suc, ◌-◌, Bool, true, false, not, List, [], ◌∷◌, Option, Some, None}
 use Rattle.std.specs.Prelude.{if◌then◌else◌}
 use Rattle.html_types.specs.Operations.{later}
@@ -10,6 +8,7 @@ use Rattle.html_types.specs.declared.instruction.Scope.TheVariants as scope
 use Rattle.html_types.specs.declared.instruction.Turn.{Turn}
 use Rattle.html_types.specs.declared.instruction.Turn.TheVariants.{More, Over, Other}
 use Rattle.html_types.specs.declared.token.Tag.{Tag}
+use Rattle.html_types.specs.declared.token.Token.{Token}
 use Rattle.html_types.specs.declared.operation.NodeId.{NodeId}
 use Rattle.html_types.specs.declared.operation.Op.{Op}
 use Rattle.html_types.specs.declared.open.OpenElement.{OpenElement}
@@ -18,7 +17,8 @@ use Rattle.standard.specs.Elements.{is_word}
 use Rattle.standard.specs.Stack.{is_open, current_id, pop, open_in_scope, below, above, block_below}
 use Rattle.standard.specs.Formatting.{entry_named, tag_of_entry, without_entry}
 use Rattle.standard.specs.Adoption.{Climb, climb_at, climb_clone, climb_drop, climb_one, climb, Turned, turned, turn_with, turn_at, turn, turns, Adopted, adopted, adopted_by, is_plain, adopt}
-use Rattle.rule_laws.proofs.Closed.{IsClosedWhole, process-in, construct-in}
+use Rattle.standard.specs.Rules.{construct}
+use Rattle.rule_laws.proofs.Closed.{IsClosedWhole, construct-in}
 
 turn_with-context : (f : NodeId) (tag : Option Tag) (block : Option NodeId) (b : Open) (o : List Op) → (turn_with f tag block b o).open_state.context ≡ b.context
 turn_with-context f None block b o = refl
@@ -48,15 +48,15 @@ both : (v : Bool) (b : Open) (x y : Adopted) → x.open_state.context ≡ b.cont
 both true b x y p q = p
 both false b x y p q = q
 
-adopt-context : (w : Word) (b : Open) (o : List Op) → (adopt w b o).open_state.context ≡ b.context
+pub adopt-context : (w : Word) (b : Open) (o : List Op) → (adopt w b o).open_state.context ≡ b.context
 unfolding adopt
 adopt-context w b o =
     both (is_plain (is_word w) (current_id b.stack) b) b (adopted (record b { stack = pop b.stack }) o false) (adopted_by (turns 8 (is_word w) (turned b o More))) refl (turns-context 8 (is_word w) b o More)
 
-abbrev Stays : Open → Open → Type 0
+abbrev pub Stays : Open → Open → Type 0
 Stays b c = c.context ≡ b.context
 
-stays : IsClosedWhole Stays
+pub stays : IsClosedWhole Stays
 stays = record {
   parts = record {
     same = λ b. refl;

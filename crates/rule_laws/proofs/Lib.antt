@@ -29,3 +29,5 @@ mod Closed
 mod Proper
 mod ProperModes
 pub mod Contexts
+pub mod NeverStops
+pub mod FragmentTexts

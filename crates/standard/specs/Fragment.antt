@@ -1,5 +1,5 @@
 -- Fragments (13.4): what a text comes to as the children of an element, its context.
-use Rattle.std.specs.Prelude.{◌+◌, ℕ, zero, suc, Bool, true, false, ◌||◌, if◌then◌else◌, List, [], ◌∷◌, ◌++◌, length, Option, Some, None, unwrap_or}
+use Rattle.std.specs.Prelude.{ℕ, zero, suc, Bool, true, false, ◌||◌, if◌then◌else◌, List, [], ◌∷◌, ◌++◌, length, Option, Some, None, unwrap_or}
 use Rattle.std.specs.Option.{option_map}
 use Rattle.html_types.specs.declared.word.Word.TheVariants as word
 use Rattle.html_types.specs.declared.name.Name.{Name}
@@ -10,11 +10,9 @@ use Rattle.html_types.specs.declared.state.TextState.TheVariants as text_state
 use Rattle.html_types.specs.declared.state.RawText.TheVariants as raw
 use Rattle.html_types.specs.declared.instruction.Mode.{Mode}
 use Rattle.html_types.specs.declared.instruction.Mode.TheVariants as mode
-use Rattle.html_types.specs.declared.instruction.Stop.{Stop}
-use Rattle.html_types.specs.declared.instruction.Stop.TheVariants as stop
-use Rattle.html_types.specs.declared.instruction.Finish.{Finish}
-use Rattle.html_types.specs.declared.instruction.Finish.TheVariants as finale
 use Rattle.html_types.specs.declared.operation.NodeId.{NodeId}
+use Rattle.html_types.specs.declared.operation.Place.{Place}
+use Rattle.html_types.specs.declared.operation.Place.TheVariants.{Page, Inside}
 use Rattle.html_types.specs.declared.operation.Op.{Op}
 use Rattle.html_types.specs.declared.operation.Op.TheVariants as op
 use Rattle.html_types.specs.declared.open.Context.{Context}
@@ -30,7 +28,8 @@ use Rattle.standard.specs.Reset.{reset_mode}
 use Rattle.standard.specs.Foreign.{is_html_annotation}
 use Rattle.standard.specs.Tree.{Nodes, kind_of, parent_of, emptied, children_moved}
 use Rattle.standard.specs.Act.{Doc, acts, node_of, end_of}
-use Rattle.standard.specs.Parser.{Parser, parser, opening, Finished, finish, Parsed, parse}
+use Rattle.standard.specs.Parser.{Parser, parser}
+use Rattle.standard.specs.Quiet.{whole}
 
 -- ---- how the parser of a fragment begins
 
@@ -86,20 +85,9 @@ reading_in n = in_text text_state.Data
 unfoldable pub fragment_parser : Context → ℕ → Parser
 fragment_parser c realm = parser (reading_in c.name) false (fragment_opening c realm)
 
--- ---- what the text comes to
-
-abbrev pub if_finished : List Op → Finish → Option (List Op)
-if_finished ops finale.Finished = Some ops
-if_finished ops finale.Deep = None
-
--- at a stop, which is one for depth alone
-abbrev pub behind_stop : Entities → Parsed → Stop → Option (List Op)
-behind_stop es r stop.Deep = None
-behind_stop es r s = let f : Finished = finish es r.parser in if_finished (r.ops ++ f.ops) f.finish
-
 -- The operations that make the fragment's nodes under the root; none at a push that would open element 513.
 unfoldable pub fragment : Entities → Context → List ℕ → Option (List Op)
-fragment es c text = let r : Parsed = parse es (fragment_parser c 0) text in behind_stop es r r.stop
+fragment es c text = whole es (fragment_parser c 0) text
 
 -- ---- the context on a tree
 
@@ -129,9 +117,27 @@ context_at t n quirks = record { name = name_in (kind_of t n); html_point = is_a
 abbrev pub roots_made : Bool → List Op
 roots_made form = op.Make (root_id 0) (Known word.Html) [] ∷ (if form then op.Make (form_id 0) (Known word.Form) [] ∷ [] else [])
 
+-- The end of the root stands for the end of the Document, so that nothing of a fragment ever stands in the tree's own Document. No
+-- token of a fragment asks for that place.
+abbrev pub place_in_root : Place → Place
+place_in_root Page = Inside (root_id 0)
+place_in_root place = place
+
+-- and a doctype is left out
+abbrev pub in_root : Op → List Op
+in_root (op.Put id place) = op.Put id (place_in_root place) ∷ []
+in_root (op.Text place text) = op.Text (place_in_root place) text ∷ []
+in_root (op.Note place text) = op.Note (place_in_root place) text ∷ []
+in_root (op.Doctype name) = []
+in_root o = o ∷ []
+
+abbrev pub all_in_root : List Op → List Op
+all_in_root [] = []
+all_in_root (o ∷ os) = in_root o ++ all_in_root os
+
 -- the fragment's nodes, among the tree's, under ids of their own
 abbrev pub with_fragment : Nodes → Bool → List Op → Doc
-with_fragment t form ops = acts (record { tree = t; bound = [] }) (roots_made form ++ ops)
+with_fragment t form ops = acts (record { tree = t; bound = [] }) (roots_made form ++ all_in_root ops)
 
 -- the children of a node (of a template, its contents' children) taken out, and the children of the fragment's root put there
 abbrev pub exchanged : Doc → ℕ → Nodes
