@@ -55,7 +55,7 @@ fn restore(state: &mut Open)
 
 /// Resets the insertion mode appropriately (13.2.4.1).
 #[inline(never)]
-pub(crate) fn reset(state: &mut Open)
+fn reset(state: &mut Open)
     ensures { state.new ≡ record state.old { mode = reset_mode state.old.context state.old.stack state.old.head state.old.template_modes } }
 {
     state.mode = mode_to_reset_to(
@@ -75,7 +75,7 @@ fn foster(state: &mut Open) -> Flow
     Flow::Leave(Next::Foster)
 }
 
-/// Pops the current node, a script, at which the parser stops.
+/// Pops the current node, a script, at which the parser stops, but in a fragment (13.4).
 fn stop_at(state: &mut Open, ops: &Ops) -> Flow
     ensures done { config state.new ops.now result ≡ stop_at_script state.old.stack state.old ops.now }
     ensures shorter { length state.new.stack ≤ length state.old.stack }

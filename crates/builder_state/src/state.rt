@@ -9,6 +9,7 @@ ghost use Rattle.standard.specs.Adoption.{adopted, adopt};
 ghost use Rattle.html_types.specs.declared.operation.Op.{Op};
 ghost use Rattle.standard.specs.Rules.{answer, answer_of, rules_for as rules_of};
 ghost use Rattle.standard.specs.Parser.{opening};
+ghost use Rattle.standard.specs.Fragment.{fragment_opening};
 ghost use Rattle.builder_state.specs.Push.{opened};
 ghost use Rattle.builder_state.specs.Texts.{takes_characters as mode_takes_characters, reopens as mode_reopens, TakesText, behind_text};
 
@@ -16,15 +17,15 @@ use crate::at_once::{answer_row, asked};
 use crate::closing::close_latest;
 use crate::foreign::{is_foreign, rules_for, text_rules};
 use crate::formatting::none_lost;
+use crate::fragment::{copy_context, fragment_state, same_context};
 use crate::insert::{LIMIT, place_now, reopen_lost};
-use crate::machine::{reset, run_row};
+use crate::machine::run_row;
 use crate::pending::{insert_body_character, insert_body_one, insert_body_text};
 use crate::weight::is_light;
 use html_types::{
-    Context, Flow, Formats, Instr, Mode, Modes, Name, Next, NoMemory, NodeId, Open, OpenElement,
-    Ops, Place, Stack, Text, Token, Word,
+    Context, Flow, Formats, Instr, Mode, Modes, Next, NoMemory, NodeId, Open, OpenElement, Ops,
+    Place, Stack, Text, Token, Word,
 };
-use tag_sets::is_the;
 use std::alloc::Global;
 use std::marker::Model;
 use std::mem;
@@ -73,15 +74,20 @@ impl Builder {
         }
     }
 
-    /// The open state at the beginning of a fragment, whose ids are of that realm. The caller makes an html element under the first, and, where
-    /// the context is in a form, a form element under the second.
-    pub fn fragment(alloc: Global, context: Context, realm: u64) -> Result<Builder, NoMemory> {
+    /// The open state at the beginning of a fragment (13.4), whose ids are of that realm. The caller
+    /// makes an html element under the realm's first id and, where the context is in a form, a form
+    /// element under its second.
+    pub fn fragment(alloc: Global, context: Context, realm: u32) -> Result<Builder, NoMemory>
+        ensures { IfOk result (λ b. b ≡ fragment_opening context realm) }
+    {
         let state = fragment_state(alloc, context, realm)?;
         Ok(Builder { state })
     }
 
-    /// Whether the page is in quirks mode.
-    pub fn is_quirky(&self) -> bool {
+    /// Whether the document is in quirks mode.
+    pub fn is_quirky(&self) -> bool
+        ensures { result ≡ self.now.quirks }
+    {
         self.state.quirks
     }
 
@@ -339,57 +345,6 @@ fn first_state(alloc: Global, realm: u32) -> Open
         next: NodeId { realm, n: 0 },
         context: None,
     }
-}
-
-fn copy_context(
-    context: &Option<OpenElement>,
-) -> Result<Option<OpenElement>, NoMemory> {
-    match context {
-        None => Ok(None),
-        Some(element) => Ok(Some(OpenElement {
-            id: element.id,
-            name: element.name.copy()?,
-            html_point: element.html_point,
-        })),
-    }
-}
-
-fn same_context(a: &Option<OpenElement>, b: &Option<OpenElement>) -> bool {
-    match (a, b) {
-        (None, None) => true,
-        (Some(x), Some(y)) => {
-            x.id == y.id && x.html_point == y.html_point && x.name.same(&y.name)
-        }
-        _ => false,
-    }
-}
-
-/// The open state at the beginning of a fragment: one html element is open, which the caller makes under the realm's first id; where the
-/// context is in a form, the form element pointer is the realm's second.
-fn fragment_state(alloc: Global, context: Context, realm: u64) -> Result<Open, NoMemory> {
-    let root = NodeId { realm, n: 0 };
-    let mut state = first_state(alloc, realm);
-    state.stack.push(OpenElement {
-        id: root,
-        name: Name::Known(Word::Html),
-        html_point: false,
-    })?;
-    state.next = NodeId { realm, n: 1 };
-    if context.form {
-        state.form = Some(NodeId { realm, n: 1 });
-        state.next = NodeId { realm, n: 2 };
-    }
-    if is_the(Word::Template, &context.name) {
-        state.template_modes.push(Mode::InTemplate)?;
-    }
-    state.quirks = context.quirks;
-    state.context = Some(OpenElement {
-        id: root,
-        name: context.name,
-        html_point: context.html_point,
-    });
-    reset(&mut state);
-    Ok(state)
 }
 
 /// Whether the rules send characters to those of "in body", or insert them in any case.

@@ -6,10 +6,11 @@ ghost use Rattle.html_types.specs.declared.operation.Op.TheVariants as op;
 ghost use Rattle.doc_tree.specs.declared.tree.Put.TheVariants as put;
 
 use crate::bound::Bound;
+use crate::fragment::{context_of, form_id, in_root, root_id};
 use crate::script::{ScriptKind, kind_of_script};
-use doc_tree::{Put, Tree, value_of};
+use doc_tree::{Put, Tree};
 use html_types::{
-    Attributes, Context, Kind, Name, NoMemory, NodeId, Op, Ops, Place, Space, Text, Word,
+    Attributes, Context, Kind, Name, NoMemory, NodeId, Op, Ops, Place, Text, Word,
 };
 use std::alloc::Global;
 use std::marker::Model;
@@ -81,33 +82,6 @@ fn foster_spot(tree: &Tree, table: usize, above: usize) -> Spot
                 before: None,
             },
         },
-    }
-}
-
-fn is_form(kind: &Kind) -> bool {
-    match kind {
-        Kind::Element { name, .. } => match name {
-            Name::Known(word) => Word::Form.same(*word),
-            Name::Other(_, _) => false,
-        },
-        _ => false,
-    }
-}
-
-// Whether it is an annotation-xml of MathML that is an HTML integration point (13.2.6).
-fn is_html_annotation(name: &Name, attributes: &Attributes) -> bool {
-    let Name::Other(Space::MathMl, text) = name else {
-        return false;
-    };
-    if text.as_str() != "annotation-xml" {
-        return false;
-    }
-    match value_of(attributes, "encoding") {
-        None => false,
-        Some(value) => {
-            value.as_str().eq_ignore_ascii_case("text/html")
-                || value.as_str().eq_ignore_ascii_case("application/xhtml+xml")
-        }
     }
 }
 
@@ -372,34 +346,44 @@ impl Doc {
 // Fragments (13.4).
 impl Doc {
     ghost use Rattle.std.specs.Prelude.{[]};
+    ghost use Rattle.html_types.specs.Operations.{spelled_one};
     ghost use Rattle.act_laws.specs.Staying.{Stays};
-    ghost use Rattle.standard.specs.Act.{acts, is_bound, AreOpsBound};
-    ghost use Rattle.standard.specs.Fragment.{roots_made, with_fragment, exchanged, filled, root_id};
+    ghost use Rattle.standard.specs.Tree.{new_tree};
+    ghost use Rattle.standard.specs.Act.{acts, node_of, is_bound, AreOpsBound};
+    ghost use Rattle.standard.specs.Fragment.{context_at, roots_made, all_in_root, with_fragment, exchanged, filled, root_id};
+    ghost use Rattle.op_exec.specs.Docs.{IsDoneInPart};
 
-    /// The element as the context of a fragment.
-    pub fn context_of(&self, node: usize, quirks: bool) -> Result<Context, NoMemory> {
-        let form = self.stands_in_form(node);
-        match self.tree.kind(node) {
-            Kind::Element { name, attributes } => Ok(Context {
-                name: name.copy()?,
-                html_point: is_html_annotation(name, attributes),
-                form,
-                quirks,
-            }),
-            _ => Err(NoMemory),
+    /// What the parse of a fragment asks of that node as its context, in a document that is in
+    /// quirks mode or not. Its way up is walked.
+    pub fn context_of(&self, node: usize, quirks: bool) -> Result<Context, NoMemory>
+        requires { node < length self.now.tree }
+        ensures { IfOk result (λ context. context ≡ context_at self.now.tree node quirks) }
+    {
+        context_of(self.alloc, &self.tree, node, quirks)
+    }
+
+    // Does the operation in the root of a fragment, unless it inserts an empty text.
+    fn apply_in_root(&mut self, op: Op) -> Result<(), NoMemory>
+        requires { AreOpsBound (is_bound self.old.bound) (all_in_root (spelled_one op)) }
+        ensures ok { OnOk result (self.new ≡ acts self.old (all_in_root (spelled_one op))) }
+        ensures err { OnErr result (self.new ≡ self.old) }
+    {
+        match in_root(op) {
+            None => Ok(()),
+            Some(op) => self.apply_spelled(op),
         }
     }
 
-    // Whether the element is a form or stands under one.
-    fn stands_in_form(&self, node: usize) -> bool {
-        let mut at = Some(node);
-        'up: while let Some(n) = at {
-            if is_form(self.tree.kind(n)) {
-                return true;
-            }
-            at = self.tree.parent(n);
+    // Does the operations in order, in the root of a fragment.
+    fn apply_all_in_root(&mut self, ops: Ops) -> Result<(), NoMemory>
+        requires { AreOpsBound (is_bound self.old.bound) (all_in_root ops) }
+        ensures ok { OnOk result (self.new ≡ acts self.old (all_in_root ops)) }
+        ensures err { OnErr result (IsDoneInPart self.old self.new (all_in_root ops)) }
+    {
+        for op in ops.into_vec() {
+            self.apply_in_root(op)?;
         }
-        false
+        Ok(())
     }
 
     // With no id bound: the root of a fragment, and the form element that its form element pointer names.
@@ -408,11 +392,9 @@ impl Doc {
         ensures ok { OnOk result (self.new ≡ acts self.old (roots_made form)) }
         ensures stays { Stays self.old.tree self.new.tree }
     {
-        let root = NodeId { realm: 0, n: 0 };
-        self.make(root, Name::Known(Word::Html), Attributes::new(self.alloc))?;
+        self.make(root_id(), Name::Known(Word::Html), Attributes::new(self.alloc))?;
         if form {
-            let id = NodeId { realm: 0, n: 1 };
-            self.make(id, Name::Known(Word::Form), Attributes::new(self.alloc))?;
+            self.make(form_id(), Name::Known(Word::Form), Attributes::new(self.alloc))?;
         }
         Ok(())
     }
@@ -424,10 +406,22 @@ impl Doc {
         ensures ok { OnOk result (self.new ≡ record self.old { tree = exchanged self.old target }) }
         ensures stays { Stays self.old.tree self.new.tree }
     {
-        let from = self.node(NodeId { realm: 0, n: 0 });
+        let from = self.node(root_id());
         let to = end_of(&self.tree, target).parent;
         self.tree.take_children(to);
         self.tree.move_children(from, to)
+    }
+
+    // With no id bound: the fragment's nodes under ids of their own.
+    fn make_fragment(&mut self, form: bool, ops: Ops) -> Result<(), NoMemory>
+        requires none { self.old.bound ≡ [] }
+        requires bound { AreOpsBound (is_bound (with_fragment self.old.tree form []).bound) ops }
+        ensures ok { OnOk result (self.new ≡ with_fragment self.old.tree form ops) }
+        ensures root { OnOk result (IsTrue (is_bound self.new.bound (root_id 0))) }
+        ensures stays { Stays self.old.tree self.new.tree }
+    {
+        self.make_roots(form)?;
+        self.apply_all_in_root(ops)
     }
 
     // With no id bound: the fragment's nodes under ids of their own, and then the exchange.
@@ -438,13 +432,14 @@ impl Doc {
         ensures ok { OnOk result (self.new.tree ≡ filled self.old.tree target form ops) }
         ensures stays { Stays self.old.tree self.new.tree }
     {
-        self.make_roots(form)?;
-        self.apply_all(ops)?;
+        self.make_fragment(form, ops)?;
         self.exchange(target)
     }
 
-    /// Takes an element's children out (a template's: its contents' children), and puts there what those operations make under the root of
-    /// a fragment. They name the fragment's elements by ids of its own, of realm 0, of which none is bound behind it; what ids stand for stays.
+    /// Takes an element's children out (a template's: its contents' children), and puts there what
+    /// those operations make under the root of a fragment. They name the fragment's elements by ids
+    /// of its own, of realm 0, of which none is bound behind it; what ids stand for stays. Also
+    /// where memory runs out the nodes that there were keep their numbers; some may be new.
     pub fn fill(&mut self, target: usize, form: bool, ops: Ops) -> Result<(), NoMemory>
         requires here { target < length self.old.tree }
         requires bound { AreOpsBound (is_bound (with_fragment self.old.tree form []).bound) ops }
@@ -456,6 +451,20 @@ impl Doc {
         let filled = self.fill_with(target, form, ops);
         self.bound = bound;
         filled
+    }
+
+    /// A document of a fragment's own: those operations executed under its root, an html element,
+    /// whose number it says too. The root stands nowhere, and its children are the fragment's nodes.
+    pub fn of_fragment(alloc: Global, form: bool, ops: Ops) -> Result<(Doc, usize), NoMemory>
+        requires { AreOpsBound (is_bound (with_fragment new_tree form []).bound) ops }
+        ensures made { IfOk result (λ made. made.0 ≡ with_fragment new_tree form ops) }
+        ensures root { IfOk result (λ made. made.1 ≡ node_of made.0.bound (root_id 0)) }
+        ensures here { IfOk result (λ made. made.1 < length made.0.tree) }
+    {
+        let mut doc = Doc::new(alloc)?;
+        doc.make_fragment(form, ops)?;
+        let root = doc.node(root_id());
+        Ok((doc, root))
     }
 }
 

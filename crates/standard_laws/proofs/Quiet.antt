@@ -23,7 +23,7 @@ use Rattle.standard_laws.proofs.Passing.{passes-first, leads-next, leads-end, pa
 use Rattle.standard_laws.proofs.Scripts.{script-leads, still-script}
 use Rattle.standard_laws.proofs.Fuel.{one_outcome}
 
-after-twice : (ops more : List Op) (t : Through) → after_those ops (after_those more t) ≡ after_those (ops ++ more) t
+pub after-twice : (ops more : List Op) (t : Through) → after_those ops (after_those more t) ≡ after_those (ops ++ more) t
 after-twice ops more (through last p) = ap (λ os. through os p) (sym (append_assoc ops more last))
 after-twice ops more deep = refl
 
@@ -50,7 +50,7 @@ through-parse es p (c ∷ cs) = and-on es (take_character es p c) c cs (λ p'. t
 
 -- ---- texts in pieces
 
-after-none : (t : Through) → t ≡ after_those [] t
+pub after-none : (t : Through) → t ≡ after_those [] t
 after-none (through ops p) = refl
 after-none deep = refl
 
