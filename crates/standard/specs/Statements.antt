@@ -1,4 +1,4 @@
--- The language of scripts: six statements of JavaScript. A script's text is a list of statements, with space, TAB, LF
+-- The language of scripts: seven statements of JavaScript. A script's text is a list of statements, with space, TAB, LF
 -- and CR before, between and behind them, and none inside them but in a string. A string with its quotes is a JSON
 -- string (RFC 8259, section 7), in which a surrogate stands only in a pair, and it means that string's value.
 use Rattle.std.specs.Prelude.{ℕ, zero, suc, ◌==◌, ◌||◌, Bool, true, false, List, [], ◌∷◌, length, Option, Some, None, option_map, option_and_then, encode_utf8_all, codes}

@@ -5,10 +5,12 @@ ghost use Rattle.std.specs.Option.{ForSome};
 ghost use Rattle.std.specs.Str.{chars};
 ghost use Rattle.standard.specs.Act.{is_bound};
 ghost use Rattle.standard.specs.Tree.{find_id, appended};
+ghost use Rattle.standard.specs.Entities.{Entities};
+ghost use Rattle.standard.specs.Fragment.{inner_set};
 ghost use Rattle.standard.specs.Serial.{with_line_feed};
 ghost use Rattle.standard_laws.specs.Frames.{Waits};
 ghost use Rattle.write_parser.specs.Parsing.{IsServed, TextParsed, EndParsed};
-ghost use Rattle.write_parser.specs.Steps.{view_of, IsGoing, IsFirst, Begins, Prepares, Continues, HasWritten, HasRemoved, HasAppended, HasRead, DoesMost, Does, Steps, RunsOn, ParsesOn, Moves, frames_of, with_begun, Nests, EndsTag, RunsText, Misses, FeedsOn, IsFed, Fed};
+ghost use Rattle.write_parser.specs.Steps.{view_of, IsGoing, IsFirst, Begins, Prepares, Continues, HasWritten, HasRemoved, HasAppended, HasSet, HasRead, DoesMost, Does, Steps, RunsOn, ParsesOn, Moves, frames_of, with_begun, Nests, EndsTag, RunsText, Misses, FeedsOn, IsFed, Fed};
 ghost use Rattle.write_parser.specs.Writing.{LeftIs};
 
 use crate::left::{Left, Overrun};
@@ -206,17 +208,21 @@ impl Live {
         }
     }
 
-    // Takes the children of the element with that id out, and puts the fragment of that text there (13.4).
-    fn set_inner(&mut self, table: &Table, id: &Text, text: &Text) -> Result<Did, NoMemory> {
+    // Takes the children of the element with that id out, and puts the fragment of that text there (13.4). A fragment that is too deep
+    // refuses the page, and changes nothing else.
+    fn set_inner(&mut self, table: &Table, id: &Text, text: &Text) -> Result<Did, NoMemory>
+        ensures { IfOk result (λ did. HasSet (inner_set table.now self.old.machine.open_state.quirks self.old.doc.tree (find_id self.old.doc.tree id.now) text.now) self.old self.new did) }
+    {
         let Some(target) = self.doc.find_id(id.as_str()) else {
             return Ok(Did::Nothing);
         };
         let context = self.doc.context_of(target, self.machine.is_quirky())?;
         let form = context.form;
-        match parse_fragment(self.alloc, table, context, text.as_str())? {
-            None => self.halted = Some(Overrun::Depth),
-            Some(ops) => self.doc.fill(target, form, ops)?,
-        }
+        let Some(ops) = parse_fragment(self.alloc, table, context, text.as_str())? else {
+            self.halted = Some(Overrun::Depth);
+            return Ok(Did::All);
+        };
+        self.doc.fill(target, form, ops)?;
         Ok(Did::All)
     }
 
@@ -245,7 +251,7 @@ impl Live {
     ) -> Result<Did, NoMemory>
         requires going { IsGoing self.old }
         requires waits { Waits self.old.pending rest.old }
-        ensures { IfOk result (λ did. DoesMost number statement.now self.old rest.old self.new rest.new did) }
+        ensures { IfOk result (λ did. DoesMost table.now number statement.now self.old rest.old self.new rest.new did) }
     {
         match statement {
             Statement::Write(text) => self.write(text, rest),
@@ -274,7 +280,7 @@ impl Live {
     ) -> Result<Did, NoMemory>
         requires going { IsGoing self.old }
         requires waits { Waits self.old.pending rest.old }
-        ensures { IfOk result (λ did. Does number statement.now self.old rest.old self.new rest.new did) }
+        ensures { IfOk result (λ did. Does table.now number statement.now self.old rest.old self.new rest.new did) }
     {
         let did = self.try_statement(table, number, statement, rest)?;
         if did == Did::Nothing {
@@ -291,7 +297,7 @@ impl Live {
         requires going { IsGoing self.old }
         requires waits { Waits self.old.pending nesting.old.top.rest }
         requires ended { length nesting.old.top.script ≤ nesting.old.top.done }
-        ensures { IfOk result (λ turn. Steps self.old nesting.old self.new nesting.new turn) }
+        ensures { IfOk result (λ turn. (es : Entities) → Steps es self.old nesting.old self.new nesting.new turn) }
     {
         let rest = mem::replace(&mut nesting.top.rest, Rest::new(self.alloc));
         match nesting.below.pop() {
@@ -311,7 +317,7 @@ impl Live {
     fn step(&mut self, table: &Table, nesting: &mut Nesting) -> Result<Progress, NoMemory>
         requires going { IsGoing self.old }
         requires waits { Waits self.old.pending nesting.old.top.rest }
-        ensures { IfOk result (λ turn. Steps self.old nesting.old self.new nesting.new turn) }
+        ensures { IfOk result (λ turn. Steps table.now self.old nesting.old self.new nesting.new turn) }
     {
         let statements = nesting.top.script.as_slice();
         let Some(statement) = statements.get(nesting.top.done) else {
@@ -330,7 +336,7 @@ impl Live {
     // Runs statements up to a text that is to be parsed, or to the end.
     fn run_statements(&mut self, table: &Table, nesting: &mut Nesting) -> Result<Progress, NoMemory>
         requires { IsGoing self.old }
-        ensures { IfOk result (λ turn. RunsOn self.old nesting.old self.new nesting.new turn) }
+        ensures { IfOk result (λ turn. RunsOn table.now self.old nesting.old self.new nesting.new turn) }
     {
         'steps: while !self.goes_on(&nesting.top.rest) {
             if self.step(table, nesting)? == Progress::Over {
