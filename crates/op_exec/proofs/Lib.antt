@@ -7,3 +7,4 @@ pub mod Lists
 pub mod Worked
 pub mod Ids
 pub mod Finds
+pub mod Filling

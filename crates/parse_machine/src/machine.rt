@@ -1,6 +1,6 @@
 //! The machine.
 
-ghost use Rattle.std.specs.Prelude.{◌≡◌, ◌↔◌, ◌==◌, ◌≢◌, ◌&&◌, ◌<◌, ◌≤◌, ◌+◌, ◌++◌, [], ◌∷◌, Bool, List, length, take, if◌then◌else◌, IfOk, IfSome, IsTrue};
+ghost use Rattle.std.specs.Prelude.{◌≡◌, ◌↔◌, ◌==◌, ◌≢◌, ◌&&◌, ◌<◌, ◌≤◌, ◌+◌, ◌++◌, [], ◌∷◌, Bool, List, length, take, drop, if◌then◌else◌, IfOk, IfSome, IsTrue};
 ghost use Rattle.std.specs.Str.{chars};
 ghost use Rattle.html_types.specs.declared.operation.Op.{Op};
 ghost use Rattle.standard.specs.Entities.{Entities};
@@ -16,16 +16,20 @@ ghost use Rattle.entity_table.specs.View.{characters_in};
 ghost use Rattle.tokenizer.specs.Reference.{found_characters, open_characters};
 ghost use Rattle.parse_machine.specs.Runs.{ArePlain, reads_runs as state_reads_runs, Ahead, Inserts, ReadsTags, Takes, TakesRuns, TakesRun};
 ghost use Rattle.core_rules.specs.Batches.{end_batch, finishing};
+ghost use Rattle.standard.specs.Quiet.{after_those, read_through, whole};
+ghost use Rattle.standard.specs.Fragment.{fragment_parser};
+ghost use Rattle.parse_machine.specs.Through.{came_to, from_stop};
 ghost use Rattle.parse_machine.specs.Machine.{WentTo, EndedTo, Builds, BuildsLast, RanAs, halt_at, EndsAs, stops as stops_at};
 
+use crate::fragment::reading_in;
 use crate::token::construct;
 use crate::weight::is_light_state;
 use builder_state::Builder;
 use char_class::{class_of, first_mark};
 use entity_table::{Characters, Table};
 use html_types::{
-    Ending, Finish, Name, Next, NoMemory, NodeId, Ops, RawText, Stop, TextState, TokState, Token,
-    TokenizerSwitch, Why, Word, char_at,
+    Context, Ending, Finish, Name, Next, NoMemory, NodeId, Ops, RawText, Stop, TextState, TokState,
+    Token, TokenizerSwitch, Why, Word, char_at,
 };
 use std::alloc::Global;
 use std::marker::Model;
@@ -379,7 +383,7 @@ fn some_nul(found: Option<Characters>) -> bool
 
 impl Machine {
     /// The parser at the beginning of a page. Its elements are of that realm. It takes no memory.
-    pub fn new(alloc: Global, realm: u64) -> Machine
+    pub fn new(alloc: Global, realm: u32) -> Machine
         ensures { result ≡ new_parser realm }
     {
         Machine {
@@ -387,6 +391,30 @@ impl Machine {
             after_cr: false,
             builder: Builder::new(alloc, realm),
         }
+    }
+
+    /// The parser at the beginning of a fragment with that context (13.4). Its elements are of that
+    /// realm. The caller makes its root, an html element, under the realm's first id and, where the
+    /// context is in a form, a form element under its second.
+    #[tactic(auto, unfolding(standard::specs::Fragment::fragment_parser))]
+    pub fn fragment(alloc: Global, context: Context, realm: u32) -> Result<Machine, NoMemory>
+        ensures { IfOk result (λ m. m ≡ fragment_parser context realm) }
+    {
+        let mut tokenizer = Tokenizer::new(alloc);
+        tokenizer.load(reading_in(&context.name));
+        let builder = Builder::fragment(alloc, context, realm)?;
+        Ok(Machine {
+            tokenizer,
+            after_cr: false,
+            builder,
+        })
+    }
+
+    /// Whether the document is in quirks mode.
+    pub fn is_quirky(&self) -> bool
+        ensures { result ≡ self.now.open_state.quirks }
+    {
+        self.builder.is_quirky()
     }
 
     // Takes one character.
@@ -725,6 +753,69 @@ impl Machine {
         })
     }
 
+    // Takes the characters of a text up to the first stop, which is behind a character.
+    fn run_to_stop(
+        &mut self,
+        alloc: Global,
+        table: &Table,
+        text: &str,
+        ops: &mut Ops,
+    ) -> Result<Ran, NoMemory>
+        ensures boundary { IfOk result (λ ran. IsCharBoundary text.now ran.used) }
+        ensures onward { IfOk result (λ ran. ran.stop ≢ Stop.InputEnd → length (drop ran.used text.now) < length text.now) }
+        ensures through { IfOk result (λ ran. after_those ops.old (read_through table.now self.old (chars text.now))
+            ≡ from_stop table.now self.new ops.new (chars (drop ran.used text.now)) ran.stop) }
+    {
+        let ran = self.run(alloc, table, text, ops)?;
+        Ok(ran)
+    }
+
+    /// Reads a text through: at the end tag of a script nothing runs, and the parser goes on behind
+    /// it. Operations are added at the end of `ops`. False at a push that would open element 513,
+    /// behind which nothing is read. Where it answers want of memory, the machine and the operations
+    /// only keep their types.
+    pub fn read_through(
+        &mut self,
+        alloc: Global,
+        table: &Table,
+        text: &str,
+        ops: &mut Ops,
+    ) -> Result<bool, NoMemory>
+        // The operations and the state are those of the text that is read through.
+        ensures { IfOk result (λ goes_on. after_those ops.old (read_through table.now self.old (chars text.now)) ≡ came_to self.new ops.new goes_on) }
+    {
+        let mut rest = text;
+        'texts: loop {
+            let ran = self.run_to_stop(alloc, table, rest, ops)?;
+            match ran.stop {
+                Stop::InputEnd => return Ok(true),
+                Stop::Deep => return Ok(false),
+                Stop::Script(_) => rest = &rest[ran.used..],
+            }
+        }
+    }
+
+    /// Reads a text through that is the whole input, and takes the end of the input: the operations,
+    /// or none at a push that would open element 513. Where it answers want of memory, the machine
+    /// only keeps its type.
+    pub fn parse_whole(
+        &mut self,
+        alloc: Global,
+        table: &Table,
+        text: &str,
+    ) -> Result<Option<Ops>, NoMemory>
+        ensures { IfOk result (λ ops. ops ≡ whole table.now self.old (chars text.now)) }
+    {
+        let mut ops = Ops::new(alloc);
+        if !self.read_through(alloc, table, text, &mut ops)? {
+            return Ok(None);
+        }
+        match self.end_input(alloc, table, &mut ops)? {
+            Finish::Finished => Ok(Some(ops)),
+            Finish::Deep => Ok(None),
+        }
+    }
+
     // Takes the end of the input.
     fn end_input(&mut self, alloc: Global, table: &Table, ops: &mut Ops) -> Result<Finish, NoMemory>
         ensures { IfOk result (λ finish. after_all ops.old (finished table.now self.old) ≡ record { ops = ops.new; parser = self.new; finish = finish }) }
@@ -804,7 +895,7 @@ impl Machine {
     }
 
     /// The elements that are made from now on have the ids of that realm, from its first on.
-    pub fn renew(&mut self, realm: u64)
+    pub fn renew(&mut self, realm: u32)
         ensures { self.new ≡ record self.old { open_state = record self.old.open_state { next = record { realm = realm; n = 0 } } } }
     {
         self.builder.renew(realm);

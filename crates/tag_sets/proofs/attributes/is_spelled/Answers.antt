@@ -1,8 +1,8 @@
 use Rattle.std.proofs.Common.{◌∙◌, ap, map}
 use Rattle.std.specs.Char.{to_ascii_lowercase}
 use Rattle.html_types.specs.Text.{same_text}
-use Rattle.builder_state.proofs.Lowered.{same_lowered}
-use Rattle.builder_state.proofs.inputs.is_spelled.Goals as goal
+use Rattle.tag_sets.proofs.Lowered.{same_lowered}
+use Rattle.tag_sets.proofs.attributes.is_spelled.Goals as goal
 
 pub returns : goal.returns
 returns c =

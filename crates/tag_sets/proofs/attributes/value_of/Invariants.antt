@@ -1,7 +1,7 @@
 use Rattle.std.proofs.Common.{◌≡◌, drop}
 use Rattle.std.specs.Str.{chars}
 use Rattle.standard.specs.Tree.{attribute}
-use Rattle.builder_state.proofs.inputs.value_of.Given as goal
+use Rattle.tag_sets.proofs.attributes.value_of.Given as goal
 
 -- no attribute that is passed has the name
 abbrev pub invariant-loop-attribute : goal.invariant-loop-attribute

@@ -1,0 +1,116 @@
+-- A fragment's nodes beside a document's.
+use Rattle.std.proofs.Common.{◌≡◌, ◌<◌, ◌≤◌, ℕ, Bool, true, false, List, [], ◌∷◌, ◌++◌, length, Option, Some, None, Result, Ok, Err, OnOk, OnErr, refl, sym, ap, subst, ◌∙◌, arith}
+use Rattle.std.specs.Prelude.{IsTrue, All, ◌||◌, if◌then◌else◌}
+use Rattle.std.specs.Map.{values_of}
+use Rattle.std.specs.BTreeMap.{insert_entry}
+use Rattle.html_types.specs.declared.operation.NodeId.{NodeId}
+use Rattle.html_types.specs.declared.operation.Op.{Op}
+use Rattle.html_types.specs.declared.operation.Op.TheVariants.{Make, Put, Text, Note, Doctype, Detach, MoveChildren, AddAttributes}
+use Rattle.html_types.specs.Operations.{same_id}
+use Rattle.html_types.specs.declared.attributes.Attribute.{Attribute}
+use Rattle.html_types.specs.declared.name.Name.TheVariants.{Known}
+use Rattle.html_types.specs.declared.word.Word.TheVariants as word
+use Rattle.standard.specs.Tree.{Nodes, Keeps, is_element_at, children_of, detached, all_out, emptied, children_moved}
+use Rattle.standard.specs.Act.{Bound, Doc, id_cmp, is_bound, node_of, end_of, act, acts, known_after, AreOpsBound}
+use Rattle.standard.specs.Fragment.{root_id, form_id, roots_made, with_fragment, exchanged, filled}
+use Rattle.act_laws.specs.Staying.{Stays}
+use Rattle.act_laws.proofs.Elements.{Alike, Alike-detached}
+use Rattle.act_laws.proofs.Known.{known_after-is}
+use Rattle.act_laws.proofs.Staying.{same, chain, Stays-act, Stays-acts, Stays-all_out, Stays-children_moved}
+use Rattle.op_exec.specs.Docs.{IsPlain, IsDoc, IsDoneInPart}
+use Rattle.op_exec.proofs.Docs.{IsPlain-kept}
+use Rattle.op_exec.proofs.Lists.{acts-append}
+use Rattle.std.proofs.lemmas.List.Elements.{All-weaker}
+
+Alike-all_out : (t : Nodes) (cs : List ℕ) → Alike t (all_out t cs)
+Alike-all_out t [] n = refl
+Alike-all_out t (c ∷ cs) n = Alike-all_out (detached t c) cs n ∙ Alike-detached t c n
+
+pub Alike-emptied : (t : Nodes) (p : ℕ) → Alike t (emptied t p)
+unfolding emptied
+Alike-emptied t p = Alike-all_out t (children_of t p)
+
+pub Stays-emptied : (t : Nodes) (p : ℕ) → Stays t (emptied t p)
+unfolding emptied
+Stays-emptied t p = Stays-all_out t (children_of t p)
+
+pub Stays-done : {T E : Type 0} (r : Result T E) (t s made : Nodes) → OnOk r (s ≡ made) → OnErr r (s ≡ t) → Stays t made → Stays t s
+Stays-done (Ok x) t s made is failed h = subst (Stays t) (sym is) h
+Stays-done (Err e) t s made is failed h = subst (Stays t) (sym failed) (same t)
+
+pub Stays-part : (d e : Doc) (ops : List Op) → IsDoneInPart d e ops → Stays d.tree e.tree
+Stays-part d e ops part = subst (λ (x : Doc). Stays d.tree x.tree) (sym part.result) (Stays-acts d part.done)
+
+-- the page's map again, beside a tree in which the nodes stayed
+pub IsDoc-again : (t s : Nodes) (bound other : Bound) → IsDoc t bound → IsDoc s other → Stays t s → IsDoc s bound
+IsDoc-again t s bound other doc now stays = record {
+  document = now.document;
+  plain = All-weaker (IsPlain t) (IsPlain s) (λ n plain. IsPlain-kept t s n (record { nodes = stays.nodes; hosts = stays.hosts }) plain) (values_of bound) doc.plain;
+  one_to_one = doc.one_to_one;
+  elements = now.elements;
+}
+
+-- ---- the roots
+
+abbrev pub html_made : List Attribute → Op
+html_made as' = Make (root_id 0) (Known word.Html) as'
+
+abbrev pub form_made : List Attribute → Op
+form_made as' = Make (form_id 0) (Known word.Form) as'
+
+pub Stays-from : (d e : Doc) (o : Op) → e ≡ act d o → Stays d.tree e.tree
+Stays-from d e o is = subst (λ (x : Doc). Stays d.tree x.tree) (sym is) (Stays-act d o)
+
+pub second-free : (d e : Doc) (as' : List Attribute) → d.bound ≡ [] → e ≡ act d (html_made as') → is_bound e.bound (form_id 0) ≡ false
+unfolding act
+second-free d e as' none is =
+    ap (λ (x : Doc). is_bound x.bound (form_id 0)) is ∙ ap (λ (b : Bound). is_bound (insert_entry id_cmp b (root_id 0) (length d.tree)) (form_id 0)) none
+
+pub one-made : (d e : Doc) (as' : List Attribute) (form : Bool) → form ≡ false → as' ≡ [] → e ≡ act d (html_made as') → e ≡ acts d (roots_made form)
+unfolding acts
+one-made d e as' form off none is = is ∙ (ap (λ x. act d (html_made x)) none ∙ sym (ap (λ b. acts d (roots_made b)) off))
+
+pub two-made : (d m e : Doc) (as' bs : List Attribute) (form : Bool) → form ≡ true → as' ≡ [] → bs ≡ [] → m ≡ act d (html_made as') → e ≡ act m (form_made bs) → e ≡ acts d (roots_made form)
+unfolding acts
+two-made d m e as' bs form on none also first is =
+    is ∙ (ap (λ x. act m (form_made x)) also ∙ (ap (λ (x : Doc). act x (form_made [])) (first ∙ ap (λ x. act d (html_made x)) none) ∙ sym (ap (λ b. acts d (roots_made b)) on)))
+
+-- ---- what is bound
+
+or-true : (a b : Bool) → b ≡ true → (a || b) ≡ true
+or-true true b is = refl
+or-true false b is = is
+
+known-stays : (known : NodeId → Bool) (o : Op) (q : NodeId) → known q ≡ true → known_after known o q ≡ true
+known-stays known (Make id name as') q is = or-true (same_id q id) (known q) is
+known-stays known (Put id place) q is = is
+known-stays known (Text place text) q is = is
+known-stays known (Note place text) q is = is
+known-stays known (Doctype name) q is = is
+known-stays known (Detach id) q is = is
+known-stays known (MoveChildren from to) q is = is
+known-stays known (AddAttributes id attributes) q is = is
+
+bound-stays : (d : Doc) (ops : List Op) (q : NodeId) → is_bound d.bound q ≡ true → is_bound (acts d ops).bound q ≡ true
+unfolding acts
+bound-stays d [] q is = is
+bound-stays d (o ∷ os) q is = bound-stays (act d o) os q (sym (known_after-is d o q) ∙ known-stays (is_bound d.bound) o q is)
+
+pub root-bound : (d m e : Doc) (form : Bool) (ops : List Op) → m ≡ acts d (roots_made form) → e ≡ acts m ops → is_bound e.bound (root_id 0) ≡ true
+unfolding acts
+root-bound d m e form ops first next =
+    let made : is_bound (act d (html_made [])).bound (root_id 0) ≡ true = sym (known_after-is d (html_made []) (root_id 0)) in
+    let roots : is_bound (acts d (roots_made form)).bound (root_id 0) ≡ true = bound-stays (act d (html_made [])) (if form then form_made [] ∷ [] else []) (root_id 0) made in
+    ap (λ (x : Doc). is_bound x.bound (root_id 0)) next ∙ bound-stays m ops (root_id 0) (ap (λ (x : Doc). is_bound x.bound (root_id 0)) first ∙ roots)
+
+pub Stays-all : (d e : Doc) (ops : List Op) → e ≡ acts d ops → Stays d.tree e.tree
+Stays-all d e ops is = subst (λ (x : Doc). Stays d.tree x.tree) (sym is) (Stays-acts d ops)
+
+pub filled-done : {T E : Type 0} (r : Result T E) (d m e last : Doc) (n : ℕ) (form : Bool) (ops : List Op) → d.bound ≡ [] → m ≡ acts d (roots_made form) → e ≡ acts m ops
+    → OnOk r (last ≡ record e { tree = exchanged e n }) → OnOk r (last.tree ≡ filled d.tree n form ops)
+unfolding filled
+filled-done (Ok x) d m e last n form ops none first next is =
+    let all : e ≡ with_fragment d.tree form ops =
+    next ∙ (ap (λ (x : Doc). acts x ops) first ∙ (sym (acts-append d (roots_made form) ops) ∙ ap (λ (b : Bound). acts (record { tree = d.tree; bound = b }) (roots_made form ++ ops)) none)) in
+    ap (λ (x : Doc). x.tree) is ∙ ap (λ (x : Doc). exchanged x n) all
+filled-done (Err y) d m e last n form ops none first next is = tt
