@@ -6,7 +6,7 @@ ghost use Rattle.html_types.specs.declared.operation.Op.TheVariants as op;
 ghost use Rattle.doc_tree.specs.declared.tree.Put.TheVariants as put;
 
 use crate::bound::Bound;
-use crate::fragment::{context_of, form_id, in_root, root_id};
+use crate::fragment::{context_of, in_root};
 use crate::script::{ScriptKind, kind_of_script};
 use doc_tree::{Put, Tree};
 use html_types::{
@@ -392,9 +392,11 @@ impl Doc {
         ensures ok { OnOk result (self.new ≡ acts self.old (roots_made form)) }
         ensures stays { Stays self.old.tree self.new.tree }
     {
-        self.make(root_id(), Name::Known(Word::Html), Attributes::new(self.alloc))?;
+        let root = NodeId { realm: 0, n: 0 };
+        self.make(root, Name::Known(Word::Html), Attributes::new(self.alloc))?;
         if form {
-            self.make(form_id(), Name::Known(Word::Form), Attributes::new(self.alloc))?;
+            let id = NodeId { realm: 0, n: 1 };
+            self.make(id, Name::Known(Word::Form), Attributes::new(self.alloc))?;
         }
         Ok(())
     }
@@ -406,7 +408,7 @@ impl Doc {
         ensures ok { OnOk result (self.new ≡ record self.old { tree = exchanged self.old target }) }
         ensures stays { Stays self.old.tree self.new.tree }
     {
-        let from = self.node(root_id());
+        let from = self.node(NodeId { realm: 0, n: 0 });
         let to = end_of(&self.tree, target).parent;
         self.tree.take_children(to);
         self.tree.move_children(from, to)
@@ -421,7 +423,8 @@ impl Doc {
         ensures stays { Stays self.old.tree self.new.tree }
     {
         self.make_roots(form)?;
-        self.apply_all_in_root(ops)
+        self.apply_all_in_root(ops)?;
+        Ok(())
     }
 
     // With no id bound: the fragment's nodes under ids of their own, and then the exchange.
@@ -463,7 +466,7 @@ impl Doc {
     {
         let mut doc = Doc::new(alloc)?;
         doc.make_fragment(form, ops)?;
-        let root = doc.node(root_id());
+        let root = doc.node(NodeId { realm: 0, n: 0 });
         Ok((doc, root))
     }
 }
