@@ -30,6 +30,7 @@ fn is_annotation_point(kind: &Kind) -> bool
 }
 
 // Its name, where it is an element.
+#[tactic(auto, using(std::proofs::lemmas::Grind::common_steps, crate::proofs::Literals::no_text))]
 fn name_in(alloc: Global, kind: &Kind) -> Result<Name, NoMemory>
     ensures { IfOk result (λ name. name ≡ name_in kind.now) }
 {
