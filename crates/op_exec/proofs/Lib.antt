@@ -8,3 +8,4 @@ pub mod Worked
 pub mod Ids
 pub mod Finds
 pub mod Filling
+mod Contexts

@@ -6,12 +6,10 @@ ghost use Rattle.html_types.specs.declared.operation.Op.TheVariants as op;
 ghost use Rattle.doc_tree.specs.declared.tree.Put.TheVariants as put;
 
 use crate::bound::Bound;
-use crate::fragment::{context_of, form_id, in_root, root_id};
+use crate::fragment::{context_of, in_root};
 use crate::script::{ScriptKind, kind_of_script};
 use doc_tree::{Put, Tree};
-use html_types::{
-    Attributes, Context, Kind, Name, NoMemory, NodeId, Op, Ops, Place, Text, Word,
-};
+use html_types::{Attributes, Context, Kind, Name, NoMemory, NodeId, Op, Ops, Place, Text, Word};
 use std::alloc::Global;
 use std::marker::Model;
 use std::mem;
@@ -349,9 +347,9 @@ impl Doc {
     ghost use Rattle.html_types.specs.Operations.{spelled_one};
     ghost use Rattle.act_laws.specs.Staying.{Stays};
     ghost use Rattle.standard.specs.Tree.{new_tree};
-    ghost use Rattle.standard.specs.Act.{acts, node_of, is_bound, AreOpsBound};
-    ghost use Rattle.standard.specs.Fragment.{context_at, roots_made, all_in_root, with_fragment, exchanged, filled, root_id};
-    ghost use Rattle.op_exec.specs.Docs.{IsDoneInPart};
+    ghost use Rattle.standard.specs.Act.{act, acts, node_of, is_bound, AreOpsBound};
+    ghost use Rattle.standard.specs.Fragment.{context_at, roots_made, all_in_root, with_fragment, exchanged, filled, root_id, form_id};
+    ghost use Rattle.op_exec.specs.Docs.{IsDoneInPart, html_made, form_made};
 
     /// What the parse of a fragment asks of that node as its context, in a document that is in
     /// quirks mode or not. Its way up is walked.
@@ -386,15 +384,35 @@ impl Doc {
         Ok(())
     }
 
-    // With no id bound: the root of a fragment, and the form element that its form element pointer names.
+    // The root of a fragment.
+    fn make_root(&mut self) -> Result<(), NoMemory>
+        requires { is_bound self.old.bound (root_id 0) ≡ false }
+        ensures ok { OnOk result (self.new ≡ act self.old html_made) }
+        ensures err { OnErr result (self.new ≡ self.old) }
+    {
+        let none = Attributes::new(self.alloc);
+        self.make(NodeId { realm: 0, n: 0 }, Name::Known(Word::Html), none)
+    }
+
+    // The form element that its form element pointer names.
+    fn make_form(&mut self) -> Result<(), NoMemory>
+        requires { is_bound self.old.bound (form_id 0) ≡ false }
+        ensures ok { OnOk result (self.new ≡ act self.old form_made) }
+        ensures err { OnErr result (self.new ≡ self.old) }
+    {
+        let none = Attributes::new(self.alloc);
+        self.make(NodeId { realm: 0, n: 1 }, Name::Known(Word::Form), none)
+    }
+
+    // With no id bound: what the fragment's operations name and don't make.
     fn make_roots(&mut self, form: bool) -> Result<(), NoMemory>
         requires { self.old.bound ≡ [] }
         ensures ok { OnOk result (self.new ≡ acts self.old (roots_made form)) }
         ensures stays { Stays self.old.tree self.new.tree }
     {
-        self.make(root_id(), Name::Known(Word::Html), Attributes::new(self.alloc))?;
+        self.make_root()?;
         if form {
-            self.make(form_id(), Name::Known(Word::Form), Attributes::new(self.alloc))?;
+            self.make_form()?;
         }
         Ok(())
     }
@@ -406,7 +424,7 @@ impl Doc {
         ensures ok { OnOk result (self.new ≡ record self.old { tree = exchanged self.old target }) }
         ensures stays { Stays self.old.tree self.new.tree }
     {
-        let from = self.node(root_id());
+        let from = self.node(NodeId { realm: 0, n: 0 });
         let to = end_of(&self.tree, target).parent;
         self.tree.take_children(to);
         self.tree.move_children(from, to)
@@ -421,7 +439,8 @@ impl Doc {
         ensures stays { Stays self.old.tree self.new.tree }
     {
         self.make_roots(form)?;
-        self.apply_all_in_root(ops)
+        self.apply_all_in_root(ops)?;
+        Ok(())
     }
 
     // With no id bound: the fragment's nodes under ids of their own, and then the exchange.
@@ -463,7 +482,7 @@ impl Doc {
     {
         let mut doc = Doc::new(alloc)?;
         doc.make_fragment(form, ops)?;
-        let root = doc.node(root_id());
+        let root = doc.node(NodeId { realm: 0, n: 0 });
         Ok((doc, root))
     }
 }

@@ -2,26 +2,12 @@
 
 ghost use Rattle.std.specs.Prelude.{◌≡◌, ◌<◌, [], length, IfOk, MatchOption};
 ghost use Rattle.html_types.specs.Operations.{spelled_one};
-ghost use Rattle.standard.specs.Fragment.{is_form, name_in, is_annotation_point, in_form_by, context_at, root_id, form_id, place_in_root, all_in_root};
+ghost use Rattle.standard.specs.Fragment.{is_form, name_in, is_annotation_point, in_form_by, context_at, place_in_root, all_in_root};
 
 use doc_tree::Tree;
 use html_types::{Context, Kind, Name, NoMemory, NodeId, Op, Place, Space, Word};
 use std::alloc::Global;
 use tag_sets::{is_html_annotation, is_the};
-
-/// The id of a fragment's root, an html element.
-pub(crate) fn root_id() -> NodeId
-    ensures { result ≡ root_id 0 }
-{
-    NodeId { realm: 0, n: 0 }
-}
-
-/// The id of the form element that the form element pointer names, where the context is in a form.
-pub(crate) fn form_id() -> NodeId
-    ensures { result ≡ form_id 0 }
-{
-    NodeId { realm: 0, n: 1 }
-}
 
 // Whether it is a form.
 fn is_form(kind: &Kind) -> bool
@@ -44,6 +30,7 @@ fn is_annotation_point(kind: &Kind) -> bool
 }
 
 // Its name, where it is an element.
+#[tactic(auto, using(std::proofs::lemmas::Grind::common_steps, crate::proofs::Literals::no_text))]
 fn name_in(alloc: Global, kind: &Kind) -> Result<Name, NoMemory>
     ensures { IfOk result (λ name. name ≡ name_in kind.now) }
 {
@@ -97,7 +84,7 @@ fn place_in_root(place: Place) -> Place
     ensures { result ≡ place_in_root place }
 {
     match place {
-        Place::Page => Place::Inside(root_id()),
+        Place::Page => Place::Inside(NodeId { realm: 0, n: 0 }),
         _ => place,
     }
 }

@@ -15,12 +15,8 @@ fn reading_of(word: Word) -> TokState
 {
     match word {
         Word::Title | Word::Textarea => TokState::Text(TextState::Raw(RawText::Rcdata, None)),
-        Word::Style
-        | Word::Xmp
-        | Word::Iframe
-        | Word::Noembed
-        | Word::Noframes
-        | Word::Noscript => TokState::Text(TextState::Raw(RawText::Rawtext, None)),
+        Word::Style | Word::Xmp | Word::Iframe | Word::Noembed | Word::Noframes | Word::Noscript =>
+            TokState::Text(TextState::Raw(RawText::Rawtext, None)),
         Word::Script => TokState::Text(TextState::Raw(RawText::ScriptData, None)),
         Word::Plaintext => TokState::Text(TextState::Plaintext),
         _ => TokState::Text(TextState::Data),

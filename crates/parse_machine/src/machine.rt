@@ -807,10 +807,12 @@ impl Machine {
         ensures { IfOk result (λ ops. ops ≡ whole table.now self.old (chars text.now)) }
     {
         let mut ops = Ops::new(alloc);
-        if !self.read_through(alloc, table, text, &mut ops)? {
+        let goes_on = self.read_through(alloc, table, text, &mut ops)?;
+        if !goes_on {
             return Ok(None);
         }
-        match self.end_input(alloc, table, &mut ops)? {
+        let finish = self.end_input(alloc, table, &mut ops)?;
+        match finish {
             Finish::Finished => Ok(Some(ops)),
             Finish::Deep => Ok(None),
         }

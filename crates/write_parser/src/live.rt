@@ -208,22 +208,35 @@ impl Live {
         }
     }
 
-    // Takes the children of the element with that id out, and puts the fragment of that text there (13.4). A fragment that is too deep
-    // refuses the page, and changes nothing else.
+    // Takes the children of that element out, and puts the fragment of that text there (13.4). A fragment that is too deep refuses the
+    // page, and changes nothing else.
+    fn fill(&mut self, table: &Table, target: usize, text: &Text) -> Result<Did, NoMemory>
+        requires { target < length self.old.doc.tree }
+        ensures { IfOk result (λ did. HasSet (inner_set table.now self.old.machine.open_state.quirks self.old.doc.tree (Some target) text.now) self.old self.new did) }
+    {
+        let context = self.doc.context_of(target, self.machine.is_quirky())?;
+        let form = context.form;
+        let fragment = parse_fragment(self.alloc, table, context, text.as_str())?;
+        match fragment {
+            None => {
+                self.halted = Some(Overrun::Depth);
+                Ok(Did::All)
+            }
+            Some(ops) => {
+                self.doc.fill(target, form, ops)?;
+                Ok(Did::All)
+            }
+        }
+    }
+
+    // The same with the element that has that id, if one has.
     fn set_inner(&mut self, table: &Table, id: &Text, text: &Text) -> Result<Did, NoMemory>
         ensures { IfOk result (λ did. HasSet (inner_set table.now self.old.machine.open_state.quirks self.old.doc.tree (find_id self.old.doc.tree id.now) text.now) self.old self.new did) }
     {
-        let Some(target) = self.doc.find_id(id.as_str()) else {
-            return Ok(Did::Nothing);
-        };
-        let context = self.doc.context_of(target, self.machine.is_quirky())?;
-        let form = context.form;
-        let Some(ops) = parse_fragment(self.alloc, table, context, text.as_str())? else {
-            self.halted = Some(Overrun::Depth);
-            return Ok(Did::All);
-        };
-        self.doc.fill(target, form, ops)?;
-        Ok(Did::All)
+        match self.doc.find_id(id.as_str()) {
+            None => Ok(Did::Nothing),
+            Some(target) => self.fill(table, target, text),
+        }
     }
 
     // The script of that number reads the element.
