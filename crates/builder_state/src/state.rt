@@ -75,7 +75,7 @@ impl Builder {
 
     /// The open state at the beginning of a fragment, whose ids are of that realm. The caller makes an html element under the first, and, where
     /// the context is in a form, a form element under the second.
-    pub fn fragment(alloc: Global, context: Context, realm: u64) -> Result<Builder, NoMemory> {
+    pub fn fragment(alloc: Global, context: Context, realm: u32) -> Result<Builder, NoMemory> {
         let state = fragment_state(alloc, context, realm)?;
         Ok(Builder { state })
     }
@@ -366,7 +366,7 @@ fn same_context(a: &Option<OpenElement>, b: &Option<OpenElement>) -> bool {
 
 /// The open state at the beginning of a fragment: one html element is open, which the caller makes under the realm's first id; where the
 /// context is in a form, the form element pointer is the realm's second.
-fn fragment_state(alloc: Global, context: Context, realm: u64) -> Result<Open, NoMemory> {
+fn fragment_state(alloc: Global, context: Context, realm: u32) -> Result<Open, NoMemory> {
     let root = NodeId { realm, n: 0 };
     let mut state = first_state(alloc, realm);
     state.stack.push(OpenElement {

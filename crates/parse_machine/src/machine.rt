@@ -429,7 +429,7 @@ impl Machine {
 
     /// The parser at the beginning of a fragment with that context (13.4). Its elements are of that realm; the caller makes its root, an html
     /// element, under the realm's first id, and, where the context is in a form, a form element under the second.
-    pub fn fragment(alloc: Global, context: Context, realm: u64) -> Result<Machine, NoMemory> {
+    pub fn fragment(alloc: Global, context: Context, realm: u32) -> Result<Machine, NoMemory> {
         let mut tokenizer = Tokenizer::new(alloc);
         tokenizer.load(reading_in(&context.name));
         Ok(Machine {
