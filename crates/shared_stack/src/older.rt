@@ -26,10 +26,10 @@ impl<T> Model for Older<T> {
     ghost invariant = { λ o. length o.front + length o.back < 2 ^ 64 };
 }
 
-// Whether a block of so many entries is short beside one of so many behind it: the one is made anew with the other then. A
-// block behind grows to four times the root of the one in front, and both together cost each entry a few copies.
-fn is_short(front: usize, back: usize) -> bool {
-    front / 16 <= back.saturating_mul(back)
+// Whether a block of so many entries is short beside those behind it: it is made anew with them then. A block behind comes to
+// eight times the root of the one in front, so that each entry is copied but a few times.
+fn is_short(front: usize, behind: usize) -> bool {
+    front.saturating_mul(64) <= behind.saturating_mul(behind)
 }
 
 // Copies a block's entries, so that they are the list's own.
@@ -88,7 +88,9 @@ impl<T> Older<T> {
             None => front.last(),
         }
     }
+}
 
+impl<T: Entry> Older<T> {
     /// Keeps so many, the earliest. The others stay for the copies.
     #[tactic(auto, using(std::proofs::lemmas::Grind::common_steps, crate::proofs::Ends::taken))]
     pub(crate) fn truncate(&mut self, kept: usize)
@@ -112,9 +114,7 @@ impl<T> Older<T> {
         let back = self.back.copy()?;
         Ok(Older { front, back })
     }
-}
 
-impl<T: Entry> Older<T> {
     /// Copies the entries from a place on in front of the own ones, so that they are shared no more.
     pub(crate) fn give_from(&mut self, own: &mut Vec<T>, place: usize) -> Result<(), AllocError>
         ensures same { self.new ++ own.new.items ≡ self.old ++ own.old.items }
