@@ -24,10 +24,10 @@ use html_types::{
     Context, Flow, Formats, Instr, Mode, Modes, Name, Next, NoMemory, NodeId, Open, OpenElement,
     Ops, Place, Stack, Text, Token, Word,
 };
-use tag_sets::is_the;
 use std::alloc::Global;
 use std::marker::Model;
 use std::mem;
+use tag_sets::is_the;
 
 /// Whether an element was pushed.
 #[derive(Clone, Copy, PartialEq, Eq)]
@@ -341,9 +341,7 @@ fn first_state(alloc: Global, realm: u32) -> Open
     }
 }
 
-fn copy_context(
-    context: &Option<OpenElement>,
-) -> Result<Option<OpenElement>, NoMemory> {
+fn copy_context(context: &Option<OpenElement>) -> Result<Option<OpenElement>, NoMemory> {
     match context {
         None => Ok(None),
         Some(element) => Ok(Some(OpenElement {
