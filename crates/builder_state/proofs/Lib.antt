@@ -6,3 +6,4 @@ pub mod ForeignEnds
 pub mod Pairs
 pub mod Latest
 pub mod Fewer
+pub mod Apart

@@ -29,6 +29,7 @@ use html_types::{
 use std::alloc::Global;
 use std::marker::Model;
 use std::mem;
+use tag_sets::is_the;
 
 /// Whether an element was pushed.
 #[derive(Clone, Copy, PartialEq, Eq)]

@@ -430,6 +430,7 @@ impl Side {
         if self.writer.doc().script_kind(id) == ScriptKind::Still {
             return Ok(());
         }
+        self.writer.share()?;
         let held = self.writer.machine().copy(self.alloc)?;
         let realm = self.new_realm()?;
         self.writer.renew(realm);

@@ -4,6 +4,7 @@
 #![tactic(auto)]
 
 mod attribute_list;
+mod attribute_sum;
 pub mod attributes;
 pub mod children;
 pub mod class;

@@ -1,6 +1,6 @@
 //! The machine.
 
-ghost use Rattle.std.specs.Prelude.{◌≡◌, ◌↔◌, ◌==◌, ◌≢◌, ◌&&◌, ◌<◌, ◌≤◌, ◌+◌, ◌++◌, [], ◌∷◌, Bool, List, length, take, drop, if◌then◌else◌, IfOk, IfSome, IsTrue};
+ghost use Rattle.std.specs.Prelude.{◌≡◌, ◌↔◌, ◌==◌, ◌≢◌, ◌&&◌, ◌<◌, ◌≤◌, ◌+◌, ◌++◌, [], ◌∷◌, Bool, List, length, take, drop, slice_range, if◌then◌else◌, IfOk, IfSome, IsTrue};
 ghost use Rattle.std.specs.Str.{chars};
 ghost use Rattle.html_types.specs.declared.operation.Op.{Op};
 ghost use Rattle.standard.specs.Entities.{Entities};
@@ -14,7 +14,7 @@ ghost use Rattle.standard.specs.Instructions.{here, texts};
 ghost use Rattle.std.specs.List.{list_any};
 ghost use Rattle.entity_table.specs.View.{characters_in};
 ghost use Rattle.tokenizer.specs.Reference.{found_characters, open_characters};
-ghost use Rattle.parse_machine.specs.Runs.{ArePlain, reads_runs as state_reads_runs, Ahead, Inserts, ReadsTags, Takes, TakesRuns, TakesRun};
+ghost use Rattle.parse_machine.specs.Runs.{ArePlain, reads_runs as state_reads_runs, reads_raw as state_reads_raw, BeginsNothing, Ahead, Inserts, ReadsTags, Takes, TakesRuns, TakesRun};
 ghost use Rattle.core_rules.specs.Batches.{end_batch, finishing};
 ghost use Rattle.standard.specs.Quiet.{after_those, read_through, whole};
 ghost use Rattle.standard.specs.Fragment.{fragment_parser};
@@ -34,6 +34,7 @@ use html_types::{
 use std::alloc::Global;
 use std::marker::Model;
 use tokenizer::Tokenizer;
+use tokenizer::raw::raw_end;
 use tokenizer::reading::is_plain;
 use tokenizer::reference::{OpenReference, open_reference, whole_reference};
 use tokenizer::whole::whole_token;
@@ -330,6 +331,20 @@ fn end_and_build(
     build_last(alloc, tokenizer, builder, ops)
 }
 
+// Whether a `<` stands at a place, and behind it a character with which nothing begins in a text that is read up to its end tag.
+fn begins_nothing(text: &str, from: usize) -> bool
+    requires { IsCharBoundary text.now from }
+    ensures within { IsTrue result → IsCharBoundary text.now (from + 2) }
+    ensures read { IsTrue result → BeginsNothing (chars (slice_range text.now from (from + 2))) }
+{
+    let bytes = text.as_bytes();
+    if bytes.len() < 2 || from > bytes.len() - 2 || bytes[from] != b'<' {
+        return false;
+    }
+    let next = bytes[from + 1];
+    next < 128 && !matches!(next, b'\0' | b'\r' | b'&' | b'<' | b'/' | b'!')
+}
+
 // The answer where the end of the input came to that.
 fn page_end(finish: Finish) -> PageEnd
     ensures { halt_at result ≡ finishing finish }
@@ -337,6 +352,19 @@ fn page_end(finish: Finish) -> PageEnd
     match finish {
         Finish::Finished => PageEnd::Finished,
         Finish::Deep => PageEnd::Deep,
+    }
+}
+
+// Whether the state is that of a text that is read up to its end tag.
+fn reads_raw(state: &TokState) -> bool
+    ensures { result ≡ state_reads_raw state.now }
+{
+    match state {
+        TokState::Text(TextState::Raw(raw, _)) => matches!(
+            raw,
+            RawText::Rcdata | RawText::Rawtext | RawText::ScriptData
+        ),
+        _ => false,
     }
 }
 
@@ -542,6 +570,81 @@ impl Machine {
         }
     }
 
+    // Takes the end tag that ends the text of the state, where it stands whole at a place.
+    fn take_raw_end(
+        &mut self,
+        alloc: Global,
+        text: &str,
+        from: usize,
+        ops: &mut Ops,
+    ) -> Result<Option<Ran>, NoMemory>
+        requires { IsCharBoundary text.now from }
+        ensures boundary { IfOk result (λ o. IfSome o (λ ran. IsCharBoundary text.now ran.used)) }
+        ensures onward { IfOk result (λ o. IfSome o (λ ran. from < ran.used)) }
+        ensures parsed { IfOk result (λ o. IfSome o (λ ran. (es : Entities) → Takes es text.now from ran self.old ops.old self.new ops.new)) }
+        ensures none { IfOk result (λ o. o ≡ None → self.new ≡ self.old) }
+        ensures none_added { IfOk result (λ o. o ≡ None → ops.new ≡ ops.old) }
+    {
+        if self.after_cr {
+            return Ok(None);
+        }
+        let Some(whole) = raw_end(alloc, self.tokenizer.state(), text, from) else {
+            return Ok(None);
+        };
+        self.tokenizer.load(TokState::Text(TextState::Data));
+        let stop = self.take_token(alloc, &whole.token, ops)?;
+        Ok(Some(Ran {
+            stop,
+            used: whole.end,
+        }))
+    }
+
+    // Takes a `<` in such a text that begins nothing, with the character behind it.
+    fn take_raw_less(
+        &mut self,
+        alloc: Global,
+        text: &str,
+        from: usize,
+        ops: &mut Ops,
+    ) -> Result<Option<Ran>, NoMemory>
+        requires { IsCharBoundary text.now from }
+        ensures boundary { IfOk result (λ o. IfSome o (λ ran. IsCharBoundary text.now ran.used)) }
+        ensures onward { IfOk result (λ o. IfSome o (λ ran. from < ran.used)) }
+        ensures parsed { IfOk result (λ o. IfSome o (λ ran. (es : Entities) → Takes es text.now from ran self.old ops.old self.new ops.new)) }
+        ensures none { IfOk result (λ o. o ≡ None → self.new ≡ self.old) }
+        ensures none_added { IfOk result (λ o. o ≡ None → ops.new ≡ ops.old) }
+    {
+        if !begins_nothing(text, from) || !self.takes_runs() || !reads_raw(self.tokenizer.state()) {
+            return Ok(None);
+        }
+        self.insert_run(alloc, &text[from..from + 2], ops)?;
+        Ok(Some(Ran {
+            stop: Stop::InputEnd,
+            used: from + 2,
+        }))
+    }
+
+    // Takes what begins at a place with a `<` in a text that is read up to its end tag.
+    fn take_raw(
+        &mut self,
+        alloc: Global,
+        text: &str,
+        from: usize,
+        ops: &mut Ops,
+    ) -> Result<Option<Ran>, NoMemory>
+        requires { IsCharBoundary text.now from }
+        ensures boundary { IfOk result (λ o. IfSome o (λ ran. IsCharBoundary text.now ran.used)) }
+        ensures onward { IfOk result (λ o. IfSome o (λ ran. from < ran.used)) }
+        ensures parsed { IfOk result (λ o. IfSome o (λ ran. (es : Entities) → Takes es text.now from ran self.old ops.old self.new ops.new)) }
+        ensures none { IfOk result (λ o. o ≡ None → self.new ≡ self.old) }
+        ensures none_added { IfOk result (λ o. o ≡ None → ops.new ≡ ops.old) }
+    {
+        match self.take_raw_end(alloc, text, from, ops)? {
+            Some(ran) => Ok(Some(ran)),
+            None => self.take_raw_less(alloc, text, from, ops),
+        }
+    }
+
     // Takes the tag or the reference that begins at a place with a character, where it is read at once.
     fn take_tag(
         &mut self,
@@ -559,8 +662,11 @@ impl Machine {
         ensures none { IfOk result (λ o. o ≡ None → self.new ≡ self.old) }
         ensures none_added { IfOk result (λ o. o ≡ None → ops.new ≡ ops.old) }
     {
-        if (c != '<' && c != '&') || !self.reads_tags() {
+        if c != '<' && c != '&' {
             return Ok(None);
+        }
+        if !self.reads_tags() {
+            return self.take_raw(alloc, text, from, ops);
         }
         let Some(whole) = whole_token(alloc, table, text, from)? else {
             return Ok(None);
@@ -740,7 +846,7 @@ impl Machine {
         // The operations, the next state, the characters used and the stop are those of the parse of the text.
         ensures parsed { IfOk result (λ ran. RanAs (parse table.now self.old (chars text.now)) ops.old self.new ops.new ran text.now) }
     {
-        let mut used = 0;
+        let mut used = self.take_run(alloc, text, 0, ops)?;
         while let Some(ran) = self.take_next(alloc, table, text, used, ops)? {
             if stops(ran.stop) {
                 return Ok(ran);

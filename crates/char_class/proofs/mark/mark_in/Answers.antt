@@ -2,7 +2,7 @@ use Rattle.std.proofs.Common.{take, ◌∙◌}
 use Rattle.std.proofs.lemmas.List.{length-take-le}
 use Rattle.memchr.specs.Find.{is_byte}
 use Rattle.char_class.proofs.Marks.{first_place, no_place, nul_found}
-use Rattle.char_class.proofs.mark.first_mark.Goals as goal
+use Rattle.char_class.proofs.mark.mark_in.Goals as goal
 
 pub returns-in-Some : goal.returns-in-Some
 returns-in-Some c =
