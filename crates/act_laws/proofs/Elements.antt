@@ -89,7 +89,7 @@ Alike-with_new t p place k none = chain t (t ++ lone k ∷ []) (with_new t p pla
 pub Alike-new_at : (t : Nodes) (k : Kind) (spot : Spot) → is_element k ≡ false → Alike t (new_at t k spot)
 Alike-new_at t k spot none = Alike-with_new t spot.parent _ k none
 
-more : (k : Kind) (text : List ℕ) → is_element (with_more k text) ≡ is_element k
+pub more : (k : Kind) (text : List ℕ) → is_element (with_more k text) ≡ is_element k
 more kind.Document text = refl
 more kind.Contents text = refl
 more (kind.Doctype name) text = refl
@@ -108,7 +108,7 @@ Alike-text_added t p place (c ∷ cs) = either (is_document (kind_of t p)) t _ (
 pub Alike-text_at : (t : Nodes) (text : List ℕ) (spot : Spot) → Alike t (text_at t text spot)
 Alike-text_at t text spot = Alike-text_added t spot.parent _ text
 
-lacking : (k : Kind) (attributes : List Attribute) → is_element (with_lacking k attributes) ≡ is_element k
+pub lacking : (k : Kind) (attributes : List Attribute) → is_element (with_lacking k attributes) ≡ is_element k
 lacking kind.Document as' = refl
 lacking kind.Contents as' = refl
 lacking (kind.Doctype name) as' = refl

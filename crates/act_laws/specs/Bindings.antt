@@ -8,11 +8,14 @@ use Rattle.standard.specs.Act.{Bound, Doc, bound_to}
 abbrev pub IsOneToOne : Bound → Type 0
 IsOneToOne bound = (a b : NodeId) (n : ℕ) → bound_to bound a ≡ Some n → bound_to bound b ≡ Some n → a ≡ b
 
--- ids and the elements of the tree stand one to one
-pub record NamesElements (d : Doc) : Type 0 where
-  -- an id stands for an element
+-- ids stand for elements of the tree
+pub record BindsElements (d : Doc) : Type 0 where
   pub elements : (id : NodeId) (n : ℕ) → bound_to d.bound id ≡ Some n → is_element_at d.tree n ≡ true
   -- no two stand for one
   pub one_to_one : IsOneToOne d.bound
+
+-- ids and the elements of the tree stand one to one
+pub record NamesElements (d : Doc) : Type 0 where
+  pub binds : BindsElements d
   -- each element has its id
   pub named : (n : ℕ) → is_element_at d.tree n ≡ true → (id : NodeId) × (bound_to d.bound id ≡ Some n)

@@ -1,9 +1,9 @@
 pub mod Runs
 pub mod Top
 pub mod Literals
-pub mod Lowered
 pub mod Characters
 pub mod ForeignEnds
 pub mod Pairs
 pub mod Latest
 pub mod Fewer
+pub mod Apart

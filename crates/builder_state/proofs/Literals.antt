@@ -6,7 +6,3 @@ use Rattle.std.specs.Str.{chars}
 pub type_text : chars (codes "type") ≡ codes "type"
 unfolding chars
 type_text = refl
-
-pub encoding_text : chars (codes "encoding") ≡ codes "encoding"
-unfolding chars
-encoding_text = refl

@@ -13,7 +13,7 @@ and_assoc : (a b c : Bool) → (a && (b && c)) ≡ ((a && b) && c)
 and_assoc true b c = refl
 and_assoc false b c = refl
 
-same-either_way : (xs ys : List ℕ) → same_text xs ys ≡ same_text ys xs
+pub same-either_way : (xs ys : List ℕ) → same_text xs ys ≡ same_text ys xs
 same-either_way xs ys =
     let there = bytes_decides xs ys in
     let back = bytes_decides ys xs in

@@ -80,5 +80,6 @@ pub fn test_holds(state: &Open, test: Test, token: &Token) -> bool
         Test::OptionInOptgroup => is_option_in_optgroup(&state.stack),
         Test::SelfClosing => closes_itself(token),
         Test::BreaksOut => is_breaking(token),
+        Test::InFragment => state.context.is_some(),
     }
 }

@@ -1,26 +1,27 @@
 //! Foreign elements: the adjusted current node (13.2.4.2), the integration points (13.2.6), and the tags of foreign elements (13.2.6.1).
 
-ghost use Rattle.std.specs.Prelude.{◌≡◌, false, IfOk, Some, codes, unwrap_or, option_map};
+ghost use Rattle.std.specs.Prelude.{◌≡◌, false, IfOk, unwrap_or, option_map};
 ghost use Rattle.std.specs.Str.{chars};
-ghost use Rattle.standard.specs.Tree.{attribute};
 ghost use Rattle.standard.specs.Foreign as definition;
 ghost use Rattle.standard.specs.Rules.{rules_for as rules_of};
 ghost use Rattle.builder_state.specs.Texts.{text_rules as rules_of_text};
 
-use crate::inputs::{is_spelled, value_of};
 use foreign_tables::{math_attribute, svg_attribute, svg_name};
 use html_types::{
     Attribute, Attributes, Mode, Name, NoMemory, NodeId, Open, OpenElement, Space, Tag, Text,
     Token, Word,
 };
 use std::alloc::Global;
-use tag_sets::{is_annotation_text, is_math_text, is_svg_point, is_the};
+use tag_sets::{is_annotation, is_html_annotation, is_math_text, is_svg_point, is_the};
 
 /// The adjusted current node (13.2.4.2).
 pub fn adjusted(state: &Open) -> Option<&OpenElement>
     ensures { option_map (λ e. e.now) result ≡ definition.adjusted state.now }
 {
-    state.stack.latest()
+    match &state.context {
+        Some(context) if state.stack.len() == 1 => Some(context),
+        _ => state.stack.latest(),
+    }
 }
 
 /// Whether the name is one of HTML.
@@ -51,16 +52,6 @@ pub fn is_html_point(element: &OpenElement) -> bool
     match &element.name {
         Name::Other(Space::Svg, name) => is_svg_point(name) || element.html_point,
         _ => element.html_point,
-    }
-}
-
-/// Whether this is the name of an annotation-xml of MathML.
-fn is_annotation(name: &Name) -> bool
-    ensures { result ≡ definition.is_annotation name.now }
-{
-    match name {
-        Name::Other(Space::MathMl, text) => is_annotation_text(text),
-        _ => false,
     }
 }
 
@@ -154,33 +145,8 @@ pub fn is_foreign(state: &Open) -> bool
     }
 }
 
-/// Whether a text is one of the encodings of HTML, in any ASCII case.
-fn is_html_encoding(text: &Text) -> bool
-    ensures { result ≡ definition.is_html_encoding (Some text.now) }
-{
-    is_spelled(text, "text/html") || is_spelled(text, "application/xhtml+xml")
-}
-
-/// Whether the `encoding` is one of HTML.
-#[tactic(auto, using(std::proofs::lemmas::Grind::common_steps, crate::proofs::Literals::encoding_text))]
-fn has_html_encoding(attributes: &Attributes) -> bool
-    ensures { result ≡ definition.is_html_encoding (attribute (codes "encoding") attributes.now) }
-{
-    match value_of(attributes.as_slice(), "encoding") {
-        None => false,
-        Some(text) => is_html_encoding(text),
-    }
-}
-
-/// Whether the tag makes an annotation-xml that is an HTML integration point.
-#[tactic(auto, unfolding(standard::specs::Foreign::is_html_annotation))]
-fn is_html_annotation(tag: &Tag) -> bool
-    ensures { result ≡ definition.is_html_annotation tag.now }
-{
-    is_annotation(&tag.name) && has_html_encoding(&tag.attributes)
-}
-
 /// The open element that is made for a tag.
+#[tactic(auto, unfolding(standard::specs::Foreign::is_html_annotation))]
 pub fn opened(id: NodeId, tag: &Tag) -> Result<OpenElement, NoMemory>
     ensures { IfOk result (λ e. e ≡ definition.opened id tag.now) }
 {
@@ -188,7 +154,7 @@ pub fn opened(id: NodeId, tag: &Tag) -> Result<OpenElement, NoMemory>
     Ok(OpenElement {
         id,
         name,
-        html_point: is_html_annotation(tag),
+        html_point: is_html_annotation(&tag.name, tag.attributes.as_slice()),
     })
 }
 

@@ -8,6 +8,7 @@ mod foreign;
 mod foreign_end;
 mod formatting;
 mod forms;
+mod fragment;
 mod inputs;
 mod insert;
 mod likes;

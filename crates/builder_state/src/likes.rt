@@ -13,6 +13,9 @@ const ALIKE: usize = 3;
 /// So many attributes are looked through one after another.
 const FEW: usize = 16;
 
+/// Behind so many entries a tag has a sum, by which most that differ are told apart.
+const SHORT: usize = 4;
+
 /// Whether two attributes are the same.
 fn is_same(a: &Attribute, b: &Attribute) -> bool
     ensures { result ≡ same_attribute a.now b.now }
@@ -95,22 +98,33 @@ fn are_same_of_many(alloc: Global, a: &[Attribute], b: &[Attribute]) -> Result<b
     all_found(alloc, b, &pairs_of(alloc, a)?)
 }
 
-/// Whether two lists have the same attributes, whatever their order.
+/// Whether two lists have the same attributes, whatever their order. Of a few those of the other are asked for first: where
+/// it has no name twice, one that is missing is soon met.
 fn are_same(alloc: Global, a: &[Attribute], b: &[Attribute]) -> Result<bool, NoMemory>
     ensures { IfOk result (λ same. same ≡ same_attributes a.now b.now) }
 {
-    if a.len() > FEW || b.len() > FEW {
-        return are_same_of_many(alloc, a, b);
+    if a.len() <= FEW {
+        return Ok(all_among(b, a) && all_among(a, b));
     }
-    Ok(all_among(a, b) && all_among(b, a))
+    if b.len() <= FEW {
+        return Ok(all_among(a, b) && all_among(b, a));
+    }
+    are_same_of_many(alloc, a, b)
 }
 
-/// Whether two tags have the same name and the same attributes.
+/// Whether two tags have the same name and the same attributes. Most that have not are told apart by their sums.
+#[tactic(auto, using(std::proofs::lemmas::Grind::common_steps, crate::proofs::Apart::never_same, crate::proofs::Apart::same_itself))]
 fn are_alike(alloc: Global, a: &Tag, b: &Tag) -> Result<bool, NoMemory>
     ensures { IfOk result (λ alike. alike ≡ is_like a.now b.now) }
 {
     if !a.name.same(&b.name) {
         return Ok(false);
+    }
+    if a.attributes.are_apart(&b.attributes) {
+        return Ok(false);
+    }
+    if a.attributes.same(&b.attributes) {
+        return Ok(true);
     }
     are_same(alloc, a.attributes.as_slice(), b.attributes.as_slice())
 }
@@ -167,6 +181,11 @@ fn place_of_earliest(
 pub fn enter(alloc: Global, formats: &mut Formats, id: NodeId, tag: Tag) -> Result<(), NoMemory>
     ensures { IfOk result (λ _. formats.new ≡ list_element id tag formats.old) }
 {
+    let mut tag = tag;
+    // Most lists are so short that comparing is cheaper.
+    if formats.len() > SHORT || tag.attributes.as_slice().len() > FEW {
+        tag.attributes.sum_up()?;
+    }
     let count = count_alike(alloc, formats, &tag)?;
     if count >= ALIKE {
         if let Some(place) = place_of_earliest(alloc, formats, &tag, count)? {

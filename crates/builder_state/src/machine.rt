@@ -56,9 +56,14 @@ fn restore(state: &mut Open)
 /// Resets the insertion mode appropriately (13.2.4.1).
 #[inline(never)]
 fn reset(state: &mut Open)
-    ensures { state.new ≡ record state.old { mode = reset_mode state.old.stack state.old.head state.old.template_modes } }
+    ensures { state.new ≡ record state.old { mode = reset_mode state.old.context state.old.stack state.old.head state.old.template_modes } }
 {
-    state.mode = mode_to_reset_to(&state.stack, state.head, &state.template_modes);
+    state.mode = mode_to_reset_to(
+        &state.context,
+        &state.stack,
+        state.head,
+        &state.template_modes,
+    );
 }
 
 /// The token goes by the rules of "in body", with foster parenting on.
@@ -70,7 +75,7 @@ fn foster(state: &mut Open) -> Flow
     Flow::Leave(Next::Foster)
 }
 
-/// Pops the current node, a script, at which the parser stops.
+/// Pops the current node, a script, at which the parser stops, but in a fragment (13.4).
 fn stop_at(state: &mut Open, ops: &Ops) -> Flow
     ensures done { config state.new ops.now result ≡ stop_at_script state.old.stack state.old ops.now }
     ensures shorter { length state.new.stack ≤ length state.old.stack }
@@ -79,6 +84,9 @@ fn stop_at(state: &mut Open, ops: &Ops) -> Flow
         None => Flow::Leave(Next::Done),
         Some(script) => {
             state.stack.pop();
+            if state.context.is_some() {
+                return Flow::Leave(Next::Done);
+            }
             Flow::Leave(Next::Script(script))
         }
     }

@@ -1,8 +1,10 @@
 //! Reset the insertion mode appropriately (13.2.4.1).
 
-ghost use Rattle.std.specs.Prelude.{◌≡◌, ◌∷◌, MatchOption};
+ghost use Rattle.std.specs.Prelude.{◌≡◌, ◌||◌, [], ◌∷◌, unwrap_or, MatchOption};
+ghost use Rattle.html_types.specs.declared.instruction.Group.TheVariants as group;
+ghost use Rattle.standard.specs.Elements.{is_word, is_one_of};
 ghost use Rattle.standard.specs.Instructions.{is_table_mode as is_of_table};
-ghost use Rattle.standard.specs.Reset.{select_mode, template_mode, root_mode, reset_mode};
+ghost use Rattle.standard.specs.Reset.{select_mode, template_mode, root_mode, told_mode, context_mode, reset_mode};
 
 use html_types::{Elements, Mode, Modes, Name, NodeId, OpenElement, Stack, Word};
 use tag_sets::is_the;
@@ -53,18 +55,11 @@ fn mode_of_root(head: Option<NodeId>) -> Mode
     }
 }
 
-/// The mode that an element tells, which stands right below the elements that are left of a walk.
-fn told_mode(
-    element: &OpenElement,
-    above: &Elements<'_>,
-    head: Option<NodeId>,
-    modes: &Modes,
-) -> Option<Mode>
-    ensures { let mode = reset_mode (element.now ∷ above.now) head modes.now in MatchOption result
-        (mode ≡ reset_mode above.now head modes.now)
-        (λ told. mode ≡ told) }
+/// The mode that an element of that name tells, which stands right below the elements that are left of a walk.
+fn told_mode(name: &Name, above: &Elements<'_>, head: Option<NodeId>, modes: &Modes) -> Option<Mode>
+    ensures { result ≡ told_mode name.now (select_mode above.now) (template_mode modes.now) (root_mode head) }
 {
-    let Name::Known(word) = &element.name else {
+    let Name::Known(word) = name else {
         return None;
     };
     match *word {
@@ -84,13 +79,66 @@ fn told_mode(
     }
 }
 
-/// The mode that resetting it comes to: that of the first element, from the current node on, that tells one.
-pub fn mode_to_reset_to(stack: &Stack, head: Option<NodeId>, modes: &Modes) -> Mode
-    ensures { result ≡ reset_mode stack.now head modes.now }
+/// Whether a context of that name tells no mode.
+fn tells_none(name: &Name) -> bool
+    ensures { result ≡ (is_one_of group.Cells name.now || is_word Word.Head name.now) }
+{
+    matches!(
+        name,
+        Name::Known(Word::Td) | Name::Known(Word::Th) | Name::Known(Word::Head)
+    )
+}
+
+/// The mode that the context tells, where the first element of the stack stands for it: td, th and head tell none.
+fn mode_of_context(
+    context: &OpenElement,
+    above: &Elements<'_>,
+    head: Option<NodeId>,
+    modes: &Modes,
+) -> Mode
+    requires { above.now ≡ [] }
+    ensures { result ≡ unwrap_or (context_mode context.now.name (template_mode modes.now) (root_mode head)) Mode.InBody }
+{
+    if tells_none(&context.name) {
+        return Mode::InBody;
+    }
+    told_mode(&context.name, above, head, modes).unwrap_or(Mode::InBody)
+}
+
+/// The mode that an element tells, right above which those stand that are left of a walk; in a fragment the first element of the stack stands
+/// for the context, and then there is one in any case.
+fn mode_at(
+    context: &Option<OpenElement>,
+    element: &OpenElement,
+    above: &Elements<'_>,
+    head: Option<NodeId>,
+    modes: &Modes,
+) -> Option<Mode>
+    ensures { let mode = reset_mode context.now (element.now ∷ above.now) head modes.now in MatchOption result
+        (mode ≡ reset_mode context.now above.now head modes.now)
+        (λ told. mode ≡ told) }
+{
+    if above.len() == 0 {
+        if let Some(context) = context {
+            return Some(mode_of_context(context, above, head, modes));
+        }
+    }
+    told_mode(&element.name, above, head, modes)
+}
+
+/// The mode that resetting it comes to: that of the first element, from the current node on, that tells one. In a fragment the first element
+/// of the stack stands for the context.
+pub fn mode_to_reset_to(
+    context: &Option<OpenElement>,
+    stack: &Stack,
+    head: Option<NodeId>,
+    modes: &Modes,
+) -> Mode
+    ensures { result ≡ reset_mode context.now stack.now head modes.now }
 {
     let mut walk = stack.walk();
     while let Some(element) = walk.next() {
-        if let Some(mode) = told_mode(element, &walk, head, modes) {
+        if let Some(mode) = mode_at(context, element, &walk, head, modes) {
             return mode;
         }
     }

@@ -9,6 +9,7 @@ ghost use Rattle.standard.specs.Adoption.{adopted, adopt};
 ghost use Rattle.html_types.specs.declared.operation.Op.{Op};
 ghost use Rattle.standard.specs.Rules.{answer, answer_of, rules_for as rules_of};
 ghost use Rattle.standard.specs.Parser.{opening};
+ghost use Rattle.standard.specs.Fragment.{fragment_opening};
 ghost use Rattle.builder_state.specs.Push.{opened};
 ghost use Rattle.builder_state.specs.Texts.{takes_characters as mode_takes_characters, reopens as mode_reopens, TakesText, behind_text};
 
@@ -16,17 +17,19 @@ use crate::at_once::{answer_row, asked};
 use crate::closing::close_latest;
 use crate::foreign::{is_foreign, rules_for, text_rules};
 use crate::formatting::none_lost;
+use crate::fragment::{copy_context, fragment_state, same_context};
 use crate::insert::{LIMIT, place_now, reopen_lost};
 use crate::machine::run_row;
 use crate::pending::{insert_body_character, insert_body_one, insert_body_text};
 use crate::weight::is_light;
 use html_types::{
-    Flow, Formats, Instr, Mode, Modes, Next, NoMemory, NodeId, Open, OpenElement, Ops, Place,
-    Stack, Text, Token, Word,
+    Context, Flow, Formats, Instr, Mode, Modes, Next, NoMemory, NodeId, Open, OpenElement, Ops,
+    Place, Stack, Text, Token, Word,
 };
 use std::alloc::Global;
 use std::marker::Model;
 use std::mem;
+use tag_sets::is_the;
 
 /// Whether an element was pushed.
 #[derive(Clone, Copy, PartialEq, Eq)]
@@ -64,12 +67,29 @@ impl Model for Builder {
 
 impl Builder {
     /// The open state at the beginning of a page, whose ids are of that realm. It takes no memory.
-    pub fn new(alloc: Global, realm: u64) -> Builder
+    pub fn new(alloc: Global, realm: u32) -> Builder
         ensures { result ≡ opening realm }
     {
         Builder {
             state: first_state(alloc, realm),
         }
+    }
+
+    /// The open state at the beginning of a fragment (13.4), whose ids are of that realm. The caller
+    /// makes an html element under the realm's first id and, where the context is in a form, a form
+    /// element under its second.
+    pub fn fragment(alloc: Global, context: Context, realm: u32) -> Result<Builder, NoMemory>
+        ensures { IfOk result (λ b. b ≡ fragment_opening context realm) }
+    {
+        let state = fragment_state(alloc, context, realm)?;
+        Ok(Builder { state })
+    }
+
+    /// Whether the document is in quirks mode.
+    pub fn is_quirky(&self) -> bool
+        ensures { result ≡ self.now.quirks }
+    {
+        self.state.quirks
     }
 
     /// Takes the open state out, for a change that no row makes. The builder is as at the beginning of a page then.
@@ -242,7 +262,7 @@ impl Builder {
     }
 
     /// The elements that are made from now on have the ids of that realm, from its first on.
-    pub fn renew(&mut self, realm: u64)
+    pub fn renew(&mut self, realm: u32)
         ensures { self.new ≡ record self.old { next = record { realm = realm; n = 0 } } }
     {
         self.state.next = NodeId { realm, n: 0 };
@@ -270,6 +290,7 @@ impl Builder {
         let formats = self.state.formats.copy(alloc)?;
         let template_modes = self.state.template_modes.copy(alloc)?;
         let pending_text = self.state.pending_text.copy(alloc)?;
+        let context = copy_context(&self.state.context)?;
         Ok(Builder {
             state: Open {
                 stack,
@@ -285,6 +306,7 @@ impl Builder {
                 skip_line_feed: self.state.skip_line_feed,
                 foster: self.state.foster,
                 next: self.state.next,
+                context,
             },
         })
     }
@@ -300,11 +322,12 @@ impl Builder {
             && same_pointers(&self.state, &other.state)
             && same_modes(&self.state, &other.state)
             && same_flags(&self.state, &other.state)
+            && same_context(&self.state.context, &other.state.context)
     }
 }
 
 /// The open state at the beginning of a page.
-fn first_state(alloc: Global, realm: u64) -> Open
+fn first_state(alloc: Global, realm: u32) -> Open
     ensures { result ≡ opening realm }
 {
     Open {
@@ -321,6 +344,7 @@ fn first_state(alloc: Global, realm: u64) -> Open
         skip_line_feed: false,
         foster: false,
         next: NodeId { realm, n: 0 },
+        context: None,
     }
 }
 

@@ -1,5 +1,7 @@
 -- The first mark, found by two searches.
-use Rattle.std.proofs.Common.{◌≡◌, ℕ, Bool, List, ◌∷◌, length, ◌+◌, ◌∙◌, take, cond, not, get_or, refl, sym, inl, inr}
+use Rattle.std.proofs.Common.{◌≡◌, ℕ, Bool, List, ◌∷◌, ◌++◌, length, ◌+◌, ◌-◌, ◌≤◌, ◌∙◌, take, drop, cond, eqb, not, get_or, refl, sym, ap, inl, inr}
+use Rattle.std.proofs.lemmas.List.{take-append-drop, drop-drop}
+use Rattle.std.proofs.lemmas.List.Folds.{prefix_len-append}
 use native.Mathlib.Omega.{arith}
 use Rattle.std.specs.List.{position_or_len}
 use Rattle.std.proofs.Math.Numerals.{one-add}
@@ -35,3 +37,15 @@ nul_before bytes = sym (is_position_or_len found is_mark refl found_step bytes)
 
 pub nul_found : (bytes : List ℕ) (end k : ℕ) → end ≡ position_or_len (is_byte3 60 38 13) bytes → position_or_len (is_byte 0) (take end bytes) ≡ k → k ≡ first_mark bytes
 nul_found bytes end k at nul = sym (nul_before bytes ∙ rw (sym at) nul)
+
+-- ---- a window at a time
+
+-- a window of the bytes, and what stands behind it
+pub passed_by : (bytes first : List ℕ) (passed behind : ℕ) → passed ≤ behind → behind ≤ length bytes → first ≡ take (behind - passed) (drop passed bytes)
+    → first_mark (drop passed bytes) ≡ cond (eqb (first_mark first) (length first)) (length first + first_mark (drop behind bytes)) (first_mark first)
+passed_by bytes first passed behind h k is =
+    let n = behind - passed in
+    let place : passed + n ≡ behind = omega arith in
+    let rest : drop n (drop passed bytes) ≡ drop behind bytes = drop-drop n passed bytes ∙ ap (λ m. drop m bytes) place in
+    let whole : drop passed bytes ≡ first ++ drop behind bytes = sym (take-append-drop n (drop passed bytes)) ∙ ap (λ l. l ++ drop n (drop passed bytes)) (sym is) ∙ ap (λ l. first ++ l) rest in
+    ap first_mark whole ∙ prefix_len-append (λ x. not (is_mark x)) first (drop behind bytes)

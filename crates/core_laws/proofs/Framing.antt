@@ -11,6 +11,7 @@ use Rattle.html_types.specs.declared.script.Statement.{Statement}
 use Rattle.html_types.specs.declared.script.Statement.TheVariants as statement
 use Rattle.html_types.specs.declared.instruction.Stop.{Stop}
 use Rattle.html_types.specs.declared.instruction.Stop.TheVariants as stop
+use Rattle.standard.specs.Fragment.{Setting, lacking, too_deep, setting, inner_set}
 use Rattle.standard.specs.Entities.{Entities}
 use Rattle.standard.specs.Tree.{Nodes, detached, appended, find_id, first_element}
 use Rattle.standard.specs.Outer.{outer_text}
@@ -21,7 +22,7 @@ use Rattle.standard.specs.Prepare.{Prepared, still, inline, external, prepare}
 use Rattle.standard.specs.Parser.{Parser, Took, took, take_character, Parsed, parse}
 use Rattle.rule_laws.specs.Naming.{rename_parser, rename_ops, rename_stop, rename_took}
 use Rattle.standard_laws.specs.Laws.{executed}
-use Rattle.standard.specs.Serial.{World, fetched, Serial, Course, goes, refuses, starved, ◌then◌, advanced, advance, before_point, after_point, moved, tree_of, inside, back_at, with_line_feed, may_write, insert, awaiting, with_tree, remove, with_line, read, one_more_executed, prepared, execute, run_statements, on_element, on_move, write, go_on, stopped, end_of_script, run_prepared, Moment, reading, tag_ended, awaits, over, refusal, after_script, after_fetch, behind_script, unless_pending, read_next, after_character, moment_after}
+use Rattle.standard.specs.Serial.{World, fetched, Serial, Course, goes, refuses, starved, ◌then◌, advanced, advance, before_point, after_point, moved, tree_of, inside, back_at, with_line_feed, may_write, insert, awaiting, with_tree, remove, with_line, read, one_more_executed, prepared, execute, run_statements, on_element, on_move, write, go_on, stopped, end_of_script, run_prepared, Moment, reading, tag_ended, awaits, over, refusal, after_script, after_fetch, behind_script, unless_pending, read_next, after_character, moment_after, on_set}
 use Rattle.standard_laws.proofs.Parse.{advance-parse}
 use Rattle.rule_laws.proofs.RenamingTexts.{texts-renamed, characters-renamed}
 use Rattle.core_laws.specs.Alike.{own_of, behind, Okay, Both, ScriptsRename, AreAlike, MomentsRename, FetchesRename}
@@ -100,6 +101,10 @@ module _ (r : NodeId → NodeId) (page : List ℕ) where
       run_statements-both (suc n) k (statement.Append v c ∷ list) s d o =
           subst (λ x. Both r page (on_move n w k list (appended (tree_of s) (find_id (tree_of s) v) (find_id (tree_of s) c)) (behind page s)) (on_move n w k list (appended x (find_id x v) (find_id x c)) (own_of r d s))) (sym o.same.tree)
           (on_move-both n k list (appended (tree_of s) (find_id (tree_of s) v) (find_id (tree_of s) c)) s d o)
+      run_statements-both (suc n) k (statement.SetInner v t ∷ list) s d o =
+          let q : Bool = s.parser.open_state.quirks in
+          subst (λ x. Both r page (on_set n w k list (inner_set w.entities q (tree_of s) (find_id (tree_of s) v) t) (behind page s)) (on_set n w k list (inner_set w.entities q x (find_id x v) t) (own_of r d s))) (sym o.same.tree)
+          (on_set-both n k list (inner_set w.entities q (tree_of s) (find_id (tree_of s) v) t) s d o)
       run_statements-both (suc n) k (statement.LogById v ∷ list) s d o =
           subst (λ x. Both r page (on_element n w k list (read k) (find_id (tree_of s) v) (behind page s)) (on_element n w k list (read k) (find_id x v) (own_of r d s))) (sym o.same.tree)
           (on_element-both n k list (read k) (find_id (tree_of s) v) s d o (λ e. (read k e s, d, refl, reads k e s d o, o)))
@@ -121,6 +126,15 @@ module _ (r : NodeId → NodeId) (page : List ℕ) where
       on_move-both zero k list left s d o = refl
       on_move-both (suc n) k list None s d o = (with_line (line.Throw k) s, d, refl, refl, o)
       on_move-both (suc n) k list (Some t) s d o =
+          run_statements-both n k list (with_tree t s) (record d { tree = t })
+          (record { same = record { tree = refl; bound = o.same.bound }; named = o.named; renames = o.renames; served = o.served; serial = o.serial })
+
+      on_set-both : (n k : ℕ) (list : List Statement) (there : Setting) (s : Serial) (d : Doc) → Okay r s.parser s.side.doc d →
+          Both r page (on_set n w k list there (behind page s)) (on_set n w k list there (own_of r d s))
+      on_set-both zero k list there s d o = refl
+      on_set-both (suc n) k list lacking s d o = (with_line (line.Throw k) s, d, refl, refl, o)
+      on_set-both (suc n) k list too_deep s d o = (s, d, refl, refl, o.same)
+      on_set-both (suc n) k list (setting t) s d o =
           run_statements-both n k list (with_tree t s) (record d { tree = t })
           (record { same = record { tree = refl; bound = o.same.bound }; named = o.named; renames = o.renames; served = o.served; serial = o.serial })
 

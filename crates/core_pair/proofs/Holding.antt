@@ -41,7 +41,7 @@ pub shown-failed : (old both before : Paired) (v : Paired) → before ≡ old �
 shown-failed old both before v is shown = ap (λ (z : Paired). record z { spent = true }) is ∙ ap (λ (z : Paired). record z { spent = true }) (sym shown)
 
 -- an event was taken
-pub stepped-shown : (v : Event) (both new before now : Paired) → both ≡ now → now.spent ≡ false → new ≡ stepped v new.core new.journal both → paired_of new before false ≡ stepped v new.core new.journal now
+pub stepped-shown : (v : Event) (both new before now : Paired) → both ≡ now → now.spent ≡ false → new ≡ stepped v new.core both → paired_of new before false ≡ stepped v new.core now
 stepped-shown v both new before now same going is =
     ap (λ (z : Paired). record z { spent = false }) is
-    ∙ (ap (λ (z : Paired). record (stepped v new.core new.journal z) { spent = false }) same ∙ ap (λ s. record (stepped v new.core new.journal now) { spent = s }) (sym going))
+    ∙ (ap (λ (z : Paired). record (stepped v new.core z) { spent = false }) same ∙ ap (λ s. record (stepped v new.core now) { spent = s }) (sym going))

@@ -18,13 +18,13 @@ use Rattle.core_rules.specs.Verdict.{runs}
 use Rattle.core_rules.specs.Settling.{is_empty}
 use Rattle.core_rules.specs.Desk.{Phase, free, tagged, waits, done, Desk, is_free, is_done, can_do_in, wants_reply, sends_first, takes, with_batches, drops, answer_called_for, stale, arrives, at_end_tag, behind_halt, with_executed, executes, Concludes, DoesIn, Does}
 use Rattle.core_rules.specs.Core.{Setup, Request, Reply, Core, first_core, enabled, sent_from, picked_from, given_to, taken_from, Steps, Runs}
-use Rattle.core_rules.specs.Journal.{Journal, Knows, own_events}
+use Rattle.core_rules.specs.Journal.{Knows, own_events}
 use Rattle.core_laws.proofs.Together.{reached-together, steps-together}
 use Rattle.core_steps.specs.Acting.{fetch_or_missing}
 use Rattle.core_steps.specs.Fetches.{names_of}
 use Rattle.core_steps.specs.Journals.{found}
 use Rattle.core_steps.specs.Sides.{ShowsIn, Shows}
-use Rattle.core_pair.specs.Pairs.{Paired, setup_from, setup_of, first_paired, ShowsCore, StepsShown, stepped, behind_first, with_event, IsApplicable, Applied, Reaches, IsRun}
+use Rattle.core_pair.specs.Pairs.{Paired, setup_from, setup_of, first_paired, ShowsCore, StepsShown, fetches_noted, events_noted, stepped, behind_first, with_event, IsApplicable, Applied, Reaches, IsRun}
 use Rattle.core_pair.proofs.Shown.{core-whole, core-shows-itself, enabled-shown}
 
 -- ---- runs
@@ -195,14 +195,12 @@ own-then (Do ∷ vs) v = ap (λ us. Do ∷ us) (own-then vs v)
 own-then (Arrive name ∷ vs) v = ap (λ us. Arrive name ∷ us) (own-then vs v)
 
 abbrev pub Ran : Entities → Event → Paired → Paired → Type 0
-Ran es v p q = IsRun es q × StepsShown (setup_of p) v p.core q.core × (q ≡ stepped v q.core q.journal p)
+Ran es v p q = IsRun es q × StepsShown (setup_of p) v p.core q.core × (q ≡ stepped v q.core p)
 
-abbrev logged : List (List ℕ × Fetched) → List Event → Journal → Journal
-logged fs us j = record j { fetches = fs; events = us }
-
-ran : (es : Entities) (v : Event) (p : Paired) (c : Core) (fs : List (List ℕ × Fetched)) (us : List Event) → IsRun es p → IsTrue (enabled (setup_of p) v p.core) → StepsShown (setup_of p) v p.core c →
-    Knows fs (setup_of p).world → c.desk.arrived ≡ names_of fs → us ≡ p.journal.events ++ own_events (v ∷ []) → Ran es v p (stepped v c (logged fs us p.journal) p)
-ran es v p c fs us h can steps knows arrived own = (
+ran : (es : Entities) (v : Event) (p : Paired) (c : Core) → IsRun es p → IsTrue (enabled (setup_of p) v p.core) → StepsShown (setup_of p) v p.core c →
+    Knows (fetches_noted v p.scripts p.journal.fetches) (setup_of p).world → c.desk.arrived ≡ names_of (fetches_noted v p.scripts p.journal.fetches) →
+    events_noted v p.journal.events ≡ p.journal.events ++ own_events (v ∷ []) → Ran es v p (stepped v c p)
+ran es v p c h can steps knows arrived own = (
   record {
     entities = h.entities;
     some = h.some;
@@ -222,30 +220,30 @@ pub applied-run : (es : Entities) (v : Event) (p q : Paired) → IsRun es p → 
 applied-run es Send p q h can is =
     let c : Core = sent_from p.core.desk.to_send p.core in
     subst (λ (z : Paired). Ran es Send p z) (sym is)
-    (ran es Send p c p.journal.fetches (p.journal.events ++ Send ∷ []) h can (send-steps (setup_of p) p.core can) h.knows (sent-arrived p.core.desk.to_send p.core ∙ h.arrived) refl)
+    (ran es Send p c h can (send-steps (setup_of p) p.core can) h.knows (sent-arrived p.core.desk.to_send p.core ∙ h.arrived) refl)
 applied-run es Pick p q h can is =
     let c : Core = picked_from p.core.requests p.core in
     subst (λ (z : Paired). Ran es Pick p z) (sym is)
-    (ran es Pick p c p.journal.fetches p.journal.events h can (pick-steps (setup_of p) p.core) h.knows (picked-arrived p.core.requests p.core ∙ h.arrived) (sym (append-nil p.journal.events)))
+    (ran es Pick p c h can (pick-steps (setup_of p) p.core) h.knows (picked-arrived p.core.requests p.core ∙ h.arrived) (sym (append-nil p.journal.events)))
 applied-run es Give p q h can is =
     let c : Core = given_to p.core.work.hand p.entities p.core in
     subst (λ (z : Paired). Ran es Give p z) (sym is)
-    (ran es Give p c p.journal.fetches p.journal.events h can (give-steps (setup_of p) p.core) h.knows (given-arrived p.core.work.hand p.entities p.core ∙ h.arrived) (sym (append-nil p.journal.events)))
+    (ran es Give p c h can (give-steps (setup_of p) p.core) h.knows (given-arrived p.core.work.hand p.entities p.core ∙ h.arrived) (sym (append-nil p.journal.events)))
 applied-run es Take p q h can is =
     let c : Core = record p.core { desk = takes p.entities p.core.desk; replies = behind_first p.core.replies } in
     subst (λ (z : Paired). Ran es Take p z) (sym is)
-    (ran es Take p c p.journal.fetches (p.journal.events ++ Take ∷ []) h can (take-steps (setup_of p) p.core p.events h.reached can) h.knows (takes-arrived p.entities p.core.desk ∙ h.arrived) refl)
+    (ran es Take p c h can (take-steps (setup_of p) p.core p.events h.reached can) h.knows (takes-arrived p.entities p.core.desk ∙ h.arrived) refl)
 applied-run es Do p q h can (d, shown, is) =
     let (d', does, shows) = shown (setup_of p).world refl h.knows in
     let c : Core = record p.core { desk = d } in
     let arrived : d.arrived ≡ p.core.desk.arrived = shows-arrived d' d d.phase shows ∙ does-arrived (setup_of p).world p.core.desk.phase p.core.desk d' does in
     subst (λ (z : Paired). Ran es Do p z) (sym is)
-    (ran es Do p c p.journal.fetches (p.journal.events ++ Do ∷ []) h can (do-steps (setup_of p) p.core d can (d', does, shows)) h.knows (arrived ∙ h.arrived) refl)
+    (ran es Do p c h can (do-steps (setup_of p) p.core d can (d', does, shows)) h.knows (arrived ∙ h.arrived) refl)
 applied-run es (Arrive name) p q h can is =
     let c : Core = record p.core { desk = arrives name p.core.desk } in
     let f : Fetched = fetch_or_missing (found name p.scripts) in
     subst (λ (z : Paired). Ran es (Arrive name) p z) (sym is)
-    (ran es (Arrive name) p c ((name, f) ∷ p.journal.fetches) (p.journal.events ++ Arrive name ∷ []) h can (arrive-steps (setup_of p) p.core name)
+    (ran es (Arrive name) p c h can (arrive-steps (setup_of p) p.core name)
     (met (setup_of p).world name f (and_parts _ _ can).0 refl, h.knows) (ap (λ ns. name ∷ ns) h.arrived) refl)
 
 -- a reply is wanted where one is taken

@@ -63,9 +63,29 @@ ShowsCore c told = (d : Desk) × Shows d told.desk × (c ≡ record told { desk 
 abbrev pub StepsShown : Setup → Event → Core → Core → Type 0
 StepsShown x v told told' = (c : Core) → ShowsCore c told → (c' : Core) × Steps x v c c' × ShowsCore c' told'
 
+-- The journal gains the events of the document's side, and the file of a script that has arrived. Its pieces and its ending stay.
+abbrev pub events_noted : Event → List Event → List Event
+events_noted Send us = us ++ Send ∷ []
+events_noted Pick us = us
+events_noted Give us = us
+events_noted Take us = us ++ Take ∷ []
+events_noted Do us = us ++ Do ∷ []
+events_noted (Arrive name) us = us ++ Arrive name ∷ []
+
+abbrev pub fetches_noted : Event → List (List ℕ × Fetched) → List (List ℕ × Fetched) → List (List ℕ × Fetched)
+fetches_noted Send files fs = fs
+fetches_noted Pick files fs = fs
+fetches_noted Give files fs = fs
+fetches_noted Take files fs = fs
+fetches_noted Do files fs = fs
+fetches_noted (Arrive name) files fs = (name, fetch_or_missing (found name files)) ∷ fs
+
+abbrev pub journal_noted : Event → List (List ℕ × Fetched) → Journal → Journal
+journal_noted v files j = record j { fetches = fetches_noted v files j.fetches; events = events_noted v j.events }
+
 -- nothing else is changed by it
-abbrev pub stepped : Event → Core → Journal → Paired → Paired
-stepped v c j p = record p { core = c; journal = j; events = p.events ++ v ∷ [] }
+abbrev pub stepped : Event → Core → Paired → Paired
+stepped v c p = record p { core = c; journal = journal_noted v p.scripts p.journal; events = p.events ++ v ∷ [] }
 
 -- ---- where it stands
 

@@ -269,7 +269,7 @@ impl<E: InForce> Both<E> {
         requires can { IsTrue (enabled (setup_of self.old) event self.old.core) }
         ensures run { OnOk result (IsRun E.entities self.new) }
         ensures steps { OnOk result (StepsShown (setup_of self.old) event self.old.core self.new.core) }
-        ensures others { OnOk result (self.new ≡ stepped event self.new.core self.new.journal self.old) }
+        ensures others { OnOk result (self.new ≡ stepped event self.new.core self.old) }
         ensures journal { OnErr result (self.new.journal ≡ self.old.journal) }
     {
         let taken = Snapshot::of(&event);

@@ -72,7 +72,8 @@ impl<E: InForce> Pair<E> {
         requires { IsTrue (enabled (setup_of self.old) event self.old.core) }
         ensures spent { self.old.spent ≡ true → IsErr result }
         ensures steps { OnOk result (StepsShown (setup_of self.old) event self.old.core self.new.core) }
-        ensures others { OnOk result (self.new ≡ stepped event self.new.core self.new.journal self.old) }
+        ensures others { OnOk result (self.new ≡ stepped event self.new.core self.old) }
+        ensures setup { OnOk result (setup_of self.new ≡ setup_of self.old) }
         ensures stands_for { OnOk result (AlwaysStandsFor self.new) }
         ensures stays { OnOk result (EndStays self.old.core self.new.core) }
         ensures err { OnErr result (self.new ≡ record self.old { spent = true }) }

@@ -366,7 +366,18 @@ impl Tree {
 
 // All children of a node move at once.
 impl Tree {
-    ghost use Rattle.standard.specs.Tree.{IsTree, Keeps, parent_of, children_of, children_moved};
+    ghost use Rattle.standard.specs.Tree.{IsTree, Keeps, parent_of, children_of, children_moved, emptied};
+
+    /// Takes the children of a node out, one after another. It takes no memory.
+    pub fn take_children(&mut self, node: usize)
+        requires { node < length self.old }
+        ensures taken { self.new ≡ emptied self.old node }
+        ensures keeps { Keeps self.old self.new }
+    {
+        'taking: while let Some(child) = self.nodes.first_child(node) {
+            self.detach(child);
+        }
+    }
 
     /// Puts the children of a node, in order, each at the end of another's. One that can't be put there stays where it is.
     pub fn move_children(&mut self, from: usize, to: usize) -> Result<(), NoMemory>

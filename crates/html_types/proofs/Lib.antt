@@ -6,3 +6,4 @@ pub mod ListLemmas
 pub mod Counts
 pub mod AttributeLemmas
 mod Examples
+pub mod SumLemmas

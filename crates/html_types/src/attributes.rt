@@ -1,9 +1,11 @@
 //! The attributes of a tag or an element, in their order.
 
-ghost use Rattle.std.specs.Prelude.{◌≡◌, [], ◌∷◌, ◌++◌, IsTrue, ◌↔◌, IfOk, OnOk, OnErr};
+ghost use Rattle.std.specs.Prelude.{◌≡◌, [], ◌∷◌, ◌++◌, IsTrue, IsFalse, ◌↔◌, IfOk, OnOk, OnErr};
 ghost use Rattle.html_types.specs.Attributes.{has_name, with_missing};
+ghost use Rattle.html_types.specs.Sums.{AreApart};
 
 use crate::attribute_list::AttributeList;
+use crate::attribute_sum::distinct_sum;
 use crate::memory::NoMemory;
 use crate::text::Text;
 use std::alloc::Global;
@@ -42,16 +44,21 @@ pub struct Attributes {
     alloc: Global,
     // None where there were never any.
     shared: Option<Arc<AttributeList>>,
+    // A sum that their order doesn't change, where it was asked for and no two have the same name.
+    sum: Option<u64>,
 }
 
 impl Model for Attributes {
     ghost use Rattle.std.specs.Prelude.{List};
     ghost use Rattle.html_types.specs.declared.attributes.Attribute.{Attribute};
     ghost use Rattle.html_types.specs.Attributes.{shared_list};
+    ghost use Rattle.html_types.specs.Sums.{HasSum};
 
     ghost Value = { List Attribute };
 
     ghost view = { λ a. shared_list a.shared };
+
+    ghost invariant = { λ a. HasSum (shared_list a.shared) a.sum };
 }
 
 impl Attributes {
@@ -62,6 +69,7 @@ impl Attributes {
         Attributes {
             alloc,
             shared: None,
+            sum: None,
         }
     }
 
@@ -70,6 +78,7 @@ impl Attributes {
         ensures ok { OnOk result (self.new ≡ self.old ++ attribute ∷ []) }
         ensures err { OnErr result (self.new ≡ self.old) }
     {
+        self.sum = None;
         match &mut self.shared {
             Some(shared) => Arc::make_mut(shared)?.push(attribute),
             None => {
@@ -87,6 +96,7 @@ impl Attributes {
         ensures ok { OnOk result (self.new ≡ with_missing self.old more.now) }
         ensures err { OnErr result (self.new ≡ self.old) }
     {
+        self.sum = None;
         match &mut self.shared {
             Some(shared) => Arc::make_mut(shared)?.add_missing(more.as_slice()),
             None => {
@@ -125,6 +135,37 @@ impl Attributes {
         same_lists(self.as_slice(), other.as_slice())
     }
 
+    /// Makes the sum by which `are_apart` tells lists apart; a copy has it too, and a change drops it.
+    pub fn sum_up(&mut self) -> Result<(), NoMemory>
+        ensures { self.new ≡ self.old }
+    {
+        self.sum = distinct_sum(self.alloc, self.as_slice())?;
+        Ok(())
+    }
+
+    /// Whether two lists are known to differ in more than their order, since their sums do. False tells nothing.
+    pub fn are_apart(&self, other: &Attributes) -> bool
+        ensures { IsTrue result → AreApart self.now other.now }
+    {
+        match (self.sum, other.sum) {
+            (Some(sum), Some(its)) => sum != its,
+            _ => false,
+        }
+    }
+
+    /// What is left of so many bytes behind all names and values, each attribute counted for one more; nothing where they
+    /// have more. It is a hint: no contract speaks of it.
+    pub fn left_of(&self, bytes: usize) -> Option<usize> {
+        let mut left = bytes;
+        for attribute in self.as_slice() {
+            left = left
+                .checked_sub(1)?
+                .checked_sub(attribute.name.as_str().len())?
+                .checked_sub(attribute.value.as_str().len())?;
+        }
+        Some(left)
+    }
+
     /// A copy, which shares them.
     pub fn copy(&self, alloc: Global) -> Result<Attributes, NoMemory>
         ensures { IfOk result (λ a. a ≡ self.now) }
@@ -133,6 +174,7 @@ impl Attributes {
             Some(shared) => Ok(Attributes {
                 alloc,
                 shared: Some(shared.clone()?),
+                sum: self.sum,
             }),
             None => Ok(Attributes::new(alloc)),
         }

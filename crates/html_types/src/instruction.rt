@@ -122,6 +122,8 @@ pub enum Test {
     SelfClosing,
     /// The token is a start tag at which foreign content is left (13.2.6.5).
     BreaksOut,
+    /// The parser was made for a fragment (13.4): the open state has a context.
+    InFragment,
 }
 
 /// An instruction of a row. One that leaves the row stands last.

@@ -4,6 +4,7 @@
 #![tactic(auto)]
 
 mod attribute_list;
+mod attribute_sum;
 pub mod attributes;
 pub mod children;
 pub mod class;
@@ -34,7 +35,7 @@ pub use mark_state::{CdataState, CommentState, DoctypeState, MarkState};
 pub use memory::NoMemory;
 pub use name::{Name, Space};
 pub use name_text::NameText;
-pub use open::{Elements, Format, Formats, Modes, Open, OpenElement, Stack};
+pub use open::{Context, Elements, Format, Formats, Modes, Open, OpenElement, Stack};
 pub use operation::{NodeId, Op, Ops, Place};
 pub use reference_state::{ReferenceState, ReturnState};
 pub use script::{Ending, Line, Lines, Statement, Why};

@@ -18,7 +18,7 @@ pub(crate) struct NameIndex {
 
 impl NameIndex {
     /// No names, which take no memory.
-    fn new(alloc: Global) -> NameIndex
+    pub(crate) fn new(alloc: Global) -> NameIndex
         ensures { Finds result.names (λ name. false) }
     {
         NameIndex {

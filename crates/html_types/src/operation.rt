@@ -15,14 +15,14 @@ use std::marker::Model;
 /// The id of an element: the n-th of its realm.
 #[derive(Clone, Copy, PartialEq, Eq, PartialOrd, Ord)]
 pub struct NodeId {
-    pub realm: u64,
-    pub n: u64,
+    pub realm: u32,
+    pub n: u32,
 }
 
 impl NodeId {
     /// The id that comes so many later in the realm.
-    pub fn later(self, by: u64) -> NodeId
-        requires { self.n + by < 2 ^ 64 }
+    pub fn later(self, by: u32) -> NodeId
+        requires { self.n + by < 2 ^ 32 }
         ensures { result ≡ later by self }
     {
         NodeId {
@@ -117,6 +117,47 @@ pub enum Op {
 }
 
 impl Op {
+    /// A copy: names and attributes are shared, texts are copied.
+    pub fn copy(&self, alloc: Global) -> Result<Op, NoMemory>
+        ensures { IfOk result (λ op. op ≡ self.now) }
+    {
+        match self {
+            Op::Make {
+                id,
+                name,
+                attributes,
+            } => Ok(Op::Make {
+                id: *id,
+                name: name.copy()?,
+                attributes: attributes.copy(alloc)?,
+            }),
+            Op::Put { node, place } => Ok(Op::Put {
+                node: *node,
+                place: *place,
+            }),
+            Op::Text { place, text } => Ok(Op::Text {
+                place: *place,
+                text: text.copy(alloc)?,
+            }),
+            Op::Note { place, text } => Ok(Op::Note {
+                place: *place,
+                text: text.copy(alloc)?,
+            }),
+            Op::Doctype { name } => Ok(Op::Doctype {
+                name: name.copy(alloc)?,
+            }),
+            Op::Detach { node } => Ok(Op::Detach { node: *node }),
+            Op::MoveChildren { from, to } => Ok(Op::MoveChildren {
+                from: *from,
+                to: *to,
+            }),
+            Op::AddAttributes { node, attributes } => Ok(Op::AddAttributes {
+                node: *node,
+                attributes: attributes.copy(alloc)?,
+            }),
+        }
+    }
+
     /// Adds the character to the text that this inserts at that place, and says whether it does insert text there.
     fn join(&mut self, place: Place, c: char) -> Result<bool, NoMemory>
         ensures joined { IfOk result (λ r. IsTrue r → spelled_one self.new ≡ spelled_one self.old ++ op.Text place (c ∷ []) ∷ []) }
@@ -185,6 +226,11 @@ impl Ops {
         Ok(Ops { list })
     }
 
+    /// How many operations are kept, a text in one: for how many the next list has room. No contract speaks of it.
+    pub fn stored(&self) -> usize {
+        self.list.len()
+    }
+
     /// Adds an operation at the end.
     pub fn push(&mut self, op: Op) -> Result<(), NoMemory>
         ensures ok { OnOk result (self.new ≡ self.old ++ spelled_one op) }
@@ -219,6 +265,17 @@ impl Ops {
             }
         }
         Ok(false)
+    }
+
+    /// A copy: names and attributes are shared, texts are copied.
+    pub fn copy(&self, alloc: Global) -> Result<Ops, NoMemory>
+        ensures { IfOk result (λ ops. ops ≡ self.now) }
+    {
+        let mut list = Vec::with_capacity(alloc, self.list.len())?;
+        for op in &self.list {
+            list.push(op.copy(alloc)?)?;
+        }
+        Ok(Ops { list })
     }
 
     /// The operations as they are kept, a text in one, given away.

@@ -5,7 +5,7 @@ ghost use Rattle.standard.specs.Rules.{row, start_row, end_row};
 
 use char_class::is_space;
 use html_types::instruction::Instr::*;
-use html_types::{Instr, Mode, Name, Token, Word};
+use html_types::{Instr, Mode, Name, Test, Token, Word};
 
 const BODY_AGAIN: &[Instr] = &[Enter(Mode::InBody), Again];
 
@@ -52,7 +52,7 @@ fn after_body_end(word: Word) -> &'static [Instr]
     ensures { result.now ≡ end_row Mode.AfterBody (Name.Known word) }
 {
     match word {
-        Word::Html => &[Enter(Mode::AfterAfterBody)],
+        Word::Html => &[Forbid(Test::InFragment), Enter(Mode::AfterAfterBody)],
         _ => BODY_AGAIN,
     }
 }

@@ -5,7 +5,7 @@ ghost use Rattle.standard.specs.Rules.{row, start_row, end_row};
 
 use char_class::is_space;
 use html_types::instruction::Instr::*;
-use html_types::instruction::Test::Current;
+use html_types::instruction::Test::{Current, InFragment};
 use html_types::instruction::Who::The;
 use html_types::word::Word::{Frame, Frameset, Html, Noframes};
 use html_types::{Instr, Mode, Name, Token, Word};
@@ -53,6 +53,7 @@ fn in_frameset_end(word: Word) -> &'static [Instr]
         Frameset => &[
             Forbid(Current(The(Html))),
             Pop,
+            Forbid(InFragment),
             Unless(Current(The(Frameset))),
             Enter(Mode::AfterFrameset),
         ],

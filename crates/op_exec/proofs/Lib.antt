@@ -7,3 +7,5 @@ pub mod Lists
 pub mod Worked
 pub mod Ids
 pub mod Finds
+pub mod Filling
+mod Contexts

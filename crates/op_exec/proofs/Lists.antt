@@ -6,6 +6,7 @@ use Rattle.html_types.specs.declared.operation.Place.{Place}
 use Rattle.html_types.specs.declared.operation.Op.{Op}
 use Rattle.html_types.specs.declared.operation.Op.TheVariants.{Make, Put, Text, Note, Doctype, Detach, MoveChildren, AddAttributes}
 use Rattle.standard.specs.Act.{Doc, act, acts, is_bound, IsPlaceBound, IsOpBound, known_after, AreOpsBound}
+use Rattle.standard.specs.Fragment.{in_root, all_in_root}
 use Rattle.op_exec.specs.Docs.{inserts_nothing, IsDoneInPart}
 use Rattle.act_laws.proofs.Known.{AreOpsBound-act}
 
@@ -22,10 +23,6 @@ spelled-split (x ∷ xs) ys = ap (λ zs. spelled_one x ++ zs) (spelled-split xs 
 spelled-one : (o : Op) → spelled (o ∷ []) ≡ spelled_one o
 unfolding spelled
 spelled-one o = append-nil (spelled_one o)
-
-spelled-first : (o : Op) (os : List Op) → spelled (o ∷ os) ≡ spelled_one o ++ spelled os
-unfolding spelled
-spelled-first o os = refl
 
 AreOpsBound-after : (d : Doc) (xs ys : List Op) → AreOpsBound (is_bound d.bound) (xs ++ ys) → AreOpsBound (is_bound (acts d xs).bound) ys
 unfolding acts AreOpsBound
@@ -78,30 +75,62 @@ acts-nothing d (Detach id) none = absurd (cc)
 acts-nothing d (MoveChildren from to) none = absurd (cc)
 acts-nothing d (AddAttributes id attributes) none = absurd (cc)
 
--- ---- a turn of the loop over operations: xs are done, then comes o, and os are left
+-- ---- a turn of a loop over operations, each of which comes to some: xs are done, then comes o, and os are left
 
+module _ (all : List Op → List Op) (one : Op → List Op) (split : (xs ys : List Op) → all (xs ++ ys) ≡ all xs ++ all ys) (single : (o : Op) → all (o ∷ []) ≡ one o) where
+  module _ (d e : Doc) (xs : List Op) (o : Op) (os : List Op) (done : e ≡ acts d (all xs)) (bound : AreOpsBound (is_bound e.bound) (all (o ∷ os))) where
+    whole : AreOpsBound (is_bound e.bound) (one o ++ all os)
+    whole = subst (AreOpsBound (is_bound e.bound)) (split (o ∷ []) os ∙ ap (λ ys. ys ++ all os) (single o)) bound
+
+    pub turn-bound_by : AreOpsBound (is_bound e.bound) (one o)
+    turn-bound_by = AreOpsBound-front (is_bound e.bound) (one o) (all os) whole
+
+    pub turn-bound_after_by : (e' : Doc) → e' ≡ acts e (one o) → AreOpsBound (is_bound e'.bound) (all os)
+    turn-bound_after_by e' is = subst (λ (x : Doc). AreOpsBound (is_bound x.bound) (all os)) (sym is) (AreOpsBound-after e (one o) (all os) whole)
+
+    pub turn-done_by : (e' : Doc) → e' ≡ acts e (one o) → e' ≡ acts d (all (xs ++ o ∷ []))
+    turn-done_by e' is =
+        is
+        ∙ ap (λ (x : Doc). acts x (one o)) done
+        ∙ sym (acts-append d (all xs) (one o))
+        ∙ ap (λ ys. acts d (all xs ++ ys)) (sym (single o))
+        ∙ ap (acts d) (sym (split xs (o ∷ [])))
+
+    pub turn-part_by : IsDoneInPart d e (all (xs ++ o ∷ os))
+    turn-part_by = record {
+      done = all xs;
+      left = all (o ∷ os);
+      all = split xs (o ∷ os);
+      result = done;
+    }
+
+-- each with its text spelled out
 module _ (d e : Doc) (xs : List Op) (o : Op) (os : List Op) (done : e ≡ acts d (spelled xs)) (bound : AreOpsBound (is_bound e.bound) (spelled (o ∷ os))) where
-  whole : AreOpsBound (is_bound e.bound) (spelled_one o ++ spelled os)
-  whole = subst (AreOpsBound (is_bound e.bound)) (spelled-first o os) bound
-
   pub turn-bound : AreOpsBound (is_bound e.bound) (spelled_one o)
-  turn-bound = AreOpsBound-front (is_bound e.bound) (spelled_one o) (spelled os) whole
+  turn-bound = turn-bound_by spelled spelled_one spelled-split spelled-one d e xs o os done bound
 
   pub turn-bound_after : (e' : Doc) → e' ≡ acts e (spelled_one o) → AreOpsBound (is_bound e'.bound) (spelled os)
-  turn-bound_after e' is = subst (λ (x : Doc). AreOpsBound (is_bound x.bound) (spelled os)) (sym is) (AreOpsBound-after e (spelled_one o) (spelled os) whole)
+  turn-bound_after e' is = turn-bound_after_by spelled spelled_one spelled-split spelled-one d e xs o os done bound e' is
 
   pub turn-done : (e' : Doc) → e' ≡ acts e (spelled_one o) → e' ≡ acts d (spelled (xs ++ o ∷ []))
-  turn-done e' is =
-      is
-      ∙ ap (λ (x : Doc). acts x (spelled_one o)) done
-      ∙ sym (acts-append d (spelled xs) (spelled_one o))
-      ∙ ap (λ ys. acts d (spelled xs ++ ys)) (sym (spelled-one o))
-      ∙ ap (acts d) (sym (spelled-split xs (o ∷ [])))
+  turn-done e' is = turn-done_by spelled spelled_one spelled-split spelled-one d e xs o os done bound e' is
 
   pub turn-part : IsDoneInPart d e (spelled (xs ++ o ∷ os))
-  turn-part = record {
-    done = spelled xs;
-    left = spelled (o ∷ os);
-    all = spelled-split xs (o ∷ os);
-    result = done;
-  }
+  turn-part = turn-part_by spelled spelled_one spelled-split spelled-one d e xs o os done bound
+
+-- and each in the root of a fragment
+abbrev pub rooted : List Op → List Op
+rooted os = all_in_root (spelled os)
+
+abbrev pub rooted_one : Op → List Op
+rooted_one o = all_in_root (spelled_one o)
+
+in_root-split : (xs ys : List Op) → all_in_root (xs ++ ys) ≡ all_in_root xs ++ all_in_root ys
+in_root-split [] ys = refl
+in_root-split (x ∷ xs) ys = ap (λ zs. in_root x ++ zs) (in_root-split xs ys) ∙ sym (append_assoc (in_root x) (all_in_root xs) (all_in_root ys))
+
+pub rooted-split : (xs ys : List Op) → rooted (xs ++ ys) ≡ rooted xs ++ rooted ys
+rooted-split xs ys = ap all_in_root (spelled-split xs ys) ∙ in_root-split (spelled xs) (spelled ys)
+
+pub rooted-one : (o : Op) → rooted (o ∷ []) ≡ rooted_one o
+rooted-one o = ap all_in_root (spelled-one o)

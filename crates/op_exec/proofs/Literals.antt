@@ -1,5 +1,5 @@
 -- The characters of the names that the code writes out.
-use Rattle.std.proofs.Common.{◌≡◌, refl}
+use Rattle.std.proofs.Common.{◌≡◌, [], refl}
 use Rattle.std.specs.Prelude.{codes}
 use Rattle.std.specs.Str.{chars}
 
@@ -22,3 +22,7 @@ async_text = refl
 pub defer_text : chars (codes "defer") ≡ codes "defer"
 unfolding chars
 defer_text = refl
+
+pub no_text : chars (codes "") ≡ []
+unfolding chars
+no_text = refl

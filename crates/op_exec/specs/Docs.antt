@@ -2,9 +2,12 @@
 use Rattle.std.specs.Prelude.{◌≡◌, ◌≢◌, ◌<◌, ◌++◌, ℕ, Bool, true, false, List, [], length, None, All}
 use Rattle.std.specs.Map.{values_of}
 use Rattle.html_types.specs.declared.operation.Op.{Op}
-use Rattle.html_types.specs.declared.operation.Op.TheVariants.{Text}
+use Rattle.html_types.specs.declared.operation.Op.TheVariants.{Make, Text}
+use Rattle.html_types.specs.declared.name.Name.TheVariants.{Known}
+use Rattle.html_types.specs.declared.word.Word.TheVariants as word
 use Rattle.standard.specs.Tree.{Nodes, host_of, is_element_at}
 use Rattle.standard.specs.Act.{Bound, Doc, acts}
+use Rattle.standard.specs.Fragment.{root_id, form_id}
 use Rattle.act_laws.specs.Bindings.{IsOneToOne}
 
 -- a node of the tree that is neither the Document nor a template's contents
@@ -29,3 +32,10 @@ pub record IsDoneInPart (old new : Doc) (ops : List Op) : Type 0 where
   pub left : List Op
   pub all : ops ≡ done ++ left
   pub result : new ≡ acts old done
+
+-- the root of a fragment is made, and the form element that its form element pointer names
+abbrev pub html_made : Op
+html_made = Make (root_id 0) (Known word.Html) []
+
+abbrev pub form_made : Op
+form_made = Make (form_id 0) (Known word.Form) []

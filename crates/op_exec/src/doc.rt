@@ -6,11 +6,13 @@ ghost use Rattle.html_types.specs.declared.operation.Op.TheVariants as op;
 ghost use Rattle.doc_tree.specs.declared.tree.Put.TheVariants as put;
 
 use crate::bound::Bound;
+use crate::fragment::{context_of, in_root};
 use crate::script::{ScriptKind, kind_of_script};
 use doc_tree::{Put, Tree};
-use html_types::{Attributes, Kind, Name, NoMemory, NodeId, Op, Ops, Place, Text};
+use html_types::{Attributes, Context, Kind, Name, NoMemory, NodeId, Op, Ops, Place, Text, Word};
 use std::alloc::Global;
 use std::marker::Model;
+use std::mem;
 
 /// A tree and what ids name in it: a contract sees both.
 #[derive(Drop)]
@@ -336,6 +338,152 @@ impl Doc {
         ensures err { OnErr result (self.new ≡ self.old) }
     {
         self.tree.put_last(second, first)
+    }
+}
+
+// Fragments (13.4).
+impl Doc {
+    ghost use Rattle.std.specs.Prelude.{[]};
+    ghost use Rattle.html_types.specs.Operations.{spelled_one};
+    ghost use Rattle.act_laws.specs.Staying.{Stays};
+    ghost use Rattle.standard.specs.Tree.{new_tree};
+    ghost use Rattle.standard.specs.Act.{act, acts, node_of, is_bound, AreOpsBound};
+    ghost use Rattle.standard.specs.Fragment.{context_at, roots_made, all_in_root, with_fragment, exchanged, filled, root_id, form_id};
+    ghost use Rattle.op_exec.specs.Docs.{IsDoneInPart, html_made, form_made};
+
+    /// What the parse of a fragment asks of that node as its context, in a document that is in
+    /// quirks mode or not. Its way up is walked.
+    pub fn context_of(&self, node: usize, quirks: bool) -> Result<Context, NoMemory>
+        requires { node < length self.now.tree }
+        ensures { IfOk result (λ context. context ≡ context_at self.now.tree node quirks) }
+    {
+        context_of(self.alloc, &self.tree, node, quirks)
+    }
+
+    // Does the operation in the root of a fragment, unless it inserts an empty text.
+    fn apply_in_root(&mut self, op: Op) -> Result<(), NoMemory>
+        requires { AreOpsBound (is_bound self.old.bound) (all_in_root (spelled_one op)) }
+        ensures ok { OnOk result (self.new ≡ acts self.old (all_in_root (spelled_one op))) }
+        ensures err { OnErr result (self.new ≡ self.old) }
+    {
+        match in_root(op) {
+            None => Ok(()),
+            Some(op) => self.apply_spelled(op),
+        }
+    }
+
+    // Does the operations in order, in the root of a fragment.
+    fn apply_all_in_root(&mut self, ops: Ops) -> Result<(), NoMemory>
+        requires { AreOpsBound (is_bound self.old.bound) (all_in_root ops) }
+        ensures ok { OnOk result (self.new ≡ acts self.old (all_in_root ops)) }
+        ensures err { OnErr result (IsDoneInPart self.old self.new (all_in_root ops)) }
+    {
+        for op in ops.into_vec() {
+            self.apply_in_root(op)?;
+        }
+        Ok(())
+    }
+
+    // The root of a fragment.
+    fn make_root(&mut self) -> Result<(), NoMemory>
+        requires { is_bound self.old.bound (root_id 0) ≡ false }
+        ensures ok { OnOk result (self.new ≡ act self.old html_made) }
+        ensures err { OnErr result (self.new ≡ self.old) }
+    {
+        let none = Attributes::new(self.alloc);
+        self.make(NodeId { realm: 0, n: 0 }, Name::Known(Word::Html), none)
+    }
+
+    // The form element that its form element pointer names.
+    fn make_form(&mut self) -> Result<(), NoMemory>
+        requires { is_bound self.old.bound (form_id 0) ≡ false }
+        ensures ok { OnOk result (self.new ≡ act self.old form_made) }
+        ensures err { OnErr result (self.new ≡ self.old) }
+    {
+        let none = Attributes::new(self.alloc);
+        self.make(NodeId { realm: 0, n: 1 }, Name::Known(Word::Form), none)
+    }
+
+    // With no id bound: what the fragment's operations name and don't make.
+    fn make_roots(&mut self, form: bool) -> Result<(), NoMemory>
+        requires { self.old.bound ≡ [] }
+        ensures ok { OnOk result (self.new ≡ acts self.old (roots_made form)) }
+        ensures stays { Stays self.old.tree self.new.tree }
+    {
+        self.make_root()?;
+        if form {
+            self.make_form()?;
+        }
+        Ok(())
+    }
+
+    // The node's children are taken out (a template's: its contents' children), and the root's are put there.
+    fn exchange(&mut self, target: usize) -> Result<(), NoMemory>
+        requires root { IsTrue (is_bound self.old.bound (root_id 0)) }
+        requires here { target < length self.old.tree }
+        ensures ok { OnOk result (self.new ≡ record self.old { tree = exchanged self.old target }) }
+        ensures stays { Stays self.old.tree self.new.tree }
+    {
+        let from = self.node(NodeId { realm: 0, n: 0 });
+        let to = end_of(&self.tree, target).parent;
+        self.tree.take_children(to);
+        self.tree.move_children(from, to)
+    }
+
+    // With no id bound: the fragment's nodes under ids of their own.
+    fn make_fragment(&mut self, form: bool, ops: Ops) -> Result<(), NoMemory>
+        requires none { self.old.bound ≡ [] }
+        requires bound { AreOpsBound (is_bound (with_fragment self.old.tree form []).bound) ops }
+        ensures ok { OnOk result (self.new ≡ with_fragment self.old.tree form ops) }
+        ensures root { OnOk result (IsTrue (is_bound self.new.bound (root_id 0))) }
+        ensures stays { Stays self.old.tree self.new.tree }
+    {
+        self.make_roots(form)?;
+        self.apply_all_in_root(ops)?;
+        Ok(())
+    }
+
+    // With no id bound: the fragment's nodes under ids of their own, and then the exchange.
+    fn fill_with(&mut self, target: usize, form: bool, ops: Ops) -> Result<(), NoMemory>
+        requires none { self.old.bound ≡ [] }
+        requires here { target < length self.old.tree }
+        requires bound { AreOpsBound (is_bound (with_fragment self.old.tree form []).bound) ops }
+        ensures ok { OnOk result (self.new.tree ≡ filled self.old.tree target form ops) }
+        ensures stays { Stays self.old.tree self.new.tree }
+    {
+        self.make_fragment(form, ops)?;
+        self.exchange(target)
+    }
+
+    /// Takes an element's children out (a template's: its contents' children), and puts there what
+    /// those operations make under the root of a fragment. They name the fragment's elements by ids
+    /// of its own, of realm 0, of which none is bound behind it; what ids stand for stays. Also
+    /// where memory runs out the nodes that there were keep their numbers; some may be new.
+    pub fn fill(&mut self, target: usize, form: bool, ops: Ops) -> Result<(), NoMemory>
+        requires here { target < length self.old.tree }
+        requires bound { AreOpsBound (is_bound (with_fragment self.old.tree form []).bound) ops }
+        ensures ok { OnOk result (self.new ≡ record self.old { tree = filled self.old.tree target form ops }) }
+        ensures bound { self.new.bound ≡ self.old.bound }
+        ensures stays { Stays self.old.tree self.new.tree }
+    {
+        let bound = mem::replace(&mut self.bound, Bound::new(self.alloc));
+        let filled = self.fill_with(target, form, ops);
+        self.bound = bound;
+        filled
+    }
+
+    /// A document of a fragment's own: those operations executed under its root, an html element,
+    /// whose number it says too. The root stands nowhere, and its children are the fragment's nodes.
+    pub fn of_fragment(alloc: Global, form: bool, ops: Ops) -> Result<(Doc, usize), NoMemory>
+        requires { AreOpsBound (is_bound (with_fragment new_tree form []).bound) ops }
+        ensures made { IfOk result (λ made. made.0 ≡ with_fragment new_tree form ops) }
+        ensures root { IfOk result (λ made. made.1 ≡ node_of made.0.bound (root_id 0)) }
+        ensures here { IfOk result (λ made. made.1 < length made.0.tree) }
+    {
+        let mut doc = Doc::new(alloc)?;
+        doc.make_fragment(form, ops)?;
+        let root = doc.node(NodeId { realm: 0, n: 0 });
+        Ok((doc, root))
     }
 }
 

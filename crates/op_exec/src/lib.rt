@@ -4,6 +4,7 @@
 mod bound;
 mod doc;
 mod element;
+mod fragment;
 mod script;
 
 pub use doc::Doc;

@@ -14,9 +14,19 @@ again-append (x ∷ xs) ys = by (is_empty x.text && is_none x.ending) (again-app
     by true h = h
     by false h = ap (λ l. x ∷ l) h
 
--- the last of some pieces is put in front of others
+-- the last of some pieces is put in front of others, unless nothing is left of it
 pub again-last : (xs ys : List Piece) (x : Piece) (zs zs' whole : List Piece) → ys ≡ xs ++ x ∷ [] → zs' ≡ sent_again (x ∷ []) ++ zs → sent_again ys ++ zs ≡ whole → sent_again xs ++ zs' ≡ whole
 again-last xs ys x zs zs' whole split put before =
     ap (λ l. sent_again xs ++ l) put
     ∙ (sym (append_assoc (sent_again xs) (sent_again (x ∷ [])) zs)
     ∙ (ap (λ l. l ++ zs) (sym (ap sent_again split ∙ again-append xs (x ∷ []))) ∙ before))
+
+-- of the last of some pieces nothing is left
+pub again-blank : (xs ys : List Piece) (x : Piece) (zs whole : List Piece) → ys ≡ xs ++ x ∷ [] → (is_empty x.text && is_none x.ending) ≡ true → sent_again ys ++ zs ≡ whole → sent_again xs ++ zs ≡ whole
+again-blank xs ys x zs whole split blank before =
+    again-last xs ys x zs zs whole split (sym (ap (λ b. (if b then [] else x ∷ []) ++ zs) blank)) before
+
+-- it is put in front of others
+pub again-put : (xs ys : List Piece) (x : Piece) (zs whole : List Piece) → ys ≡ xs ++ x ∷ [] → (is_empty x.text && is_none x.ending) ≡ false → sent_again ys ++ zs ≡ whole → sent_again xs ++ (x ∷ zs) ≡ whole
+again-put xs ys x zs whole split some before =
+    again-last xs ys x zs (x ∷ zs) whole split (sym (ap (λ b. (if b then [] else x ∷ []) ++ zs) some)) before

@@ -2,7 +2,7 @@
 
 ghost use Rattle.std.specs.Prelude.{◌≡◌, ◌-◌, ◌<◌, [], ◌∷◌, ◌++◌, false, not, nat_lt, drop, IfOk, OnOk, OnErr, IsTrue, MatchOption};
 ghost use Rattle.std.specs.Str.{chars, encode_utf8_all, IsCharBoundary};
-ghost use Rattle.core_rules.specs.Desk.{blank, sent_again};
+ghost use Rattle.core_rules.specs.Desk.{blank};
 ghost use Rattle.core_rules.specs.Settling.{is_empty as has_none};
 ghost use Rattle.page_pieces.specs.Keeping as keeping;
 ghost use Rattle.page_pieces.specs.Keeping.{first_kept, can_keep, keeps, rewound};
@@ -11,7 +11,6 @@ use crate::piece::{Piece, Pieces};
 use html_types::NoMemory;
 use std::alloc::Global;
 use std::marker::Model;
-use std::mem;
 
 /// The piece in hand, those that were sent in this epoch and aren't taken, those to be sent, and the counts of requests and replies.
 #[derive(Drop)]
@@ -50,27 +49,6 @@ fn move_first(from: &mut Pieces, to: &mut Pieces) -> Result<Piece, NoMemory>
     let copy = first.copy()?;
     to.push(copy)?;
     from.pop().ok_or(NoMemory)
-}
-
-// Puts a piece in front of others, unless nothing is left of it.
-fn put_again(piece: Piece, to_send: &mut Pieces) -> Result<(), NoMemory>
-    ensures { OnOk result (to_send.new ≡ sent_again (piece ∷ []) ++ to_send.old) }
-{
-    if piece.is_blank() {
-        return Ok(());
-    }
-    to_send.put_front(piece)
-}
-
-// Puts pieces in front of others, but for those of which nothing is left.
-fn put_all_again(asked: &mut Pieces, to_send: &mut Pieces) -> Result<(), NoMemory>
-    ensures none { OnOk result (asked.new ≡ []) }
-    ensures again { OnOk result (to_send.new ≡ sent_again asked.old ++ to_send.old) }
-{
-    'pieces: while let Some(piece) = asked.pop_last() {
-        put_again(piece, to_send)?;
-    }
-    Ok(())
 }
 
 impl Ledger {
@@ -180,14 +158,20 @@ impl Ledger {
         self.left.skip(bytes);
     }
 
-    /// The epoch has ended: what isn't executed of the pieces that were sent is to be sent again, in front of all others. Where it answers
-    /// want of memory, the ledger only keeps its type.
+    /// The epoch has ended: what isn't executed of the pieces that were sent is to be sent again, in front of all others. Where there is no
+    /// memory, the ledger stays as it was.
     pub fn rewind(&mut self, alloc: Global) -> Result<(), NoMemory>
-        ensures { OnOk result (self.new ≡ rewound self.old) }
+        ensures ok { OnOk result (self.new ≡ rewound self.old) }
+        ensures err { OnErr result (self.new ≡ self.old) }
     {
         let blank = Piece::blank(alloc)?;
-        put_all_again(&mut self.asked, &mut self.to_send)?;
-        let left = mem::replace(&mut self.left, blank);
-        put_again(left, &mut self.to_send)
+        let left = self.left.copy()?;
+        self.asked.put_front(left)?;
+        if let Err(error) = self.to_send.put_again(&mut self.asked) {
+            let _front = self.asked.pop();
+            return Err(error);
+        }
+        self.left = blank;
+        Ok(())
     }
 }

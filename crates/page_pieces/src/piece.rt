@@ -1,8 +1,9 @@
 //! Pieces of the page.
 
-ghost use Rattle.std.specs.Prelude.{◌≡◌, ◌↔◌, ◌&&◌, [], ◌∷◌, ◌++◌, is_none, length, drop, IfOk, OnOk, OnErr, IsTrue, MatchOption};
+ghost use Rattle.std.specs.Prelude.{◌≡◌, ◌↔◌, ◌&&◌, ◌+◌, ◌≤◌, [], ◌∷◌, ◌++◌, is_none, length, drop, IfOk, OnOk, OnErr, IsTrue, MatchOption};
 ghost use Rattle.std.specs.Str.{chars, encode_utf8_all, IsCharBoundary};
-ghost use Rattle.core_rules.specs.Desk.{blank as no_text};
+ghost use Rattle.std.specs.VecDeque.{deque_len, deque_capacity};
+ghost use Rattle.core_rules.specs.Desk.{blank as no_text, sent_again};
 ghost use Rattle.core_rules.specs.Settling.{is_empty as has_none};
 
 use crate::shared_text::SharedText;
@@ -161,10 +162,29 @@ impl Pieces {
         self.list.pop_front()
     }
 
-    /// Takes the last piece.
-    pub fn pop_last(&mut self) -> Option<Piece>
-        ensures { MatchOption result ((self.old ≡ []) × (self.new ≡ [])) (λ p. self.old ≡ self.new ++ p ∷ []) }
+    /// Moves pieces that were sent in front of these, but for those of which nothing is left. Where there is no memory, all
+    /// stay where they are.
+    pub fn put_again(&mut self, sent: &mut Pieces) -> Result<(), NoMemory>
+        ensures again { OnOk result (self.new ≡ sent_again sent.old ++ self.old) }
+        ensures none { OnOk result (sent.new ≡ []) }
+        ensures err { OnErr result (self.new ≡ self.old) }
+        ensures sent { OnErr result (sent.new ≡ sent.old) }
     {
-        self.list.pop_back()
+        self.list.reserve(sent.list.len())?;
+        move_again(&mut sent.list, &mut self.list);
+        Ok(())
+    }
+}
+
+// Moves pieces in front of others, which have room for them, but for those of which nothing is left.
+fn move_again(sent: &mut VecDeque<Piece>, others: &mut VecDeque<Piece>)
+    requires { deque_len others.old + deque_len sent.old ≤ deque_capacity others.old }
+    ensures again { others.new.items ≡ sent_again sent.old.items ++ others.old.items }
+    ensures none { sent.new.items ≡ [] }
+{
+    'pieces: while let Some(piece) = sent.pop_back() {
+        if !piece.is_blank() {
+            others.push_front_reserved(piece);
+        }
     }
 }

@@ -11,13 +11,14 @@ use Rattle.html_types.specs.declared.instruction.Stop.TheVariants as stop
 use Rattle.html_types.specs.declared.instruction.Finish.{Finish}
 use Rattle.html_types.specs.declared.instruction.Finish.TheVariants as finale
 use Rattle.standard.specs.Tree.{Nodes, appended, find_id, first_element}
+use Rattle.standard.specs.Fragment.{Setting, lacking, too_deep, setting, inner_set}
 use Rattle.standard.specs.Act.{Doc, acts}
 use Rattle.standard.specs.Page.{Page, ending_of}
 use Rattle.standard.specs.Parser.{Parser, Took, took, take_character, Finished, finish}
 use Rattle.standard.specs.Prepare.{Prepared, still, inline, external}
 use Rattle.standard.specs.Scripts.{Fetched, got, missing, faulted, is_lawful, file_statements}
 use Rattle.standard.specs.Statements.{statements}
-use Rattle.standard.specs.Serial.{World, fetched_if, fetched, Serial, Outcome, refused, Course, goes, refuses, starved, ◌then◌, Advanced, advanced, advance, before_point, moved, with_line_feed, may_write, insert, tree_of, inside, back_at, with_tree, remove, read, one_more_executed, prepared, execute, run_statements, on_element, on_move, write, go_on, stopped, end_of_script, run_prepared, run_text, Moment, reading, tag_ended, awaits, over, at_end, after_character, unless_pending, after_script, after_fetch, read_next, moment_after, moments_on, first, IsSerial}
+use Rattle.standard.specs.Serial.{World, fetched_if, fetched, Serial, Outcome, refused, Course, goes, refuses, starved, ◌then◌, Advanced, advanced, advance, before_point, moved, with_line_feed, may_write, insert, tree_of, inside, back_at, with_tree, remove, read, one_more_executed, prepared, execute, run_statements, on_element, on_move, on_set, write, go_on, stopped, end_of_script, run_prepared, run_text, Moment, reading, tag_ended, awaits, over, at_end, after_character, unless_pending, after_script, after_fetch, read_next, moment_after, moments_on, first, IsSerial}
 use Rattle.standard_laws.specs.Laws.{outcome_at}
 use Rattle.standard_laws.proofs.Fuel.{serial-over}
 use Rattle.standard_laws.proofs.Passing.{finished-at}
@@ -56,6 +57,8 @@ mutual
   statements-meet_none (suc n) w k (statement.Remove v ∷ list) s = element-meets_none n w k list remove (find_id (tree_of s) v) s
   statements-meet_none (suc n) w k (statement.Append v c ∷ list) s =
       move-meets_none n w k list (appended (tree_of s) (find_id (tree_of s) v) (find_id (tree_of s) c)) s
+  statements-meet_none (suc n) w k (statement.SetInner v t ∷ list) s =
+      set-meets_none n w k list (inner_set w.entities s.parser.open_state.quirks (tree_of s) (find_id (tree_of s) v) t) s
   statements-meet_none (suc n) w k (statement.LogById v ∷ list) s = element-meets_none n w k list (read k) (find_id (tree_of s) v) s
   statements-meet_none (suc n) w k (statement.LogRoot ∷ list) s = element-meets_none n w k list (read k) (first_element (tree_of s)) s
 
@@ -68,6 +71,12 @@ mutual
   move-meets_none zero w k list left s = tt
   move-meets_none (suc n) w k list None s = tt
   move-meets_none (suc n) w k list (Some t) s = statements-meet_none n w k list (with_tree t s)
+
+  set-meets_none : (n : ℕ) (w : World) (k : ℕ) (list : List Statement) (there : Setting) (s : Serial) → MeetsNone (on_set n w k list there s)
+  set-meets_none zero w k list there s = tt
+  set-meets_none (suc n) w k list lacking s = tt
+  set-meets_none (suc n) w k list too_deep s = λ e. cc e
+  set-meets_none (suc n) w k list (setting t) s = statements-meet_none n w k list (with_tree t s)
 
   write-meets_none : (n : ℕ) (w : World) (fits : Bool) (t : List ℕ) (s : Serial) → MeetsNone (write n w fits t s)
   write-meets_none zero w fits t s = tt

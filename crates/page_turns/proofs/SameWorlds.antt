@@ -6,11 +6,12 @@ use Rattle.html_types.specs.declared.script.Statement.{Statement}
 use Rattle.html_types.specs.declared.script.Statement.TheVariants as statement
 use Rattle.html_types.specs.declared.instruction.Stop.TheVariants as stop
 use Rattle.standard.specs.Tree.{Nodes, appended, find_id, first_element}
+use Rattle.standard.specs.Fragment.{Setting, lacking, too_deep, setting, inner_set}
 use Rattle.standard.specs.Page.{Page}
 use Rattle.standard.specs.Prepare.{Prepared, still, inline, external}
 use Rattle.standard.specs.Scripts.{Fetched, got, missing, faulted, is_lawful, file_statements}
 use Rattle.standard.specs.Statements.{statements}
-use Rattle.standard.specs.Serial.{World, fetched_if, fetched, Serial, Course, goes, refuses, starved, ◌then◌, Advanced, advanced, advance, before_point, moved, insert, tree_of, inside, back_at, with_line_feed, may_write, with_tree, remove, read, one_more_executed, prepared, execute, run_statements, on_element, on_move, write, go_on, stopped, end_of_script, run_prepared, run_text, Outcome, Moment, reading, tag_ended, awaits, over, after_script, after_fetch, outcome_in, moment_after, moments_on, first, serial_with, IsSerial, Passes}
+use Rattle.standard.specs.Serial.{World, fetched_if, fetched, Serial, Course, goes, refuses, starved, ◌then◌, Advanced, advanced, advance, before_point, moved, insert, tree_of, inside, back_at, with_line_feed, may_write, with_tree, remove, read, one_more_executed, prepared, execute, run_statements, on_element, on_move, on_set, write, go_on, stopped, end_of_script, run_prepared, run_text, Outcome, Moment, reading, tag_ended, awaits, over, after_script, after_fetch, outcome_in, moment_after, moments_on, first, serial_with, IsSerial, Passes}
 use Rattle.page_turns.specs.Scripts.{Alike}
 
 pub alike-refl : (f : Fetched) → Alike f f
@@ -62,6 +63,8 @@ module _ (w : World) (scripts : List ℕ → Fetched) where
     statements-same (suc n) k (statement.Remove x ∷ list) s = element-same n k list remove (find_id (tree_of s) x) s
     statements-same (suc n) k (statement.Append x c ∷ list) s =
         move-same n k list (appended (tree_of s) (find_id (tree_of s) x) (find_id (tree_of s) c)) s
+    statements-same (suc n) k (statement.SetInner x t ∷ list) s =
+        set-same n k list (inner_set w.entities s.parser.open_state.quirks (tree_of s) (find_id (tree_of s) x) t) s
     statements-same (suc n) k (statement.LogById x ∷ list) s = element-same n k list (read k) (find_id (tree_of s) x) s
     statements-same (suc n) k (statement.LogRoot ∷ list) s = element-same n k list (read k) (first_element (tree_of s)) s
 
@@ -74,6 +77,12 @@ module _ (w : World) (scripts : List ℕ → Fetched) where
     move-same zero k list left s = refl
     move-same (suc n) k list None s = refl
     move-same (suc n) k list (Some t) s = statements-same n k list (with_tree t s)
+
+    set-same : (n : ℕ) (k : ℕ) (list : List Statement) (there : Setting) (s : Serial) → on_set n w k list there s ≡ on_set n v k list there s
+    set-same zero k list there s = refl
+    set-same (suc n) k list lacking s = refl
+    set-same (suc n) k list too_deep s = refl
+    set-same (suc n) k list (setting t) s = statements-same n k list (with_tree t s)
 
     write-same : (n : ℕ) (fits : Bool) (t : List ℕ) (s : Serial) → write n w fits t s ≡ write n v fits t s
     write-same zero fits t s = refl

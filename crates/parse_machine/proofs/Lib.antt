@@ -6,3 +6,5 @@ pub mod Runs
 pub mod Tags
 pub mod References
 pub mod Dispatcher
+pub mod Fronts
+pub mod Through

@@ -22,6 +22,7 @@ use Rattle.tokenizer_laws.proofs.FeedLemmas.{feed-append, onward-one}
 use Rattle.standard_laws.proofs.Parse.{parse-append}
 use Rattle.tokenizer.specs.Runs.{LeadsTo}
 use Rattle.tokenizer.specs.Whole.{has_cr, piece, MakesAlone}
+use Rattle.tokenizer.specs.Raw.{MakesFrom}
 use Rattle.parse_machine.specs.Machine.{stops}
 use Rattle.parse_machine.specs.Runs.{IsSomeText, ReadsTags, Takes, TakesRun}
 use Rattle.parse_machine.specs.declared.machine.Ran.{Ran}
@@ -98,19 +99,23 @@ over-silent es s b o cs no_cr silent =
     subst (λ (w : Parsed). IsOver w o (length cs) (parser (feed es (is_foreign b) s cs).state false b) o stop.InputEnd) (sym (silent_parsed es s b cs no_cr silent))
     (record { ops = sym (append-nil o); state = refl; used = refl; at_stop = refl })
 
-over-tag : (es : Entities) (b : Open) (cs : List ℕ) (t : Token) (o o' : List Op) (p' : Parser) (at : Stop) → MakesAlone es cs t → has_cr cs ≡ false
-    → after_ops o (build data_state false (t ∷ []) b) ≡ took o' p' at → IsOver (parse es (parser data_state false b) cs) o (length cs) p' o' at
-over-tag es b cs t o o' p' at alone no_cr built =
-    let front = alone.front in
-    let last = alone.last in
-    let split : has_cr (front ++ last ∷ []) ≡ false = ap has_cr (sym alone.split) ∙ no_cr in
-    let mid = (feed es (is_foreign b) data_state front).state in
+over-tag : (es : Entities) (s : TokState) (b : Open) (cs : List ℕ) (t : Token) (o o' : List Op) (p' : Parser) (at : Stop) → MakesFrom es s cs t → has_cr cs ≡ false
+    → after_ops o (build data_state false (t ∷ []) b) ≡ took o' p' at → IsOver (parse es (parser s false b) cs) o (length cs) p' o' at
+over-tag es s b cs t o o' p' at makes no_cr built =
+    let front = makes.front in
+    let last = makes.last in
+    let split : has_cr (front ++ last ∷ []) ≡ false = ap has_cr (sym makes.split) ∙ no_cr in
+    let mid = (feed es (is_foreign b) s front).state in
     let reached : read es (is_foreign b) mid last ≡ record { tokens = t ∷ []; state = data_state } =
-    last_read es (is_foreign b) data_state front last _ (alone.silent (is_foreign b)) (ap (feed es (is_foreign b) data_state) (sym alone.split) ∙ alone.whole (is_foreign b)) in
-    subst (λ (l : List ℕ). IsOver (parse es (parser data_state false b) l) o (length l) p' o' at) (sym alone.split)
-    (over-more es (parser data_state false b) o front (parser mid false b) o last p' o' at
-    (over-silent es data_state b o front (cr-front front last split) (alone.silent (is_foreign b)))
+    last_read es (is_foreign b) s front last _ (makes.silent (is_foreign b)) (ap (feed es (is_foreign b) s) (sym makes.split) ∙ makes.whole (is_foreign b)) in
+    subst (λ (l : List ℕ). IsOver (parse es (parser s false b) l) o (length l) p' o' at) (sym makes.split)
+    (over-more es (parser s false b) o front (parser mid false b) o last p' o' at
+    (over-silent es s b o front (cr-front front last split) (makes.silent (is_foreign b)))
     (taken es mid b last o (record { tokens = t ∷ []; state = data_state }) (took o' p' at) (cr-last front last split) reached built))
+
+-- so from the data state
+from_data : (es : Entities) (cs : List ℕ) (t : Token) → MakesAlone es cs t → MakesFrom es data_state cs t
+from_data es cs t alone = record { front = alone.front; last = alone.last; split = alone.split; silent = alone.silent; whole = alone.whole }
 
 pub piece-front : (text : List ℕ) (from end : ℕ) → IsUtf8 text → IsCharBoundary text from → from ≤ end → chars (take end text) ≡ chars (take from text) ++ piece text from end
 piece-front text from end u b h =
@@ -133,8 +138,19 @@ taken_tag es text from end at t p p' o o' u b h reads alone no_cr built =
     let same : p ≡ parser data_state false p.open_state = ap (λ s. parser s p.after_cr p.open_state) reads.tokenizer ∙ ap (λ cr. parser data_state cr p.open_state) reads.after_cr in
     takes es text (piece text from end) from end at p p' o o' (some-split (piece text from end) alone.front alone.last alone.split) (piece-front text from end u b h)
     (subst (λ (q : Parser). IsOver (parse es q (piece text from end)) o (length (piece text from end)) p' o' at) (sym same)
-    (over-tag es p.open_state (piece text from end) t o o' p' at alone no_cr
+    (over-tag es data_state p.open_state (piece text from end) t o o' p' at (from_data es (piece text from end) t alone) no_cr
     (subst (λ (q : Parser). after_ops o (build q.tokenizer q.after_cr (t ∷ []) p.open_state) ≡ took o' p' at) same built)))
+
+-- the end tag of a text that is read up to it
+pub taken_raw : (es : Entities) (text : List ℕ) (from end : ℕ) (at : Stop) (t : Token) (p p' : Parser) (o o' : List Op) → IsUtf8 text → IsCharBoundary text from → from ≤ end
+    → p.after_cr ≡ false → MakesFrom es p.tokenizer (piece text from end) t → has_cr (piece text from end) ≡ false
+    → after_ops o (build data_state p.after_cr (t ∷ []) p.open_state) ≡ took o' p' at → Takes es text from (record { stop = at; used = end }) p o p' o'
+taken_raw es text from end at t p p' o o' u b h after makes no_cr built =
+    let same : p ≡ parser p.tokenizer false p.open_state = ap (λ cr. parser p.tokenizer cr p.open_state) after in
+    takes es text (piece text from end) from end at p p' o o' (some-split (piece text from end) makes.front makes.last makes.split) (piece-front text from end u b h)
+    (subst (λ (q : Parser). IsOver (parse es q (piece text from end)) o (length (piece text from end)) p' o' at) (sym same)
+    (over-tag es p.tokenizer p.open_state (piece text from end) t o o' p' at makes no_cr
+    (ap (λ cr. after_ops o (build data_state cr (t ∷ []) p.open_state)) (sym after) ∙ built)))
 
 -- one character
 pub taken_character : (es : Entities) (text : List ℕ) (from end c : ℕ) (at : Stop) (p q p' : Parser) (o n o' : List Op) → chars (take end text) ≡ chars (take from text) ++ c ∷ []

@@ -1,3 +1,4 @@
 pub mod Machine
 pub mod Rounds
 pub mod Runs
+pub mod Through

@@ -3,10 +3,12 @@
 #![tactic(auto)]
 
 mod after_adoption;
+mod fragment;
 mod machine;
 mod token;
 mod weight;
 
+pub use fragment::parse_fragment;
 pub use html_types::{Finish, Stop};
 pub use machine::{Machine, PageEnd, Ran};
 pub use token::construct;

@@ -1,6 +1,6 @@
 //! The machine.
 
-ghost use Rattle.std.specs.Prelude.{◌≡◌, ◌↔◌, ◌==◌, ◌≢◌, ◌&&◌, ◌<◌, ◌≤◌, ◌+◌, ◌++◌, [], ◌∷◌, Bool, List, length, take, if◌then◌else◌, IfOk, IfSome, IsTrue};
+ghost use Rattle.std.specs.Prelude.{◌≡◌, ◌↔◌, ◌==◌, ◌≢◌, ◌&&◌, ◌<◌, ◌≤◌, ◌+◌, ◌++◌, [], ◌∷◌, Bool, List, length, take, drop, slice_range, if◌then◌else◌, IfOk, IfSome, IsTrue};
 ghost use Rattle.std.specs.Str.{chars};
 ghost use Rattle.html_types.specs.declared.operation.Op.{Op};
 ghost use Rattle.standard.specs.Entities.{Entities};
@@ -14,22 +14,27 @@ ghost use Rattle.standard.specs.Instructions.{here, texts};
 ghost use Rattle.std.specs.List.{list_any};
 ghost use Rattle.entity_table.specs.View.{characters_in};
 ghost use Rattle.tokenizer.specs.Reference.{found_characters, open_characters};
-ghost use Rattle.parse_machine.specs.Runs.{ArePlain, reads_runs as state_reads_runs, Ahead, Inserts, ReadsTags, Takes, TakesRuns, TakesRun};
+ghost use Rattle.parse_machine.specs.Runs.{ArePlain, reads_runs as state_reads_runs, reads_raw as state_reads_raw, BeginsNothing, Ahead, Inserts, ReadsTags, Takes, TakesRuns, TakesRun};
 ghost use Rattle.core_rules.specs.Batches.{end_batch, finishing};
+ghost use Rattle.standard.specs.Quiet.{after_those, read_through, whole};
+ghost use Rattle.standard.specs.Fragment.{fragment_parser};
+ghost use Rattle.parse_machine.specs.Through.{came_to, from_stop};
 ghost use Rattle.parse_machine.specs.Machine.{WentTo, EndedTo, Builds, BuildsLast, RanAs, halt_at, EndsAs, stops as stops_at};
 
+use crate::fragment::reading_in;
 use crate::token::construct;
 use crate::weight::is_light_state;
 use builder_state::Builder;
 use char_class::{class_of, first_mark};
 use entity_table::{Characters, Table};
 use html_types::{
-    Ending, Finish, Name, Next, NoMemory, NodeId, Ops, RawText, Stop, TextState, TokState, Token,
-    TokenizerSwitch, Why, Word, char_at,
+    Context, Ending, Finish, Name, Next, NoMemory, NodeId, Ops, RawText, Stop, TextState, TokState,
+    Token, TokenizerSwitch, Why, Word, char_at,
 };
 use std::alloc::Global;
 use std::marker::Model;
 use tokenizer::Tokenizer;
+use tokenizer::raw::raw_end;
 use tokenizer::reading::is_plain;
 use tokenizer::reference::{OpenReference, open_reference, whole_reference};
 use tokenizer::whole::whole_token;
@@ -326,6 +331,20 @@ fn end_and_build(
     build_last(alloc, tokenizer, builder, ops)
 }
 
+// Whether a `<` stands at a place, and behind it a character with which nothing begins in a text that is read up to its end tag.
+fn begins_nothing(text: &str, from: usize) -> bool
+    requires { IsCharBoundary text.now from }
+    ensures within { IsTrue result → IsCharBoundary text.now (from + 2) }
+    ensures read { IsTrue result → BeginsNothing (chars (slice_range text.now from (from + 2))) }
+{
+    let bytes = text.as_bytes();
+    if bytes.len() < 2 || from > bytes.len() - 2 || bytes[from] != b'<' {
+        return false;
+    }
+    let next = bytes[from + 1];
+    next < 128 && !matches!(next, b'\0' | b'\r' | b'&' | b'<' | b'/' | b'!')
+}
+
 // The answer where the end of the input came to that.
 fn page_end(finish: Finish) -> PageEnd
     ensures { halt_at result ≡ finishing finish }
@@ -333,6 +352,19 @@ fn page_end(finish: Finish) -> PageEnd
     match finish {
         Finish::Finished => PageEnd::Finished,
         Finish::Deep => PageEnd::Deep,
+    }
+}
+
+// Whether the state is that of a text that is read up to its end tag.
+fn reads_raw(state: &TokState) -> bool
+    ensures { result ≡ state_reads_raw state.now }
+{
+    match state {
+        TokState::Text(TextState::Raw(raw, _)) => matches!(
+            raw,
+            RawText::Rcdata | RawText::Rawtext | RawText::ScriptData
+        ),
+        _ => false,
     }
 }
 
@@ -379,7 +411,7 @@ fn some_nul(found: Option<Characters>) -> bool
 
 impl Machine {
     /// The parser at the beginning of a page. Its elements are of that realm. It takes no memory.
-    pub fn new(alloc: Global, realm: u64) -> Machine
+    pub fn new(alloc: Global, realm: u32) -> Machine
         ensures { result ≡ new_parser realm }
     {
         Machine {
@@ -387,6 +419,30 @@ impl Machine {
             after_cr: false,
             builder: Builder::new(alloc, realm),
         }
+    }
+
+    /// The parser at the beginning of a fragment with that context (13.4). Its elements are of that
+    /// realm. The caller makes its root, an html element, under the realm's first id and, where the
+    /// context is in a form, a form element under its second.
+    #[tactic(auto, unfolding(standard::specs::Fragment::fragment_parser))]
+    pub fn fragment(alloc: Global, context: Context, realm: u32) -> Result<Machine, NoMemory>
+        ensures { IfOk result (λ m. m ≡ fragment_parser context realm) }
+    {
+        let mut tokenizer = Tokenizer::new(alloc);
+        tokenizer.load(reading_in(&context.name));
+        let builder = Builder::fragment(alloc, context, realm)?;
+        Ok(Machine {
+            tokenizer,
+            after_cr: false,
+            builder,
+        })
+    }
+
+    /// Whether the document is in quirks mode.
+    pub fn is_quirky(&self) -> bool
+        ensures { result ≡ self.now.open_state.quirks }
+    {
+        self.builder.is_quirky()
     }
 
     // Takes one character.
@@ -514,6 +570,81 @@ impl Machine {
         }
     }
 
+    // Takes the end tag that ends the text of the state, where it stands whole at a place.
+    fn take_raw_end(
+        &mut self,
+        alloc: Global,
+        text: &str,
+        from: usize,
+        ops: &mut Ops,
+    ) -> Result<Option<Ran>, NoMemory>
+        requires { IsCharBoundary text.now from }
+        ensures boundary { IfOk result (λ o. IfSome o (λ ran. IsCharBoundary text.now ran.used)) }
+        ensures onward { IfOk result (λ o. IfSome o (λ ran. from < ran.used)) }
+        ensures parsed { IfOk result (λ o. IfSome o (λ ran. (es : Entities) → Takes es text.now from ran self.old ops.old self.new ops.new)) }
+        ensures none { IfOk result (λ o. o ≡ None → self.new ≡ self.old) }
+        ensures none_added { IfOk result (λ o. o ≡ None → ops.new ≡ ops.old) }
+    {
+        if self.after_cr {
+            return Ok(None);
+        }
+        let Some(whole) = raw_end(alloc, self.tokenizer.state(), text, from) else {
+            return Ok(None);
+        };
+        self.tokenizer.load(TokState::Text(TextState::Data));
+        let stop = self.take_token(alloc, &whole.token, ops)?;
+        Ok(Some(Ran {
+            stop,
+            used: whole.end,
+        }))
+    }
+
+    // Takes a `<` in such a text that begins nothing, with the character behind it.
+    fn take_raw_less(
+        &mut self,
+        alloc: Global,
+        text: &str,
+        from: usize,
+        ops: &mut Ops,
+    ) -> Result<Option<Ran>, NoMemory>
+        requires { IsCharBoundary text.now from }
+        ensures boundary { IfOk result (λ o. IfSome o (λ ran. IsCharBoundary text.now ran.used)) }
+        ensures onward { IfOk result (λ o. IfSome o (λ ran. from < ran.used)) }
+        ensures parsed { IfOk result (λ o. IfSome o (λ ran. (es : Entities) → Takes es text.now from ran self.old ops.old self.new ops.new)) }
+        ensures none { IfOk result (λ o. o ≡ None → self.new ≡ self.old) }
+        ensures none_added { IfOk result (λ o. o ≡ None → ops.new ≡ ops.old) }
+    {
+        if !begins_nothing(text, from) || !self.takes_runs() || !reads_raw(self.tokenizer.state()) {
+            return Ok(None);
+        }
+        self.insert_run(alloc, &text[from..from + 2], ops)?;
+        Ok(Some(Ran {
+            stop: Stop::InputEnd,
+            used: from + 2,
+        }))
+    }
+
+    // Takes what begins at a place with a `<` in a text that is read up to its end tag.
+    fn take_raw(
+        &mut self,
+        alloc: Global,
+        text: &str,
+        from: usize,
+        ops: &mut Ops,
+    ) -> Result<Option<Ran>, NoMemory>
+        requires { IsCharBoundary text.now from }
+        ensures boundary { IfOk result (λ o. IfSome o (λ ran. IsCharBoundary text.now ran.used)) }
+        ensures onward { IfOk result (λ o. IfSome o (λ ran. from < ran.used)) }
+        ensures parsed { IfOk result (λ o. IfSome o (λ ran. (es : Entities) → Takes es text.now from ran self.old ops.old self.new ops.new)) }
+        ensures none { IfOk result (λ o. o ≡ None → self.new ≡ self.old) }
+        ensures none_added { IfOk result (λ o. o ≡ None → ops.new ≡ ops.old) }
+    {
+        match self.take_raw_end(alloc, text, from, ops)? {
+            Some(ran) => Ok(Some(ran)),
+            None => self.take_raw_less(alloc, text, from, ops),
+        }
+    }
+
     // Takes the tag or the reference that begins at a place with a character, where it is read at once.
     fn take_tag(
         &mut self,
@@ -531,8 +662,11 @@ impl Machine {
         ensures none { IfOk result (λ o. o ≡ None → self.new ≡ self.old) }
         ensures none_added { IfOk result (λ o. o ≡ None → ops.new ≡ ops.old) }
     {
-        if (c != '<' && c != '&') || !self.reads_tags() {
+        if c != '<' && c != '&' {
             return Ok(None);
+        }
+        if !self.reads_tags() {
+            return self.take_raw(alloc, text, from, ops);
         }
         let Some(whole) = whole_token(alloc, table, text, from)? else {
             return Ok(None);
@@ -712,7 +846,7 @@ impl Machine {
         // The operations, the next state, the characters used and the stop are those of the parse of the text.
         ensures parsed { IfOk result (λ ran. RanAs (parse table.now self.old (chars text.now)) ops.old self.new ops.new ran text.now) }
     {
-        let mut used = 0;
+        let mut used = self.take_run(alloc, text, 0, ops)?;
         while let Some(ran) = self.take_next(alloc, table, text, used, ops)? {
             if stops(ran.stop) {
                 return Ok(ran);
@@ -723,6 +857,71 @@ impl Machine {
             stop: Stop::InputEnd,
             used,
         })
+    }
+
+    // Takes the characters of a text up to the first stop, which is behind a character.
+    fn run_to_stop(
+        &mut self,
+        alloc: Global,
+        table: &Table,
+        text: &str,
+        ops: &mut Ops,
+    ) -> Result<Ran, NoMemory>
+        ensures boundary { IfOk result (λ ran. IsCharBoundary text.now ran.used) }
+        ensures onward { IfOk result (λ ran. ran.stop ≢ Stop.InputEnd → length (drop ran.used text.now) < length text.now) }
+        ensures through { IfOk result (λ ran. after_those ops.old (read_through table.now self.old (chars text.now))
+            ≡ from_stop table.now self.new ops.new (chars (drop ran.used text.now)) ran.stop) }
+    {
+        let ran = self.run(alloc, table, text, ops)?;
+        Ok(ran)
+    }
+
+    /// Reads a text through: at the end tag of a script nothing runs, and the parser goes on behind
+    /// it. Operations are added at the end of `ops`. False at a push that would open element 513,
+    /// behind which nothing is read. Where it answers want of memory, the machine and the operations
+    /// only keep their types.
+    pub fn read_through(
+        &mut self,
+        alloc: Global,
+        table: &Table,
+        text: &str,
+        ops: &mut Ops,
+    ) -> Result<bool, NoMemory>
+        // The operations and the state are those of the text that is read through.
+        ensures { IfOk result (λ goes_on. after_those ops.old (read_through table.now self.old (chars text.now)) ≡ came_to self.new ops.new goes_on) }
+    {
+        let mut rest = text;
+        'texts: loop {
+            let ran = self.run_to_stop(alloc, table, rest, ops)?;
+            match ran.stop {
+                Stop::InputEnd => return Ok(true),
+                Stop::Deep => return Ok(false),
+                Stop::Script(_) => rest = &rest[ran.used..],
+            }
+        }
+    }
+
+    /// Reads a text through that is the whole input, and takes the end of the input: the operations,
+    /// or none at a push that would open element 513. Where it answers want of memory, the machine
+    /// only keeps its type.
+    pub fn parse_whole(
+        &mut self,
+        alloc: Global,
+        table: &Table,
+        text: &str,
+    ) -> Result<Option<Ops>, NoMemory>
+        ensures { IfOk result (λ ops. ops ≡ whole table.now self.old (chars text.now)) }
+    {
+        let mut ops = Ops::new(alloc);
+        let goes_on = self.read_through(alloc, table, text, &mut ops)?;
+        if !goes_on {
+            return Ok(None);
+        }
+        let finish = self.end_input(alloc, table, &mut ops)?;
+        match finish {
+            Finish::Finished => Ok(Some(ops)),
+            Finish::Deep => Ok(None),
+        }
     }
 
     // Takes the end of the input.
@@ -804,7 +1003,7 @@ impl Machine {
     }
 
     /// The elements that are made from now on have the ids of that realm, from its first on.
-    pub fn renew(&mut self, realm: u64)
+    pub fn renew(&mut self, realm: u32)
         ensures { self.new ≡ record self.old { open_state = record self.old.open_state { next = record { realm = realm; n = 0 } } } }
     {
         self.builder.renew(realm);

@@ -8,7 +8,7 @@ use html_types::{
 /// A text of so many bytes is short.
 const SHORT_TEXT: usize = 4096;
 
-/// So many attributes are few: a copy shares them, and they are copied where one of the two goes on.
+/// So many attributes are few.
 const FEW_ATTRIBUTES: usize = 64;
 
 fn is_short(text: &Text) -> bool {
@@ -29,8 +29,11 @@ fn is_short_attribute(attribute: &Option<Attribute>) -> bool {
     }
 }
 
+// A copy shares the attributes, but where one of the two goes on they are copied, and a comparison reads them.
 fn is_light_tag(tag: &PartialTag) -> bool {
-    is_short(&tag.name) && tag.attributes.as_slice().len() <= FEW_ATTRIBUTES
+    is_short(&tag.name)
+        && tag.attributes.as_slice().len() <= FEW_ATTRIBUTES
+        && tag.attributes.left_of(SHORT_TEXT).is_some()
 }
 
 fn is_light_text_state(state: &TextState) -> bool {

@@ -19,7 +19,7 @@ use Rattle.html_types.specs.declared.open.Open.{Open}
 use Rattle.html_types.specs.declared.open.OpenElement.{OpenElement}
 use Rattle.standard.specs.Elements.{is_word}
 use Rattle.standard.specs.Formatting.{entry_named}
-use Rattle.standard.specs.Instructions.{Config, config, on, holds, here, for_tag, adopt_name, adopt_own, adopt_anchor, stop_at_script, append_pending, all_space, texts, body_characters, none_pending, insert_pending, step, run}
+use Rattle.standard.specs.Instructions.{Config, config, on, holds, here, for_tag, adopt_name, adopt_own, adopt_anchor, next_at_script, stop_at_script, append_pending, all_space, texts, body_characters, none_pending, insert_pending, step, run}
 use Rattle.rule_laws.proofs.Readings.{calm_next, calm, is_quiet, all_quiet}
 use Rattle.rule_laws.proofs.Closed.{IsClosed, goes_on, body_characters-went, step-went}
 
@@ -52,10 +52,10 @@ straight-calm a (Leave next.Foster) s = s
 straight-calm a (Leave _) s = refl
 
 -- any two states, of which nothing is said
-abbrev Any : Open → Open → Type 0
+abbrev pub Any : Open → Open → Type 0
 Any b c = Unit {0}
 
-any : IsClosed Any
+pub any : IsClosed Any
 any = record {
   same = λ b. tt;
   onward = λ a b c p q. tt;
@@ -78,7 +78,11 @@ append_pending-calm a _ b o = refl
 
 stop_at_script-calm : (a : Bool) (es : List OpenElement) (b : Open) (o : List Op) → calm a (stop_at_script es b o).flow ≡ true
 stop_at_script-calm a [] b o = refl
-stop_at_script-calm a (e ∷ es) b o = refl
+stop_at_script-calm a (e ∷ es) b o = by b.context
+  where
+    by : (c : Option OpenElement) → calm a (Leave (next_at_script c e.id)) ≡ true
+    by None = refl
+    by (Some c) = refl
 
 adopt_name-calm : (n : Name) (b : Open) (o : List Op) → calm true (adopt_name n b o).flow ≡ true
 adopt_name-calm (Known w) b o = refl

@@ -354,7 +354,7 @@ module _ (R : Open → Open → Type 0) (c : IsClosedWhole R) where
   unfolding by_mode
   by_mode-in m t b o = run-in t (on b o) (row m t)
 
-  adopting-in : (w : Word) (h : Then) (t : Token) (b : Open) (o : List Op) → R b (adopting w h t b o).open_state
+  pub adopting-in : (w : Word) (h : Then) (t : Token) (b : Open) (o : List Op) → R b (adopting w h t b o).open_state
   unfolding adopting
   adopting-in w h t b o =
       let a : Adopted = adopt w b o in

@@ -33,7 +33,7 @@ use Rattle.standard.specs.Elements.{is_word, is_meant, is_one_of}
 use Rattle.standard.specs.Foreign.{adjusted, tag_in, foreign_tag}
 use Rattle.standard.specs.Stack.{in_scope, on_stack, until, implied, first_open, second_open, without_open, open_in_scope}
 use Rattle.standard.specs.Formatting.{kept, lost, entry_named}
-use Rattle.standard.specs.Instructions.{Config, config, on, holds, room, made, pushed, insert_at, here, insert, insert_root, space_or_html, insert_foreign, insert_in, foreign_end, end_foreign_with, end_foreign, void, tag_of, named, void_as, for_tag, enlist, reopen, reopen_all, reconstruct, insert_text, insert_comment, append_doctype, end_of, add_attributes, detach_second, append_pending, all_space, texts, body_text, body_character, body_characters, none_pending, insert_pending, push_head, form_closed, form_closed_in_template, end_form, stop_at_script, adopt_name, adopt_own, adopt_anchor, step, turn, run}
+use Rattle.standard.specs.Instructions.{Config, config, on, holds, room, made, pushed, insert_at, here, insert, insert_root, space_or_html, insert_foreign, insert_in, foreign_end, end_foreign_with, end_foreign, void, tag_of, named, void_as, for_tag, enlist, reopen, reopen_all, reconstruct, insert_text, insert_comment, append_doctype, end_of, add_attributes, detach_second, append_pending, all_space, texts, body_text, body_character, body_characters, none_pending, insert_pending, push_head, form_closed, form_closed_in_template, end_form, next_at_script, stop_at_script, adopt_name, adopt_own, adopt_anchor, step, turn, run}
 use Rattle.standard.specs.Adoption.{Adopted, adopt}
 use Rattle.standard.specs.RulesBody.{after_adopt}
 use Rattle.standard.specs.Rules.{Answer, answer, next_of, row, by_mode, adopting, with_adoption, by_rules, rules_for, round_after, go_round, process, rounds, is_line_feed, construct}
@@ -316,7 +316,11 @@ module _ (Coming : (NodeId → Bool) → NodeId → Type 0) (law : Follows Comin
 
   script-fits : (es : List OpenElement) (b : Open) (o : List Op) → Fits b o On → AreOpenBound (after o) es → ConfigFits (stop_at_script es b o)
   script-fits [] b o f a = (f.0, f.1, tt)
-  script-fits (e ∷ es) b o f a = with_stack b o es (Leave (next.Script e.id)) f a.1 a.0
+  script-fits (e ∷ es) b o f a = with_stack b o es (Leave (next_at_script b.context e.id)) f a.1 (by b.context)
+    where
+      by : (c : Option OpenElement) → IsFlowBound (after o) (Leave (next_at_script c e.id))
+      by None = a.0
+      by (Some c) = tt
 
   step-fits : (i : Instr) (t : Token) (b : Open) (o : List Op) → Fits b o On → ConfigFits (step i t b o)
   step-fits (ins.Need c) t b o f = (f.0, f.1, of_flows (after o) (holds c t b) On (Leave next.Done) tt tt)

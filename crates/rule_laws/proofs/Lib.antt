@@ -28,3 +28,6 @@ pub mod Thinned
 mod Closed
 mod Proper
 mod ProperModes
+pub mod Contexts
+pub mod NeverStops
+pub mod FragmentTexts

@@ -39,7 +39,7 @@ use Rattle.standard.specs.Adoption.{Turned, turned, turn_with, turn_at, turn, tu
 use Rattle.standard.specs.RulesBody.{after_adopt}
 use Rattle.standard.specs.RulesForeign.{in_foreign_any_start, in_foreign_any_end}
 use Rattle.standard.specs.Rules.{Answer, answer, answer_of, next_of, start_row, end_row, comment_row, doctype_row, end_of_file_row, row, by_mode, adopting, with_adoption, rules_for, round_after, go_round, process, rounds, is_line_feed, settled_answer, construct}
-use Rattle.standard.specs.Instructions.{Config, config, on, here, holds, original_or, append_pending, all_space, texts, body_characters, none_pending, insert_pending, stop_at_script, pop_foreign, foreign_end, end_foreign_with, end_foreign, adopt_name, adopt_own, adopt_anchor, for_tag, step, run}
+use Rattle.standard.specs.Instructions.{Config, config, on, here, holds, original_or, append_pending, all_space, texts, body_characters, none_pending, insert_pending, next_at_script, stop_at_script, pop_foreign, foreign_end, end_foreign_with, end_foreign, adopt_name, adopt_own, adopt_anchor, for_tag, step, run}
 use Rattle.rule_laws.specs.Proper.{is_main_mode, HasOriginal, HasPending, IsProper, OpeningIsProper, ProperUnlessDeep, TokensStayProper, is_early}
 use Rattle.rule_laws.specs.Rounds.{is_insertion_mode}
 use Rattle.rule_laws.proofs.Resets.{popped-hold, reset-holds}
@@ -290,7 +290,7 @@ both : (x y : Bool) → x ≡ true → y ≡ true → (x && y) ≡ true
 both true y e f = f
 both false y e f = e
 
-reset-other : (es : List OpenElement) (head : Option NodeId) (ms : List Mode) → are_other ms ≡ true → IsOther (reset_mode es head ms)
+reset-other : (c : Option OpenElement) (es : List OpenElement) (head : Option NodeId) (ms : List Mode) → are_other ms ≡ true → IsOther (reset_mode c es head ms)
 reset-other = reset-holds is_main_mode (λ m e. (split (is_main_mode m) (not (is_early m)) e).0)
 
 -- ---- instructions that leave a row, or leave out the next one
@@ -313,7 +313,11 @@ unless-stepped false s b r = r
 
 script-stepped : (es : List OpenElement) (s : Stage) (b : Open) (o : List Op) → is_rest s ≡ true → Reaches s b → (let c : Config = stop_at_script es b o in Stepped s false c.open_state c.flow)
 script-stepped [] s b o a r = proper s b a r
-script-stepped (e ∷ es) s b o a r = proper s (record b { stack = es }) a r
+script-stepped (e ∷ es) s b o a r = by b.context
+  where
+    by : (c : Option OpenElement) → Stepped s false (record b { stack = es }) (Leave (next_at_script c e.id))
+    by None = proper s (record b { stack = es }) a r
+    by (Some c) = proper s (record b { stack = es }) a r
 
 adopt_name-stepped : (n : Name) (s : Stage) (b : Open) (o : List Op) → is_outside s ≡ true → Reaches s b → (let c : Config = adopt_name n b o in Stepped s false c.open_state c.flow)
 adopt_name-stepped (Known w) s b o a r = is_out s b a r
@@ -368,7 +372,7 @@ stepped (ins.Unless c) s t b o a r = unless-stepped (holds c t b) s b r
 stepped (ins.Enter m) s t b o a r = enter-reaches m s b a r
 stepped ins.KeepMode s t b o a r = let q = is_out s b a r in ((q.0.0, refl, q.0.2), q.1)
 stepped ins.Restore s t b o a r = restored s b a r
-stepped ins.Reset outside t b o a r = ((reset-other b.stack b.head b.template_modes r.1, r.0.1, r.0.2), r.1)
+stepped ins.Reset outside t b o a r = ((reset-other b.context b.stack b.head b.template_modes r.1, r.0.1, r.0.2), r.1)
 stepped ins.Reset _ t b o a r = absurd (true≢false (sym a))
 stepped (ins.PushTemplateMode m) s t b o a r = (r.0, both (is_main_mode m) (are_other b.template_modes) a r.1)
 stepped ins.PopTemplateMode s t b o a r = (r.0, popped-hold is_main_mode b.template_modes r.1)

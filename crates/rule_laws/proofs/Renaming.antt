@@ -9,7 +9,7 @@ use Rattle.html_types.specs.declared.word.Word.TheVariants as word
 use Rattle.html_types.specs.declared.instruction.Instr.{Instr}
 use Rattle.html_types.specs.declared.instruction.Instr.TheVariants as ins
 use Rattle.html_types.specs.declared.instruction.Test.{Test}
-use Rattle.html_types.specs.declared.instruction.Test.TheVariants.{InScope, Current, OnStack, Listed, Quirks, SecondIsBody, FramesetOk, QuirkyDoctype, InForm, HiddenInput, InTemplates, InTables, OptionInOptgroup, SelfClosing, BreaksOut}
+use Rattle.html_types.specs.declared.instruction.Test.TheVariants.{InScope, Current, OnStack, Listed, Quirks, SecondIsBody, FramesetOk, QuirkyDoctype, InForm, HiddenInput, InTemplates, InTables, OptionInOptgroup, SelfClosing, BreaksOut, InFragment}
 use Rattle.html_types.specs.declared.instruction.Scope.TheVariants as scope
 use Rattle.html_types.specs.declared.instruction.Then.{Then}
 use Rattle.html_types.specs.declared.instruction.Then.TheVariants.{Nothing, Link, Nobr}
@@ -39,7 +39,7 @@ use Rattle.standard.specs.Foreign.{opened, adjusted, tag_in, foreign_tag}
 use Rattle.standard.specs.Stack.{in_scope, on_stack, until, implied, first_open, second_open, is_the, without_open, open_in_scope}
 use Rattle.standard.specs.Formatting.{kept, lost, entry_named, without_entry}
 use Rattle.standard.specs.WhiteSpace.{is_space}
-use Rattle.standard.specs.Instructions.{Config, config, on, holds, room, made, pushed, insert_at, here, insert, insert_root, space_or_html, insert_foreign, insert_in, foreign_end, end_foreign_with, end_foreign, void, tag_of, named, void_as, for_tag, list_current, enlist, reopen, reopen_all, reconstruct, insert_text, insert_comment, append_doctype, end_of, add_attributes, detach_second, append_pending, all_space, texts, body_text, body_character, body_characters, none_pending, insert_pending, push_head, form_closed, form_closed_in_template, end_form, stop_at_script, adopt_name, adopt_own, adopt_anchor, step, turn, run}
+use Rattle.standard.specs.Instructions.{Config, config, on, holds, room, made, pushed, insert_at, here, insert, insert_root, space_or_html, insert_foreign, insert_in, foreign_end, end_foreign_with, end_foreign, void, tag_of, named, void_as, for_tag, list_current, enlist, reopen, reopen_all, reconstruct, insert_text, insert_comment, append_doctype, end_of, add_attributes, detach_second, append_pending, all_space, texts, body_text, body_character, body_characters, none_pending, insert_pending, push_head, form_closed, form_closed_in_template, end_form, next_at_script, stop_at_script, adopt_name, adopt_own, adopt_anchor, step, turn, run}
 use Rattle.standard.specs.Adoption.{Adopted, adopt}
 use Rattle.standard.specs.RulesBody.{after_adopt}
 use Rattle.standard.specs.Rules.{Answer, answer, answer_of, row, by_mode, adopting, with_adoption, by_rules, rules_for, round_after, go_round, process, rounds, is_line_feed, settled_answer, construct}
@@ -88,6 +88,7 @@ module _ (r : NodeId → NodeId) where
   holds-renamed InTables t b = refl
   holds-renamed SelfClosing t b = refl
   holds-renamed BreaksOut t b = refl
+  holds-renamed InFragment t b = refl
   holds-renamed OptionInOptgroup t b = option_in_optgroup-renamed r b.stack
 
   room-renamed : (b : Open) → room (rename_open r b) ≡ room b
@@ -291,7 +292,11 @@ module _ (r : NodeId → NodeId) where
 
   script-renamed : (es : List OpenElement) (b : Open) (o : List Op) → stop_at_script (map (rename_element r) es) (rename_open r b) (rename_ops r o) ≡ rename_config r (stop_at_script es b o)
   script-renamed [] b o = refl
-  script-renamed (e ∷ es) b o = refl
+  script-renamed (e ∷ es) b o = ap (λ n. config (record (rename_open r b) { stack = map (rename_element r) es }) (rename_ops r o) (Leave n)) (by b.context)
+    where
+      by : (c : Option OpenElement) → next_at_script c (r e.id) ≡ rename_next r (next_at_script c e.id)
+      by None = refl
+      by (Some c) = refl
 
   with_flow : (b : Open) (o : List Op) (v w : Bool) (x y : Flow) → w ≡ v
       → config (rename_open r b) (rename_ops r o) (if w then rename_flow r x else rename_flow r y) ≡ rename_config r (config b o (if v then x else y))
@@ -319,7 +324,7 @@ module _ (r : NodeId → NodeId) where
   step-renamed (ins.VoidAs w) t b o n = by_tag (void_as w) (void_as w) t b o (λ tag. void-renamed (named w tag) b o n)
   step-renamed ins.InsertForeign t b o n =
       by_tag insert_foreign insert_foreign t b o
-      (λ tag. ap (λ s. insert (foreign_tag s tag) (rename_open r b) (rename_ops r o)) (space-renamed r b.stack) ∙ insert-here (foreign_tag (space_or_html (adjusted b)) tag) b o n)
+      (λ tag. ap (λ s. insert (foreign_tag s tag) (rename_open r b) (rename_ops r o)) (space-renamed r b.context b.stack) ∙ insert-here (foreign_tag (space_or_html (adjusted b)) tag) b o n)
   step-renamed (ins.InsertIn s) t b o n = by_tag (insert_in s) (insert_in s) t b o (λ tag. insert-here (tag_in s tag) b o n)
   step-renamed ins.InsertReplacement t b o n = one_more b o (op.Text (here b) (0xFFFD ∷ [])) _ (ap (λ at. op.Text at (0xFFFD ∷ [])) (here-renamed b))
   step-renamed ins.BreakOut t b o n = ap (λ x. config (record (rename_open r b) { stack = x }) (rename_ops r o) (Leave (next.Using b.mode))) (pop_foreign-renamed r b.stack)
@@ -354,7 +359,7 @@ module _ (r : NodeId → NodeId) where
   step-renamed ins.AddToSecond t b o n = add-renamed (second_open b.stack) _ t b o (second_open-renamed r b.stack)
   step-renamed ins.DetachSecond t b o n =
       ap (λ e. detach_second e (rename_open r b) (rename_ops r o)) (second_open-renamed r b.stack) ∙ detach-renamed (second_open b.stack) b o
-  step-renamed ins.Reset t b o n = ap (λ m. on (record (rename_open r b) { mode = m }) (rename_ops r o)) (reset_mode-renamed r b.stack b.head b.template_modes)
+  step-renamed ins.Reset t b o n = ap (λ m. on (record (rename_open r b) { mode = m }) (rename_ops r o)) (reset_mode-renamed r b.context b.stack b.head b.template_modes)
   step-renamed ins.AppendPending t b o n = pending-renamed t b o
   step-renamed ins.InsertPending t b o n = insert_pending-renamed b o n
   step-renamed ins.Adopt t b o n = by_tag adopt_own adopt_own t b o (λ tag. adopt_name-renamed tag.name b o)

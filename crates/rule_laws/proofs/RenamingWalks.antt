@@ -1,7 +1,7 @@
 -- The walks over the stack and the list look at names alone, or at whether two ids are the same.
 use Rattle.std.proofs.Common.{ℕ, ◌≡◌, refl, sym, ap, ◌∙◌, ◌+◌, ◌==◌, nat_le, Bool, true, false, not, ◌&&◌, ◌||◌, List, [], ◌∷◌, ◌++◌, map, Option, Some, None}
 use Rattle.std.proofs.lemmas.List.{map-append}
-use Rattle.std.specs.Prelude.{if◌then◌else◌, cond, option_map}
+use Rattle.std.specs.Prelude.{if◌then◌else◌, cond, option_map, unwrap_or}
 use Rattle.html_types.specs.Operations.{same_id}
 use Rattle.html_types.specs.Names.{name_text}
 use Rattle.html_types.specs.declared.word.Word.{Word}
@@ -22,7 +22,7 @@ use Rattle.html_types.specs.declared.token.Tag.{Tag}
 use Rattle.html_types.specs.declared.token.Token.{Token}
 use Rattle.standard.specs.Elements.{is_word, is_one_of, ends_scope}
 use Rattle.standard.specs.Stack.{in_scope, on_stack, is_open, current_is, option_in_optgroup, current_id, is_empty, pop, until, pop_to, pop_to_root, implied, implied_thoroughly, close, item_found, close_item, end_found, other_end, id_or, foster_place, place_in, place, first_open, second_open, is_the, without_open, open_in_scope, below, from_on, through, above, with_below, block_below, place_for}
-use Rattle.standard.specs.Reset.{select_mode, template_mode, root_mode, reset_mode}
+use Rattle.standard.specs.Reset.{select_mode, template_mode, root_mode, told_mode, context_mode, reset_mode}
 use Rattle.standard.specs.Formatting.{listed, clear_to_marker, kept, lost, is_like, likes, without_earliest, list_element, entry_named, has_entry, tag_of_entry, later_than, entry_on, before_first, renewed, without_entry, with_id, with_behind}
 use Rattle.standard.specs.ForeignNames.{is_lower_of}
 use Rattle.standard.specs.Foreign.{adjusted_of, is_html, is_html_or_point, is_foreign_element, is_foreign, goes_foreign}
@@ -38,23 +38,6 @@ of_two g v w x y x' y' e p q = ap (λ u. if u then x' else y') e ∙ by v
     by : (u : Bool) → (if u then x' else y') ≡ g (if u then x else y)
     by true = p
     by false = q
-
--- the mode that an element of that name tells, or the one that those above it tell
-abbrev told : Name → Mode → Mode → Mode → Mode → Mode
-told n selects template root above =
-    if is_word word.Select n then selects
-    else (if is_one_of group.Cells n then mode.InCell
-    else (if is_word word.Tr n then mode.InRow
-    else (if is_one_of group.TableSections n then mode.InTableBody
-    else (if is_word word.Caption n then mode.InCaption
-    else (if is_word word.Colgroup n then mode.InColumnGroup
-    else (if is_word word.Table n then mode.InTable
-    else (if is_word word.Template n then template
-    else (if is_word word.Head n then mode.InHead
-    else (if is_word word.Body n then mode.InBody
-    else (if is_word word.Frameset n then mode.InFrameset
-    else (if is_word word.Html n then root
-    else above)))))))))))
 
 module _ (r : NodeId → NodeId) where
   abbrev stack_of : List OpenElement → List OpenElement
@@ -125,12 +108,20 @@ module _ (r : NodeId → NodeId) where
   root_mode-renamed None = refl
   root_mode-renamed (Some i) = refl
 
-  pub reset_mode-renamed : (es : List OpenElement) (h : Option NodeId) (ms : List Mode) → reset_mode (map (rename_element r) es) (option_map r h) ms ≡ reset_mode es h ms
-  reset_mode-renamed [] h ms = refl
-  reset_mode-renamed (e ∷ es) h ms =
-      ap (λ m. told e.name m (template_mode ms) (root_mode (option_map r h)) (reset_mode (stack_of es) (option_map r h) ms)) (select_mode-renamed es)
-      ∙ (ap (λ m. told e.name (select_mode es) (template_mode ms) m (reset_mode (stack_of es) (option_map r h) ms)) (root_mode-renamed h)
-      ∙ ap (told e.name (select_mode es) (template_mode ms) (root_mode h)) (reset_mode-renamed es h ms))
+  told-renamed : (n : Name) (es : List OpenElement) (h : Option NodeId) (ms : List Mode)
+      → told_mode n (select_mode (stack_of es)) (template_mode ms) (root_mode (option_map r h)) ≡ told_mode n (select_mode es) (template_mode ms) (root_mode h)
+  told-renamed n es h ms =
+      ap (λ m. told_mode n m (template_mode ms) (root_mode (option_map r h))) (select_mode-renamed es) ∙ ap (told_mode n (select_mode es) (template_mode ms)) (root_mode-renamed h)
+
+  pub reset_mode-renamed : (c : Option OpenElement) (es : List OpenElement) (h : Option NodeId) (ms : List Mode) → reset_mode c (map (rename_element r) es) (option_map r h) ms ≡ reset_mode c es h ms
+  reset_mode-renamed c [] h ms = refl
+  reset_mode-renamed None (e ∷ es) h ms =
+      ap (λ m. unwrap_or m (reset_mode None (stack_of es) (option_map r h) ms)) (told-renamed e.name es h ms)
+      ∙ ap (unwrap_or (told_mode e.name (select_mode es) (template_mode ms) (root_mode h))) (reset_mode-renamed None es h ms)
+  reset_mode-renamed (Some c) (e ∷ []) h ms = ap (λ m. unwrap_or (context_mode c.name (template_mode ms) m) mode.InBody) (root_mode-renamed h)
+  reset_mode-renamed (Some c) (e ∷ d ∷ es) h ms =
+      ap (λ m. unwrap_or m (reset_mode (Some c) (stack_of (d ∷ es)) (option_map r h) ms)) (told-renamed e.name (d ∷ es) h ms)
+      ∙ ap (unwrap_or (told_mode e.name (select_mode (d ∷ es)) (template_mode ms) (root_mode h))) (reset_mode-renamed (Some c) (d ∷ es) h ms)
 
   -- ---- what is left of it
 
@@ -166,25 +157,31 @@ module _ (r : NodeId → NodeId) where
       by false false rest = rest
 
   -- what the adjusted current node says
-  pub space-renamed : (es : List OpenElement) → space_or_html (adjusted_of (map (rename_element r) es)) ≡ space_or_html (adjusted_of es)
-  space-renamed [] = refl
-  space-renamed (e ∷ es) = refl
+  pub space-renamed : (c : Option OpenElement) (es : List OpenElement) → space_or_html (adjusted_of c (map (rename_element r) es)) ≡ space_or_html (adjusted_of c es)
+  space-renamed c [] = refl
+  space-renamed None (e ∷ es) = refl
+  space-renamed (Some c) (e ∷ []) = refl
+  space-renamed (Some c) (e ∷ d ∷ es) = refl
 
   pub is_foreign-renamed : (b : Open) → is_foreign (rename_open r b) ≡ is_foreign b
   unfolding is_foreign
-  is_foreign-renamed b = by b.stack
+  is_foreign-renamed b = by b.context b.stack
     where
-      by : (es : List OpenElement) → is_foreign_element (adjusted_of (map (rename_element r) es)) ≡ is_foreign_element (adjusted_of es)
-      by [] = refl
-      by (e ∷ es) = refl
+      by : (c : Option OpenElement) (es : List OpenElement) → is_foreign_element (adjusted_of c (map (rename_element r) es)) ≡ is_foreign_element (adjusted_of c es)
+      by c [] = refl
+      by None (e ∷ es) = refl
+      by (Some c) (e ∷ []) = refl
+      by (Some c) (e ∷ d ∷ es) = refl
 
   pub rules_for-renamed : (t : Token) (b : Open) → rules_for t (rename_open r b) ≡ rules_for t b
   unfolding goes_foreign
-  rules_for-renamed t b = ap (λ (v : Bool). if v then InForeign else b.mode) (by b.stack)
+  rules_for-renamed t b = ap (λ (v : Bool). if v then InForeign else b.mode) (by b.context b.stack)
     where
-      by : (es : List OpenElement) → goes_foreign t (adjusted_of (map (rename_element r) es)) ≡ goes_foreign t (adjusted_of es)
-      by [] = refl
-      by (e ∷ es) = refl
+      by : (c : Option OpenElement) (es : List OpenElement) → goes_foreign t (adjusted_of c (map (rename_element r) es)) ≡ goes_foreign t (adjusted_of c es)
+      by c [] = refl
+      by None (e ∷ es) = refl
+      by (Some c) (e ∷ []) = refl
+      by (Some c) (e ∷ d ∷ es) = refl
 
   pub implied-renamed : (but : Name → Bool) (es : List OpenElement) → implied but (map (rename_element r) es) ≡ map (rename_element r) (implied but es)
   implied-renamed but [] = refl

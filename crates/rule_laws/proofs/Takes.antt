@@ -136,13 +136,13 @@ original-fit None h = refl
 original-fit (Some m) h = h
 
 -- the mode set anew
-reset-fit : (b : Open) → Fit b → Fit (record b { mode = reset_mode b.stack b.head b.template_modes })
-reset-fit b s = enter-fit _ b (reset-holds is_insertion_mode late-insertion b.stack b.head b.template_modes s.1.templates) s
+reset-fit : (b : Open) → Fit b → Fit (record b { mode = reset_mode b.context b.stack b.head b.template_modes })
+reset-fit b s = enter-fit _ b (reset-holds is_insertion_mode late-insertion b.context b.stack b.head b.template_modes s.1.templates) s
 
-reset-change : (x : Bool) (b : Open) → Change resets x b (record b { mode = reset_mode b.stack b.head b.template_modes })
+reset-change : (x : Bool) (b : Open) → Change resets x b (record b { mode = reset_mode b.context b.stack b.head b.template_modes })
 reset-change x b no_more v s h = (reset-fit b s, h)
 reset-change x b cut_off v s (inl h) = (reset-fit b s, inl h)
-reset-change x b cut_off v s (inr h) = (reset-fit b s, inr (h.0, ap (λ es. reset_mode es b.head b.template_modes) h.1))
+reset-change x b cut_off v s (inr h) = (reset-fit b s, inr (h.0, ap (λ es. reset_mode b.context es b.head b.template_modes) h.1))
 reset-change x b (at m) v s h = (reset-fit b s, h.0)
 reset-change x b (at_or_fallen m) v s (inl h) = (reset-fit b s, omega (arith, h))
 reset-change x b (at_or_fallen m) v s (inr h) = (reset-fit b s, h.0)

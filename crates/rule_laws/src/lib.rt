@@ -11,6 +11,9 @@ ghost use Rattle.rule_laws.specs.NamingLaws.{TokensGrow, CharactersGrow, EndsGro
 ghost use Rattle.rule_laws.specs.Depth.{TokensStayShallow, RoundsStayShallow, OpeningIsShallow};
 ghost use Rattle.rule_laws.specs.Proper.{OpeningIsProper, TokensStayProper};
 ghost use Rattle.rule_laws.specs.Rounds.{RoundsSuffice, RoundsAnswer, ProperHasModes};
+ghost use Rattle.rule_laws.specs.Fragments.{TokensKeepContext, CharactersKeepContext, EndsKeepContext, TextsKeepContext};
+ghost use Rattle.rule_laws.specs.Fragments.{TokensNeverStop, CharactersNeverStop, TextsNeverStop, FragmentsParse, FragmentByParse};
+ghost use Rattle.rule_laws.specs.Fragments.{DocsServeThrough, FragmentIsBound};
 
 /// Processing a token again, or by the rules of another mode or of foreign content (13.2.6), comes to an end within the rounds
 /// that the definition allows, by whatever rules it begins, for every token and open state of at most 512 open elements that
@@ -93,4 +96,30 @@ pub fn ids_grow()
     ensures characters { CharactersGrow }
     ensures ends { EndsGrow }
     ensures texts { TextsGrow }
+{}
+
+/// The context of a fragment (13.4) stays what it is, and a page has none.
+pub fn context_stays()
+    ensures tokens { TokensKeepContext }
+    ensures characters { CharactersKeepContext }
+    ensures ends { EndsKeepContext }
+    ensures texts { TextsKeepContext }
+{}
+
+/// No script's end tag stops the parser of a fragment (13.4). So a fragment's text is parsed as any other is, to its end or to a push
+/// that would open element 513.
+pub fn fragments_never_stop()
+    ensures tokens { TokensNeverStop }
+    ensures characters { CharactersNeverStop }
+    ensures texts { TextsNeverStop }
+    ensures through { FragmentsParse }
+    ensures fragment { FragmentByParse }
+{}
+
+/// The operations of a fragment (13.4) can be executed where its roots were made, with no id bound before: they name ids that are
+/// bound, and make elements under ids that aren't. So can those of any text that is read through, by whatever document serves its parser.
+pub fn fragment_is_bound()
+    ensures fragment { FragmentIsBound }
+    ensures through { DocsServeThrough AreFresh }
+    ensures through_alone { DocsServeThrough CameBefore }
 {}

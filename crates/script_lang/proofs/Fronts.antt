@@ -5,10 +5,11 @@ use Rattle.std.specs.Str.{chars, is_utf8, IsUtf8}
 use Rattle.std.specs.Str.Pattern.{FindsTextPrefix, StripsPrefix}
 use Rattle.std.proofs.lemmas.Str.{IsUtf8-from_is_utf8}
 use denote.Ref.{Bor}
+use Prim.Native.String.{String}
 use Rattle.html_types.specs.declared.script.Statement.{Statement}
-use Rattle.html_types.specs.declared.script.Statement.TheVariants.{Write, WriteLine, Remove, Append, LogById, LogRoot}
-use Rattle.standard.specs.Statements.{behind, string_value, string_between, statement}
-use Rattle.script_lang.specs.Parts.{append}
+use Rattle.html_types.specs.declared.script.Statement.TheVariants.{Write, WriteLine, Remove, LogById, LogRoot}
+use Rattle.standard.specs.Statements.{behind, string_value, string_between, with_strings, statement}
+use Rattle.script_lang.specs.Parts.{append, set_inner}
 use Rattle.script_lang.proofs.Words.{behind-stripped}
 
 module _ (before after t : List ℕ) where
@@ -55,17 +56,17 @@ pub log_root-stripped : (s : List ℕ) (r : Option (Bor (List ℕ))) → IsUtf8 
 unfolding chars
 log_root-stripped s r u h = behind-stripped (codes "console.log(document.documentElement.outerHTML);") s r (IsUtf8-from_is_utf8 _ log_root_is_ascii) u h
 
--- the two strings of a move
-module _ (t : List ℕ) where
-  pub append-no_first : None ≡ string_between (codes "document.getElementById(") (codes ").append(document.getElementById(") t → None ≡ append t
-  append-no_first e = rw (← e) refl
+-- a statement with two strings
+module _ (of : List ℕ → List ℕ → Statement) (before between after : String) (t : List ℕ) where
+  pub strings-no_first : None ≡ string_between (codes before) (codes between) t → None ≡ with_strings of before between after t
+  strings-no_first e = rw (← e) refl
 
-  module _ (v r : List ℕ) (e : Some (v, r) ≡ string_between (codes "document.getElementById(") (codes ").append(document.getElementById(") t) where
-    pub append-no_second : None ≡ string_between [] (codes "));") r → None ≡ append t
-    append-no_second f = rw (← e, ← f) refl
+  module _ (v r : List ℕ) (e : Some (v, r) ≡ string_between (codes before) (codes between) t) where
+    pub strings-no_second : None ≡ string_between [] (codes after) r → None ≡ with_strings of before between after t
+    strings-no_second f = rw (← e, ← f) refl
 
-    pub append-whole : (w rest : List ℕ) → Some (w, rest) ≡ string_between [] (codes "));") r → Some (Append v w, rest) ≡ append t
-    append-whole w rest f = rw (← e, ← f) refl
+    pub strings-whole : (w rest : List ℕ) → Some (w, rest) ≡ string_between [] (codes after) r → Some (of v w, rest) ≡ with_strings of before between after t
+    strings-whole w rest f = rw (← e, ← f) refl
 
 module _ (t : List ℕ) where
   pub statement-write : (v rest : List ℕ) → Some (v, rest) ≡ write t → Some (Write v, rest) ≡ statement t
@@ -88,15 +89,20 @@ module _ (t : List ℕ) where
         statement-append p e = rw (← no_write, ← no_line, ← no_remove, ← e) refl
 
         module _ (no_append : None ≡ append t) where
-          pub statement-log_by_id : (v rest : List ℕ) → Some (v, rest) ≡ log_by_id t → Some (LogById v, rest) ≡ statement t
+          pub statement-set_inner : (p : Statement × List ℕ) → Some p ≡ set_inner t → Some p ≡ statement t
           unfolding statement
-          statement-log_by_id v rest e = rw (← no_write, ← no_line, ← no_remove, ← no_append, ← e) refl
+          statement-set_inner p e = rw (← no_write, ← no_line, ← no_remove, ← no_append, ← e) refl
 
-          module _ (no_log : None ≡ log_by_id t) where
-            pub statement-log_root : (rest : List ℕ) → Some rest ≡ log_root t → Some (LogRoot, rest) ≡ statement t
+          module _ (no_set : None ≡ set_inner t) where
+            pub statement-log_by_id : (v rest : List ℕ) → Some (v, rest) ≡ log_by_id t → Some (LogById v, rest) ≡ statement t
             unfolding statement
-            statement-log_root rest e = rw (← no_write, ← no_line, ← no_remove, ← no_append, ← no_log, ← e) refl
+            statement-log_by_id v rest e = rw (← no_write, ← no_line, ← no_remove, ← no_append, ← no_set, ← e) refl
 
-            pub statement-none : None ≡ log_root t → None ≡ statement t
-            unfolding statement
-            statement-none e = rw (← no_write, ← no_line, ← no_remove, ← no_append, ← no_log, ← e) refl
+            module _ (no_log : None ≡ log_by_id t) where
+              pub statement-log_root : (rest : List ℕ) → Some rest ≡ log_root t → Some (LogRoot, rest) ≡ statement t
+              unfolding statement
+              statement-log_root rest e = rw (← no_write, ← no_line, ← no_remove, ← no_append, ← no_set, ← no_log, ← e) refl
+
+              pub statement-none : None ≡ log_root t → None ≡ statement t
+              unfolding statement
+              statement-none e = rw (← no_write, ← no_line, ← no_remove, ← no_append, ← no_set, ← no_log, ← e) refl

@@ -2,7 +2,7 @@
 use Rattle.std.proofs.Common.{◌≡◌, ℕ, ◌+◌, ◌<◌, ◌≤◌, ◌==◌, Bool, true, false, List, [], ◌∷◌, length, Option, Some, None, option_map, option_and_then, refl, sym, ap, ◌∙◌, arith, codes}
 use Rattle.std.proofs.lemmas.List.{length-append}
 use Rattle.html_types.specs.declared.script.Statement.{Statement}
-use Rattle.html_types.specs.declared.script.Statement.TheVariants.{Write, WriteLine, Remove, Append, LogById}
+use Rattle.html_types.specs.declared.script.Statement.TheVariants.{Write, WriteLine, Remove, Append, SetInner, LogById}
 use Rattle.json.specs.Text.{content, plain}
 use Rattle.std.specs.Prelude.{encode_utf8_all}
 use Rattle.std.specs.Str.{chars}
@@ -83,6 +83,7 @@ statement-shorter t p e =
     chosen _ _ p e1 (with_string-shorter WriteLine _ _ t p) (λ e2.
     chosen _ _ p e2 (with_string-shorter Remove _ _ t p) (λ e3.
     chosen _ _ p e3 (with_strings-shorter Append _ _ _ t p) (λ e4.
-    chosen _ _ p e4 (with_string-shorter LogById _ _ t p) (λ e5.
-    mapped _ (behind (codes "console.log(document.documentElement.outerHTML);") t) p e5
-    (λ r found is. let rest : length r ≡ length p.1 = ap (λ (q : Statement × List ℕ). length q.1) is in omega (arith, behind-shorter (codes "console.log(document.documentElement.outerHTML);") t r found)))))))
+    chosen _ _ p e4 (with_strings-shorter SetInner _ _ _ t p) (λ e5.
+    chosen _ _ p e5 (with_string-shorter LogById _ _ t p) (λ e6.
+    mapped _ (behind (codes "console.log(document.documentElement.outerHTML);") t) p e6
+    (λ r found is. let rest : length r ≡ length p.1 = ap (λ (q : Statement × List ℕ). length q.1) is in omega (arith, behind-shorter (codes "console.log(document.documentElement.outerHTML);") t r found))))))))

@@ -3,7 +3,7 @@ use Rattle.std.proofs.Common.{◌≡◌, [], ◌∷◌, Some, None, refl, codes}
 use Rattle.std.specs.Str.{chars}
 use Rattle.std.specs.Char.{encode_utf8}
 use Rattle.json.proofs.OnLiterals.{json_on_literals}
-use Rattle.html_types.specs.declared.script.Statement.TheVariants.{Write, WriteLine, Remove, Append, LogById, LogRoot}
+use Rattle.html_types.specs.declared.script.Statement.TheVariants.{Write, WriteLine, Remove, Append, SetInner, LogById, LogRoot}
 use Rattle.standard.specs.Statements.{statements}
 
 empty : statements [] ≡ Some []
@@ -37,6 +37,16 @@ half_a_move = refl
 move_of_a_text : statements (codes "document.getElementById(\"b\").append(\"c\");") ≡ None
 unfolding statements json_on_literals chars encode_utf8
 move_of_a_text = refl
+
+what_stands_in_an_element :
+    statements (codes "document.getElementById(\"d\").innerHTML = \"<b>x<script>foo();<\\/script>\";document.getElementById(\"\").innerHTML = \"\";")
+    ≡ Some (SetInner (codes "d") (codes "<b>x<script>foo();</script>") ∷ SetInner [] [] ∷ [])
+unfolding statements json_on_literals chars encode_utf8
+what_stands_in_an_element = refl
+
+no_space_round_the_sign : statements (codes "document.getElementById(\"d\").innerHTML=\"x\";") ≡ None
+unfolding statements json_on_literals chars encode_utf8
+no_space_round_the_sign = refl
 
 escapes : statements (codes "document.write(\"\\u0041\\/\\\"\\\\\");") ≡ Some (Write (codes "A/\"\\") ∷ [])
 unfolding statements json_on_literals chars encode_utf8

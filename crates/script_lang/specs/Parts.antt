@@ -4,7 +4,7 @@ use Rattle.std.specs.Borrow.{Bor}
 use Rattle.std.specs.Str.{chars}
 use Rattle.json.specs.Text.{content, plain}
 use Rattle.html_types.specs.declared.script.Statement.{Statement}
-use Rattle.html_types.specs.declared.script.Statement.TheVariants.{Append}
+use Rattle.html_types.specs.declared.script.Statement.TheVariants.{Append, SetInner}
 use Rattle.standard.specs.Statements.{string_end, with_strings}
 
 -- the bytes up to a place, and those from there on
@@ -27,3 +27,7 @@ parted found = (found.0, chars found.1.now)
 -- the statement that moves an element, and what stands behind it
 abbrev pub append : List ℕ → Option (Statement × List ℕ)
 append t = with_strings Append "document.getElementById(" ").append(document.getElementById(" "));" t
+
+-- the statement that sets what stands in an element, and what stands behind it
+abbrev pub set_inner : List ℕ → Option (Statement × List ℕ)
+set_inner t = with_strings SetInner "document.getElementById(" ").innerHTML = " ";" t

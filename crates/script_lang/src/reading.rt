@@ -3,20 +3,21 @@
 ghost use Rattle.std.specs.Prelude.{◌≡◌, option_map, IfOk};
 ghost use Rattle.std.specs.Str.{chars};
 ghost use Rattle.standard.specs.Statements.{skip_white, statement, statements, string_between};
-ghost use Rattle.script_lang.specs.Parts.{parted, append};
+ghost use Rattle.script_lang.specs.Parts.{parted, append, set_inner};
 
 use crate::script::Script;
 use crate::string::string_value;
 use html_types::{NoMemory, Statement, Text};
 use std::alloc::Global;
 
-/// Reads a script's text: its statements in order, none where the text isn't a list of these six, with space, TAB, LF
+/// Reads a script's text: its statements in order, none where the text isn't a list of these seven, with space, TAB, LF
 /// and CR before, between and behind them, and none inside them but in a string. `"V"` is a JSON string, and V its value.
 ///
 /// - `document.write("V");`
 /// - `document.writeln("V");`
 /// - `document.getElementById("V").remove();`
 /// - `document.getElementById("V").append(document.getElementById("W"));`
+/// - `document.getElementById("V").innerHTML = "W";`
 /// - `console.log(document.getElementById("V").outerHTML);`
 /// - `console.log(document.documentElement.outerHTML);`
 pub fn read(alloc: Global, text: &str) -> Result<Option<Script>, NoMemory>
@@ -62,6 +63,9 @@ fn statement<'a>(alloc: Global, text: &'a str) -> Result<Option<(Statement, &'a 
     if let Some(moved) = append(alloc, text)? {
         return Ok(Some(moved));
     }
+    if let Some(set) = set_inner(alloc, text)? {
+        return Ok(Some(set));
+    }
     if let Some((value, rest)) = string_between(
         alloc,
         text,
@@ -91,6 +95,25 @@ fn append<'a>(alloc: Global, text: &'a str) -> Result<Option<(Statement, &'a str
     };
     match string_between(alloc, behind, "", "));")? {
         Some((second, rest)) => Ok(Some((Statement::Append(first, second), rest))),
+        None => Ok(None),
+    }
+}
+
+/// The statement that sets what stands in an element, where the text begins with one, and the text behind it.
+fn set_inner<'a>(alloc: Global, text: &'a str) -> Result<Option<(Statement, &'a str)>, NoMemory>
+    ensures { IfOk result (λ found. option_map parted found ≡ set_inner (chars text.now)) }
+{
+    let Some((first, behind)) = string_between(
+        alloc,
+        text,
+        "document.getElementById(",
+        ").innerHTML = ",
+    )?
+    else {
+        return Ok(None);
+    };
+    match string_between(alloc, behind, "", ";")? {
+        Some((second, rest)) => Ok(Some((Statement::SetInner(first, second), rest))),
         None => Ok(None),
     }
 }

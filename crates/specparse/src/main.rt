@@ -1,6 +1,8 @@
 //! The program `specparse`.
 #![tactic(auto)]
 
+mod words;
+
 use outside::{DiskFiles, OpenGate, StdoutSink};
 use page_runner::{Status, run};
 use std::env;
@@ -9,21 +11,7 @@ use std::process::ExitCode;
 use std::rt::Files;
 use std::sync::{Arc, Wait};
 use std::thread::Threads;
-
-// What standard error is told of a status of which the output tells nothing.
-fn message(status: Status) -> Option<&'static str> {
-    match status {
-        Status::Done => None,
-        Status::Usage => Some("usage"),
-        Status::Entities => Some("entities"),
-        Status::BadUtf8 => None,
-        Status::Limit(_) => None,
-        Status::ReadFault => Some("read fault"),
-        Status::WriteFault => Some("write fault"),
-        Status::Absent => Some("absent"),
-        Status::NoMemory => Some("no memory"),
-    }
-}
+use words::{Ended, tell};
 
 // Words that aren't UTF-8 are none of the command's.
 fn words_of(rt: HostRuntime) -> Result<Vec<String>, Status> {
@@ -44,22 +32,31 @@ fn words_of(rt: HostRuntime) -> Result<Vec<String>, Status> {
 fn run_words<R: AllocGlobal + Files + Print + Threads + Wait + Copy + Send + Sync + 'static>(
     rt: R,
     words: &[String],
-) -> Status {
+) -> Ended {
     let Ok(gate) = Arc::new(rt.alloc(), OpenGate) else {
-        return Status::NoMemory;
+        return Ended::at(Status::NoMemory);
     };
     let mut files = DiskFiles::new(rt);
     let mut out = StdoutSink::new(io::writer(&rt));
-    run(&rt, rt.alloc(), words, &mut files, &mut out, &gate)
+    let status = run(&rt, rt.alloc(), words, &mut files, &mut out, &gate);
+    Ended {
+        status,
+        reading: files.trouble(),
+        writing: out.trouble(),
+    }
 }
 
 fn main(rt: HostRuntime) -> ExitCode {
-    let status = match words_of(rt) {
-        Ok(words) => run_words(rt, &words),
-        Err(status) => status,
-    };
-    if let Some(message) = message(status) {
-        let _ = eprintln!(rt; "specparse: {message}");
+    match words_of(rt) {
+        Ok(words) => {
+            let ended = run_words(rt, &words);
+            tell(rt, &ended, &words);
+            ExitCode::from(ended.status.exit())
+        }
+        Err(status) => {
+            let ended = Ended::at(status);
+            tell(rt, &ended, &[]);
+            ExitCode::from(status.exit())
+        }
     }
-    ExitCode::from(status.exit())
 }

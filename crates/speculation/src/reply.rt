@@ -1,7 +1,7 @@
 //! What the parser's side answers.
 
-ghost use Rattle.std.specs.Prelude.{◌≡◌, ◌↔◌, Some, IsTrue};
-ghost use Rattle.speculation.specs.Asking.{IsAnswer};
+ghost use Rattle.std.specs.Prelude.{◌≡◌, ◌↔◌, ◌+◌, ◌≤◌, Some, IsTrue, length};
+ghost use Rattle.speculation.specs.Asking.{IsAnswer, page_limit};
 
 use crate::batch::Batches;
 use crate::checkpoint::Checkpoint;
@@ -23,11 +23,15 @@ pub struct Said {
 }
 
 impl Model for Said {
-    ghost use Rattle.speculation.specs.Asking.{Told};
+    ghost use Rattle.std.specs.Prelude.{◌≤◌, ◌+◌, length};
+    ghost use Rattle.speculation.specs.Asking.{Told, page_limit};
 
     ghost Value = { Told };
 
     ghost view = { λ s. record { reply = record { epoch = s.epoch; number = s.number; batches = s.batches }; start = s.start; piece = s.piece; from = s.from } };
+
+    // Its piece ends within the limit of a page.
+    ghost invariant = { λ s. s.from + length s.piece.text ≤ page_limit };
 }
 
 impl Said {
@@ -45,9 +49,10 @@ impl Said {
         self.number
     }
 
-    /// How many characters of the page stand before its piece.
+    /// How many characters of the page stand before its piece, which ends within the limit of a page.
     pub fn from(&self) -> u64
-        ensures { result ≡ self.now.from }
+        ensures value { result ≡ self.now.from }
+        ensures within { result + length self.now.piece.text ≤ page_limit }
     {
         self.from
     }

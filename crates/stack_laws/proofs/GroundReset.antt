@@ -1,6 +1,6 @@
--- The mode that resetting gives says of the stack what holds of it.
+-- The mode that resetting gives in the parser of a page says of the stack what holds of it.
 use Rattle.std.proofs.Common.{◌≡◌, refl, sym, ap, subst, true≢false, Bool, true, false, not, ◌&&◌, ◌||◌, List, [], ◌∷◌, Option, Some, None}
-use Rattle.std.specs.Prelude.{if◌then◌else◌}
+use Rattle.std.specs.Prelude.{if◌then◌else◌, unwrap_or}
 use Rattle.std.specs.List.{list_all}
 use Rattle.html_types.proofs.WordLemmas.{word_decides}
 use Rattle.html_types.specs.Words.{same_word}
@@ -15,7 +15,7 @@ use Rattle.html_types.specs.declared.operation.NodeId.{NodeId}
 use Rattle.html_types.specs.declared.open.OpenElement.{OpenElement}
 use Rattle.standard.specs.Rows.{has_word}
 use Rattle.standard.specs.Elements.{is_word, is_one_of}
-use Rattle.standard.specs.Reset.{select_mode, template_mode, root_mode, reset_mode}
+use Rattle.standard.specs.Reset.{select_mode, template_mode, root_mode, told_mode, reset_mode}
 use Rattle.stack_laws.specs.Grounded.{is_vital, is_guard, is_known, with_name, core, no_words, has_no, is_orderly, reaches, has_facts, is_template_mode}
 use Rattle.rule_laws.specs.Proper.{is_late}
 use Rattle.rule_laws.proofs.Calm.{split}
@@ -30,6 +30,11 @@ choose false m n ws h k = k refl
 named : (w : Word) (P : Name → Type 0) (n : Name) → is_word w n ≡ true → P (Known w) → P n
 named w P (Known v) h p = subst (λ u. P (Known u)) (sym ((word_decides v w).0 h)) p
 named w P (Other s t) h p = absurd (true≢false (sym h))
+
+-- a mode that a name tells, or else the one told further up
+told : (v : Bool) (m : Mode) (o : Option Mode) (d : Mode) (ws : List Word) → (v ≡ true → has_facts m ws ≡ true) → (v ≡ false → has_facts (unwrap_or o d) ws ≡ true) → has_facts (unwrap_or (if v then Some m else o) d) ws ≡ true
+told true m o d ws h k = h refl
+told false m o d ws h k = k refl
 
 select-facts : (es : List OpenElement) (ws : List Word) → reaches (has_word (word.Select ∷ [])) ws ≡ true → has_facts (select_mode es) ws ≡ true
 select-facts [] ws h = refl
@@ -88,34 +93,37 @@ guard-free (Known w) a b c d e f =
     neither (same_word w word.Html) _ f (neither (same_word w word.Template) _ c (neither (same_word w word.Head) _ d (neither (same_word w word.Frameset) _ e
     (neither (same_word w word.Td) _ p.0 (neither (same_word w word.Th) _ q.0 (neither (same_word w word.Select) false a refl))))))
 
-pub reset-facts : (es : List OpenElement) (head : Option NodeId) (ms : List Mode) → is_orderly (core es) ≡ true → list_all is_template_mode ms ≡ true → has_facts (reset_mode es head ms) (core es) ≡ true
+pub reset-facts : (es : List OpenElement) (head : Option NodeId) (ms : List Mode) → is_orderly (core es) ≡ true → list_all is_template_mode ms ≡ true → has_facts (reset_mode None es head ms) (core es) ≡ true
 reset-facts [] head ms o t = refl
 reset-facts (e ∷ es) head ms o t = by (λ g h. reset-facts es head ms h t)
   where
     ws : List Word
     ws = with_name e.name (core es)
 
-    by : (is_known is_guard e.name ≡ false → is_orderly (core es) ≡ true → has_facts (reset_mode es head ms) (core es) ≡ true) → has_facts (reset_mode (e ∷ es) head ms) (with_name e.name (core es)) ≡ true
+    above : Mode
+    above = reset_mode None es head ms
+
+    by : (is_known is_guard e.name ≡ false → is_orderly (core es) ≡ true → has_facts (reset_mode None es head ms) (core es) ≡ true) → has_facts (reset_mode None (e ∷ es) head ms) (with_name e.name (core es)) ≡ true
     by rest =
-        choose (is_word word.Select e.name) _ _ ws (λ g. select-facts es ws (named word.Select (λ n. reaches (has_word (word.Select ∷ [])) (with_name n (core es)) ≡ true) e.name g refl))
-        (λ n0. choose (is_one_of group.Cells e.name) _ _ ws (λ g. cell-facts e.name (core es) g)
-        (λ n1. choose (is_word word.Tr e.name) _ _ ws (λ g. refl)
-        (λ n2. choose (is_one_of group.TableSections e.name) _ _ ws (λ g. refl)
-        (λ n3. choose (is_word word.Caption e.name) _ _ ws (λ g. refl)
-        (λ n4. choose (is_word word.Colgroup e.name) _ _ ws (λ g. refl)
-        (λ n5. choose (is_word word.Table e.name) _ _ ws (λ g. refl)
-        (λ n6. choose (is_word word.Template e.name) _ _ ws (λ g. template-facts ms ws t (named word.Template (λ n. has_no word.Template (with_name n (core es)) ≡ false) e.name g refl))
-        (λ n7. choose (is_word word.Head e.name) _ _ ws
+        told (is_word word.Select e.name) _ _ above ws (λ g. select-facts es ws (named word.Select (λ n. reaches (has_word (word.Select ∷ [])) (with_name n (core es)) ≡ true) e.name g refl))
+        (λ n0. told (is_one_of group.Cells e.name) _ _ above ws (λ g. cell-facts e.name (core es) g)
+        (λ n1. told (is_word word.Tr e.name) _ _ above ws (λ g. refl)
+        (λ n2. told (is_one_of group.TableSections e.name) _ _ above ws (λ g. refl)
+        (λ n3. told (is_word word.Caption e.name) _ _ above ws (λ g. refl)
+        (λ n4. told (is_word word.Colgroup e.name) _ _ above ws (λ g. refl)
+        (λ n5. told (is_word word.Table e.name) _ _ above ws (λ g. refl)
+        (λ n6. told (is_word word.Template e.name) _ _ above ws (λ g. template-facts ms ws t (named word.Template (λ n. has_no word.Template (with_name n (core es)) ≡ false) e.name g refl))
+        (λ n7. told (is_word word.Head e.name) _ _ above ws
         (λ g. named word.Head (λ n. is_orderly (with_name n (core es)) ≡ true → has_facts mode.InHead (with_name n (core es)) ≡ true) e.name g (λ h. both (has_no word.Template (core es)) true (split (has_no word.Template (core es)) (is_orderly (core es)) h).0 refl) o)
-        (λ n8. choose (is_word word.Body e.name) _ _ ws (λ g. refl)
-        (λ n9. choose (is_word word.Frameset e.name) _ _ ws
+        (λ n8. told (is_word word.Body e.name) _ _ above ws (λ g. refl)
+        (λ n9. told (is_word word.Frameset e.name) _ _ above ws
         (λ g. named word.Frameset (λ n. is_orderly (with_name n (core es)) ≡ true → has_no word.Template (with_name n (core es)) ≡ true) e.name g (λ h. (split (has_no word.Template (core es)) (is_orderly (core es)) h).0) o)
-        (λ n10. choose (is_word word.Html e.name) _ _ ws
+        (λ n10. told (is_word word.Html e.name) _ _ above ws
         (λ g. root-facts head ws (named word.Html (λ n. is_orderly (with_name n (core es)) ≡ true → has_no word.Template (with_name n (core es)) ≡ true) e.name g (λ h. no-words (core es) (split (no_words (core es)) (is_orderly (core es)) h).0) o))
         (λ n11.
         let free = guard-free e.name n0 n1 n7 n8 n10 n11 in
         let same = guardless e.name (core es) free in
-        subst (λ x. has_facts (reset_mode es head ms) x ≡ true) (sym same) (rest free (subst (λ x. is_orderly x ≡ true) same o))))))))))))))
+        subst (λ x. has_facts (reset_mode None es head ms) x ≡ true) (sym same) (rest free (subst (λ x. is_orderly x ≡ true) same o))))))))))))))
 
 pub templates-late : (ms : List Mode) → list_all is_template_mode ms ≡ true → list_all is_late ms ≡ true
 templates-late [] h = refl

@@ -1365,13 +1365,17 @@ ok-owes owes_ok m t ok none o = (o, λ g. absurd (true≢false (sym g)))
 ok-owes owes_mode m t ok none o = (o.0, λ g. absurd (true≢false (sym g)))
 ok-owes owes_pop m t ok none o = (o.0, λ g. absurd (true≢false (sym g)))
 
-pub reset-stands : (a : At) (t : Token) (b : Open) → (not a.keeps && a.full) && (is_plainly a.know && is_even a.debt) ≡ true → Stands a t b → Stands (record a { claim = fits; know = nothing; text = false }) t (record b { mode = reset_mode b.stack b.head b.template_modes })
-reset-stands a t b h p =
-    let g = split (not a.keeps && a.full) (is_plainly a.know && is_even a.debt) h in
-    let g1 = split (not a.keeps) a.full g.0 in
-    let g2 = split (is_plainly a.know) (is_even a.debt) g.1 in
-    let s = plain-sound a b g2.0 p.0 in
-    let m : Mode = reset_mode b.stack b.head b.template_modes in
-    let late : is_late m ≡ true = reset-holds is_late (λ n e. e) b.stack b.head b.template_modes (templates-late b.template_modes s.modes) in
-    enter-sound m fits nothing a t b (split (is_main_mode m) (not (is_early m)) late).0 (text-late m late) (not-true a.keeps g1.0) g2.0 refl
-    (late-stands m b.stack late (s.is_full g1.1) (reset-facts b.stack b.head b.template_modes s.firm.order s.modes)) tt p
+pub reset-stands : (a : At) (t : Token) (b : Open) → b.context ≡ None → (not a.keeps && a.full) && (is_plainly a.know && is_even a.debt) ≡ true → Stands a t b → Stands (record a { claim = fits; know = nothing; text = false }) t (record b { mode = reset_mode b.context b.stack b.head b.template_modes })
+reset-stands a t b page h p = subst (λ (c : Option OpenElement). Stands (record a { claim = fits; know = nothing; text = false }) t (record b { mode = reset_mode c b.stack b.head b.template_modes })) (sym page) (reset-of_page a t b h p)
+  where
+    reset-of_page : (a : At) (t : Token) (b : Open) → (not a.keeps && a.full) && (is_plainly a.know && is_even a.debt) ≡ true → Stands a t b
+        → Stands (record a { claim = fits; know = nothing; text = false }) t (record b { mode = reset_mode None b.stack b.head b.template_modes })
+    reset-of_page a t b h p =
+        let g = split (not a.keeps && a.full) (is_plainly a.know && is_even a.debt) h in
+        let g1 = split (not a.keeps) a.full g.0 in
+        let g2 = split (is_plainly a.know) (is_even a.debt) g.1 in
+        let s = plain-sound a b g2.0 p.0 in
+        let m : Mode = reset_mode None b.stack b.head b.template_modes in
+        let late : is_late m ≡ true = reset-holds is_late (λ n e. e) None b.stack b.head b.template_modes (templates-late b.template_modes s.modes) in
+        enter-sound m fits nothing a t b (split (is_main_mode m) (not (is_early m)) late).0 (text-late m late) (not-true a.keeps g1.0) g2.0 refl
+        (late-stands m b.stack late (s.is_full g1.1) (reset-facts b.stack b.head b.template_modes s.firm.order s.modes)) tt p

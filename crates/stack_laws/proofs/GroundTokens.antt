@@ -50,6 +50,8 @@ use Rattle.rule_laws.specs.Proper.{is_main_mode}
 use Rattle.stack_laws.specs.Grounded.{is_vital, is_guard, is_formatting, is_known, is_special, with_name, core, templates_among, has_no, is_rooted, is_loose, Firm, has_facts, stands, main_mode, is_text_mode, is_text_like, has_kept, no_words, has_text_at_bottom, is_late_if_any, Ground, GroundOf, templates_in, HasRoot, GroundedStand, OpeningIsGrounded, GroundedUnlessDeep, TokensStayGrounded}
 use Rattle.rule_laws.specs.Proper.{is_early, is_late}
 use Rattle.rule_laws.proofs.Calm.{split}
+use Rattle.rule_laws.proofs.Closed.{run-in, adopting-in}
+use Rattle.rule_laws.proofs.Contexts.{Stays, stays, adopt-context, context-stays}
 use Rattle.rule_laws.proofs.AdoptionFreshness.{AdoptedFits, adopt-fits}
 use Rattle.rule_laws.proofs.Framing.{construct-framed}
 use Rattle.rule_laws.proofs.Freshness.{Fits, turn-fits, by_mode-fits, adoption-fits, construct-fits}
@@ -186,7 +188,7 @@ foreign-left b ds f d g =
     ground-core b ds b.formats b.form b.frameset_ok (core-dropped (λ n'. not (is_html n')) (foreign-spares is_guard) b.stack ds d) (no-empty b.stack ds (foreign-full (main_mode b.mode b.original) b.stack f g.stand)) (λ x. x)
     (firm-dropped (λ n'. not (is_html n')) (foreign-spares is_vital) b.stack ds b.formats b.form d g.firm) n g
 
-space-foreign : (es : List OpenElement) → is_foreign_top es ≡ true → not (same_space (space_or_html (adjusted_of es)) Html) ≡ true
+space-foreign : (es : List OpenElement) → is_foreign_top es ≡ true → not (same_space (space_or_html (adjusted_of None es)) Html) ≡ true
 space-foreign [] f = absurd (true≢false (sym f))
 space-foreign (e ∷ es) f = f
 
@@ -260,13 +262,16 @@ module _ (known : NodeId → Bool) where
   end-ground t b o None f d g = (g, refl)
   end-ground t b o (Some es) f d g = foreign-left b es f d g
 
-  foreign-ground : (t : Token) (b : Open) (o : List Op) → Fits AreFresh fresh-follows known b o On → GroundOf b → is_foreign_top b.stack ≡ true
+  foreign-ground : (t : Token) (b : Open) (o : List Op) → b.context ≡ None → Fits AreFresh fresh-follows known b o On → GroundOf b → is_foreign_top b.stack ≡ true
       → (let c : Config = run t (on b o) (row mode.InForeign t) in ForeignFlow c.open_state c.flow)
   unfolding row run
-  foreign-ground t b o fit g f = by t
+  foreign-ground t b o page fit g f = by t
     where
       begin : (t' : Token) → Stands (fitting true (is_some b.original) foreign_top) t' b
       begin t' = fitting-stands true foreign_top t' b g refl f (λ e. foreign-full (main_mode b.mode b.original) b.stack f g.stand) (foreign-text (is_text_mode b.mode) b.stack f g.bottom)
+
+      foreign_space : not (same_space (space_or_html (adjusted b)) Html) ≡ true
+      foreign_space = subst (λ (c : Option OpenElement). not (same_space (space_or_html (adjusted_of c b.stack)) Html) ≡ true) (sym page) (space-foreign b.stack f)
 
       out : GroundOf (record b { stack = pop_foreign b.stack })
       out = foreign-left b (pop_foreign b.stack) f (pop_foreign-drops b.stack) g
@@ -278,8 +283,8 @@ module _ (known : NodeId → Bool) where
           let o' : List Op = made (here b) (foreign_tag (space_or_html (adjusted b)) tag) b o in
           let d : Config = run (StartTag tag) (on b' o') (ins.When SelfClosing ∷ ins.Pop ∷ []) in
           calm-foreign (StartTag tag) d.open_state d.flow (closed-itself (StartTag tag) b' tag.self_closing o')
-          (walked known nowhere (ins.When SelfClosing ∷ ins.Pop ∷ []) (fitting true (is_some b.original) foreign_top) false (StartTag tag) b' o' fit'
-          (foreign-pushed (known_after_all known o) (fitting true (is_some b.original) foreign_top) (StartTag tag) b (foreign_tag (space_or_html (adjusted b)) tag) fit.1 (foreign-named (space_or_html (adjusted b)) tag (space-foreign b.stack f)) refl (begin (StartTag tag)))
+          (walked known nowhere (ins.When SelfClosing ∷ ins.Pop ∷ []) (fitting true (is_some b.original) foreign_top) false (StartTag tag) b' o' page fit'
+          (foreign-pushed (known_after_all known o) (fitting true (is_some b.original) foreign_top) (StartTag tag) b (foreign_tag (space_or_html (adjusted b)) tag) fit.1 (foreign-named (space_or_html (adjusted b)) tag foreign_space) refl (begin (StartTag tag)))
           (closing-grounds (is_some b.original) (own_named tag.name)))
       opened_at tag false fit' = tt
 
@@ -292,7 +297,7 @@ module _ (known : NodeId → Bool) where
       end_by tag false = end-ground (EndTag tag) b o (foreign_end (name_text tag.name) b.stack b.stack) f (foreign-drops (name_text tag.name) b.stack f) g
 
       character_by : (c : ℕ) (is : List Instr) → grounds nowhere no_tag (fitting true (is_some b.original) foreign_top) false is ≡ true → (let d : Config = run (Character c) (on b o) is in ForeignFlow d.open_state d.flow)
-      character_by c is w = let d : Config = run (Character c) (on b o) is in to-foreign (Character c) d.open_state d.flow refl (walked known nowhere is (fitting true (is_some b.original) foreign_top) false (Character c) b o fit (begin (Character c)) w)
+      character_by c is w = let d : Config = run (Character c) (on b o) is in to-foreign (Character c) d.open_state d.flow refl (walked known nowhere is (fitting true (is_some b.original) foreign_top) false (Character c) b o page fit (begin (Character c)) w)
 
       by : (t' : Token) → (let c : Config = run t' (on b o) (row mode.InForeign t') in ForeignFlow c.open_state c.flow)
       by (StartTag tag) = start_by tag (breaks_out tag)
@@ -397,15 +402,15 @@ module _ (known : NodeId → Bool) where
   abbrev FitOf : Open → List Op → Type 0
   FitOf b o = Fits AreFresh fresh-follows known b o On
 
-  behind-row : (full : Bool) (is : List Instr) (t : Token) (b : Open) (o : List Op) → FitOf b o → Behind b → grounds nowhere (own_of t) (fitting full false nothing) false is ≡ true → (let c : Config = run t (on b o) is in Final known nowhere t c.open_state c.flow)
-  behind-row full is t b o fit h w =
-      walked known nowhere is (fitting full false nothing) false t b o fit
+  behind-row : (full : Bool) (is : List Instr) (t : Token) (b : Open) (o : List Op) → b.context ≡ None → FitOf b o → Behind b → grounds nowhere (own_of t) (fitting full false nothing) false is ≡ true → (let c : Config = run t (on b o) is in Final known nowhere t c.open_state c.flow)
+  behind-row full is t b o page fit h w =
+      walked known nowhere is (fitting full false nothing) false t b o page fit
       (subst (λ k. Stands (fitting full k nothing) t b) (ap is_some h.main.0) (fitting-stands full nothing t b h.ground refl tt (λ e. h.full) (main-text b.mode h.main.1))) w
 
-  other-behind : (t : Token) (b : Open) (o : List Op) → FitOf b o → is_formatting_tag (own_of t) ≡ true → Behind b → Behind (record b { stack = other_end (is_meant who.Own t) b.stack })
+  other-behind : (t : Token) (b : Open) (o : List Op) → b.context ≡ None → FitOf b o → is_formatting_tag (own_of t) ≡ true → Behind b → Behind (record b { stack = other_end (is_meant who.Own t) b.stack })
   unfolding run
-  other-behind t b o fit own h =
-      let g : GroundOf (record b { stack = other_end (is_meant who.Own t) b.stack }) = behind-row false (ins.AnyOtherEnd ∷ []) t b o fit h (own-grounds (own_of t) own).0 in
+  other-behind t b o page fit own h =
+      let g : GroundOf (record b { stack = other_end (is_meant who.Own t) b.stack }) = behind-row false (ins.AnyOtherEnd ∷ []) t b o page fit h (own-grounds (own_of t) own).0 in
       record { ground = g; main = h.main; full = still-full b (other_end (is_meant who.Own t) b.stack) h g.stand }
 
   other-fits : (t : Token) (b : Open) (o : List Op) → FitOf b o → FitOf (record b { stack = other_end (is_meant who.Own t) b.stack }) o
@@ -415,22 +420,22 @@ module _ (known : NodeId → Bool) where
   off-fits i t b o fit = turn-fits AreFresh fresh-follows known t (on b o) (ins.TakeOff i) fit
 
   -- an element that is made then
-  made-behind : (t : Token) (b : Open) (o : List Op) → FitOf b o → is_formatting_tag (own_of t) ≡ true → Behind b → (let c : Config = run t (on b o) (ins.Reconstruct ∷ ins.Insert ∷ ins.List ∷ []) in Final known nowhere t c.open_state c.flow)
-  made-behind t b o fit own h = behind-row true (ins.Reconstruct ∷ ins.Insert ∷ ins.List ∷ []) t b o fit h (own-grounds (own_of t) own).1
+  made-behind : (t : Token) (b : Open) (o : List Op) → b.context ≡ None → FitOf b o → is_formatting_tag (own_of t) ≡ true → Behind b → (let c : Config = run t (on b o) (ins.Reconstruct ∷ ins.Insert ∷ ins.List ∷ []) in Final known nowhere t c.open_state c.flow)
+  made-behind t b o page fit own h = behind-row true (ins.Reconstruct ∷ ins.Insert ∷ ins.List ∷ []) t b o page fit h (own-grounds (own_of t) own).1
 
-  after-row : (h : Then) (other : Bool) (t : Token) (b : Open) (o : List Op) → FitOf b o → is_formatting_tag (own_of t) ≡ true → LinkOk b h → Behind b → (let c : Config = run t (on b o) (after_adopt h other) in Final known nowhere t c.open_state c.flow)
+  after-row : (h : Then) (other : Bool) (t : Token) (b : Open) (o : List Op) → b.context ≡ None → FitOf b o → is_formatting_tag (own_of t) ≡ true → LinkOk b h → Behind b → (let c : Config = run t (on b o) (after_adopt h other) in Final known nowhere t c.open_state c.flow)
   unfolding run
-  after-row Nothing false t b o fit own l h = h.ground
-  after-row Nothing true t b o fit own l h = (other-behind t b o fit own h).ground
-  after-row Nobr false t b o fit own l h = made-behind t b o fit own h
-  after-row Nobr true t b o fit own l h = made-behind t (record b { stack = other_end (is_meant who.Own t) b.stack }) o (other-fits t b o fit) own (other-behind t b o fit own h)
-  after-row (Link i) false t b o fit own l h =
-      made-behind t (record b { stack = without_open (Some i) b.stack; formats = without_entry i b.formats }) o (off-fits i t b o fit) own (off-behind i b l h)
-  after-row (Link i) true t b o fit own l h =
+  after-row Nothing false t b o page fit own l h = h.ground
+  after-row Nothing true t b o page fit own l h = (other-behind t b o page fit own h).ground
+  after-row Nobr false t b o page fit own l h = made-behind t b o page fit own h
+  after-row Nobr true t b o page fit own l h = made-behind t (record b { stack = other_end (is_meant who.Own t) b.stack }) o page (other-fits t b o fit) own (other-behind t b o page fit own h)
+  after-row (Link i) false t b o page fit own l h =
+      made-behind t (record b { stack = without_open (Some i) b.stack; formats = without_entry i b.formats }) o page (off-fits i t b o fit) own (off-behind i b l h)
+  after-row (Link i) true t b o page fit own l h =
       let es : List OpenElement = other_end (is_meant who.Own t) b.stack in
       let b1 : Open = record b { stack = es } in
       let l1 : is_loose is_special es i ≡ true = loose-thinned is_special i b.stack es (drops-thinned (closes is_special (is_meant who.Own t)) b.stack es (other-drops (is_meant who.Own t) b.stack)) l in
-      made-behind t (record b1 { stack = without_open (Some i) es; formats = without_entry i b1.formats }) o (off-fits i t b1 o (other-fits t b o fit)) own (off-behind i b1 l1 (other-behind t b o fit own h))
+      made-behind t (record b1 { stack = without_open (Some i) es; formats = without_entry i b1.formats }) o page (off-fits i t b1 o (other-fits t b o fit)) own (off-behind i b1 l1 (other-behind t b o page fit own h))
 
   -- ---- what the row of a mode, or of foreign content, comes to
 
@@ -534,17 +539,17 @@ module _ (known : NodeId → Bool) where
   foreign-next t b (Leave next.Finished) x = x
 
   -- the rules that a token goes by
-  foreign-top : (t : Token) (es : List OpenElement) → goes_foreign t (adjusted_of es) ≡ true → is_foreign_top es ≡ true
+  foreign-top : (t : Token) (es : List OpenElement) → goes_foreign t (adjusted_of None es) ≡ true → is_foreign_top es ≡ true
   unfolding goes_foreign
   foreign-top t [] h = absurd (true≢false (sym h))
   foreign-top t (e ∷ es) h =
       ap not (either-false (is_html e.name) _ (either-false (is_html e.name || _) _ (either-false ((is_html e.name || _) || _) _ (either-false (((is_html e.name || _) || _) || _) _ (not-true (goes_by_mode t e) h)).0).0).0).0
 
-  checked-for : (t : Token) (b : Open) → GroundOf b → Checked t (rules_for t b) b
-  checked-for t b g = by (goes_foreign t (adjusted b)) refl
+  checked-for : (t : Token) (b : Open) → b.context ≡ None → GroundOf b → Checked t (rules_for t b) b
+  checked-for t b page g = by (goes_foreign t (adjusted b)) refl
     where
       by : (v : Bool) → goes_foreign t (adjusted b) ≡ v → Checked t (if v then mode.InForeign else b.mode) b
-      by true e = foreign-top t b.stack e
+      by true e = foreign-top t b.stack (sym (ap (λ (c : Option OpenElement). goes_foreign t (adjusted_of c b.stack)) page) ∙ e)
       by false e = own-checked t b g
 
   text-kept : (m : Mode) (m0 : Option Mode) → has_kept m m0 ≡ true → is_main_mode m ≡ false → is_some m0 ≡ true
@@ -559,32 +564,32 @@ module _ (known : NodeId → Bool) where
   text-top true es e h = h
   text-top false es e h = absurd (true≢false (sym e))
 
-  main-after : (k : ℕ) (m : Mode) (t : Token) (b : Open) (o : List Op) → FitOf b o → GroundOf b → IsMain b → keeps_ground k (own_of t) (λ m'. row m' t) (main_mode b.mode b.original) m ≡ true
+  main-after : (k : ℕ) (m : Mode) (t : Token) (b : Open) (o : List Op) → b.context ≡ None → FitOf b o → GroundOf b → IsMain b → keeps_ground k (own_of t) (λ m'. row m' t) (main_mode b.mode b.original) m ≡ true
       → (let c : Config = run t (on b o) (row m t) in AfterNext t c.open_state (next_of c.flow))
   unfolding keeps_ground
-  main-after zero m t b o fit g i e = absurd (true≢false (sym e))
-  main-after (suc k) m t b o fit g i e =
+  main-after zero m t b o page fit g i e = absurd (true≢false (sym e))
+  main-after (suc k) m t b o page fit g i e =
       let c : Config = run t (on b o) (row m t) in
       main-next k t c.open_state c.flow
-      (walked known (λ n m'. keeps_ground k (own_of t) (λ m''. row m'' t) n m') (row m t) (start (main_mode b.mode b.original) false false nothing) false t b o fit
+      (walked known (λ n m'. keeps_ground k (own_of t) (λ m''. row m'' t) n m') (row m t) (start (main_mode b.mode b.original) false false nothing) false t b o page fit
       (start-stands false false nothing t b g refl tt (ap is_some i.0) (main-text b.mode i.1)) (split (is_main_mode m) _ e).1)
 
-  row-after : (m : Mode) (t : Token) (b : Open) (o : List Op) → FitOf b o → GroundOf b → Checked t m b → (let c : Config = run t (on b o) (row m t) in AfterNext t c.open_state (next_of c.flow))
-  row-after mode.InForeign t b o fit g k = let c : Config = run t (on b o) (row mode.InForeign t) in foreign-next t c.open_state c.flow (foreign-ground known t b o fit g k)
-  row-after mode.InText t b o fit g k =
+  row-after : (m : Mode) (t : Token) (b : Open) (o : List Op) → b.context ≡ None → FitOf b o → GroundOf b → Checked t m b → (let c : Config = run t (on b o) (row m t) in AfterNext t c.open_state (next_of c.flow))
+  row-after mode.InForeign t b o page fit g k = let c : Config = run t (on b o) (row mode.InForeign t) in foreign-next t c.open_state c.flow (foreign-ground known t b o page fit g k)
+  row-after mode.InText t b o page fit g k =
       let c : Config = run t (on b o) (row mode.InText t) in
       let text : is_text_mode b.mode ≡ true = ap is_text_mode k in
       let some : is_some b.original ≡ true = text-kept b.mode b.original g.kept (ap is_main_mode k) in
       let w = (table-late t (main_mode b.mode b.original) (some-late b.mode b.original some g.late)).0 in
       text-next t c.open_state c.flow
-      (walked known nowhere (row mode.InText t) (start (main_mode b.mode b.original) true true text_top) false t b o fit (start-stands true true text_top t b g refl (text-top (is_text_mode b.mode) b.stack text g.bottom) some text) w)
-  row-after mode.InTableText t b o fit g k =
+      (walked known nowhere (row mode.InText t) (start (main_mode b.mode b.original) true true text_top) false t b o page fit (start-stands true true text_top t b g refl (text-top (is_text_mode b.mode) b.stack text g.bottom) some text) w)
+  row-after mode.InTableText t b o page fit g k =
       let c : Config = run t (on b o) (row mode.InTableText t) in
       let some : is_some b.original ≡ true = text-kept b.mode b.original g.kept (ap is_main_mode k) in
       let w = (table-late t (main_mode b.mode b.original) (some-late b.mode b.original some g.late)).1 in
       text-next t c.open_state c.flow
-      (walked known nowhere (row mode.InTableText t) (start (main_mode b.mode b.original) true false nothing) false t b o fit (start-stands true false nothing t b g refl tt some (ap is_text_mode k)) w)
-  row-after m t b o fit g k = main-after k.1.0 m t b o fit g k.0 k.1.1
+      (walked known nowhere (row mode.InTableText t) (start (main_mode b.mode b.original) true false nothing) false t b o page fit (start-stands true false nothing t b g refl tt some (ap is_text_mode k)) w)
+  row-after m t b o page fit g k = main-after k.1.0 m t b o page fit g k.0 k.1.1
 
   -- ---- rounds
 
@@ -605,22 +610,22 @@ module _ (known : NodeId → Bool) where
   goes_round f t a = go_round (f a.open_state a.ops) a.open_state a.ops (round_after t a.open_state a.next)
 
   abbrev EndsWell : Token → Rounds → Type 0
-  EndsWell t f = (b : Open) (o : List Op) (m : Mode) → FitOf b o → GroundOf b → Checked t m b → EndOf (f b o m)
+  EndsWell t f = (b : Open) (o : List Op) (m : Mode) → b.context ≡ None → FitOf b o → GroundOf b → Checked t m b → EndOf (f b o m)
 
-  over-ground : (f : Rounds) (t : Token) → EndsWell t f → (b : Open) (o : List Op) (n : Next) → Bound b o n → AfterNext t b n → EndOf (goes_round f t (answer b o n))
-  over-ground f t h b o next.Again w r = h b o (rules_for t b) (w.0, w.1, tt) r (checked-for t b r)
-  over-ground f t h b o (next.Using m) w r = h b o m (w.0, w.1, tt) r.0 r.1
-  over-ground f t h b o next.Foster w r = h b o mode.InBody (w.0, w.1, tt) r.0 r.1
-  over-ground f t h b o (next.Adopt v x) w r = r.0
-  over-ground f t h b o next.Deep w r = tt
-  over-ground f t h b o next.Done w r = r
-  over-ground f t h b o (next.Switch x) w r = r
-  over-ground f t h b o (next.Script i) w r = r
-  over-ground f t h b o next.Finished w r = r
+  over-ground : (f : Rounds) (t : Token) → EndsWell t f → (b : Open) (o : List Op) (n : Next) → b.context ≡ None → Bound b o n → AfterNext t b n → EndOf (goes_round f t (answer b o n))
+  over-ground f t h b o next.Again page w r = h b o (rules_for t b) page (w.0, w.1, tt) r (checked-for t b page r)
+  over-ground f t h b o (next.Using m) page w r = h b o m page (w.0, w.1, tt) r.0 r.1
+  over-ground f t h b o next.Foster page w r = h b o mode.InBody page (w.0, w.1, tt) r.0 r.1
+  over-ground f t h b o (next.Adopt v x) page w r = r.0
+  over-ground f t h b o next.Deep page w r = tt
+  over-ground f t h b o next.Done page w r = r
+  over-ground f t h b o (next.Switch x) page w r = r
+  over-ground f t h b o (next.Script i) page w r = r
+  over-ground f t h b o next.Finished page w r = r
 
-  adopting-after : (w : Word) (x : Then) (t : Token) (b : Open) (o : List Op) → FitOf b o → AfterNext t b (next.Adopt w x) → (let a : Answer = adopting w x t b o in AfterNext t a.open_state a.next)
+  adopting-after : (w : Word) (x : Then) (t : Token) (b : Open) (o : List Op) → b.context ≡ None → FitOf b o → AfterNext t b (next.Adopt w x) → (let a : Answer = adopting w x t b o in AfterNext t a.open_state a.next)
   unfolding adopting
-  adopting-after w x t b o fit r =
+  adopting-after w x t b o page fit r =
       let a : Adopted = adopt w b o in
       let k : AdoptedFits AreFresh fresh-follows known a = adopt-fits AreFresh fresh-follows known w b o fit.0 fit.1 in
       let d : Adopts b a.open_state = adopt-firm known w b o r.1 fit.0 fit.1 r.0.firm in
@@ -631,32 +636,32 @@ module _ (known : NodeId → Bool) where
         full = subst (λ ws. has_no word.Html ws ≡ false) (sym d.1) r.4;
       } in
       let c : Config = run t (on a.open_state a.ops) (after_adopt x a.other) in
-      text-next t c.open_state c.flow (after-row x a.other t a.open_state a.ops (k.0, k.1, tt) r.2 (linked x b a.open_state d r.5) behind)
+      text-next t c.open_state c.flow (after-row x a.other t a.open_state a.ops (adopt-context w b o ∙ page) (k.0, k.1, tt) r.2 (linked x b a.open_state d r.5) behind)
     where
       linked : (y : Then) (b' c' : Open) → Adopts b' c' → LinkOk b' y → LinkOk c' y
       linked Nothing b' c' d l = tt
       linked (Link i) b' c' d l = d.3 i l
       linked Nobr b' c' d l = tt
 
-  round-ground : (f : Rounds) (t : Token) → EndsWell t f → (b : Open) (o : List Op) (n : Next) → Bound b o n → AfterNext t b n → EndOf (goes_round f t (with_adoption t b o n))
-  round-ground f t h b o (next.Adopt w x) k r =
+  round-ground : (f : Rounds) (t : Token) → EndsWell t f → (b : Open) (o : List Op) (n : Next) → b.context ≡ None → Bound b o n → AfterNext t b n → EndOf (goes_round f t (with_adoption t b o n))
+  round-ground f t h b o (next.Adopt w x) page k r =
       let a : Answer = adopting w x t b o in
-      over-ground f t h a.open_state a.ops a.next (adoption-fits AreFresh fresh-follows known t b o (next.Adopt w x) k) (adopting-after w x t b o (k.0, k.1, tt) r)
-  round-ground f t h b o next.Again k r = over-ground f t h b o next.Again k r
-  round-ground f t h b o (next.Using m) k r = over-ground f t h b o (next.Using m) k r
-  round-ground f t h b o next.Foster k r = over-ground f t h b o next.Foster k r
-  round-ground f t h b o next.Deep k r = tt
-  round-ground f t h b o next.Done k r = r
-  round-ground f t h b o (next.Switch x) k r = r
-  round-ground f t h b o (next.Script i) k r = r
-  round-ground f t h b o next.Finished k r = r
+      over-ground f t h a.open_state a.ops a.next (adopting-in Stays stays w x t b o ∙ page) (adoption-fits AreFresh fresh-follows known t b o (next.Adopt w x) k) (adopting-after w x t b o page (k.0, k.1, tt) r)
+  round-ground f t h b o next.Again page k r = over-ground f t h b o next.Again page k r
+  round-ground f t h b o (next.Using m) page k r = over-ground f t h b o (next.Using m) page k r
+  round-ground f t h b o next.Foster page k r = over-ground f t h b o next.Foster page k r
+  round-ground f t h b o next.Deep page k r = tt
+  round-ground f t h b o next.Done page k r = r
+  round-ground f t h b o (next.Switch x) page k r = r
+  round-ground f t h b o (next.Script i) page k r = r
+  round-ground f t h b o next.Finished page k r = r
 
-  process-ground : (n : ℕ) (m : Mode) (t : Token) (b : Open) (o : List Op) → FitOf b o → GroundOf b → Checked t m b → EndOf (process n m t b o)
+  process-ground : (n : ℕ) (m : Mode) (t : Token) (b : Open) (o : List Op) → b.context ≡ None → FitOf b o → GroundOf b → Checked t m b → EndOf (process n m t b o)
   unfolding process by_mode
-  process-ground zero m t b o fit g k = g
-  process-ground (suc n) m t b o fit g k =
+  process-ground zero m t b o page fit g k = g
+  process-ground (suc n) m t b o page fit g k =
       let c : Config = run t (on b o) (row m t) in
-      round-ground (λ b' o' m'. process n m' t b' o') t (λ b' o' m'. process-ground n m' t b' o') c.open_state c.ops (next_of c.flow) (by_mode-fits AreFresh fresh-follows known m t b o fit) (row-after m t b o fit g k)
+      round-ground (λ b' o' m'. process n m' t b' o') t (λ b' o' m'. process-ground n m' t b' o') c.open_state c.ops (next_of c.flow) (run-in Stays stays t (on b o) (row m t) ∙ page) (by_mode-fits AreFresh fresh-follows known m t b o fit) (row-after m t b o page fit g k)
 
 -- ---- a token
 
@@ -672,9 +677,9 @@ module _ (known : NodeId → Bool) where
   unfostered (next.Script i) b g = g
   unfostered next.Finished b g = g
 
-  alone : (t : Token) (b : Open) → GroundOf b → Serves AreFresh known b → (let a : Answer = construct t b [] in EndsGrounded known a.next a.open_state)
+  alone : (t : Token) (b : Open) → b.context ≡ None → GroundOf b → Serves AreFresh known b → (let a : Answer = construct t b [] in EndsGrounded known a.next a.open_state)
   unfolding construct known_after_all AreOpsBound
-  alone t b g s = by (b.skip_line_feed && is_line_feed t)
+  alone t b page g s = by (b.skip_line_feed && is_line_feed t)
     where
       b' : Open
       b' = record b { skip_line_feed = false }
@@ -683,18 +688,18 @@ module _ (known : NodeId → Bool) where
       by true = g
       by false =
           let a : Answer = process rounds (rules_for t b) t b' [] in
-          unfostered a.next a.open_state (process-ground known rounds (rules_for t b) t b' [] (tt, s, tt) g (checked-for known t b' g))
+          unfostered a.next a.open_state (process-ground known rounds (rules_for t b) t b' [] page (tt, s, tt) g (checked-for known t b' page g))
 
-  with-ids : (k : NodeId → Bool) (n : Next) (b : Open) → EndsGrounded known n b → Serves AreFresh k b → GroundedUnlessDeep n b
-  with-ids k next.Deep b g s = tt
-  with-ids k next.Done b g s = record { ground = g; ids = (k, s) }
-  with-ids k next.Again b g s = record { ground = g; ids = (k, s) }
-  with-ids k (next.Using m) b g s = record { ground = g; ids = (k, s) }
-  with-ids k next.Foster b g s = record { ground = g; ids = (k, s) }
-  with-ids k (next.Adopt w x) b g s = record { ground = g; ids = (k, s) }
-  with-ids k (next.Switch r) b g s = record { ground = g; ids = (k, s) }
-  with-ids k (next.Script i) b g s = record { ground = g; ids = (k, s) }
-  with-ids k next.Finished b g s = record { ground = g; ids = (k, s) }
+  with-ids : (k : NodeId → Bool) (n : Next) (b : Open) → b.context ≡ None → EndsGrounded known n b → Serves AreFresh k b → GroundedUnlessDeep n b
+  with-ids k next.Deep b page g s = tt
+  with-ids k next.Done b page g s = record { page = page; ground = g; ids = (k, s) }
+  with-ids k next.Again b page g s = record { page = page; ground = g; ids = (k, s) }
+  with-ids k (next.Using m) b page g s = record { page = page; ground = g; ids = (k, s) }
+  with-ids k next.Foster b page g s = record { page = page; ground = g; ids = (k, s) }
+  with-ids k (next.Adopt w x) b page g s = record { page = page; ground = g; ids = (k, s) }
+  with-ids k (next.Switch r) b page g s = record { page = page; ground = g; ids = (k, s) }
+  with-ids k (next.Script i) b page g s = record { page = page; ground = g; ids = (k, s) }
+  with-ids k next.Finished b page g s = record { page = page; ground = g; ids = (k, s) }
 
   alone-ids : (t : Token) (b : Open) → Serves AreFresh known b → (let a : Answer = construct t b [] in Serves AreFresh (known_after_all known a.ops) a.open_state)
   unfolding known_after_all AreOpsBound
@@ -705,10 +710,10 @@ tokens-grounded t b o h =
     let known : NodeId → Bool = h.ids.0 in
     let a : Answer = construct t b [] in
     subst (λ (x : Answer). GroundedUnlessDeep x.next x.open_state) (sym (construct-framed t b o))
-    (with-ids known (known_after_all known a.ops) a.next a.open_state (alone known t b h.ground h.ids.1) (alone-ids known t b h.ids.1))
+    (with-ids known (known_after_all known a.ops) a.next a.open_state (context-stays t b [] ∙ h.page) (alone known t b h.page h.ground h.ids.1) (alone-ids known t b h.ids.1))
 
 pub opening-grounded : OpeningIsGrounded
-opening-grounded realm = record { ground = record { firm = record { order = refl; root = refl; apart = refl; entries = refl; owner = refl }; stand = refl; bottom = refl; kept = refl; late = refl; matches = refl; marked = λ e. refl; template_modes = refl }; ids = (λ id. false, record { stack_bound = tt; formats_bound = tt; head_bound = tt; form_bound = tt; coming = λ k. refl }) }
+opening-grounded realm = record { page = refl; ground = record { firm = record { order = refl; root = refl; apart = refl; entries = refl; owner = refl }; stand = refl; bottom = refl; kept = refl; late = refl; matches = refl; marked = λ e. refl; template_modes = refl }; ids = (λ id. false, record { stack_bound = tt; formats_bound = tt; head_bound = tt; form_bound = tt; coming = λ k. refl }) }
 
 counted : (es : List OpenElement) → templates_among (core es) ≡ templates_in es
 counted [] = refl

@@ -40,10 +40,12 @@ use Rattle.standard.specs.Elements.{is_word, is_meant, is_one_of, ends_scope}
 use Rattle.standard.specs.Foreign.{opened, tag_in}
 use Rattle.standard.specs.Stack.{is_open, current_id, pop, pop_to, pop_to_root, implied, implied_thoroughly, close, close_item, other_end, first_open, second_open}
 use Rattle.standard.specs.Formatting.{clear_to_marker, entry_named, kept, lost as lost_tags}
-use Rattle.standard.specs.Instructions.{Config, config, on, holds, room, made, pushed, insert, insert_root, insert_in, here, tag_of, void, void_as, named, for_tag, reopen, reopen_all, reconstruct, body_text, body_character, body_characters, none_pending, insert_pending, all_space, texts, append_pending, insert_text, insert_comment, append_doctype, end_of, add_attributes, detach_second, pop_mode, stop_at_script, adopt_name, adopt_own, adopt_anchor, step, run}
+use Rattle.standard.specs.Instructions.{Config, config, on, holds, room, made, pushed, insert, insert_root, insert_in, here, tag_of, void, void_as, named, for_tag, reopen, reopen_all, reconstruct, body_text, body_character, body_characters, none_pending, insert_pending, all_space, texts, append_pending, insert_text, insert_comment, append_doctype, end_of, add_attributes, detach_second, pop_mode, next_at_script, stop_at_script, adopt_name, adopt_own, adopt_anchor, step, run}
 use Rattle.rule_laws.specs.Naming.{AreFresh, known_after_all}
 use Rattle.stack_laws.specs.Grounded.{is_vital, is_guard, is_formatting, is_known, is_special, core, templates_among, has_no, is_loose, are_listed, GroundOf, main_mode, is_template_mode}
 use Rattle.rule_laws.proofs.Calm.{split, run-left}
+use Rattle.rule_laws.proofs.Closed.{step-in}
+use Rattle.rule_laws.proofs.Contexts.{Stays, stays}
 use Rattle.rule_laws.proofs.Resets.{popped-hold}
 use Rattle.rule_laws.proofs.Takes.{both}
 use Rattle.rule_laws.proofs.Freshness.{Fits, reopen-fits, body_character-fits, turn-fits}
@@ -267,12 +269,13 @@ anchor-stepped h a x t b o (Some i) e m p =
     let l = adopt-leaves h a t b m p in
     (l.0, refl, l.1, l.2, l.3, subst (λ j. LooseIfAny b.stack j) e (entry-loose b.stack (is_word word.A) b.formats l.0.firm.entries))
 
-script-stepped : (h : Mode → Mode → Bool) (a x : At) (t : Token) (b : Open) (o : List Op) → is_text_top a.know && rests (dropping (λ v. not (is_guard v)) a) ≡ true → Stands a t b → (let c : Config = stop_at_script b.stack b o in Stepped h a x false t c.open_state c.flow)
-script-stepped h a x t b o m p = let g = split (is_text_top a.know) _ m in by_know a.know refl g.0 g.1
+script-stepped : (h : Mode → Mode → Bool) (a x : At) (t : Token) (b : Open) (o : List Op) → b.context ≡ None → is_text_top a.know && rests (dropping (λ v. not (is_guard v)) a) ≡ true → Stands a t b → (let c : Config = stop_at_script b.stack b o in Stepped h a x false t c.open_state c.flow)
+script-stepped h a x t b o page m p = let g = split (is_text_top a.know) _ m in by_know a.know refl g.0 g.1
   where
     by_stack : (es : List OpenElement) → b.stack ≡ es → GroundOf (record b { stack = pop b.stack }) → (let c : Config = stop_at_script es b o in Stepped h a x false t c.open_state c.flow)
     by_stack [] e r = subst (λ l. GroundOf (record b { stack = l })) (ap pop e ∙ sym e) r
-    by_stack (d ∷ es) e r = subst (λ l. GroundOf (record b { stack = pop l })) e r
+    by_stack (d ∷ es) e r =
+        subst (λ (c : Option OpenElement). Leaves h (own_of t) (record b { stack = es }) (next_at_script c d.id)) (sym page) (subst (λ l. GroundOf (record b { stack = pop l })) e r)
 
     by_know : (k : Know) → a.know ≡ k → is_text_top k ≡ true → rests (dropping (λ v. not (is_guard v)) a) ≡ true → (let c : Config = stop_at_script b.stack b o in Stepped h a x false t c.open_state c.flow)
     by_know text_top e n r =
@@ -346,110 +349,110 @@ headless a t b l p =
 -- ---- every instruction
 
 module _ (known : NodeId → Bool) (h : Mode → Mode → Bool) where
-  stepped : (i : Instr) (a : At) (t : Token) (b : Open) (o : List Op) → Fits AreFresh fresh-follows known b o On → may h i (own_of t) a ≡ true → Stands a t b
+  stepped : (i : Instr) (a : At) (t : Token) (b : Open) (o : List Op) → b.context ≡ None → Fits AreFresh fresh-follows known b o On → may h i (own_of t) a ≡ true → Stands a t b
       → (let c : Config = step i t b o in Stepped h (onward i (own_of t) a) (leaving_out i (own_of t) a) (may_skip i) t c.open_state c.flow)
-  stepped (ins.Need c) a t b o f m p = need-stepped h c a a t b (holds c t b) refl m p
-  stepped (ins.Forbid c) a t b o f m p = forbid-stepped h c a a t b (holds c t b) refl m p
-  stepped (ins.When c) a t b o f m p = when-stepped h c a t b (holds c t b) refl m p
-  stepped (ins.Unless c) a t b o f m p = unless-stepped h c a t b (holds c t b) refl m p
-  stepped ins.Insert a t b o f m p = insert-stepped h (known_after_all known o) a a t b o f.1 m p
-  stepped (ins.InsertA w) a t b o f m p =
+  stepped (ins.Need c) a t b o page f m p = need-stepped h c a a t b (holds c t b) refl m p
+  stepped (ins.Forbid c) a t b o page f m p = forbid-stepped h c a a t b (holds c t b) refl m p
+  stepped (ins.When c) a t b o page f m p = when-stepped h c a t b (holds c t b) refl m p
+  stepped (ins.Unless c) a t b o page f m p = unless-stepped h c a t b (holds c t b) refl m p
+  stepped ins.Insert a t b o page f m p = insert-stepped h (known_after_all known o) a a t b o f.1 m p
+  stepped (ins.InsertA w) a t b o page f m p =
       roomed h (pushing (who.The w) (own_word w) a) a t b (pushed (tag_of w) b) o (made (here b) (tag_of w) b o)
       (push-stands (known_after_all known o) (who.The w) a t b (tag_of w) f.1 m (λ v e. subst (λ n. is_word w n ≡ true) e ((word_decides w w).1 refl)) p)
-  stepped ins.InsertRoot a t b o f m p = root-stepped h (known_after_all known o) a a t b o f.1 m p
-  stepped ins.InsertRootA a t b o f m p =
+  stepped ins.InsertRoot a t b o page f m p = root-stepped h (known_after_all known o) a a t b o f.1 m p
+  stepped ins.InsertRootA a t b o page f m p =
       roomed h (knowing nothing (rooted a)) a t b (pushed (tag_of word.Html) b) o (made Page (tag_of word.Html) b o) (root-stands (known_after_all known o) a t b (tag_of word.Html) f.1 refl m p)
-  stepped ins.Void a t b o f m p = for_tag-stepped h a a t b o void (λ tag. void-stepped h a a t b o tag p) p
-  stepped (ins.VoidA w) a t b o f m p = void-stepped h a a t b o (tag_of w) p
-  stepped (ins.VoidAs w) a t b o f m p = for_tag-stepped h a a t b o (void_as w) (λ tag. void-stepped h a a t b o (named w tag) p) p
-  stepped ins.InsertForeign a t b o f m p = absurd (true≢false (sym m))
-  stepped (ins.InsertIn s) a t b o f m p = in-stepped h (known_after_all known o) a a t b o s f.1 m p
-  stepped ins.InsertText a t b o f m p = text-stepped h a a t b o p
-  stepped ins.InsertReplacement a t b o f m p = p
-  stepped ins.InsertComment a t b o f m p = comment-stepped h a a (here b) t b o p
-  stepped ins.CommentToPage a t b o f m p = comment-stepped h a a Page t b o p
-  stepped ins.CommentToRoot a t b o f m p = comment-stepped h a a (end_of (first_open b.stack)) t b o p
-  stepped ins.AppendDoctype a t b o f m p = doctype-stepped h a a t b o p
-  stepped ins.Pop a t b o f m p = pop-stepped a t b m p
-  stepped (ins.Until w) a t b o f m p =
+  stepped ins.Void a t b o page f m p = for_tag-stepped h a a t b o void (λ tag. void-stepped h a a t b o tag p) p
+  stepped (ins.VoidA w) a t b o page f m p = void-stepped h a a t b o (tag_of w) p
+  stepped (ins.VoidAs w) a t b o page f m p = for_tag-stepped h a a t b o (void_as w) (λ tag. void-stepped h a a t b o (named w tag) p) p
+  stepped ins.InsertForeign a t b o page f m p = absurd (true≢false (sym m))
+  stepped (ins.InsertIn s) a t b o page f m p = in-stepped h (known_after_all known o) a a t b o s f.1 m p
+  stepped ins.InsertText a t b o page f m p = text-stepped h a a t b o p
+  stepped ins.InsertReplacement a t b o page f m p = p
+  stepped ins.InsertComment a t b o page f m p = comment-stepped h a a (here b) t b o p
+  stepped ins.CommentToPage a t b o page f m p = comment-stepped h a a Page t b o p
+  stepped ins.CommentToRoot a t b o page f m p = comment-stepped h a a (end_of (first_open b.stack)) t b o p
+  stepped ins.AppendDoctype a t b o page f m p = doctype-stepped h a a t b o p
+  stepped ins.Pop a t b o page f m p = pop-stepped a t b m p
+  stepped (ins.Until w) a t b o page f m p =
       let g = split (is_plainly a.know) _ m in
       until-stepped (until_by a.know a.claim w) w a t b g.0 g.1
       (until-ok a.know a.claim w t (main_mode b.mode b.original) b.stack (plain-knows a t b g.0 p.1) (plain-sound a b g.0 p.0).claimed) p
-  stepped (ins.PopTo g) a t b o f m p =
+  stepped (ins.PopTo g) a t b o page f m p =
       let x = split (is_plainly a.know) _ m in
       popped-knowing (λ v. not (in_group g v)) (λ n. not (is_one_of g n)) (λ v e. e) x.1 (context_know a.know g (own_of t)) a t b (pop_to (is_one_of g) b.stack) x.0 (context-plain a.know g (own_of t))
       (context-knows a.know g t b.stack (plain-knows a t b x.0 p.1)) (pop_to-drops (is_one_of g) b.stack) p
-  stepped ins.PopToRoot a t b o f m p =
+  stepped ins.PopToRoot a t b o page f m p =
       let x = split (is_plainly a.know) _ m in
       let y = split a.bare a.full x.1 in
       let s = plain-sound a b x.0 p.0 in
       popped (λ v. not (is_vital v)) (λ n. not (is_known is_vital n)) not-vital refl a t b (pop_to_root b.stack) x.0 (root-drops b.stack s.firm.order s.firm.root (s.is_bare y.0)) p
-  stepped ins.Implied a t b o f m p =
+  stepped ins.Implied a t b o page f m p =
       popped-knowing (in_group group.ClosedImplicitly) (is_one_of group.ClosedImplicitly) (λ v e. e) refl (implied_know a.know who.Nobody (own_of t)) a t b (implied (is_meant who.Nobody t) b.stack) m (implied-plain a.know who.Nobody (own_of t))
       (implied-knows a.know who.Nobody t b.stack (plain-knows a t b m p.1)) (implied-drops (is_meant who.Nobody t) b.stack) p
-  stepped ins.ImpliedThoroughly a t b o f m p =
+  stepped ins.ImpliedThoroughly a t b o page f m p =
       popped-knowing (in_group group.ClosedThoroughly) (is_one_of group.ClosedThoroughly) (λ v e. e) refl (thorough_know a.know) a t b (implied_thoroughly b.stack) m (thorough-plain a.know)
       (thorough-knows a.know t b.stack (plain-knows a t b m p.1)) (thoroughly-drops b.stack) p
-  stepped (ins.ImpliedBut w) a t b o f m p =
+  stepped (ins.ImpliedBut w) a t b o page f m p =
       popped-knowing (in_group group.ClosedImplicitly) (is_one_of group.ClosedImplicitly) (λ v e. e) refl (implied_know a.know w (own_of t)) a t b (implied (is_meant w t) b.stack) m (implied-plain a.know w (own_of t))
       (implied-knows a.know w t b.stack (plain-knows a t b m p.1)) (implied-drops (is_meant w t) b.stack) p
-  stepped (ins.Close s w) a t b o f m p =
+  stepped (ins.Close s w) a t b o page f m p =
       let x = split (is_plainly a.know) _ m in popped (closed_words s w (own_of t)) (closes (ends_scope s) (is_meant w t)) (closes-words t (ends_scope s) w) x.1 a t b (close s (is_meant w t) b.stack) x.0 (close-drops s (is_meant w t) b.stack) p
-  stepped (ins.CloseItem w) a t b o f m p =
+  stepped (ins.CloseItem w) a t b o page f m p =
       let x = split (is_plainly a.know) _ m in popped (item_words w (own_of t)) (closes item_stop (is_meant w t)) (item-words t w) x.1 a t b (close_item (is_meant w t) b.stack) x.0 (item-drops (is_meant w t) b.stack) p
-  stepped ins.AnyOtherEnd a t b o f m p =
+  stepped ins.AnyOtherEnd a t b o page f m p =
       let x = split (is_plainly a.know) _ m in
       popped (other_words (own_of t)) (closes is_special (is_meant who.Own t)) (closes-words t is_special who.Own) x.1 a t b (other_end (is_meant who.Own t) b.stack) x.0 (other-drops (is_meant who.Own t) b.stack) p
-  stepped ins.BreakOut a t b o f m p = absurd (true≢false (sym m))
-  stepped ins.ForeignEnd a t b o f m p = absurd (true≢false (sym m))
-  stepped ins.Reconstruct a t b o f m p =
+  stepped ins.BreakOut a t b o page f m p = absurd (true≢false (sym m))
+  stepped ins.ForeignEnd a t b o page f m p = absurd (true≢false (sym m))
+  stepped ins.Reconstruct a t b o page f m p =
       let x = split (is_plainly a.know) a.full m in
       let c : Config = reconstruct b o in
       well-stepped h (knowing nothing a) a t c.open_state c.flow (reconstruct-well known a t b o f x.1 (nothing-known a t b x.0 p))
-  stepped ins.List a t b o f m p = list-stepped h a a t b o m p
-  stepped ins.Marker a t b o f m p = with-entries a t b (Marker ∷ b.formats) p.0.firm.entries p
-  stepped ins.ClearToMarker a t b o f m p = with-entries a t b (clear_to_marker b.formats) (cleared-listed (seen a.know b.head b.stack) b.formats p.0.firm.entries) p
-  stepped (ins.TakeOff i) a t b o f m p = absurd (true≢false (sym m))
-  stepped ins.NotOk a t b o f m p =
+  stepped ins.List a t b o page f m p = list-stepped h a a t b o m p
+  stepped ins.Marker a t b o page f m p = with-entries a t b (Marker ∷ b.formats) p.0.firm.entries p
+  stepped ins.ClearToMarker a t b o page f m p = with-entries a t b (clear_to_marker b.formats) (cleared-listed (seen a.know b.head b.stack) b.formats p.0.firm.entries) p
+  stepped (ins.TakeOff i) a t b o page f m p = absurd (true≢false (sym m))
+  stepped ins.NotOk a t b o page f m p =
       let es : List OpenElement = seen a.know b.head b.stack in
       with-owed (paid_ok a.debt) a t b b.template_modes false p.0.modes (ok-owes a.debt (length b.template_modes) (templates_among (core es)) b.frameset_ok (has_no word.Template (core es)) p.0.owed) p
-  stepped ins.BecomeQuirky a t b o f m p = p
-  stepped ins.SkipLineFeed a t b o f m p = p
-  stepped ins.PointHead a t b o f m p = headless a t b m p
-  stepped ins.PushHead a t b o f m p = push_head-stepped h b.head a a t b o refl m p
-  stepped ins.TakeHeadOff a t b o f m p = head_off-by a.know a t b m p.0 p.1
-  stepped ins.PointForm a t b o f m p = point-stands a t b m p
-  stepped ins.EndForm a t b o f m p = form-stepped h (is_meant who.Nobody t) a a t b o m p
-  stepped ins.AddToFirst a t b o f m p = for_tag-stepped h a a t b o (add_attributes (first_open b.stack)) (λ tag. attributes-stepped h a a t b o (first_open b.stack) tag p) p
-  stepped ins.AddToSecond a t b o f m p = for_tag-stepped h a a t b o (add_attributes (second_open b.stack)) (λ tag. attributes-stepped h a a t b o (second_open b.stack) tag p) p
-  stepped ins.DetachSecond a t b o f m p = detach-stepped h a a t b o (second_open b.stack) p
-  stepped (ins.Enter m') a t b o f m p = enter-stands m' a t b m p
-  stepped ins.KeepMode a t b o f m p = keep-stands a t b m p
-  stepped ins.Restore a t b o f m p = restore-stands a t b m p
-  stepped (ins.PushTemplateMode m') a t b o f m p =
+  stepped ins.BecomeQuirky a t b o page f m p = p
+  stepped ins.SkipLineFeed a t b o page f m p = p
+  stepped ins.PointHead a t b o page f m p = headless a t b m p
+  stepped ins.PushHead a t b o page f m p = push_head-stepped h b.head a a t b o refl m p
+  stepped ins.TakeHeadOff a t b o page f m p = head_off-by a.know a t b m p.0 p.1
+  stepped ins.PointForm a t b o page f m p = point-stands a t b m p
+  stepped ins.EndForm a t b o page f m p = form-stepped h (is_meant who.Nobody t) a a t b o m p
+  stepped ins.AddToFirst a t b o page f m p = for_tag-stepped h a a t b o (add_attributes (first_open b.stack)) (λ tag. attributes-stepped h a a t b o (first_open b.stack) tag p) p
+  stepped ins.AddToSecond a t b o page f m p = for_tag-stepped h a a t b o (add_attributes (second_open b.stack)) (λ tag. attributes-stepped h a a t b o (second_open b.stack) tag p) p
+  stepped ins.DetachSecond a t b o page f m p = detach-stepped h a a t b o (second_open b.stack) p
+  stepped (ins.Enter m') a t b o page f m p = enter-stands m' a t b m p
+  stepped ins.KeepMode a t b o page f m p = keep-stands a t b m p
+  stepped ins.Restore a t b o page f m p = restore-stands a t b m p
+  stepped (ins.PushTemplateMode m') a t b o page f m p =
       let g = split (is_template_mode m') _ m in
       let es : List OpenElement = seen a.know b.head b.stack in
       with-owed even a t b (m' ∷ b.template_modes) b.frameset_ok (both (is_template_mode m') (list_all is_template_mode b.template_modes) g.0 p.0.modes)
       (mode-owes a.debt (length b.template_modes) (templates_among (core es)) b.frameset_ok (has_no word.Template (core es)) g.1 p.0.owed) p
-  stepped ins.PopTemplateMode a t b o f m p =
+  stepped ins.PopTemplateMode a t b o page f m p =
       let es : List OpenElement = seen a.know b.head b.stack in
       with-owed (popped_debt a.debt) a t b (pop_mode b.template_modes) b.frameset_ok (popped-hold is_template_mode b.template_modes p.0.modes)
       (popped-owes a.debt a.claim (main_mode b.mode b.original) es b.template_modes b.frameset_ok m p.0.claimed p.0.owed) p
-  stepped ins.Reset a t b o f m p = reset-stands a t b m p
-  stepped ins.AppendPending a t b o f m p = pending-stepped h a a t b o p
-  stepped ins.InsertPending a t b o f m p =
+  stepped ins.Reset a t b o page f m p = reset-stands a t b page m p
+  stepped ins.AppendPending a t b o page f m p = pending-stepped h a a t b o p
+  stepped ins.InsertPending a t b o page f m p =
       let x = split (is_plainly a.know) a.full m in
       let c : Config = insert_pending b o in
       well-stepped h (knowing nothing a) a t c.open_state c.flow (insert_pending-well known a t b o f x.1 (nothing-known a t b x.0 p))
-  stepped ins.Adopt a t b o f m p = adopt-stepped h a a t b o m p
-  stepped ins.AdoptAnchor a t b o f m p = anchor-stepped h a a t b o (entry_named (is_word word.A) b.formats) refl m p
-  stepped ins.AdoptNobr a t b o f m p = let l = adopt-leaves h a t b m p in (l.0, refl, l.1, l.2, l.3, tt)
-  stepped (ins.Switch r) a t b o f m p = rests-ground a t b m p
-  stepped (ins.Using m') a t b o f m p = using-stepped h a t b m' m p
-  stepped ins.Foster a t b o f m p = using-stepped h a t b mode.InBody m p
-  stepped ins.Again a t b o f m p = rests-ground a t b m p
-  stepped ins.StopAtScript a t b o f m p = script-stepped h a a t b o m p
-  stepped ins.Finish a t b o f m p = rests-ground a t b m p
+  stepped ins.Adopt a t b o page f m p = adopt-stepped h a a t b o m p
+  stepped ins.AdoptAnchor a t b o page f m p = anchor-stepped h a a t b o (entry_named (is_word word.A) b.formats) refl m p
+  stepped ins.AdoptNobr a t b o page f m p = let l = adopt-leaves h a t b m p in (l.0, refl, l.1, l.2, l.3, tt)
+  stepped (ins.Switch r) a t b o page f m p = rests-ground a t b m p
+  stepped (ins.Using m') a t b o page f m p = using-stepped h a t b m' m p
+  stepped ins.Foster a t b o page f m p = using-stepped h a t b mode.InBody m p
+  stepped ins.Again a t b o page f m p = rests-ground a t b m p
+  stepped ins.StopAtScript a t b o page f m p = script-stepped h a a t b o page m p
+  stepped ins.Finish a t b o page f m p = rests-ground a t b m p
 
   -- ---- a row
 
@@ -463,24 +466,24 @@ module _ (known : NodeId → Bool) (h : Mode → Mode → Bool) where
   flow_at false = On
 
   abbrev pub Walked : List Instr → At → Type 0
-  Walked is a = (left_out : Bool) (t : Token) (b : Open) (o : List Op) → Fits AreFresh fresh-follows known b o On → Stands a t b → grounds h (own_of t) a left_out is ≡ true → (let c : Config = run t (config b o (flow_at left_out)) is in Final t c.open_state c.flow)
+  Walked is a = (left_out : Bool) (t : Token) (b : Open) (o : List Op) → b.context ≡ None → Fits AreFresh fresh-follows known b o On → Stands a t b → grounds h (own_of t) a left_out is ≡ true → (let c : Config = run t (config b o (flow_at left_out)) is in Final t c.open_state c.flow)
 
-  walked-on : (is : List Instr) (a x : At) (skips : Bool) (t : Token) (b : Open) (o : List Op) (f : Flow) → Fits AreFresh fresh-follows known b o f → Stepped h a x skips t b f
+  walked-on : (is : List Instr) (a x : At) (skips : Bool) (t : Token) (b : Open) (o : List Op) (f : Flow) → b.context ≡ None → Fits AreFresh fresh-follows known b o f → Stepped h a x skips t b f
       → grounds h (own_of t) a false is ≡ true → (if skips then grounds h (own_of t) x true is else true) ≡ true → Walked is a → Walked is x → (let c : Config = run t (config b o f) is in Final t c.open_state c.flow)
-  walked-on is a x skips t b o On fit p w v rest rest' = rest false t b o fit p w
-  walked-on is a x skips t b o Skip fit p w v rest rest' = rest' true t b o (fit.0, fit.1, tt) p.0 (subst (λ (y : Bool). (if y then grounds h (own_of t) x true is else true) ≡ true) p.1 v)
-  walked-on is a x skips t b o (Leave n) fit p w v rest rest' = subst (λ (c : Config). Final t c.open_state c.flow) (sym (run-left is t b o n)) p
+  walked-on is a x skips t b o On page fit p w v rest rest' = rest false t b o page fit p w
+  walked-on is a x skips t b o Skip page fit p w v rest rest' = rest' true t b o page (fit.0, fit.1, tt) p.0 (subst (λ (y : Bool). (if y then grounds h (own_of t) x true is else true) ≡ true) p.1 v)
+  walked-on is a x skips t b o (Leave n) page fit p w v rest rest' = subst (λ (c : Config). Final t c.open_state c.flow) (sym (run-left is t b o n)) p
 
   pub walked : (is : List Instr) (a : At) → Walked is a
   unfolding run
-  walked [] a true t b o fit p w = rests-ground a t b w p
-  walked [] a false t b o fit p w = rests-ground a t b w p
-  walked (i ∷ is) a true t b o fit p w = walked is a false t b o fit p w
-  walked (ins.Finish ∷ is) a false t b o fit p w =
+  walked [] a true t b o page fit p w = rests-ground a t b w p
+  walked [] a false t b o page fit p w = rests-ground a t b w p
+  walked (i ∷ is) a true t b o page fit p w = walked is a false t b o page fit p w
+  walked (ins.Finish ∷ is) a false t b o page fit p w =
       subst (λ (c : Config). Final t c.open_state c.flow) (sym (run-left is t b o next.Finished)) (rests-ground a t b (split (rests a) true w).0 p)
-  walked (i ∷ is) a false t b o fit p w =
+  walked (i ∷ is) a false t b o page fit p w =
       let c : Config = step i t b o in
       let g = split (may h i (own_of t) a) _ w in
       let q = split (grounds h (own_of t) (onward i (own_of t) a) false is) _ g.1 in
-      walked-on is (onward i (own_of t) a) (leaving_out i (own_of t) a) (may_skip i) t c.open_state c.ops c.flow (turn-fits AreFresh fresh-follows known t (on b o) i fit) (stepped i a t b o fit g.0 p) q.0 q.1
+      walked-on is (onward i (own_of t) a) (leaving_out i (own_of t) a) (may_skip i) t c.open_state c.ops c.flow (step-in Stays stays i t b o ∙ page) (turn-fits AreFresh fresh-follows known t (on b o) i fit) (stepped i a t b o page fit g.0 p) q.0 q.1
       (walked is (onward i (own_of t) a)) (walked is (leaving_out i (own_of t) a))

@@ -208,8 +208,9 @@ templates_in (e ∷ es) = if is_word Template e.name then suc (templates_in es) 
 abbrev pub HasRoot : List OpenElement → Type 0
 HasRoot es = IfSome (first_open es) (λ e. IsTrue (is_word Html e.name))
 
--- the open state stands on its root; its ids are bound, and those that come aren't
+-- the open state of a page stands on its root; its ids are bound, and those that come aren't
 pub record IsGrounded (b : Open) : Type 0 where
+  pub page : b.context ≡ None
   pub ground : GroundOf b
   pub ids : (known : NodeId → Bool) × Serves AreFresh known b
 

@@ -58,13 +58,15 @@ is_html_or_point e = is_html e.name || is_text_point e || is_html_point e
 
 -- ---- the dispatcher
 
--- the adjusted current node (13.2.4.2)
-abbrev pub adjusted_of : List OpenElement → Option OpenElement
-adjusted_of [] = None
-adjusted_of (e ∷ es) = Some e
+-- the adjusted current node (13.2.4.2): in a fragment the context stands for the first element of the stack
+abbrev pub adjusted_of : Option OpenElement → List OpenElement → Option OpenElement
+adjusted_of context [] = None
+adjusted_of None (e ∷ es) = Some e
+adjusted_of (Some c) (e ∷ []) = Some c
+adjusted_of (Some c) (e ∷ d ∷ es) = Some e
 
 abbrev pub adjusted : Open → Option OpenElement
-adjusted b = adjusted_of b.stack
+adjusted b = adjusted_of b.context b.stack
 
 abbrev pub is_foreign_element : Option OpenElement → Bool
 is_foreign_element None = false

@@ -8,13 +8,14 @@ use Rattle.html_types.specs.declared.word.Word.TheVariants as word
 use Rattle.html_types.specs.declared.instruction.Instr.{Instr}
 use Rattle.html_types.specs.declared.instruction.Instr.TheVariants as ins
 use Rattle.html_types.specs.declared.instruction.Test.{Test}
-use Rattle.html_types.specs.declared.instruction.Test.TheVariants.{InScope, Current, OnStack, Listed, Quirks, SecondIsBody, FramesetOk, QuirkyDoctype, InForm, HiddenInput, InTemplates, InTables, OptionInOptgroup, SelfClosing, BreaksOut}
+use Rattle.html_types.specs.declared.instruction.Test.TheVariants.{InScope, Current, OnStack, Listed, Quirks, SecondIsBody, FramesetOk, QuirkyDoctype, InForm, HiddenInput, InTemplates, InTables, OptionInOptgroup, SelfClosing, BreaksOut, InFragment}
 use Rattle.html_types.specs.declared.instruction.Scope.TheVariants as scope
 use Rattle.html_types.specs.declared.instruction.Mode.{Mode}
 use Rattle.html_types.specs.declared.instruction.Mode.TheVariants as mode
 use Rattle.html_types.specs.declared.instruction.Who.TheVariants as who
 use Rattle.html_types.specs.declared.instruction.Flow.{Flow}
 use Rattle.html_types.specs.declared.instruction.Flow.TheVariants.{On, Skip, Leave}
+use Rattle.html_types.specs.declared.instruction.Next.{Next}
 use Rattle.html_types.specs.declared.instruction.Next.TheVariants as next
 use Rattle.html_types.specs.declared.instruction.Then.TheVariants.{Nothing, Link, Nobr}
 use Rattle.html_types.specs.Names.{name_of, name_text, space_of}
@@ -111,6 +112,7 @@ holds InTables t b = is_table_mode b.mode
 holds OptionInOptgroup t b = option_in_optgroup b.stack
 holds SelfClosing t b = closes_itself t
 holds BreaksOut t b = is_breaking t
+holds InFragment t b = is_some b.context
 
 -- ---- elements
 
@@ -305,10 +307,15 @@ abbrev pub original_or : Mode → Option Mode → Mode
 original_or m None = m
 original_or m (Some original) = original
 
+-- the parser stops at a script, but in a fragment
+abbrev pub next_at_script : Option OpenElement → NodeId → Next
+next_at_script None i = next.Script i
+next_at_script (Some c) i = next.Done
+
 -- the script is popped, and the parser stops at it
 abbrev pub stop_at_script : List OpenElement → Open → List Op → Config
 stop_at_script [] b o = config b o (Leave next.Done)
-stop_at_script (e ∷ es) b o = config (record b { stack = es }) o (Leave (next.Script e.id))
+stop_at_script (e ∷ es) b o = config (record b { stack = es }) o (Leave (next_at_script b.context e.id))
 
 -- ---- foreign content is left (13.2.6.5)
 
@@ -403,7 +410,7 @@ step ins.KeepMode t b o = on (record b { original = Some b.mode }) o
 step ins.Restore t b o = on (record b { mode = original_or mode.InBody b.original; original = None }) o
 step (ins.PushTemplateMode m) t b o = on (record b { template_modes = m ∷ b.template_modes }) o
 step ins.PopTemplateMode t b o = on (record b { template_modes = pop_mode b.template_modes }) o
-step ins.Reset t b o = on (record b { mode = reset_mode b.stack b.head b.template_modes }) o
+step ins.Reset t b o = on (record b { mode = reset_mode b.context b.stack b.head b.template_modes }) o
 step ins.AppendPending t b o = append_pending t b o
 step ins.InsertPending t b o = insert_pending b o
 step ins.Adopt t b o = for_tag adopt_own t b o

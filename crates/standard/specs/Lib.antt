@@ -36,5 +36,7 @@ pub mod Prepare
 pub mod Page
 pub mod Scripts
 pub mod Parser
+pub mod Quiet
+pub mod Fragment
 pub mod Serial
 pub mod Output

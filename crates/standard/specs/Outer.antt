@@ -1,5 +1,5 @@
 -- The text of a tree (13.3 Serializing HTML fragments), by recursion on the tree.
-use Rattle.std.specs.Prelude.{ℕ, ◌==◌, Bool, false, if◌then◌else◌, List, [], ◌∷◌, ◌++◌, flat_map, length, codes, Some, None}
+use Rattle.std.specs.Prelude.{ℕ, ◌==◌, Bool, false, if◌then◌else◌, List, [], ◌∷◌, ◌++◌, map, flat_map, length, codes, Some, None}
 use Rattle.std.specs.List.{concat}
 use Rattle.html_types.specs.Names.{name_text}
 use Rattle.html_types.specs.declared.attributes.Attribute.{Attribute}
@@ -73,6 +73,10 @@ around t n inner = opening_text (above_kind t n) (kind_of t n) ++ concat inner +
 -- the outerHTML of a node
 unfoldable pub outer_text : Nodes → ℕ → List ℕ
 outer_text t n = fold_nodes (around t) [] (shown_in_text t) (length t) n
+
+-- the innerHTML of a node: the texts of those shown under it
+abbrev pub inner_text : Nodes → ℕ → List ℕ
+inner_text t n = concat (map (outer_text t) (shown_in_text t n))
 
 -- the text of the Document
 abbrev pub document_text : Nodes → List ℕ

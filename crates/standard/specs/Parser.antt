@@ -44,6 +44,7 @@ opening realm = record {
   skip_line_feed = false;
   foster = false;
   next = record { realm = realm; n = 0 };
+  context = None;
 }
 
 pub record Parser : Type 0 where

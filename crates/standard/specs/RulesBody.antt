@@ -9,7 +9,7 @@ use Rattle.html_types.specs.declared.instruction.Instr.TheVariants.{Need, Forbid
 use Rattle.html_types.specs.declared.instruction.Instr.TheVariants as ins
 use Rattle.html_types.specs.declared.instruction.Then.{Then}
 use Rattle.html_types.specs.declared.instruction.Then.TheVariants as behind
-use Rattle.html_types.specs.declared.instruction.Test.TheVariants.{InScope, Current, OnStack, Listed, Quirks, SecondIsBody, FramesetOk, InForm, HiddenInput, InTemplates, InTables, SelfClosing}
+use Rattle.html_types.specs.declared.instruction.Test.TheVariants.{InScope, Current, OnStack, Listed, Quirks, SecondIsBody, FramesetOk, InForm, HiddenInput, InTemplates, InTables, SelfClosing, InFragment}
 use Rattle.html_types.specs.declared.instruction.Who.TheVariants.{Own, The, Any}
 use Rattle.html_types.specs.declared.instruction.Group.TheVariants.{Headings, DefinitionItems}
 use Rattle.html_types.specs.declared.instruction.Scope.TheVariants as scope
@@ -210,7 +210,7 @@ after_body_start = (
 abbrev pub after_body_end : List (List Word × List Instr)
 after_body_end = (
   Html ∷ [],
-  Enter AfterAfterBody ∷ [],
+  Forbid InFragment ∷ Enter AfterAfterBody ∷ [],
 ) ∷ []
 
 abbrev pub after_body_anything : List Instr

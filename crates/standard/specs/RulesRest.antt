@@ -5,7 +5,7 @@ use Rattle.html_types.specs.declared.word.Word.{Word}
 use Rattle.html_types.specs.declared.word.Word.TheVariants.{Base, Basefont, Bgsound, Caption, Col, Colgroup, Frame, Frameset, Hr, Html, Input, Keygen, Link, Meta, Noframes, Optgroup, Option, Script, Select, Style, Table, Tbody, Td, Template, Textarea, Tfoot, Th, Thead, Title, Tr}
 use Rattle.html_types.specs.declared.instruction.Instr.{Instr}
 use Rattle.html_types.specs.declared.instruction.Instr.TheVariants.{Need, Forbid, When, Unless, Insert, Void, Pop, Until, ClearToMarker, Enter, PushTemplateMode, PopTemplateMode, Reset, Using, Again, Finish}
-use Rattle.html_types.specs.declared.instruction.Test.TheVariants.{InScope, Current, OnStack, OptionInOptgroup}
+use Rattle.html_types.specs.declared.instruction.Test.TheVariants.{InScope, Current, OnStack, OptionInOptgroup, InFragment}
 use Rattle.html_types.specs.declared.instruction.Who.TheVariants.{Own, The}
 use Rattle.html_types.specs.declared.instruction.Scope.TheVariants as scope
 use Rattle.html_types.specs.declared.instruction.Mode.TheVariants.{InHead, InBody, InTable, InColumnGroup, InTableBody, InRow, InSelect, AfterFrameset, AfterAfterFrameset}
@@ -127,7 +127,7 @@ in_frameset_start = (
 abbrev pub in_frameset_end : List (List Word × List Instr)
 in_frameset_end = (
   Frameset ∷ [],
-  Forbid (Current (The Html)) ∷ Pop ∷ Unless (Current (The Frameset)) ∷ Enter AfterFrameset ∷ [],
+  Forbid (Current (The Html)) ∷ Pop ∷ Forbid InFragment ∷ Unless (Current (The Frameset)) ∷ Enter AfterFrameset ∷ [],
 ) ∷ []
 
 abbrev pub in_frameset_anything : List Instr

@@ -21,6 +21,7 @@ use Rattle.standard.specs.Outer.{outer_text}
 use Rattle.standard.specs.Prepare.{Prepared, still, inline, external, prepare}
 use Rattle.standard.specs.Scripts.{Fetched, got, missing, faulted, is_lawful, file_statements}
 use Rattle.standard.specs.Statements.{statements}
+use Rattle.standard.specs.Fragment.{Setting, lacking, too_deep, setting, inner_set}
 use Rattle.standard.specs.Parser.{Parser, new_parser, Took, took, take_character, Finished, finish}
 
 -- ---- what a parse is given
@@ -194,6 +195,8 @@ unfoldable mutual
       write n w (may_write (with_line_feed t) s) (with_line_feed t) s then λ s'. run_statements n w k list s'
   run_statements (suc n) w k (statement.Remove v ∷ list) s = on_element n w k list remove (find_id (tree_of s) v) s
   run_statements (suc n) w k (statement.Append v c ∷ list) s = on_move n w k list (appended (tree_of s) (find_id (tree_of s) v) (find_id (tree_of s) c)) s
+  run_statements (suc n) w k (statement.SetInner v t ∷ list) s =
+      on_set n w k list (inner_set w.entities s.parser.open_state.quirks (tree_of s) (find_id (tree_of s) v) t) s
   run_statements (suc n) w k (statement.LogById v ∷ list) s = on_element n w k list (read k) (find_id (tree_of s) v) s
   run_statements (suc n) w k (statement.LogRoot ∷ list) s = on_element n w k list (read k) (first_element (tree_of s)) s
 
@@ -208,6 +211,14 @@ unfoldable mutual
   on_move zero w k list t s = starved
   on_move (suc n) w k list None s = goes (with_line (line.Throw k) s)
   on_move (suc n) w k list (Some t) s = run_statements n w k list (with_tree t s)
+
+  -- the tree in which an element's children are those of a fragment, or the end of this text where there is no such element; at a push that
+  -- would open element 513 the page is refused, and the tree is as before. No script of a fragment is prepared
+  pub on_set : ℕ → World → ℕ → List Statement → Setting → Serial → Course
+  on_set zero w k list t s = starved
+  on_set (suc n) w k list lacking s = goes (with_line (line.Throw k) s)
+  on_set (suc n) w k list too_deep s = refuses why.Depth s
+  on_set (suc n) w k list (setting t) s = run_statements n w k list (with_tree t s)
 
   -- document.write(), and of all that it writes document.writeln(): past the limit nothing is inserted
   pub write : ℕ → World → Bool → List ℕ → Serial → Course

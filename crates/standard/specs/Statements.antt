@@ -1,4 +1,4 @@
--- The language of scripts: six statements of JavaScript. A script's text is a list of statements, with space, TAB, LF
+-- The language of scripts: seven statements of JavaScript. A script's text is a list of statements, with space, TAB, LF
 -- and CR before, between and behind them, and none inside them but in a string. A string with its quotes is a JSON
 -- string (RFC 8259, section 7), in which a surrogate stands only in a pair, and it means that string's value.
 use Rattle.std.specs.Prelude.{ℕ, zero, suc, ◌==◌, ◌||◌, Bool, true, false, List, [], ◌∷◌, length, Option, Some, None, option_map, option_and_then, encode_utf8_all, codes}
@@ -6,7 +6,7 @@ use Rattle.std.specs.Str.{chars}
 use Prim.Native.String.{String}
 use Rattle.json.specs.Text.{content, plain}
 use Rattle.html_types.specs.declared.script.Statement.{Statement}
-use Rattle.html_types.specs.declared.script.Statement.TheVariants.{Write, WriteLine, Remove, Append, LogById, LogRoot}
+use Rattle.html_types.specs.declared.script.Statement.TheVariants.{Write, WriteLine, Remove, Append, SetInner, LogById, LogRoot}
 
 -- space, TAB, LF and CR
 abbrev pub is_white : ℕ → Bool
@@ -79,8 +79,9 @@ statement t =
     (or_else (with_string WriteLine "document.writeln(" ");" t)
     (or_else (with_string Remove "document.getElementById(" ").remove();" t)
     (or_else (with_strings Append "document.getElementById(" ").append(document.getElementById(" "));" t)
+    (or_else (with_strings SetInner "document.getElementById(" ").innerHTML = " ";" t)
     (or_else (with_string LogById "console.log(document.getElementById(" ").outerHTML);" t)
-    (option_map (λ rest. (LogRoot, rest)) (behind (codes "console.log(document.documentElement.outerHTML);") t))))))
+    (option_map (λ rest. (LogRoot, rest)) (behind (codes "console.log(document.documentElement.outerHTML);") t)))))))
 
 -- The number bounds the statements. One more than the characters is always enough.
 abbrev pub statements_within : ℕ → List ℕ → Option (List Statement)

@@ -184,6 +184,15 @@ all_put t (c ∷ cs) p = all_put (put_of t c p None) cs p
 abbrev pub children_moved : Nodes → ℕ → ℕ → Nodes
 children_moved t from p = all_put t (children_of t from) p
 
+-- nodes taken out one by one
+abbrev pub all_out : Nodes → List ℕ → Nodes
+all_out t [] = t
+all_out t (c ∷ cs) = all_out (detached t c) cs
+
+-- a node without its children
+unfoldable pub emptied : Nodes → ℕ → Nodes
+emptied t p = all_out t (children_of t p)
+
 -- The tree with the second node last among the first one's children (DOM 4.2.6, append): none where either isn't there, or
 -- where the first is the second or stands under it.
 abbrev pub appended : Nodes → Option ℕ → Option ℕ → Option Nodes

@@ -502,6 +502,32 @@ framesets =
     []
 
 -- svg and math
+abbrev pub fragments : List Example
+fragments =
+    -- the children of an element are a fragment's, whose script doesn't run
+    record { page = "<div id=\"d\">o</div><script>document.getElementById(\"d\").innerHTML = \"<b>x<script>foo();<\\/script>\";</script>y"; text = "tree \"<html><head></head><body><div id=\\\"d\\\"><b>x<script>foo();</script></b></div><script>document.getElementById(\\\"d\\\").innerHTML = \\\"<b>x<script>foo();<\\\\/script>\\\";</script>y</body></html>\"\n" } ∷
+    -- cells in a row
+    record { page = "<table><tr id=\"d\"></tr></table><script>document.getElementById(\"d\").innerHTML = \"<td>a<td>b\";</script>"; text = "tree \"<html><head></head><body><table><tbody><tr id=\\\"d\\\"><td>a</td><td>b</td></tr></tbody></table><script>document.getElementById(\\\"d\\\").innerHTML = \\\"<td>a<td>b\\\";</script></body></html>\"\n" } ∷
+    -- a cell gives in body
+    record { page = "<table><tr><td id=\"d\">o</table><script>document.getElementById(\"d\").innerHTML = \"<td>a\";</script>"; text = "tree \"<html><head></head><body><table><tbody><tr><td id=\\\"d\\\">a</td></tr></tbody></table><script>document.getElementById(\\\"d\\\").innerHTML = \\\"<td>a\\\";</script></body></html>\"\n" } ∷
+    -- a select in a table looks for a table on the stack alone
+    record { page = "<table id=\"d\"></table><script>document.getElementById(\"d\").innerHTML = \"<select><template></template><td>x\";</script>"; text = "tree \"<html><head></head><body><table id=\\\"d\\\"><select><template></template>x</select></table><script>document.getElementById(\\\"d\\\").innerHTML = \\\"<select><template></template><td>x\\\";</script></body></html>\"\n" } ∷
+    -- a template's contents
+    record { page = "<template id=\"d\">o</template><script>document.getElementById(\"d\").innerHTML = \"<tr><td>a\";</script>"; text = "tree \"<html><head><template id=\\\"d\\\"><tr><td>a</td></tr></template><script>document.getElementById(\\\"d\\\").innerHTML = \\\"<tr><td>a\\\";</script></head><body></body></html>\"\n" } ∷
+    -- no start tag came before the text of a textarea
+    record { page = "<textarea id=\"d\"></textarea><script>document.getElementById(\"d\").innerHTML = \"a<\\/textarea>\";</script>"; text = "tree \"<html><head></head><body><textarea id=\\\"d\\\">a&lt;/textarea&gt;</textarea><script>document.getElementById(\\\"d\\\").innerHTML = \\\"a<\\\\/textarea>\\\";</script></body></html>\"\n" } ∷
+    -- svg and an integration point
+    record { page = "<svg><g id=\"d\"></g><title id=\"e\"></title></svg><script>document.getElementById(\"d\").innerHTML = \"<circle/>\"; document.getElementById(\"e\").innerHTML = \"<br>\";</script>"; text = "tree \"<html><head></head><body><svg><g id=\\\"d\\\"><circle></circle></g><title id=\\\"e\\\"><br></title></svg><script>document.getElementById(\\\"d\\\").innerHTML = \\\"<circle/>\\\"; document.getElementById(\\\"e\\\").innerHTML = \\\"<br>\\\";</script></body></html>\"\n" } ∷
+    -- the form element pointer
+    record { page = "<form><div id=\"d\"></div></form><script>document.getElementById(\"d\").innerHTML = \"<form>x</form><form>y\";</script>"; text = "tree \"<html><head></head><body><form><div id=\\\"d\\\">x<form>y</form></div></form><script>document.getElementById(\\\"d\\\").innerHTML = \\\"<form>x</form><form>y\\\";</script></body></html>\"\n" } ∷
+    -- an html context: no body ends twice
+    record { page = "<html id=\"d\"><body><script>document.getElementById(\"d\").innerHTML = \"<p>a</html><!--b-->\";</script>z"; text = "tree \"<html id=\\\"d\\\"><head></head><body><p>a</p></body><!--b--></html>\"\n" } ∷
+    -- text behind joins the fragment's
+    record { page = "<div id=\"d\"><table><script>document.getElementById(\"d\").innerHTML = \"q\";</script>x"; text = "tree \"<html><head></head><body><div id=\\\"d\\\">qx</div></body></html>\"\n" } ∷
+    -- no such element
+    record { page = "<script>document.getElementById(\"d\").innerHTML = \"x\";</script>"; text = "throw 1\ntree \"<html><head><script>document.getElementById(\\\"d\\\").innerHTML = \\\"x\\\";</script></head><body></body></html>\"\n" } ∷
+    []
+
 abbrev pub foreign_content : List Example
 foreign_content =
     -- attributes and an element respelled; a foreignObject stays open at the end of its svg

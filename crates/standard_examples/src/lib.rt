@@ -2,7 +2,7 @@
 //! for it, a list a group; what doesn't fit that form stands in `proofs/`.
 #![tactic(auto)]
 
-ghost use Rattle.standard_examples.specs.Pages.{AllWrite, blocks, scripts, moves, formatting, tables, foster_parenting, captions_and_columns, rows_and_cells, selects, templates, framesets, foreign_content};
+ghost use Rattle.standard_examples.specs.Pages.{AllWrite, blocks, scripts, moves, formatting, tables, foster_parenting, captions_and_columns, rows_and_cells, selects, templates, framesets, fragments, foreign_content};
 
 /// Text, blocks and lists (13.2.6.4.1 to 13.2.6.4.7).
 pub fn blocks()
@@ -57,6 +57,11 @@ pub fn templates()
 /// Framesets (13.2.6.4.20 to 13.2.6.4.23).
 pub fn framesets()
     ensures { AllWrite framesets }
+{}
+
+/// Fragments (13.4): what a script sets in an element.
+pub fn fragments()
+    ensures { AllWrite fragments }
 {}
 
 /// Foreign content: svg and math (13.2.6.5).

@@ -1,5 +1,5 @@
 -- Nested scripts by a list of frames: each step of a program keeps what comes of it.
-use Rattle.std.proofs.Common.{◌≡◌, ℕ, zero, suc, ◌+◌, ◌-◌, List, [], ◌∷◌, ◌++◌, Option, Some, None, refl, length, take, drop, sym, ◌∙◌, ap, subst, length-append, append_assoc, append-nil, arith}
+use Rattle.std.proofs.Common.{Bool, ◌≡◌, ℕ, zero, suc, ◌+◌, ◌-◌, List, [], ◌∷◌, ◌++◌, Option, Some, None, refl, length, take, drop, sym, ◌∙◌, ap, subst, length-append, append_assoc, append-nil, arith}
 use Rattle.std.proofs.Math.Seq.{take-append_seam, drop-append_seam}
 use Rattle.std.proofs.lemmas.Bool.{le-leb, lt-leb}
 use Rattle.html_types.specs.declared.operation.NodeId.{NodeId}
@@ -10,15 +10,16 @@ use Rattle.html_types.specs.declared.instruction.Stop.{Stop}
 use Rattle.html_types.specs.declared.instruction.Stop.TheVariants as stop
 use Rattle.html_types.specs.declared.script.Line.{Line}
 use Rattle.html_types.specs.declared.script.Line.TheVariants as line
+use Rattle.standard.specs.Fragment.{Setting, lacking, too_deep, setting, inner_set}
 use Rattle.standard.specs.Tree.{Nodes, detached, appended, find_id, first_element}
 use Rattle.standard.specs.Act.{Doc}
 use Rattle.standard.specs.Outer.{outer_text}
 use Rattle.standard.specs.Scripts.{file_statements}
 use Rattle.standard.specs.Statements.{statements}
 use Rattle.standard.specs.Parser.{Parser}
-use Rattle.standard.specs.Serial.{World, Serial, Course, goes, refuses, starved, ◌then◌, advanced, advance, before_point, after_point, moved, inside, back_at, with_line_feed, insert, with_tree, remove, with_line, read, execute, run_statements, on_element, on_move, write, go_on, stopped, end_of_script, run_prepared}
+use Rattle.standard.specs.Serial.{World, Serial, Course, goes, refuses, starved, ◌then◌, advanced, advance, before_point, after_point, moved, inside, back_at, with_line_feed, insert, with_tree, remove, with_line, read, execute, run_statements, on_element, on_move, write, go_on, stopped, end_of_script, run_prepared, on_set}
 use Rattle.standard_laws.specs.Laws.{HasParsed, HasEnded, EndsIn}
-use Rattle.standard_laws.specs.Frames.{Frame, Nest, rests, state_of, back_in, resume_in, resume, NestComesTo, TagComesTo, FramesEnd, ScriptsEnter, FilesEnter, StillTags, ExternalTags, InlineTags, outside_language, OutsideTexts, TextsBegin, begun, parsed_to, RestsEnd, RestsStop, RestsRefuse, Waits, frame_ended, FrameEnds, wrote, WritesFit, WritesRefuse, LinesFit, LinesRefuse, Removes, Appends, ReadsById, ReadsRoot, LacksElement, thrown, Throws}
+use Rattle.standard_laws.specs.Frames.{Frame, Nest, rests, state_of, back_in, resume_in, resume, NestComesTo, TagComesTo, FramesEnd, ScriptsEnter, FilesEnter, StillTags, ExternalTags, InlineTags, outside_language, OutsideTexts, TextsBegin, begun, parsed_to, RestsEnd, RestsStop, RestsRefuse, Waits, frame_ended, FrameEnds, wrote, WritesFit, WritesRefuse, LinesFit, LinesRefuse, Removes, Appends, ReadsById, ReadsRoot, LacksElement, thrown, Throws, Fills, FillsRefuse}
 use Rattle.standard_laws.proofs.Fuel.{Refines, Refines_refl, Refines_trans, Refines_then, run_statements-more, go_on-more}
 use Rattle.standard_laws.proofs.Parse.{advance-parse}
 use Rattle.standard_laws.proofs.Passing.{parse-left}
@@ -413,6 +414,27 @@ appends w x f fs v c list t g at_f l h can come =
     statement-done w x f fs (statement.Append v c) list list (record x.doc { tree = t }) x.lines g at_f l h
     (λ n. rw (on_move-next n w f.number list (appended x.doc.tree (find_id x.doc.tree v) (find_id x.doc.tree c)) t (state_of (framed f fs x)) can) (Refines_refl _)) come
 
+-- where the fragment isn't too deep the other statements follow on the tree that it leaves
+on_set-next : (n : ℕ) (w : World) (k : ℕ) (list : List Statement) (there : Setting) (t : Nodes) (s : Serial) → there ≡ setting t →
+    on_set (suc n) w k list there s ≡ run_statements n w k list (with_tree t s)
+unfolding execute
+on_set-next n w k list there t s is = ap (λ o. on_set (suc n) w k list o s) is
+
+pub fills : Fills
+unfolding execute
+fills w x f fs v c list t g at_f l h can come =
+    statement-done w x f fs (statement.SetInner v c) list list (record x.doc { tree = t }) x.lines g at_f l h
+    (λ n. rw (on_set-next n w f.number list (inner_set w.entities x.parser.open_state.quirks x.doc.tree (find_id x.doc.tree v) c) t (state_of (framed f fs x)) can) (Refines_refl _)) come
+
+pub fill-refuses : FillsRefuse
+unfolding execute
+fill-refuses w x f fs v c list e l h deep = at_frames (λ y. NestComesTo w y (refuses why.Depth (state_of y))) x (f ∷ fs) e (2, framed-refuses, tt)
+  where
+    framed-refuses : resume 2 w (framed f fs x) ≡ refuses why.Depth (state_of (framed f fs x))
+    framed-refuses =
+        statements-next 0 w f fs x (statement.SetInner v c ∷ list) h l
+        ∙ ap (λ t. on_set 1 w f.number list t (state_of (framed f fs x)) then λ u. resume_in 2 w fs x.behind (back_in fs x.behind u)) deep
+
 pub reads_by_id : ReadsById
 unfolding execute
 reads_by_id w x f fs v list e g at_f l h found c =
@@ -437,6 +459,12 @@ no_move-next : (n : ℕ) (w : World) (k : ℕ) (list : List Statement) (left : O
 unfolding execute
 no_move-next n w k list left s is = ap (λ o. on_move (suc n) w k list o s) is
 
+-- and where there is no element whose children are set
+no_set-next : (n : ℕ) (w : World) (k : ℕ) (list : List Statement) (t : Nodes) (quirks : Bool) (e : Option ℕ) (c : List ℕ) (s : Serial) → e ≡ None →
+    on_set (suc n) w k list (inner_set w.entities quirks t e c) s ≡ goes (with_line (line.Throw k) s)
+unfolding execute inner_set
+no_set-next n w k list t quirks e c s is = ap (λ o. on_set (suc n) w k list (inner_set w.entities quirks t o c) s) is
+
 ends-at_once : (n : ℕ) (w : World) (k : ℕ) (s : Serial) → Refines (run_statements n w k [] s) (goes s)
 unfolding execute
 ends-at_once zero w k s = tt
@@ -450,6 +478,8 @@ throws-at n w (statement.WriteLine t) list f fs x lacks = absurd lacks
 throws-at n w (statement.Remove v) list f fs x lacks = no_element-next n w f.number list remove (find_id x.doc.tree v) (state_of (framed f fs x)) lacks
 throws-at n w (statement.Append v c) list f fs x lacks =
     no_move-next n w f.number list (appended x.doc.tree (find_id x.doc.tree v) (find_id x.doc.tree c)) (state_of (framed f fs x)) lacks
+throws-at n w (statement.SetInner v c) list f fs x lacks =
+    no_set-next n w f.number list x.doc.tree x.parser.open_state.quirks (find_id x.doc.tree v) c (state_of (framed f fs x)) lacks
 throws-at n w (statement.LogById v) list f fs x lacks = no_element-next n w f.number list (read f.number) (find_id x.doc.tree v) (state_of (framed f fs x)) lacks
 throws-at n w statement.LogRoot list f fs x lacks = no_element-next n w f.number list (read f.number) (first_element x.doc.tree) (state_of (framed f fs x)) lacks
 

@@ -7,12 +7,13 @@ use Rattle.html_types.specs.declared.script.Ending.{Ending}
 use Rattle.html_types.specs.declared.script.Statement.{Statement}
 use Rattle.html_types.specs.declared.script.Statement.TheVariants as statement
 use Rattle.html_types.specs.declared.instruction.Stop.TheVariants as stop
+use Rattle.standard.specs.Fragment.{Setting, lacking, too_deep, setting, inner_set}
 use Rattle.standard.specs.Statements.{statements}
 use Rattle.standard.specs.Tree.{Nodes, appended, find_id, first_element}
 use Rattle.standard.specs.Prepare.{Prepared, still, inline, external}
 use Rattle.standard.specs.Scripts.{Fetched, got, missing, faulted, file_statements}
 use Rattle.standard.specs.Page.{Page}
-use Rattle.standard.specs.Serial.{World, fetched, Outcome, Serial, Course, goes, refuses, starved, ◌then◌, Advanced, advanced, advance, before_point, moved, tree_of, inside, back_at, with_line_feed, insert, with_tree, remove, read, one_more_executed, prepared, execute, run_statements, on_element, on_move, write, go_on, stopped, end_of_script, run_prepared, run_text, first, Moment, reading, tag_ended, awaits, over, after_script, after_fetch, moment_after, moments_on, outcome_in, serial_with, IsSerial}
+use Rattle.standard.specs.Serial.{World, fetched, Outcome, Serial, Course, goes, refuses, starved, ◌then◌, Advanced, advanced, advance, before_point, moved, tree_of, inside, back_at, with_line_feed, insert, with_tree, remove, read, one_more_executed, prepared, execute, run_statements, on_element, on_move, write, go_on, stopped, end_of_script, run_prepared, run_text, first, Moment, reading, tag_ended, awaits, over, after_script, after_fetch, moment_after, moments_on, outcome_in, serial_with, IsSerial, on_set}
 
 -- g is f, unless f ran out of fuel
 abbrev pub Refines : Course → Course → Type 0
@@ -59,6 +60,8 @@ mutual
   run_statements-more (suc n) w k (statement.Remove v ∷ list) s = on_element-more n w k list remove (find_id (tree_of s) v) s
   run_statements-more (suc n) w k (statement.Append v c ∷ list) s =
       on_move-more n w k list (appended (tree_of s) (find_id (tree_of s) v) (find_id (tree_of s) c)) s
+  run_statements-more (suc n) w k (statement.SetInner v t ∷ list) s =
+      on_set-more n w k list (inner_set w.entities s.parser.open_state.quirks (tree_of s) (find_id (tree_of s) v) t) s
   run_statements-more (suc n) w k (statement.LogById v ∷ list) s = on_element-more n w k list (read k) (find_id (tree_of s) v) s
   run_statements-more (suc n) w k (statement.LogRoot ∷ list) s = on_element-more n w k list (read k) (first_element (tree_of s)) s
 
@@ -72,6 +75,12 @@ mutual
   on_move-more zero w k list left s = tt
   on_move-more (suc n) w k list None s = refl
   on_move-more (suc n) w k list (Some t) s = run_statements-more n w k list (with_tree t s)
+
+  pub on_set-more : (n : ℕ) (w : World) (k : ℕ) (list : List Statement) (t : Setting) (s : Serial) → Refines (on_set n w k list t s) (on_set (suc n) w k list t s)
+  on_set-more zero w k list t s = tt
+  on_set-more (suc n) w k list lacking s = refl
+  on_set-more (suc n) w k list too_deep s = refl
+  on_set-more (suc n) w k list (setting t) s = run_statements-more n w k list (with_tree t s)
 
   pub write-more : (n : ℕ) (w : World) (fits : Bool) (t : List ℕ) (s : Serial) → Refines (write n w fits t s) (write (suc n) w fits t s)
   write-more zero w fits t s = tt

@@ -8,13 +8,14 @@ use Rattle.html_types.specs.declared.script.Statement.TheVariants as statement
 use Rattle.html_types.specs.declared.script.Line.{Line}
 use Rattle.html_types.specs.declared.instruction.Stop.{Stop}
 use Rattle.html_types.specs.declared.instruction.Stop.TheVariants as stop
+use Rattle.standard.specs.Fragment.{Setting, lacking, too_deep, setting, inner_set}
 use Rattle.standard.specs.Entities.{Entities}
 use Rattle.standard.specs.Tree.{Nodes, detached, appended, find_id, first_element}
 use Rattle.standard.specs.Act.{Doc}
 use Rattle.standard.specs.Statements.{statements}
 use Rattle.standard.specs.Prepare.{Prepared, still, inline, external}
 use Rattle.standard.specs.Parser.{Parser}
-use Rattle.standard.specs.Serial.{World, Serial, Course, goes, refuses, starved, ◌then◌, Advanced, advanced, advance, before_point, moved, tree_of, inside, back_at, with_line_feed, insert, awaiting, with_tree, remove, with_line, read, one_more_executed, prepared, write_limit, execute, run_statements, on_element, on_move, write, go_on, stopped, end_of_script, run_prepared, run_text}
+use Rattle.standard.specs.Serial.{World, Serial, Course, goes, refuses, starved, ◌then◌, Advanced, advanced, advance, before_point, moved, tree_of, inside, back_at, with_line_feed, insert, awaiting, with_tree, remove, with_line, read, one_more_executed, prepared, write_limit, execute, run_statements, on_element, on_move, write, go_on, stopped, end_of_script, run_prepared, run_text, on_set}
 
 pub record Steps (R : Serial → Serial → Type 0) : Type 0 where
   pub same : (s : Serial) → R s s
@@ -70,6 +71,8 @@ module _ (R : Serial → Serial → Type 0) (r : Steps R) where
         on_element-kept n w k list remove (find_id (tree_of s) v) s (λ e. r.changed (detached (tree_of s) e) s)
     run_statements-kept (suc n) w k (statement.Append v c ∷ list) s =
         on_move-kept n w k list (appended (tree_of s) (find_id (tree_of s) v) (find_id (tree_of s) c)) s
+    run_statements-kept (suc n) w k (statement.SetInner v t ∷ list) s =
+        on_set-kept n w k list (inner_set w.entities s.parser.open_state.quirks (tree_of s) (find_id (tree_of s) v) t) s
     run_statements-kept (suc n) w k (statement.LogById v ∷ list) s = on_element-kept n w k list (read k) (find_id (tree_of s) v) s (λ e. r.line _ s)
     run_statements-kept (suc n) w k (statement.LogRoot ∷ list) s = on_element-kept n w k list (read k) (first_element (tree_of s)) s (λ e. r.line _ s)
 
@@ -83,6 +86,12 @@ module _ (R : Serial → Serial → Type 0) (r : Steps R) where
     on_move-kept zero w k list left s = tt
     on_move-kept (suc n) w k list None s = r.line _ s
     on_move-kept (suc n) w k list (Some t) s = Kept-from s (with_tree t s) _ (r.changed t s) (run_statements-kept n w k list (with_tree t s))
+
+    on_set-kept : (n : ℕ) (w : World) (k : ℕ) (list : List Statement) (t : Setting) (s : Serial) → Kept R s (on_set n w k list t s)
+    on_set-kept zero w k list t s = tt
+    on_set-kept (suc n) w k list lacking s = r.line _ s
+    on_set-kept (suc n) w k list too_deep s = r.same s
+    on_set-kept (suc n) w k list (setting t) s = Kept-from s (with_tree t s) _ (r.changed t s) (run_statements-kept n w k list (with_tree t s))
 
     write-kept : (n : ℕ) (w : World) (fits : Bool) (t : List ℕ) (s : Serial) → nat_le (s.side.written + length t) write_limit ≡ fits → Kept R s (write n w fits t s)
     write-kept zero w fits t s q = tt

@@ -7,3 +7,4 @@ pub mod Scripts
 pub mod Frames
 pub mod Kept
 pub mod Lines
+pub mod Quiet

@@ -10,6 +10,7 @@ use Rattle.html_types.specs.declared.script.Why.{Why}
 use Rattle.html_types.specs.declared.script.Statement.{Statement}
 use Rattle.html_types.specs.declared.script.Statement.TheVariants as statement
 use Rattle.html_types.specs.declared.instruction.Stop.TheVariants as stop
+use Rattle.standard.specs.Fragment.{Setting, lacking, too_deep, setting, inner_set}
 use Rattle.standard.specs.Entities.{Entities}
 use Rattle.standard.specs.Tree.{Nodes, appended, find_id, first_element}
 use Rattle.standard.specs.Act.{Doc, acts}
@@ -18,7 +19,7 @@ use Rattle.standard.specs.Prepare.{Prepared, still, inline, external}
 use Rattle.standard.specs.Scripts.{Fetched, got, missing, faulted, file_statements}
 use Rattle.standard.specs.Parser.{Parser, Took, took, take_character}
 use Rattle.standard.specs.Page.{Page}
-use Rattle.standard.specs.Serial.{World, fetched, Outcome, Serial, Course, goes, refuses, starved, ◌then◌, Advanced, advanced, advance, done_then, before_point, after_point, moved, tree_of, inside, back_at, with_line_feed, may_write, insert, with_tree, remove, read, one_more_executed, prepared, write_limit, execute, run_statements, on_element, on_move, write, go_on, stopped, end_of_script, run_prepared, run_text, first, Moment, reading, tag_ended, awaits, over, after_character, unless_pending, after_script, after_fetch, read_next, moment_after, moments_on, IsSerial}
+use Rattle.standard.specs.Serial.{World, fetched, Outcome, Serial, Course, goes, refuses, starved, ◌then◌, Advanced, advanced, advance, done_then, before_point, after_point, moved, tree_of, inside, back_at, with_line_feed, may_write, insert, with_tree, remove, read, one_more_executed, prepared, write_limit, execute, run_statements, on_element, on_move, write, go_on, stopped, end_of_script, run_prepared, run_text, first, Moment, reading, tag_ended, awaits, over, after_character, unless_pending, after_script, after_fetch, read_next, moment_after, moments_on, IsSerial, on_set}
 use Rattle.standard_laws.proofs.Fuel.{Refines, Refines-by, run_statements-more, write-more, go_on-more, end_of_script-more, run_prepared-more, moment_after-by, moments_on-by, over-by, over-serial}
 
 -- ---- the parser takes characters
@@ -171,6 +172,15 @@ on_move-ends w k list (Some t) s rest =
     let (n, p) = rest t in
     (suc n, Spends-via s (with_tree t s) _ (omega arith) refl p)
 
+on_set-ends : (w : World) (k : ℕ) (list : List Statement) (there : Setting) (s : Serial) →
+    ((t : Nodes) → Ends (Spends (with_tree t s)) (λ n. run_statements n w k list (with_tree t s))) → Ends (Spends s) (λ n. on_set n w k list there s)
+unfolding execute
+on_set-ends w k list lacking s rest = (1, (omega arith, inr refl))
+on_set-ends w k list too_deep s rest = (1, tt)
+on_set-ends w k list (setting t) s rest =
+    let (n, p) = rest t in
+    (suc n, Spends-via s (with_tree t s) _ (omega arith) refl p)
+
 -- a text is written, and then the other statements run
 written-ends : (t : List ℕ) (list : List Statement) (b : ℕ) (w : World) → GoesOn b w → (k : ℕ) → ((s : Serial) → left s < b → Ends (Spends s) (λ n. run_statements n w k list s)) →
     (s : Serial) → left s < b → Ends (Spends s) (λ n. write n w (may_write t s) t s then λ s'. run_statements n w k list s')
@@ -196,6 +206,9 @@ run_statements-ends (statement.Remove v ∷ list) b w ih k s h =
 run_statements-ends (statement.Append v c ∷ list) b w ih k s h =
     later (Spends s) (λ n. run_statements n w k (statement.Append v c ∷ list) s)
     (on_move-ends w k list (appended (tree_of s) (find_id (tree_of s) v) (find_id (tree_of s) c)) s (λ t. run_statements-ends list b w ih k (with_tree t s) h))
+run_statements-ends (statement.SetInner v t ∷ list) b w ih k s h =
+    later (Spends s) (λ n. run_statements n w k (statement.SetInner v t ∷ list) s)
+    (on_set-ends w k list (inner_set w.entities s.parser.open_state.quirks (tree_of s) (find_id (tree_of s) v) t) s (λ u. run_statements-ends list b w ih k (with_tree u s) h))
 run_statements-ends (statement.LogById v ∷ list) b w ih k s h =
     later (Spends s) (λ n. run_statements n w k (statement.LogById v ∷ list) s)
     (on_element-ends w k list (read k) (find_id (tree_of s) v) s (λ e. refl) (λ e. refl) (λ e. run_statements-ends list b w ih k (read k e s) h))

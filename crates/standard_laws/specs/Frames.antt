@@ -32,6 +32,7 @@ use Rattle.html_types.specs.declared.script.Statement.TheVariants as statement
 use Rattle.html_types.specs.declared.script.Line.{Line}
 use Rattle.html_types.specs.declared.script.Line.TheVariants as line
 use Rattle.html_types.specs.declared.instruction.Stop.TheVariants as stop
+use Rattle.standard.specs.Fragment.{Setting, lacking, too_deep, setting, inner_set}
 use Rattle.standard.specs.Tree.{Nodes, detached, appended, find_id, first_element}
 use Rattle.standard.specs.Act.{Doc, node_of}
 use Rattle.standard.specs.Outer.{outer_text}
@@ -246,6 +247,18 @@ Appends = (w : World) (x : Nest) (f : Frame) (fs : List Frame) (v c : List ℕ) 
     x.frames ≡ f ∷ fs → f.list ≡ statement.Append v c ∷ list → Waits x.pending f.rest → appended x.doc.tree (find_id x.doc.tree v) (find_id x.doc.tree c) ≡ Some t →
     NestComesTo w (has_moved t list f fs x) g → NestComesTo w x g
 
+-- the children of an element were set, which left this tree
+abbrev pub Fills : Type 0
+Fills = (w : World) (x : Nest) (f : Frame) (fs : List Frame) (v c : List ℕ) (list : List Statement) (t : Nodes) (g : Course) →
+    x.frames ≡ f ∷ fs → f.list ≡ statement.SetInner v c ∷ list → Waits x.pending f.rest → inner_set w.entities x.parser.open_state.quirks x.doc.tree (find_id x.doc.tree v) c ≡ setting t →
+    NestComesTo w (has_moved t list f fs x) g → NestComesTo w x g
+
+-- or the fragment is too deep
+abbrev pub FillsRefuse : Type 0
+FillsRefuse = (w : World) (x : Nest) (f : Frame) (fs : List Frame) (v c : List ℕ) (list : List Statement) →
+    x.frames ≡ f ∷ fs → f.list ≡ statement.SetInner v c ∷ list → Waits x.pending f.rest → inner_set w.entities x.parser.open_state.quirks x.doc.tree (find_id x.doc.tree v) c ≡ too_deep →
+    NestComesTo w x (refuses why.Depth (state_of x))
+
 -- an element was read
 abbrev pub has_read : ℕ → List Statement → Frame → List Frame → Nest → Nest
 has_read e list f fs x = record x { lines = x.lines ++ line.Log f.number (outer_text x.doc.tree e) ∷ []; frames = record f { list = list } ∷ fs }
@@ -266,6 +279,7 @@ LacksElement t (statement.Write v) = ⊥
 LacksElement t (statement.WriteLine v) = ⊥
 LacksElement t (statement.Remove v) = find_id t v ≡ None
 LacksElement t (statement.Append v c) = appended t (find_id t v) (find_id t c) ≡ None
+LacksElement t (statement.SetInner v c) = find_id t v ≡ None
 LacksElement t (statement.LogById v) = find_id t v ≡ None
 LacksElement t statement.LogRoot = first_element t ≡ None
 

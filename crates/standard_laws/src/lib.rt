@@ -1,11 +1,13 @@
 //! Laws of the serial parse, proved of the definitions in `standard`: on functions that do nothing, so that a contract names each.
 //!
-//! `specs/Laws` has what they say; `specs/Frames` has nested scripts as a list of frames.
+//! `specs/Laws` has what they say; `specs/Frames` has nested scripts as a list of frames; `specs/Quiet` texts that are read
+//! through, and pages none of whose scripts runs.
 #![tactic(auto)]
 
 ghost use Rattle.standard_laws.specs.Laws.{HasOneOutcome, ParsesInPieces, AdvancesByParse, BatchesLead, WholeBatchesLead, LeavesNothing, EndLeads, FinishLeads, OverIsSerial};
 ghost use Rattle.standard_laws.specs.Laws.{ScriptLeads, ScriptRefuses, StillScripts, ExternalScripts, SyntaxErrors, AwaitsMissing, AwaitsFault, AwaitsGot, AwaitsRefuses, FileSyntaxErrors, LinesBegin, OutputBegins};
-ghost use Rattle.standard_laws.specs.Frames.{FramesEnd, ScriptsEnter, FilesEnter, StillTags, ExternalTags, InlineTags, OutsideTexts, TextsBegin, RestsEnd, RestsStop, RestsRefuse, FrameEnds, WritesFit, WritesRefuse, LinesFit, LinesRefuse, Removes, Appends, ReadsById, ReadsRoot, Throws};
+ghost use Rattle.standard_laws.specs.Frames.{FramesEnd, ScriptsEnter, FilesEnter, StillTags, ExternalTags, InlineTags, OutsideTexts, TextsBegin, RestsEnd, RestsStop, RestsRefuse, FrameEnds, WritesFit, WritesRefuse, LinesFit, LinesRefuse, Removes, Appends, Fills, FillsRefuse, ReadsById, ReadsRoot, Throws};
+ghost use Rattle.standard_laws.specs.Quiet.{ThroughByParse, ThroughInPieces, QuietIsSerial};
 
 /// Every page has exactly one outcome.
 pub fn has_one_outcome()
@@ -93,6 +95,8 @@ pub fn statements_run()
     ensures long_line { LinesRefuse }
     ensures remove { Removes }
     ensures append { Appends }
+    ensures fill { Fills }
+    ensures too_deep { FillsRefuse }
     ensures read { ReadsById }
     ensures read_root { ReadsRoot }
     ensures throw { Throws }
@@ -105,4 +109,16 @@ pub fn statements_run()
 pub fn lines_begin()
     ensures lines { LinesBegin }
     ensures output { OutputBegins }
+{}
+
+/// A text that is read through (a fragment's, or that of a page whose scripts don't run) is parsed up to the first stop, and from the end tag
+/// of a script on. It may come in two pieces.
+pub fn texts_are_read_through()
+    ensures parse { ThroughByParse }
+    ensures pieces { ThroughInPieces }
+{}
+
+/// The serial parse of a page none of whose scripts runs comes to the document, or the refusal, of the parse in which scripts don't run.
+pub fn quiet_parse_is_serial()
+    ensures { QuietIsSerial }
 {}

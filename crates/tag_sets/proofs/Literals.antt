@@ -38,3 +38,7 @@ title_text = refl
 pub annotation_text : chars (codes "annotation-xml") ≡ codes "annotation-xml"
 unfolding chars
 annotation_text = refl
+
+pub encoding_text : chars (codes "encoding") ≡ codes "encoding"
+unfolding chars
+encoding_text = refl

@@ -4,8 +4,9 @@ ghost use Rattle.std.specs.Prelude.{◌≡◌, codes};
 ghost use Rattle.std.specs.Str.{chars};
 ghost use Rattle.html_types.specs.Text.{same_text};
 ghost use Rattle.standard.specs.Elements.{text_points, html_points, is_text_of, is_foreign_stop as is_foreign_stop_of};
+ghost use Rattle.standard.specs.Foreign.{is_annotation};
 
-use html_types::{NameText, Space};
+use html_types::{Name, NameText, Space};
 
 /// Whether a name is written so.
 pub fn is_text(name: &NameText, text: &str) -> bool
@@ -40,6 +41,16 @@ pub fn is_annotation_text(name: &NameText) -> bool
     ensures { result ≡ same_text name.now (codes "annotation-xml") }
 {
     is_text(name, "annotation-xml")
+}
+
+/// Whether this is the name of an annotation-xml of MathML.
+pub fn is_annotation(name: &Name) -> bool
+    ensures { result ≡ is_annotation name.now }
+{
+    match name {
+        Name::Other(Space::MathMl, text) => is_annotation_text(text),
+        _ => false,
+    }
 }
 
 /// Whether an element of MathML or SVG is special, and ends the search of "has an element in scope" (13.2.4.2).

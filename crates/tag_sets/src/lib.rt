@@ -2,10 +2,12 @@
 //! and of names.
 #![tactic(auto)]
 
+mod attributes;
 pub mod elements;
 mod foreign;
 pub mod sets;
 
+pub use attributes::{is_html_annotation, is_spelled, value_of};
 pub use elements::{ends, is_any, is_the, meant, own};
-pub use foreign::{is_annotation_text, is_foreign_stop, is_math_text, is_svg_point};
+pub use foreign::{is_annotation, is_foreign_stop, is_math_text, is_svg_point};
 pub use sets::{is_in, stops_at};

@@ -8,3 +8,4 @@ pub mod CommentLemmas
 pub mod FirstLemmas
 pub mod PartLemmas
 pub mod AppendLemmas
+pub mod RawLemmas

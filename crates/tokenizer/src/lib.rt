@@ -6,6 +6,7 @@ pub mod comment;
 mod discard;
 pub mod part;
 mod place;
+pub mod raw;
 pub mod reading;
 pub mod reference;
 pub mod tokenizer;

@@ -87,17 +87,17 @@ ends-inner es old f around fs going waits ended = record {
 pub frames-below : (items front : List Begun) (b : Begun) → items ≡ front ++ b ∷ [] → map frame_of (reverse items) ≡ frame_of b ∷ map frame_of (reverse front)
 frames-below items front b is = ap (λ l. map frame_of (reverse l)) is ∙ ap (map frame_of) (reverse-append front (b ∷ []))
 
-pub step-ends-outermost : (old new : Live) (n n' : Nesting) → IsGoing old → Waits old.pending n.top.rest → drop n.top.done n.top.script ≡ [] → n.below.items ≡ [] →
-    new ≡ record old { rest = n.top.rest ++ old.rest } → Steps old n new n' turn.Over
-step-ends-outermost old new n n' going waits ended none is = record {
-  moves = λ es. rw (is, none) (ends-outermost es old (frame_of n.top) going waits ended);
+pub step-ends-outermost : (es : Entities) (old new : Live) (n n' : Nesting) → IsGoing old → Waits old.pending n.top.rest → drop n.top.done n.top.script ≡ [] → n.below.items ≡ [] →
+    new ≡ record old { rest = n.top.rest ++ old.rest } → Steps es old n new n' turn.Over
+step-ends-outermost es old new n n' going waits ended none is = record {
+  moves = rw (is, none) (ends-outermost es old (frame_of n.top) going waits ended);
   on = λ over. absurd (cc over);
 }
 
-pub step-ends-inner : (old : Live) (n n' : Nesting) (around : Begun) → IsGoing old → Waits old.pending n.top.rest → drop n.top.done n.top.script ≡ [] →
-    n.below.items ≡ n'.below.items ++ around ∷ [] → n'.top ≡ record around { rest = n.top.rest ++ around.rest } → Steps old n old n' turn.On
-step-ends-inner old n n' around going waits ended below is = record {
-  moves = λ es.
+pub step-ends-inner : (es : Entities) (old : Live) (n n' : Nesting) (around : Begun) → IsGoing old → Waits old.pending n.top.rest → drop n.top.done n.top.script ≡ [] →
+    n.below.items ≡ n'.below.items ++ around ∷ [] → n'.top ≡ record around { rest = n.top.rest ++ around.rest } → Steps es old n old n' turn.On
+step-ends-inner es old n n' around going waits ended below is = record {
+  moves =
       subst (λ fs. Moves es old (frame_of n.top ∷ fs) old (frames_of n')) (sym (frames-below n.below.items n'.below.items around below))
       (subst (λ b. Moves es old (frame_of n.top ∷ frame_of around ∷ map frame_of (reverse n'.below.items)) old (frame_of b ∷ map frame_of (reverse n'.below.items))) (sym is)
       (ends-inner es old (frame_of n.top) (frame_of around) (map frame_of (reverse n'.below.items)) going waits ended));
@@ -129,15 +129,15 @@ refused-then w Of new fs fs' before page l is then_ = subst (λ h. ThenBy h w Of
 abbrev pub NextIs : Begun → Statement → Type 0
 NextIs b a = drop b.done b.script ≡ a ∷ drop (b.done + 1) b.script
 
-pub step-refused : (old new : Live) (n n' : Nesting) (a : Statement) (rest' : List ℕ) (d : Did) (l : Overrun) → NextIs n.top a → Does n.top.number a old n.top.rest new rest' d →
-    new.halted ≡ Some l → Steps old n new n' turn.Over
-step-refused old new n n' a rest' d l next does refused = record {
-  moves = λ es. subst (λ list. Moves es old (framed n.top.number list n.top.rest ∷ map frame_of (reverse n.below.items)) new []) (sym next) (record {
+pub step-refused : (es : Entities) (old new : Live) (n n' : Nesting) (a : Statement) (rest' : List ℕ) (d : Did) (l : Overrun) → NextIs n.top a → Does es n.top.number a old n.top.rest new rest' d →
+    new.halted ≡ Some l → Steps es old n new n' turn.Over
+step-refused es old new n n' a rest' d l next does refused = record {
+  moves = subst (λ list. Moves es old (framed n.top.number list n.top.rest ∷ map frame_of (reverse n.below.items)) new []) (sym next) (record {
     turns = record {
       turns = λ w before page is.
           refused-then w (NestComesTo w (nest_of old (framed n.top.number (a ∷ drop (n.top.done + 1) n.top.script) n.top.rest ∷ map frame_of (reverse n.below.items)) before page)) new
           (framed n.top.number (left_by d (drop (n.top.done + 1) n.top.script)) rest' ∷ map frame_of (reverse n.below.items)) [] before page l refused
-          ((does.turns es (drop (n.top.done + 1) n.top.script) (map frame_of (reverse n.below.items))).turns w before page is);
+          ((does.turns (drop (n.top.done + 1) n.top.script) (map frame_of (reverse n.below.items))).turns w before page is);
     };
     served = does.served;
     weight = light-over old new n.top.number (a ∷ drop (n.top.done + 1) n.top.script) n.top.rest rest' (map frame_of (reverse n.below.items)) does.light;
@@ -149,13 +149,13 @@ step-refused old new n n' a rest' d l next does refused = record {
 abbrev pub LeftIs : Begun → Did → ℕ → Type 0
 LeftIs b d done = drop done b.script ≡ left_by d (drop (b.done + 1) b.script)
 
-pub step-on : (old new : Live) (n n' : Nesting) (a : Statement) (rest' : List ℕ) (d : Did) (done : ℕ) → NextIs n.top a → Does n.top.number a old n.top.rest new rest' d →
-    new.halted ≡ None → LeftIs n.top d done → n' ≡ record n { top = record n.top { done = done; rest = rest' } } → Steps old n new n' turn.On
-step-on old new n n' a rest' d done next does on left is = subst (λ m. Steps old n new m turn.On) (sym is) (record {
-  moves = λ es.
+pub step-on : (es : Entities) (old new : Live) (n n' : Nesting) (a : Statement) (rest' : List ℕ) (d : Did) (done : ℕ) → NextIs n.top a → Does es n.top.number a old n.top.rest new rest' d →
+    new.halted ≡ None → LeftIs n.top d done → n' ≡ record n { top = record n.top { done = done; rest = rest' } } → Steps es old n new n' turn.On
+step-on es old new n n' a rest' d done next does on left is = subst (λ m. Steps es old n new m turn.On) (sym is) (record {
+  moves =
       subst (λ list. Moves es old (framed n.top.number list n.top.rest ∷ fs) new (framed n.top.number (drop done n.top.script) rest' ∷ fs)) (sym next)
       (subst (λ list. Moves es old (framed n.top.number (a ∷ more) n.top.rest ∷ fs) new (framed n.top.number list rest' ∷ fs)) (sym left) (record {
-        turns = does.turns es more fs;
+        turns = does.turns more fs;
         served = does.served;
         weight = light-weight old new n.top.number n.top.number (a ∷ more) (left_by d more) n.top.rest rest' fs does.light;
       }));
@@ -322,10 +322,10 @@ turn-on turn.On not = refl
 turn-on turn.Over not = absurd (not refl)
 
 -- no script is left, or the page is refused
-pub runs-over : (old mid new : Live) (n m n' : Nesting) (t : Progress) → t ≡ turn.Over → IsGoing mid → ((es : Entities) → Moves es old (frames_of n) mid (frames_of m)) → Steps mid m new n' t →
-    RunsOn old n new n' turn.Over
-runs-over old mid new n m n' t over going moves step = record {
-  moves = λ es. moves-then es old mid new (frames_of n) (frames_of m) [] going.halted (moves es) (subst (λ k. Moves es mid (frames_of m) new (frames_at k n')) over (step.moves es));
+pub runs-over : (es : Entities) (old mid new : Live) (n m n' : Nesting) (t : Progress) → t ≡ turn.Over → IsGoing mid → Moves es old (frames_of n) mid (frames_of m) → Steps es mid m new n' t →
+    RunsOn es old n new n' turn.Over
+runs-over es old mid new n m n' t over going moves step = record {
+  moves = moves-then es old mid new (frames_of n) (frames_of m) [] going.halted moves (subst (λ k. Moves es mid (frames_of m) new (frames_at k n')) over step.moves);
   on = λ on. absurd (cc on);
 }
 
@@ -339,15 +339,15 @@ pub moves-on : (es : Entities) (old mid new : Live) (fs : List Frame) (n n' : Ne
 moves-on es old mid new fs n n' t on going first second =
     moves-then es old mid new fs (frames_of n) (frames_of n') going.halted first (subst (λ k. Moves es mid (frames_of n) new (frames_at k n')) on second)
 
-pub runs-going : (old new : Live) (n n' : Nesting) (t : Progress) → t ≡ turn.On → RunsOn old n new n' t → IsGoing new
-runs-going old new n n' t on runs = record { served = (runs.moves []).served; halted = (runs.on on).0 }
+pub runs-going : (es : Entities) (old new : Live) (n n' : Nesting) (t : Progress) → t ≡ turn.On → RunsOn es old n new n' t → IsGoing new
+runs-going es old new n n' t on runs = record { served = runs.moves.served; halted = (runs.on on).0 }
 
 pub parses-going : (es : Entities) (old new : Live) (n n' : Nesting) (t : Progress) → t ≡ turn.On → ParsesOn es old n new n' t → IsGoing new
 parses-going es old new n n' t on parses = record { served = parses.moves.served; halted = (parses.on on).0 }
 
 -- a turn of the loop makes what is left less
-pub turn-lighter : (es : Entities) (old mid new : Live) (n m n' : Nesting) (t s : Progress) → t ≡ turn.On → s ≡ turn.On → RunsOn old n mid m t → ParsesOn es mid m new n' s →
+pub turn-lighter : (es : Entities) (old mid new : Live) (n m n' : Nesting) (t s : Progress) → t ≡ turn.On → s ≡ turn.On → RunsOn es old n mid m t → ParsesOn es mid m new n' s →
     weight new (frames_of n') < weight old (frames_of n)
 turn-lighter es old mid new n m n' t s on on' runs parses =
-    let first : Moves es old (frames_of n) mid (frames_of m) = subst (λ k. Moves es old (frames_of n) mid (frames_at k m)) on (runs.moves es) in
+    let first : Moves es old (frames_of n) mid (frames_of m) = subst (λ k. Moves es old (frames_of n) mid (frames_at k m)) on runs.moves in
     omega (arith, first.weight, (parses.on on').1)

@@ -1,8 +1,7 @@
 -- What the machine and the document do together.
-use Rattle.std.proofs.Common.{◌≡◌, ◌<◌, ◌≢◌, ℕ, zero, suc, List, [], ◌∷◌, ◌++◌, length, refl, sym, ap, ◌∙◌, subst, take, drop, take-append-drop, length-drop, ◌+◌, arith}
+use Rattle.std.proofs.Common.{◌≡◌, ◌<◌, ◌≢◌, ℕ, List, [], ◌∷◌, ◌++◌, length, refl, sym, ap, ◌∙◌, subst, drop, length-drop, ◌+◌, arith}
 use Rattle.std.specs.Str.{chars, IsCharBoundary, IsUtf8}
-use Rattle.std.proofs.lemmas.Str.{IsUtf8-take, chars-append, chars-nil}
-use Rattle.std.proofs.lemmas.List.{append_cancel_left, drop-drop}
+use Rattle.std.proofs.lemmas.List.{drop-drop}
 use Rattle.html_types.specs.declared.operation.Op.{Op}
 use Rattle.html_types.specs.declared.instruction.Stop.{Stop}
 use Rattle.html_types.specs.declared.instruction.Stop.TheVariants as stop
@@ -11,7 +10,7 @@ use Rattle.html_types.specs.declared.script.Ending.TheVariants as ending
 use Rattle.standard.specs.Entities.{Entities}
 use Rattle.standard.specs.Act.{Doc, is_bound, acts, AreOpsBound}
 use Rattle.standard_laws.specs.Laws.{HasParsed}
-use Rattle.standard.specs.Parser.{Parser, Took, took, take_character, Parsed, and_rest, parse}
+use Rattle.standard.specs.Parser.{Parser, take_character, Parsed, parse}
 use Rattle.core_rules.specs.Batches.{Batch, end_batch}
 use Rattle.rule_laws.specs.Naming.{AreFresh}
 use Rattle.rule_laws.proofs.FreshnessTexts.{fresh-follows}
@@ -19,30 +18,8 @@ use Rattle.rule_laws.proofs.FreshnessDocs.{texts-served, ends-served}
 use Rattle.parse_machine.specs.declared.machine.Ran.{Ran}
 use Rattle.parse_machine.specs.declared.machine.PageEnd.{PageEnd}
 use Rattle.parse_machine.specs.Machine.{RanAs, EndsAs}
+use Rattle.parse_machine.proofs.Fronts.{rest-chars, some-used, none-used, bytes-used}
 use Rattle.write_parser.specs.Parsing.{IsServed, TextParsed, RestParsed, EndParsed}
-
--- the rest of a text, in characters
-pub rest-chars : (bs : List ℕ) (used k : ℕ) → IsUtf8 bs → IsCharBoundary bs used → chars (take used bs) ≡ take k (chars bs) → chars (drop used bs) ≡ drop k (chars bs)
-rest-chars bs used k text boundary front =
-    append_cancel_left (chars (take used bs)) (chars (drop used bs)) (drop k (chars bs))
-    (sym (chars-append (take used bs) (drop used bs) (IsUtf8-take bs used text boundary))
-    ∙ (ap chars (take-append-drop used bs)
-    ∙ (sym (take-append-drop k (chars bs)) ∙ ap (λ xs. xs ++ drop k (chars bs)) (sym front))))
-
--- a stop is behind a character
-some-used : (k : Took) (f : Parser → Parsed) → 0 < (and_rest k f).used
-some-used (took ops p stop.InputEnd) f = omega arith
-some-used (took ops p (stop.Script i)) f = omega arith
-some-used (took ops p stop.Deep) f = omega arith
-
-none-used : (es : Entities) (p : Parser) (x : List ℕ) → [] ≡ take (parse es p x).used x → (parse es p x).stop ≡ stop.InputEnd
-unfolding parse
-none-used es p [] h = refl
-none-used es p (c ∷ cs) h = absurd (no_front _ (some-used (take_character es p c) (λ p'. parse es p' cs)) h)
-  where
-    no_front : (n : ℕ) → 0 < n → [] ≡ take n (c ∷ cs) → ⊥
-    no_front zero lt e = omega arith
-    no_front (suc n) lt e = absurd (cc e)
 
 -- the operations are bound, where those before were none
 pub ops-bound : (es : Entities) (p : Parser) (d : Doc) (now : Parser) (before ops : List Op) (ran : Ran) (text : List ℕ) → IsServed p d → before ≡ [] →
@@ -61,7 +38,7 @@ text-parsed es p p' d d' before ops ran text utf8 served none run done boundary 
     let doc : d' ≡ acts d r.ops = done ∙ ap (acts d) (ops-are before ops r.ops none run.ops) in
     record {
       boundary = boundary;
-      onward = λ stops. by_used ran.used run.used (λ h. stops (run.stop ∙ none-used es p (chars text) h));
+      onward = λ stops. bytes-used ran.used r.used text run.used (λ h. stops (run.stop ∙ none-used es p (chars text) h));
       parsed = record {
         parser = run.state;
         doc = doc;
@@ -71,10 +48,6 @@ text-parsed es p p' d d' before ops ran text utf8 served none run done boundary 
       served = rw (doc, run.state) stays.0.1;
       bound = rw (doc, run.stop) stays.1;
     }
-  where
-    by_used : (n : ℕ) → chars (take n text) ≡ take (parse es p (chars text)).used (chars text) → ([] ≡ take (parse es p (chars text)).used (chars text) → ⊥) → 0 < n
-    by_used zero q h = absurd (h (sym chars-nil ∙ q))
-    by_used (suc n) q h = omega arith
 
 shorter : (n : ℕ) (c : ℕ) (cs : List ℕ) → 0 < n → length (drop n (c ∷ cs)) < length (c ∷ cs)
 shorter n c cs lt = omega (arith, length-drop n (c ∷ cs))

@@ -7,6 +7,10 @@ use Rattle.html_types.specs.declared.script.Line.TheVariants as line
 use Rattle.html_types.specs.declared.script.Statement.{Statement}
 use Rattle.html_types.specs.declared.script.Statement.TheVariants as statement
 use Rattle.html_types.specs.declared.script.Why.TheVariants as why
+use Rattle.html_types.specs.declared.operation.Op.{Op}
+use Rattle.html_types.specs.declared.open.Context.{Context}
+use Rattle.standard.specs.Entities.{Entities}
+use Rattle.standard.specs.Fragment.{fragment, context_at, filled, Setting, lacking, too_deep, setting, set_by, inner_set}
 use Rattle.standard.specs.Outer.{outer_text}
 use Rattle.standard.specs.Tree.{Nodes, find_id, first_element, detached, lies_in, moved, appended}
 use Rattle.standard.specs.Act.{Doc}
@@ -18,8 +22,8 @@ use Rattle.write_parser.specs.declared.left.Overrun.TheVariants as limit
 use Rattle.write_parser.specs.declared.live.Live.{Live}
 use Rattle.write_parser.specs.declared.live.Did.{Did}
 use Rattle.write_parser.specs.declared.live.Did.TheVariants as did
-use Rattle.write_parser.specs.Steps.{IsGoing, framed, nest_of, ThenBy, Then, HasWritten, HasRemoved, HasAppended, HasRead, DoesMost, Does}
-use Rattle.standard_laws.proofs.Frames.{write-fits, write-refuses, line-fits, line-refuses, removes, appends, reads_by_id, reads_root, throws}
+use Rattle.write_parser.specs.Steps.{IsGoing, framed, nest_of, ThenBy, Then, HasWritten, HasRemoved, HasAppended, HasSet, HasRead, DoesMost, Does}
+use Rattle.standard_laws.proofs.Frames.{write-fits, write-refuses, line-fits, line-refuses, removes, appends, fills, fill-refuses, reads_by_id, reads_root, throws}
 
 -- ---- where the page isn't refused, and where it is
 
@@ -45,10 +49,10 @@ Overruns a t =
     (w : World) (x : Nest) (f : Frame) (fs : List Frame) (list : List Statement) →
     x.frames ≡ f ∷ fs → f.list ≡ a ∷ list → Waits x.pending f.rest → write_limit < x.written + length t → NestComesTo w x (refuses why.Writes (state_of x))
 
-module _ (k : ℕ) (a : Statement) (t : List ℕ) (old : Live) (rest : List ℕ) (going : IsGoing old) (waits : Waits old.pending rest) where
-  wrote-fits : Writes a t → old.written + length t ≤ write_limit → DoesMost k a old rest (record old { written = old.written + length t }) (rest ++ t) did.All
+module _ (es : Entities) (k : ℕ) (a : Statement) (t : List ℕ) (old : Live) (rest : List ℕ) (going : IsGoing old) (waits : Waits old.pending rest) where
+  wrote-fits : Writes a t → old.written + length t ≤ write_limit → DoesMost es k a old rest (record old { written = old.written + length t }) (rest ++ t) did.All
   wrote-fits writes fits = record {
-    done = λ es list fs. record {
+    done = λ list fs. record {
       turns = λ w before page is.
           then-on w (NestComesTo w (nest_of old (framed k (a ∷ list) rest ∷ fs) before page)) (record old { written = old.written + length t })
           (framed k list (rest ++ t) ∷ fs) before page going.halted
@@ -58,9 +62,9 @@ module _ (k : ℕ) (a : Statement) (t : List ℕ) (old : Live) (rest : List ℕ)
     light = record { light = omega (arith, length-append rest t); behind = refl; pending = refl };
   }
 
-  wrote-long : Overruns a t → write_limit < old.written + length t → DoesMost k a old rest (record old { halted = Some limit.Writes }) rest did.All
+  wrote-long : Overruns a t → write_limit < old.written + length t → DoesMost es k a old rest (record old { halted = Some limit.Writes }) rest did.All
   wrote-long overruns long = record {
-    done = λ es list fs. record {
+    done = λ list fs. record {
       turns = λ w before page is. (
         refuses why.Writes (state_of (nest_of old (framed k (a ∷ list) rest ∷ fs) before page)),
         record { last = state_of (nest_of old (framed k (a ∷ list) rest ∷ fs) before page); is = refl; lines = refl; doc = refl },
@@ -71,47 +75,47 @@ module _ (k : ℕ) (a : Statement) (t : List ℕ) (old : Live) (rest : List ℕ)
     light = record { light = omega arith; behind = refl; pending = refl };
   }
 
-  does-write_of : Writes a t → Overruns a t → (new : Live) (rest' : List ℕ) (d : Did) → HasWritten old rest t new rest' d → DoesMost k a old rest new rest' d
-  does-write_of writes overruns new rest' d has = subst (λ d'. DoesMost k a old rest new rest' d') (sym has.did) (by_limit (cases_lt write_limit (old.written + length t)))
+  does-write_of : Writes a t → Overruns a t → (new : Live) (rest' : List ℕ) (d : Did) → HasWritten old rest t new rest' d → DoesMost es k a old rest new rest' d
+  does-write_of writes overruns new rest' d has = subst (λ d'. DoesMost es k a old rest new rest' d') (sym has.did) (by_limit (cases_lt write_limit (old.written + length t)))
     where
-      by_limit : (write_limit < old.written + length t) ⊎ (old.written + length t ≤ write_limit) → DoesMost k a old rest new rest' did.All
+      by_limit : (write_limit < old.written + length t) ⊎ (old.written + length t ≤ write_limit) → DoesMost es k a old rest new rest' did.All
       by_limit (inr fits) =
           let is = has.fits fits in
-          subst (λ n. DoesMost k a old rest n rest' did.All) (sym is.0)
-          (subst (λ r. DoesMost k a old rest (record old { written = old.written + length t }) r did.All) (sym is.1) (wrote-fits writes fits))
+          subst (λ n. DoesMost es k a old rest n rest' did.All) (sym is.0)
+          (subst (λ r. DoesMost es k a old rest (record old { written = old.written + length t }) r did.All) (sym is.1) (wrote-fits writes fits))
       by_limit (inl long) =
           let is = has.long long in
-          subst (λ n. DoesMost k a old rest n rest' did.All) (sym is.0)
-          (subst (λ r. DoesMost k a old rest (record old { halted = Some limit.Writes }) r did.All) (sym is.1) (wrote-long overruns long))
+          subst (λ n. DoesMost es k a old rest n rest' did.All) (sym is.0)
+          (subst (λ r. DoesMost es k a old rest (record old { halted = Some limit.Writes }) r did.All) (sym is.1) (wrote-long overruns long))
 
-pub does-write : (k : ℕ) (t : List ℕ) (old : Live) (rest : List ℕ) (new : Live) (rest' : List ℕ) (d : Did) → IsGoing old → Waits old.pending rest →
-    HasWritten old rest t new rest' d → DoesMost k (statement.Write t) old rest new rest' d
-does-write k t old rest new rest' d going waits has =
-    does-write_of k (statement.Write t) t old rest going waits
+pub does-write : (es : Entities) (k : ℕ) (t : List ℕ) (old : Live) (rest : List ℕ) (new : Live) (rest' : List ℕ) (d : Did) → IsGoing old → Waits old.pending rest →
+    HasWritten old rest t new rest' d → DoesMost es k (statement.Write t) old rest new rest' d
+does-write es k t old rest new rest' d going waits has =
+    does-write_of es k (statement.Write t) t old rest going waits
     (λ w x f fs list g. write-fits w x f fs t list g) (λ w x f fs list. write-refuses w x f fs t list) new rest' d has
 
-pub does-write_line : (k : ℕ) (t : List ℕ) (old : Live) (rest : List ℕ) (new : Live) (rest' : List ℕ) (d : Did) → IsGoing old → Waits old.pending rest →
-    HasWritten old rest (with_line_feed t) new rest' d → DoesMost k (statement.WriteLine t) old rest new rest' d
-does-write_line k t old rest new rest' d going waits has =
-    does-write_of k (statement.WriteLine t) (with_line_feed t) old rest going waits
+pub does-write_line : (es : Entities) (k : ℕ) (t : List ℕ) (old : Live) (rest : List ℕ) (new : Live) (rest' : List ℕ) (d : Did) → IsGoing old → Waits old.pending rest →
+    HasWritten old rest (with_line_feed t) new rest' d → DoesMost es k (statement.WriteLine t) old rest new rest' d
+does-write_line es k t old rest new rest' d going waits has =
+    does-write_of es k (statement.WriteLine t) (with_line_feed t) old rest going waits
     (λ w x f fs list g. line-fits w x f fs t list g) (λ w x f fs list. line-refuses w x f fs t list) new rest' d has
 
 -- ---- an element that isn't there
 
-lacks : (k : ℕ) (a : Statement) (old : Live) (rest : List ℕ) (new : Live) (rest' : List ℕ) (d : Did) → IsGoing old → LacksElement old.doc.tree a → rest' ≡ rest →
-    (new ≡ old) × (d ≡ did.Nothing) → DoesMost k a old rest new rest' d
-lacks k a old rest new rest' d going lacking same (is, nothing) =
-    subst (λ d'. DoesMost k a old rest new rest' d') (sym nothing)
-    (subst (λ r. DoesMost k a old rest new r did.Nothing) (sym same)
-    (subst (λ n. DoesMost k a old rest n rest did.Nothing) (sym is)
+lacks : (es : Entities) (k : ℕ) (a : Statement) (old : Live) (rest : List ℕ) (new : Live) (rest' : List ℕ) (d : Did) → IsGoing old → LacksElement old.doc.tree a → rest' ≡ rest →
+    (new ≡ old) × (d ≡ did.Nothing) → DoesMost es k a old rest new rest' d
+lacks es k a old rest new rest' d going lacking same (is, nothing) =
+    subst (λ d'. DoesMost es k a old rest new rest' d') (sym nothing)
+    (subst (λ r. DoesMost es k a old rest new r did.Nothing) (sym same)
+    (subst (λ n. DoesMost es k a old rest n rest did.Nothing) (sym is)
     (record { done = (refl, refl, lacking); served = going.served; light = record { light = omega arith; behind = refl; pending = refl } })))
 
 -- ---- a removal
 
-removed-there : (k : ℕ) (v : List ℕ) (old : Live) (rest : List ℕ) (e : ℕ) → IsGoing old → Waits old.pending rest → find_id old.doc.tree v ≡ Some e →
-    DoesMost k (statement.Remove v) old rest (record old { doc = record old.doc { tree = detached old.doc.tree e } }) rest did.All
-removed-there k v old rest e going waits there = record {
-  done = λ es list fs. record {
+removed-there : (es : Entities) (k : ℕ) (v : List ℕ) (old : Live) (rest : List ℕ) (e : ℕ) → IsGoing old → Waits old.pending rest → find_id old.doc.tree v ≡ Some e →
+    DoesMost es k (statement.Remove v) old rest (record old { doc = record old.doc { tree = detached old.doc.tree e } }) rest did.All
+removed-there es k v old rest e going waits there = record {
+  done = λ list fs. record {
     turns = λ w before page is.
         then-on w (NestComesTo w (nest_of old (framed k (statement.Remove v ∷ list) rest ∷ fs) before page)) (record old { doc = record old.doc { tree = detached old.doc.tree e } })
         (framed k list rest ∷ fs) before page going.halted
@@ -122,16 +126,16 @@ removed-there k v old rest e going waits there = record {
   light = record { light = omega arith; behind = refl; pending = refl };
 }
 
-pub does-remove : (k : ℕ) (v : List ℕ) (old : Live) (rest : List ℕ) (new : Live) (rest' : List ℕ) (d : Did) → IsGoing old → Waits old.pending rest → rest' ≡ rest →
-    HasRemoved (find_id old.doc.tree v) old new d → DoesMost k (statement.Remove v) old rest new rest' d
-does-remove k v old rest new rest' d going waits same = by_found (find_id old.doc.tree v) refl
+pub does-remove : (es : Entities) (k : ℕ) (v : List ℕ) (old : Live) (rest : List ℕ) (new : Live) (rest' : List ℕ) (d : Did) → IsGoing old → Waits old.pending rest → rest' ≡ rest →
+    HasRemoved (find_id old.doc.tree v) old new d → DoesMost es k (statement.Remove v) old rest new rest' d
+does-remove es k v old rest new rest' d going waits same = by_found (find_id old.doc.tree v) refl
   where
-    by_found : (found : Option ℕ) → find_id old.doc.tree v ≡ found → HasRemoved found old new d → DoesMost k (statement.Remove v) old rest new rest' d
-    by_found None none has = lacks k (statement.Remove v) old rest new rest' d going none same has
+    by_found : (found : Option ℕ) → find_id old.doc.tree v ≡ found → HasRemoved found old new d → DoesMost es k (statement.Remove v) old rest new rest' d
+    by_found None none has = lacks es k (statement.Remove v) old rest new rest' d going none same has
     by_found (Some e) there (is, all) =
-        subst (λ d'. DoesMost k (statement.Remove v) old rest new rest' d') (sym all)
-        (subst (λ r. DoesMost k (statement.Remove v) old rest new r did.All) (sym same)
-        (subst (λ n. DoesMost k (statement.Remove v) old rest n rest did.All) (sym is) (removed-there k v old rest e going waits there)))
+        subst (λ d'. DoesMost es k (statement.Remove v) old rest new rest' d') (sym all)
+        (subst (λ r. DoesMost es k (statement.Remove v) old rest new r did.All) (sym same)
+        (subst (λ n. DoesMost es k (statement.Remove v) old rest n rest did.All) (sym is) (removed-there es k v old rest e going waits there)))
 
 -- ---- a move
 
@@ -162,11 +166,11 @@ pub lacks-second : (old : Live) (v w : Option ℕ) (first : ℕ) → v ≡ Some 
 lacks-second old v w first is none = rw (is, none) (refl, refl)
 
 -- which left this tree
-moved-there : (k : ℕ) (v w : List ℕ) (old : Live) (rest : List ℕ) (t : Nodes) → IsGoing old → Waits old.pending rest →
+moved-there : (es : Entities) (k : ℕ) (v w : List ℕ) (old : Live) (rest : List ℕ) (t : Nodes) → IsGoing old → Waits old.pending rest →
     appended old.doc.tree (find_id old.doc.tree v) (find_id old.doc.tree w) ≡ Some t →
-    DoesMost k (statement.Append v w) old rest (record old { doc = record old.doc { tree = t } }) rest did.All
-moved-there k v w old rest t going waits there = record {
-  done = λ es list fs. record {
+    DoesMost es k (statement.Append v w) old rest (record old { doc = record old.doc { tree = t } }) rest did.All
+moved-there es k v w old rest t going waits there = record {
+  done = λ list fs. record {
     turns = λ world before page is.
         then-on world (NestComesTo world (nest_of old (framed k (statement.Append v w ∷ list) rest ∷ fs) before page)) (record old { doc = record old.doc { tree = t } })
         (framed k list rest ∷ fs) before page going.halted
@@ -177,17 +181,94 @@ moved-there k v w old rest t going waits there = record {
   light = record { light = omega arith; behind = refl; pending = refl };
 }
 
-pub does-append : (k : ℕ) (v w : List ℕ) (old : Live) (rest : List ℕ) (new : Live) (rest' : List ℕ) (d : Did) → IsGoing old → Waits old.pending rest → rest' ≡ rest →
-    HasAppended (appended old.doc.tree (find_id old.doc.tree v) (find_id old.doc.tree w)) old new d → DoesMost k (statement.Append v w) old rest new rest' d
-does-append k v w old rest new rest' d going waits same = by_left (appended old.doc.tree (find_id old.doc.tree v) (find_id old.doc.tree w)) refl
+pub does-append : (es : Entities) (k : ℕ) (v w : List ℕ) (old : Live) (rest : List ℕ) (new : Live) (rest' : List ℕ) (d : Did) → IsGoing old → Waits old.pending rest → rest' ≡ rest →
+    HasAppended (appended old.doc.tree (find_id old.doc.tree v) (find_id old.doc.tree w)) old new d → DoesMost es k (statement.Append v w) old rest new rest' d
+does-append es k v w old rest new rest' d going waits same = by_left (appended old.doc.tree (find_id old.doc.tree v) (find_id old.doc.tree w)) refl
   where
     by_left : (left : Option Nodes) → appended old.doc.tree (find_id old.doc.tree v) (find_id old.doc.tree w) ≡ left → HasAppended left old new d →
-        DoesMost k (statement.Append v w) old rest new rest' d
-    by_left None none has = lacks k (statement.Append v w) old rest new rest' d going none same has
+        DoesMost es k (statement.Append v w) old rest new rest' d
+    by_left None none has = lacks es k (statement.Append v w) old rest new rest' d going none same has
     by_left (Some t) there (is, all) =
-        subst (λ d'. DoesMost k (statement.Append v w) old rest new rest' d') (sym all)
-        (subst (λ r. DoesMost k (statement.Append v w) old rest new r did.All) (sym same)
-        (subst (λ n. DoesMost k (statement.Append v w) old rest n rest did.All) (sym is) (moved-there k v w old rest t going waits there)))
+        subst (λ d'. DoesMost es k (statement.Append v w) old rest new rest' d') (sym all)
+        (subst (λ r. DoesMost es k (statement.Append v w) old rest new r did.All) (sym same)
+        (subst (λ n. DoesMost es k (statement.Append v w) old rest n rest did.All) (sym is) (moved-there es k v w old rest t going waits there)))
+
+-- ---- what stands in an element
+
+-- what a document answers that lacks it, and what comes of the fragment
+module _ (es : Entities) (quirks : Bool) (old : Live) (found : Option ℕ) (text : List ℕ) where
+  pub set-lacking : found ≡ None → HasSet (inner_set es quirks old.doc.tree found text) old old did.Nothing
+  unfolding inner_set
+  set-lacking none = rw none (refl, refl)
+
+  module _ (n : ℕ) (context : Context) (is : found ≡ Some n) (there : context ≡ context_at old.doc.tree n quirks) where
+    pub set-deep : None ≡ fragment es context text → HasSet (inner_set es quirks old.doc.tree found text) old (record old { halted = Some limit.Depth }) did.All
+    unfolding inner_set
+    set-deep none = rw (is, ← there, ← none) (refl, refl)
+
+    pub set-filled : (ops : List Op) (doc : Doc) → Some ops ≡ fragment es context text → doc ≡ record old.doc { tree = filled old.doc.tree n context.form ops }
+        → HasSet (inner_set es quirks old.doc.tree found text) old (record old { doc = doc }) did.All
+    unfolding inner_set
+    set-filled ops doc some done = rw (is, ← there, ← some, done) (refl, refl)
+
+lacking-none : (es : Entities) (quirks : Bool) (t : Nodes) (found : Option ℕ) (text : List ℕ) → inner_set es quirks t found text ≡ lacking → found ≡ None
+unfolding inner_set
+lacking-none es quirks t None text is = refl
+lacking-none es quirks t (Some n) text is = let c : Context = context_at t n quirks in by c.form (fragment es c text) is
+  where
+    by : (form : Bool) (ops : Option (List Op)) → set_by t n form ops ≡ lacking → Some n ≡ None
+    by form None is = absurd (cc is)
+    by form (Some ops) is = absurd (cc is)
+
+module _ (es : Entities) (k : ℕ) (v text : List ℕ) (old : Live) (rest : List ℕ) (going : IsGoing old) (waits : Waits old.pending rest) where
+  abbrev set : Setting
+  set = inner_set es old.machine.open_state.quirks old.doc.tree (find_id old.doc.tree v) text
+
+  abbrev this : Statement
+  this = statement.SetInner v text
+
+  in_world : (w : World) → w.entities ≡ es → (s : Setting) → set ≡ s → inner_set w.entities old.machine.open_state.quirks old.doc.tree (find_id old.doc.tree v) text ≡ s
+  in_world w is s there = ap (λ e. inner_set e old.machine.open_state.quirks old.doc.tree (find_id old.doc.tree v) text) is ∙ there
+
+  filled-there : (t : Nodes) → set ≡ setting t → DoesMost es k this old rest (record old { doc = record old.doc { tree = t } }) rest did.All
+  filled-there t there = record {
+    done = λ list fs. record {
+      turns = λ w before page is.
+          then-on w (NestComesTo w (nest_of old (framed k (this ∷ list) rest ∷ fs) before page)) (record old { doc = record old.doc { tree = t } })
+          (framed k list rest ∷ fs) before page going.halted
+          (λ g come. fills w (nest_of old (framed k (this ∷ list) rest ∷ fs) before page) (framed k (this ∷ list) rest) fs v text list t g
+          refl refl waits (in_world w is (setting t) there) come);
+    };
+    served = going.served;
+    light = record { light = omega arith; behind = refl; pending = refl };
+  }
+
+  filled-deep : set ≡ too_deep → DoesMost es k this old rest (record old { halted = Some limit.Depth }) rest did.All
+  filled-deep there = record {
+    done = λ list fs. record {
+      turns = λ w before page is. (
+        refuses why.Depth (state_of (nest_of old (framed k (this ∷ list) rest ∷ fs) before page)),
+        record { last = state_of (nest_of old (framed k (this ∷ list) rest ∷ fs) before page); is = refl; lines = refl; doc = refl },
+        fill-refuses w (nest_of old (framed k (this ∷ list) rest ∷ fs) before page) (framed k (this ∷ list) rest) fs v text list refl refl waits (in_world w is too_deep there),
+      );
+    };
+    served = going.served;
+    light = record { light = omega arith; behind = refl; pending = refl };
+  }
+
+  pub does-set_inner : (new : Live) (rest' : List ℕ) (d : Did) → rest' ≡ rest → HasSet set old new d → DoesMost es k this old rest new rest' d
+  does-set_inner new rest' d same = by_setting set refl
+    where
+      all : (n : Live) → DoesMost es k this old rest n rest did.All → (new ≡ n) × (d ≡ did.All) → DoesMost es k this old rest new rest' d
+      all n does (is, every) =
+          subst (λ d'. DoesMost es k this old rest new rest' d') (sym every)
+          (subst (λ r. DoesMost es k this old rest new r did.All) (sym same) (subst (λ m. DoesMost es k this old rest m rest did.All) (sym is) does))
+
+      by_setting : (s : Setting) → set ≡ s → HasSet s old new d → DoesMost es k this old rest new rest' d
+      by_setting lacking there has =
+          lacks es k this old rest new rest' d going (lacking-none es old.machine.open_state.quirks old.doc.tree (find_id old.doc.tree v) text there) same has
+      by_setting too_deep there has = all (record old { halted = Some limit.Depth }) (filled-deep there) has
+      by_setting (setting t) there has = all (record old { doc = record old.doc { tree = t } }) (filled-there t there) has
 
 -- ---- a reading
 
@@ -198,13 +279,13 @@ Reads a old rest e =
     NestComesTo w (record (nest_of old (framed k list rest ∷ fs) before page) { lines = (before ++ old.lines) ++ line.Log k (outer_text old.doc.tree e) ∷ [] }) g →
     NestComesTo w (nest_of old (framed k (a ∷ list) rest ∷ fs) before page) g
 
-reads-there : (k : ℕ) (a : Statement) (old : Live) (rest : List ℕ) (new : Live) (rest' : List ℕ) (d : Did) (e : ℕ) → IsGoing old → rest' ≡ rest → Reads a old rest e →
-    HasRead k (Some e) old new d → DoesMost k a old rest new rest' d
-reads-there k a old rest new rest' d e going same reads (is, all) =
-    subst (λ d'. DoesMost k a old rest new rest' d') (sym all)
-    (subst (λ r. DoesMost k a old rest new r did.All) (sym same)
-    (subst (λ n. DoesMost k a old rest n rest did.All) (sym is) (record {
-      done = λ es list fs. record {
+reads-there : (es : Entities) (k : ℕ) (a : Statement) (old : Live) (rest : List ℕ) (new : Live) (rest' : List ℕ) (d : Did) (e : ℕ) → IsGoing old → rest' ≡ rest → Reads a old rest e →
+    HasRead k (Some e) old new d → DoesMost es k a old rest new rest' d
+reads-there es k a old rest new rest' d e going same reads (is, all) =
+    subst (λ d'. DoesMost es k a old rest new rest' d') (sym all)
+    (subst (λ r. DoesMost es k a old rest new r did.All) (sym same)
+    (subst (λ n. DoesMost es k a old rest n rest did.All) (sym is) (record {
+      done = λ list fs. record {
         turns = λ w before page world.
             then-on w (NestComesTo w (nest_of old (framed k (a ∷ list) rest ∷ fs) before page)) (record old { lines = old.lines ++ line.Log k (outer_text old.doc.tree e) ∷ [] })
             (framed k list rest ∷ fs) before page going.halted
@@ -216,42 +297,42 @@ reads-there k a old rest new rest' d e going same reads (is, all) =
       light = record { light = omega arith; behind = refl; pending = refl };
     })))
 
-pub does-read-by_id : (k : ℕ) (v : List ℕ) (old : Live) (rest : List ℕ) (new : Live) (rest' : List ℕ) (d : Did) → IsGoing old → Waits old.pending rest → rest' ≡ rest →
-    HasRead k (find_id old.doc.tree v) old new d → DoesMost k (statement.LogById v) old rest new rest' d
-does-read-by_id k v old rest new rest' d going waits same = by_found (find_id old.doc.tree v) refl
+pub does-read-by_id : (es : Entities) (k : ℕ) (v : List ℕ) (old : Live) (rest : List ℕ) (new : Live) (rest' : List ℕ) (d : Did) → IsGoing old → Waits old.pending rest → rest' ≡ rest →
+    HasRead k (find_id old.doc.tree v) old new d → DoesMost es k (statement.LogById v) old rest new rest' d
+does-read-by_id es k v old rest new rest' d going waits same = by_found (find_id old.doc.tree v) refl
   where
-    by_found : (found : Option ℕ) → find_id old.doc.tree v ≡ found → HasRead k found old new d → DoesMost k (statement.LogById v) old rest new rest' d
-    by_found None none has = lacks k (statement.LogById v) old rest new rest' d going none same has
+    by_found : (found : Option ℕ) → find_id old.doc.tree v ≡ found → HasRead k found old new d → DoesMost es k (statement.LogById v) old rest new rest' d
+    by_found None none has = lacks es k (statement.LogById v) old rest new rest' d going none same has
     by_found (Some e) there has =
-        reads-there k (statement.LogById v) old rest new rest' d e going same
+        reads-there es k (statement.LogById v) old rest new rest' d e going same
         (λ w j list fs before page g come. reads_by_id w (nest_of old (framed j (statement.LogById v ∷ list) rest ∷ fs) before page) (framed j (statement.LogById v ∷ list) rest) fs v list e g
         refl refl waits there come) has
 
-pub does-read-root : (k : ℕ) (old : Live) (rest : List ℕ) (new : Live) (rest' : List ℕ) (d : Did) → IsGoing old → Waits old.pending rest → rest' ≡ rest →
-    HasRead k (first_element old.doc.tree) old new d → DoesMost k statement.LogRoot old rest new rest' d
-does-read-root k old rest new rest' d going waits same = by_found (first_element old.doc.tree) refl
+pub does-read-root : (es : Entities) (k : ℕ) (old : Live) (rest : List ℕ) (new : Live) (rest' : List ℕ) (d : Did) → IsGoing old → Waits old.pending rest → rest' ≡ rest →
+    HasRead k (first_element old.doc.tree) old new d → DoesMost es k statement.LogRoot old rest new rest' d
+does-read-root es k old rest new rest' d going waits same = by_found (first_element old.doc.tree) refl
   where
-    by_found : (found : Option ℕ) → first_element old.doc.tree ≡ found → HasRead k found old new d → DoesMost k statement.LogRoot old rest new rest' d
-    by_found None none has = lacks k statement.LogRoot old rest new rest' d going none same has
+    by_found : (found : Option ℕ) → first_element old.doc.tree ≡ found → HasRead k found old new d → DoesMost es k statement.LogRoot old rest new rest' d
+    by_found None none has = lacks es k statement.LogRoot old rest new rest' d going none same has
     by_found (Some e) there has =
-        reads-there k statement.LogRoot old rest new rest' d e going same
+        reads-there es k statement.LogRoot old rest new rest' d e going same
         (λ w j list fs before page g come. reads_root w (nest_of old (framed j (statement.LogRoot ∷ list) rest ∷ fs) before page) (framed j (statement.LogRoot ∷ list) rest) fs list e g
         refl refl waits there come) has
 
 -- ---- all of a statement
 
-pub does-all : (k : ℕ) (a : Statement) (old : Live) (rest : List ℕ) (new : Live) (rest' : List ℕ) (d : Did) → (d ≡ did.Nothing → ⊥) → DoesMost k a old rest new rest' d →
-    Does k a old rest new rest' d
-does-all k a old rest new rest' did.All there does = record { turns = does.done; served = does.served; light = does.light }
-does-all k a old rest new rest' did.Nothing there does = absurd (there refl)
+pub does-all : (es : Entities) (k : ℕ) (a : Statement) (old : Live) (rest : List ℕ) (new : Live) (rest' : List ℕ) (d : Did) → (d ≡ did.Nothing → ⊥) → DoesMost es k a old rest new rest' d →
+    Does es k a old rest new rest' d
+does-all es k a old rest new rest' did.All there does = record { turns = does.done; served = does.served; light = does.light }
+does-all es k a old rest new rest' did.Nothing there does = absurd (there refl)
 
-pub does-throw : (k : ℕ) (a : Statement) (old : Live) (rest : List ℕ) (mid new : Live) (rest' : List ℕ) (d : Did) → IsGoing old → Waits old.pending rest → d ≡ did.Nothing →
-    DoesMost k a old rest mid rest' d → new ≡ record mid { lines = mid.lines ++ line.Throw k ∷ [] } → Does k a old rest new rest' d
-does-throw k a old rest mid new rest' did.All going waits there does is = absurd (cc there)
-does-throw k a old rest mid new rest' did.Nothing going waits there does is =
-    subst (λ r. Does k a old rest new r did.Nothing) (sym does.done.1)
-    (subst (λ n. Does k a old rest n rest did.Nothing) (sym (is ∙ ap (λ (m : Live). record m { lines = m.lines ++ line.Throw k ∷ [] }) does.done.0)) (record {
-      turns = λ es list fs. record {
+pub does-throw : (es : Entities) (k : ℕ) (a : Statement) (old : Live) (rest : List ℕ) (mid new : Live) (rest' : List ℕ) (d : Did) → IsGoing old → Waits old.pending rest → d ≡ did.Nothing →
+    DoesMost es k a old rest mid rest' d → new ≡ record mid { lines = mid.lines ++ line.Throw k ∷ [] } → Does es k a old rest new rest' d
+does-throw es k a old rest mid new rest' did.All going waits there does is = absurd (cc there)
+does-throw es k a old rest mid new rest' did.Nothing going waits there does is =
+    subst (λ r. Does es k a old rest new r did.Nothing) (sym does.done.1)
+    (subst (λ n. Does es k a old rest n rest did.Nothing) (sym (is ∙ ap (λ (m : Live). record m { lines = m.lines ++ line.Throw k ∷ [] }) does.done.0)) (record {
+      turns = λ list fs. record {
         turns = λ w before page world.
             then-on w (NestComesTo w (nest_of old (framed k (a ∷ list) rest ∷ fs) before page)) (record old { lines = old.lines ++ line.Throw k ∷ [] })
             (framed k [] rest ∷ fs) before page going.halted

@@ -8,6 +8,7 @@ use Rattle.html_types.specs.declared.script.Line.{Line}
 use Rattle.html_types.specs.declared.script.Line.TheVariants as line
 use Rattle.standard.specs.Entities.{Entities}
 use Rattle.standard.specs.Tree.{Nodes, detached}
+use Rattle.standard.specs.Fragment.{Setting, lacking, too_deep, setting}
 use Rattle.standard.specs.Outer.{outer_text}
 use Rattle.standard.specs.Statements.{statements}
 use Rattle.standard.specs.Serial.{World, Course, write_limit}
@@ -163,6 +164,12 @@ abbrev pub HasAppended : Option Nodes → Live → Live → Did → Type 0
 HasAppended None old new d = (new ≡ old) × (d ≡ did.Nothing)
 HasAppended (Some t) old new d = (new ≡ record old { doc = record old.doc { tree = t } }) × (d ≡ did.All)
 
+-- the children of an element, if it is there, were set, which left this tree, or the fragment is too deep
+abbrev pub HasSet : Setting → Live → Live → Did → Type 0
+HasSet lacking old new d = (new ≡ old) × (d ≡ did.Nothing)
+HasSet too_deep old new d = (new ≡ record old { halted = Some limit.Depth }) × (d ≡ did.All)
+HasSet (setting t) old new d = (new ≡ record old { doc = record old.doc { tree = t } }) × (d ≡ did.All)
+
 -- the element, if it is there, was read
 abbrev pub HasRead : ℕ → Option ℕ → Live → Live → Did → Type 0
 HasRead k None old new d = (new ≡ old) × (d ≡ did.Nothing)
@@ -174,10 +181,10 @@ left_by did.All list = list
 left_by did.Nothing list = []
 
 -- A statement, the first that the innermost script has left, was done, but for the line that says that its element isn't there or can't be moved so.
-abbrev pub DoneBy : Did → ℕ → Statement → Live → List ℕ → Live → List ℕ → Type 0
-DoneBy did.All k a old rest new rest' =
-    (es : Entities) (list : List Statement) (fs : List Frame) → Turns es old (framed k (a ∷ list) rest ∷ fs) new (framed k list rest' ∷ fs)
-DoneBy did.Nothing k a old rest new rest' = (new ≡ old) × (rest' ≡ rest) × LacksElement old.doc.tree a
+abbrev pub DoneBy : Entities → Did → ℕ → Statement → Live → List ℕ → Live → List ℕ → Type 0
+DoneBy es did.All k a old rest new rest' =
+    (list : List Statement) (fs : List Frame) → Turns es old (framed k (a ∷ list) rest ∷ fs) new (framed k list rest' ∷ fs)
+DoneBy es did.Nothing k a old rest new rest' = (new ≡ old) × (rest' ≡ rest) × LacksElement old.doc.tree a
 
 -- what is left to parse and to write didn't grow
 pub record IsLight (old : Live) (rest : List ℕ) (new : Live) (rest' : List ℕ) : Type 0 where
@@ -185,25 +192,25 @@ pub record IsLight (old : Live) (rest : List ℕ) (new : Live) (rest' : List ℕ
   pub behind : new.rest ≡ old.rest
   pub pending : new.pending ≡ old.pending
 
-pub record DoesMost (k : ℕ) (a : Statement) (old : Live) (rest : List ℕ) (new : Live) (rest' : List ℕ) (d : Did) : Type 0 where
-  pub done : DoneBy d k a old rest new rest'
+pub record DoesMost (es : Entities) (k : ℕ) (a : Statement) (old : Live) (rest : List ℕ) (new : Live) (rest' : List ℕ) (d : Did) : Type 0 where
+  pub done : DoneBy es d k a old rest new rest'
   pub served : IsServed new.machine new.doc
   pub light : IsLight old rest new rest'
 
 -- The same with that line, behind which the script has no statement left.
-pub record Does (k : ℕ) (a : Statement) (old : Live) (rest : List ℕ) (new : Live) (rest' : List ℕ) (d : Did) : Type 0 where
-  pub turns : (es : Entities) (list : List Statement) (fs : List Frame) → Turns es old (framed k (a ∷ list) rest ∷ fs) new (framed k (left_by d list) rest' ∷ fs)
+pub record Does (es : Entities) (k : ℕ) (a : Statement) (old : Live) (rest : List ℕ) (new : Live) (rest' : List ℕ) (d : Did) : Type 0 where
+  pub turns : (list : List Statement) (fs : List Frame) → Turns es old (framed k (a ∷ list) rest ∷ fs) new (framed k (left_by d list) rest' ∷ fs)
   pub served : IsServed new.machine new.doc
   pub light : IsLight old rest new rest'
 
 -- One step of the innermost script.
-pub record Steps (old : Live) (n : Nesting) (new : Live) (n' : Nesting) (t : Progress) : Type 0 where
-  pub moves : (es : Entities) → Moves es old (frames_of n) new (frames_at t n')
+pub record Steps (es : Entities) (old : Live) (n : Nesting) (new : Live) (n' : Nesting) (t : Progress) : Type 0 where
+  pub moves : Moves es old (frames_of n) new (frames_at t n')
   pub on : t ≡ turn.On → (new.halted ≡ None) × (steps_of (frames_of n') < steps_of (frames_of n))
 
 -- Statements ran up to a text that is to be parsed, or to the end.
-pub record RunsOn (old : Live) (n : Nesting) (new : Live) (n' : Nesting) (t : Progress) : Type 0 where
-  pub moves : (es : Entities) → Moves es old (frames_of n) new (frames_at t n')
+pub record RunsOn (es : Entities) (old : Live) (n : Nesting) (new : Live) (n' : Nesting) (t : Progress) : Type 0 where
+  pub moves : Moves es old (frames_of n) new (frames_at t n')
   pub on : t ≡ turn.On → (new.halted ≡ None) × Continues new.pending n'.top.rest
 
 -- The text that the innermost script wrote was parsed up to a stop.

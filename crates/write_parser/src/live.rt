@@ -5,10 +5,12 @@ ghost use Rattle.std.specs.Option.{ForSome};
 ghost use Rattle.std.specs.Str.{chars};
 ghost use Rattle.standard.specs.Act.{is_bound};
 ghost use Rattle.standard.specs.Tree.{find_id, appended};
+ghost use Rattle.standard.specs.Entities.{Entities};
+ghost use Rattle.standard.specs.Fragment.{inner_set};
 ghost use Rattle.standard.specs.Serial.{with_line_feed};
 ghost use Rattle.standard_laws.specs.Frames.{Waits};
 ghost use Rattle.write_parser.specs.Parsing.{IsServed, TextParsed, EndParsed};
-ghost use Rattle.write_parser.specs.Steps.{view_of, IsGoing, IsFirst, Begins, Prepares, Continues, HasWritten, HasRemoved, HasAppended, HasRead, DoesMost, Does, Steps, RunsOn, ParsesOn, Moves, frames_of, with_begun, Nests, EndsTag, RunsText, Misses, FeedsOn, IsFed, Fed};
+ghost use Rattle.write_parser.specs.Steps.{view_of, IsGoing, IsFirst, Begins, Prepares, Continues, HasWritten, HasRemoved, HasAppended, HasSet, HasRead, DoesMost, Does, Steps, RunsOn, ParsesOn, Moves, frames_of, with_begun, Nests, EndsTag, RunsText, Misses, FeedsOn, IsFed, Fed};
 ghost use Rattle.write_parser.specs.Writing.{LeftIs};
 
 use crate::left::{Left, Overrun};
@@ -17,7 +19,7 @@ use crate::rest::{Rest, parse_text};
 use entity_table::Table;
 use html_types::{Ending, Line, Lines, NoMemory, NodeId, Ops, Statement, Stop, Text};
 use op_exec::{Doc, Put, ScriptKind};
-use parse_machine::{Machine, PageEnd, Ran};
+use parse_machine::{Machine, PageEnd, Ran, parse_fragment};
 use std::alloc::Global;
 use std::mem;
 
@@ -64,7 +66,7 @@ fn one_more(executed: u64) -> Result<u64, NoMemory>
 // The parser, and the text of a page.
 impl Live {
     /// At the beginning of a page, with an empty document.
-    pub fn new(alloc: Global, realm: u64) -> Result<Live, NoMemory>
+    pub fn new(alloc: Global, realm: u32) -> Result<Live, NoMemory>
         ensures { IfOk result (λ live. IsFirst realm live) }
     {
         let doc = Doc::new(alloc)?;
@@ -206,6 +208,37 @@ impl Live {
         }
     }
 
+    // Takes the children of that element out, and puts the fragment of that text there (13.4). A fragment that is too deep refuses the
+    // page, and changes nothing else.
+    fn fill(&mut self, table: &Table, target: usize, text: &Text) -> Result<Did, NoMemory>
+        requires { target < length self.old.doc.tree }
+        ensures { IfOk result (λ did. HasSet (inner_set table.now self.old.machine.open_state.quirks self.old.doc.tree (Some target) text.now) self.old self.new did) }
+    {
+        let context = self.doc.context_of(target, self.machine.is_quirky())?;
+        let form = context.form;
+        let fragment = parse_fragment(self.alloc, table, context, text.as_str())?;
+        match fragment {
+            None => {
+                self.halted = Some(Overrun::Depth);
+                Ok(Did::All)
+            }
+            Some(ops) => {
+                self.doc.fill(target, form, ops)?;
+                Ok(Did::All)
+            }
+        }
+    }
+
+    // The same with the element that has that id, if one has.
+    fn set_inner(&mut self, table: &Table, id: &Text, text: &Text) -> Result<Did, NoMemory>
+        ensures { IfOk result (λ did. HasSet (inner_set table.now self.old.machine.open_state.quirks self.old.doc.tree (find_id self.old.doc.tree id.now) text.now) self.old self.new did) }
+    {
+        match self.doc.find_id(id.as_str()) {
+            None => Ok(Did::Nothing),
+            Some(target) => self.fill(table, target, text),
+        }
+    }
+
     // The script of that number reads the element.
     fn read(&mut self, number: u64, node: Option<usize>) -> Result<Did, NoMemory>
         requires { ForSome node (λ n. n < length self.old.doc.tree) }
@@ -224,19 +257,21 @@ impl Live {
     // Does a statement of the script of that number, which wrote `rest`.
     fn try_statement(
         &mut self,
+        table: &Table,
         number: u64,
         statement: &Statement,
         rest: &mut Rest,
     ) -> Result<Did, NoMemory>
         requires going { IsGoing self.old }
         requires waits { Waits self.old.pending rest.old }
-        ensures { IfOk result (λ did. DoesMost number statement.now self.old rest.old self.new rest.new did) }
+        ensures { IfOk result (λ did. DoesMost table.now number statement.now self.old rest.old self.new rest.new did) }
     {
         match statement {
             Statement::Write(text) => self.write(text, rest),
             Statement::WriteLine(text) => self.write_line(text, rest),
             Statement::Remove(id) => self.remove(id),
             Statement::Append(first, second) => self.append(first, second),
+            Statement::SetInner(id, text) => self.set_inner(table, id, text),
             Statement::LogById(id) => {
                 let node = self.doc.find_id(id.as_str());
                 self.read(number, node)
@@ -251,15 +286,16 @@ impl Live {
     // The same. Where an element of its isn't there, or can't be moved so, that gives a line.
     fn run_statement(
         &mut self,
+        table: &Table,
         number: u64,
         statement: &Statement,
         rest: &mut Rest,
     ) -> Result<Did, NoMemory>
         requires going { IsGoing self.old }
         requires waits { Waits self.old.pending rest.old }
-        ensures { IfOk result (λ did. Does number statement.now self.old rest.old self.new rest.new did) }
+        ensures { IfOk result (λ did. Does table.now number statement.now self.old rest.old self.new rest.new did) }
     {
-        let did = self.try_statement(number, statement, rest)?;
+        let did = self.try_statement(table, number, statement, rest)?;
         if did == Did::Nothing {
             self.lines.push(Line::Throw(number))?;
         }
@@ -274,7 +310,7 @@ impl Live {
         requires going { IsGoing self.old }
         requires waits { Waits self.old.pending nesting.old.top.rest }
         requires ended { length nesting.old.top.script ≤ nesting.old.top.done }
-        ensures { IfOk result (λ turn. Steps self.old nesting.old self.new nesting.new turn) }
+        ensures { IfOk result (λ turn. (es : Entities) → Steps es self.old nesting.old self.new nesting.new turn) }
     {
         let rest = mem::replace(&mut nesting.top.rest, Rest::new(self.alloc));
         match nesting.below.pop() {
@@ -291,16 +327,16 @@ impl Live {
     }
 
     // The next statement of the innermost script, or its end.
-    fn step(&mut self, nesting: &mut Nesting) -> Result<Progress, NoMemory>
+    fn step(&mut self, table: &Table, nesting: &mut Nesting) -> Result<Progress, NoMemory>
         requires going { IsGoing self.old }
         requires waits { Waits self.old.pending nesting.old.top.rest }
-        ensures { IfOk result (λ turn. Steps self.old nesting.old self.new nesting.new turn) }
+        ensures { IfOk result (λ turn. Steps table.now self.old nesting.old self.new nesting.new turn) }
     {
         let statements = nesting.top.script.as_slice();
         let Some(statement) = statements.get(nesting.top.done) else {
             return self.end_script(nesting);
         };
-        match self.run_statement(nesting.top.number, statement, &mut nesting.top.rest)? {
+        match self.run_statement(table, nesting.top.number, statement, &mut nesting.top.rest)? {
             Did::All => nesting.top.done += 1,
             Did::Nothing => nesting.top.done = statements.len(),
         }
@@ -311,12 +347,12 @@ impl Live {
     }
 
     // Runs statements up to a text that is to be parsed, or to the end.
-    fn run_statements(&mut self, nesting: &mut Nesting) -> Result<Progress, NoMemory>
+    fn run_statements(&mut self, table: &Table, nesting: &mut Nesting) -> Result<Progress, NoMemory>
         requires { IsGoing self.old }
-        ensures { IfOk result (λ turn. RunsOn self.old nesting.old self.new nesting.new turn) }
+        ensures { IfOk result (λ turn. RunsOn table.now self.old nesting.old self.new nesting.new turn) }
     {
         'steps: while !self.goes_on(&nesting.top.rest) {
-            if self.step(nesting)? == Progress::Over {
+            if self.step(table, nesting)? == Progress::Over {
                 return Ok(Progress::Over);
             }
         }
@@ -361,7 +397,7 @@ impl Live {
         ensures { OnOk result (Moves table.now self.old (frames_of nesting.old) self.new []) }
     {
         'texts: loop {
-            if self.run_statements(nesting)? == Progress::Over {
+            if self.run_statements(table, nesting)? == Progress::Over {
                 return Ok(());
             }
             if self.parse_written(table, nesting)? == Progress::Over {

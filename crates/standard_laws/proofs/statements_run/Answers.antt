@@ -1,4 +1,4 @@
-use Rattle.standard_laws.proofs.Frames.{write-fits, write-refuses, line-fits, line-refuses, removes, appends, reads_by_id, reads_root, throws, frame-ends, frames-end}
+use Rattle.standard_laws.proofs.Frames.{write-fits, write-refuses, line-fits, line-refuses, removes, appends, fills, fill-refuses, reads_by_id, reads_root, throws, frame-ends, frames-end}
 use Rattle.standard_laws.proofs.statements_run.Goals as goal
 
 pub returns-clause-write : goal.returns-clause-write
@@ -18,6 +18,12 @@ returns-clause-remove c = removes
 
 pub returns-clause-append : goal.returns-clause-append
 returns-clause-append c = appends
+
+pub returns-clause-fill : goal.returns-clause-fill
+returns-clause-fill c = fills
+
+pub returns-clause-too_deep : goal.returns-clause-too_deep
+returns-clause-too_deep c = fill-refuses
 
 pub returns-clause-read : goal.returns-clause-read
 returns-clause-read c = reads_by_id

@@ -13,6 +13,11 @@ returns-clause-others g c =
     stepped-shown c.args.event c.self.inside.both c.step.new.self c.of.result.value c.args.self.now (both-shown c.self.invariant c.if-self.false c.self.view_is)
     (sym (ap (λ (p : Paired). p.spent) c.self.view_is) ∙ c.if-self.false) c.in_ok-step.ensures.others
 
+pub returns-clause-setup : goal.returns-clause-setup
+returns-clause-setup g c =
+    ap setup_of (stepped-shown c.args.event c.self.inside.both c.step.new.self c.of.result.value c.args.self.now (both-shown c.self.invariant c.if-self.false c.self.view_is)
+    (sym (ap (λ (p : Paired). p.spent) c.self.view_is) ∙ c.if-self.false) c.in_ok-step.ensures.others)
+
 pub returns-clause-stands_for : goal.returns-clause-stands_for
 returns-clause-stands_for g c = always-stands_for (run-told g.E.InForce.entities c.step.new.self false c.in_ok-step.ensures.run)
 

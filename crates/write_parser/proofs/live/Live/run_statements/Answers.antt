@@ -7,16 +7,16 @@ use Rattle.write_parser.proofs.live.Live.run_statements.Goals as goal
 pub returns-then-eq : goal.returns-then-eq
 returns-then-eq c =
     let over : c.in_ok-step.field-0 ≡ turn.Over = search rules in
-    runs-over c.args.self.now c.steps.self c.step.new.self c.args.nesting.now c.steps.nesting c.step.new.nesting c.in_ok-step.field-0 over c.steps.invariant.going c.steps.invariant.moves
+    runs-over c.args.table.now c.args.self.now c.steps.self c.step.new.self c.args.nesting.now c.steps.nesting c.step.new.nesting c.in_ok-step.field-0 over c.steps.invariant.going c.steps.invariant.moves
     c.in_ok-step.ensures
 
 pub steps-preserved : goal.steps-preserved
 steps-preserved c =
     let on : c.in_ok-step.field-0 ≡ turn.On = turn-on c.in_ok-step.field-0 (search rules) in
-    let step : Steps c.steps.self c.steps.nesting c.step.new.self c.step.new.nesting turn.On = subst (λ t. Steps c.steps.self c.steps.nesting c.step.new.self c.step.new.nesting t) on c.in_ok-step.ensures in
+    let step : Steps c.args.table.now c.steps.self c.steps.nesting c.step.new.self c.step.new.nesting turn.On = subst (λ t. Steps c.args.table.now c.steps.self c.steps.nesting c.step.new.self c.step.new.nesting t) on c.in_ok-step.ensures in
     record {
-      going = record { served = (step.moves []).served; halted = (step.on refl).0 };
-      moves = λ es.
-          moves-then es c.args.self.now c.steps.self c.step.new.self (frames_of c.args.nesting.now) (frames_of c.steps.nesting) (frames_of c.step.new.nesting)
-          c.steps.invariant.going.halted (c.steps.invariant.moves es) (step.moves es);
+      going = record { served = step.moves.served; halted = (step.on refl).0 };
+      moves =
+          moves-then c.args.table.now c.args.self.now c.steps.self c.step.new.self (frames_of c.args.nesting.now) (frames_of c.steps.nesting) (frames_of c.step.new.nesting)
+          c.steps.invariant.going.halted c.steps.invariant.moves step.moves;
     }

@@ -1,11 +1,10 @@
-use Rattle.standard.specs.Entities.{Entities}
 use Rattle.write_parser.specs.Steps.{IsGoing, Moves, frames_of, steps_of}
 use Rattle.write_parser.proofs.live.Live.run_statements.Given as goal
 
 abbrev pub invariant-steps : goal.invariant-steps
 invariant-steps l = record {
   going : IsGoing l.self;
-  moves : (es : Entities) → Moves es l.fn.self (frames_of l.fn.nesting) l.self (frames_of l.nesting);
+  moves : Moves l.table l.fn.self (frames_of l.fn.nesting) l.self (frames_of l.nesting);
 }
 
 abbrev pub decreases-steps : goal.decreases-steps

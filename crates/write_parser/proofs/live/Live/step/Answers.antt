@@ -3,7 +3,7 @@ use Rattle.std.proofs.lemmas.Bool.{ltb-true}
 use Rattle.std.proofs.lemmas.List.{drop_all}
 use Rattle.html_types.specs.declared.script.Statement.{Statement}
 use Rattle.write_parser.specs.Steps.{left_by}
-use Rattle.write_parser.proofs.StatementLemmas.{next-is, halted-some, halted-none}
+use Rattle.write_parser.proofs.StatementLemmas.{if_ok, next-is, halted-some, halted-none}
 use Rattle.write_parser.proofs.NestingLemmas.{NextIs, step-refused, step-on}
 use Rattle.write_parser.proofs.live.Live.step.Goals as goal
 use Rattle.write_parser.proofs.live.Live.step.Goals.{in-All, in-Nothing}
@@ -12,10 +12,13 @@ next : (list script : List Statement) (i : ℕ) (a : Statement) → list ≡ scr
 next list script i a same within is =
     subst (λ l. drop i l ≡ a ∷ drop (i + 1) l) same (next-is list i a (ltb-true i (length list) (sym within)) is)
 
+pub returns-in_default : goal.returns-in_default
+returns-in_default c = if_ok c.end_script.result _ _ (λ t steps. steps c.args.table.now) c.end_script.ensures
+
 pub returns-then-is_some : goal.returns-then-is_some
 returns-then-is_some c =
     let refused = halted-some c.run_statement.new.self.halted (sym c.is_some.ensures ∙ c.if-is_some.true) in
-    step-refused c.args.self.now c.run_statement.new.self c.args.nesting.now c.match-branch-2.nesting c.in-Some.statement.now c.run_statement.new.rest c.in_ok-run_statement.field-0 refused.0
+    step-refused c.args.table.now c.args.self.now c.run_statement.new.self c.args.nesting.now c.match-branch-2.nesting c.in-Some.statement.now c.run_statement.new.rest c.in_ok-run_statement.field-0 refused.0
     (next c.as_slice-statements.result.now c.args.nesting.now.top.script c.args.nesting.now.top.done c.in-Some.statement.now c.as_slice-statements.ensures c.in-Some.ensures.lookup.0
     c.in-Some.ensures.lookup.1) c.in_ok-run_statement.ensures refused.1
 
@@ -27,10 +30,10 @@ returns c =
     c.in-Some.ensures.lookup.1 in
     elim c.match-branch-2.branch [
       | in-All w ↦
-          step-on c.args.self.now c.run_statement.new.self c.args.nesting.now c.match-branch-2.nesting c.in-Some.statement.now c.run_statement.new.rest c.in_ok-run_statement.field-0
+          step-on c.args.table.now c.args.self.now c.run_statement.new.self c.args.nesting.now c.match-branch-2.nesting c.in-Some.statement.now c.run_statement.new.rest c.in_ok-run_statement.field-0
           (top.done + 1) there c.in_ok-run_statement.ensures goes_on (ap (λ d. left_by d (drop (top.done + 1) top.script)) (sym w.in-All.is)) w.nesting-is
       | in-Nothing w ↦
-          step-on c.args.self.now c.run_statement.new.self c.args.nesting.now c.match-branch-2.nesting c.in-Some.statement.now c.run_statement.new.rest c.in_ok-run_statement.field-0
+          step-on c.args.table.now c.args.self.now c.run_statement.new.self c.args.nesting.now c.match-branch-2.nesting c.in-Some.statement.now c.run_statement.new.rest c.in_ok-run_statement.field-0
           (length c.as_slice-statements.result.now) there c.in_ok-run_statement.ensures goes_on
           (ap (λ l. drop (length l) top.script) c.as_slice-statements.ensures ∙ (all_done top.script ∙ ap (λ d. left_by d (drop (top.done + 1) top.script)) (sym w.in-Nothing.is))) w.nesting-is
     ]

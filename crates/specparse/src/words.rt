@@ -1,0 +1,109 @@
+//! What standard error is told. No contract speaks of it.
+
+use command_words::{CommandWords, PageWords, read_words};
+use outside::{Port, Trouble};
+use page_runner::Status;
+use std::io::ErrorKind;
+
+/// How a run ended, and why the latest call failed that did.
+pub struct Ended {
+    pub status: Status,
+    pub reading: Option<Trouble>,
+    pub writing: Option<ErrorKind>,
+}
+
+impl Ended {
+    /// With a status alone.
+    pub fn at(status: Status) -> Ended {
+        Ended {
+            status,
+            reading: None,
+            writing: None,
+        }
+    }
+}
+
+// How the command is called.
+const USAGE: &str = "\
+usage: specparse page [--piece N] [--ahead K] [--dump] PAGE DIR ENTITIES
+       specparse make NUMBER COUNT
+N is 1 to 65536, K 1 to 64, NUMBER 0 to 2147483647, COUNT 1 to 50000; PAGE may be /dev/stdin";
+
+// The word of a status of which the output tells nothing.
+fn word_of(status: Status) -> Option<&'static str> {
+    match status {
+        Status::Done => None,
+        Status::Usage => Some("usage"),
+        Status::Entities => Some("entities"),
+        Status::BadUtf8 => None,
+        Status::Limit(_) => None,
+        Status::ReadFault => Some("read fault"),
+        Status::WriteFault => Some("write fault"),
+        Status::Absent => Some("absent"),
+        Status::NoMemory => Some("no memory"),
+    }
+}
+
+// What was read at a port.
+fn part_of(port: Port) -> &'static str {
+    match port {
+        Port::Entities => "entities",
+        Port::Page => "page",
+        Port::Script => "a script of",
+    }
+}
+
+// What the words name for it.
+fn path_of(port: Port, words: &PageWords) -> &str {
+    match port {
+        Port::Entities => words.entities.as_str(),
+        Port::Page => words.page.as_str(),
+        Port::Script => words.dir.as_str(),
+    }
+}
+
+// Why a file wasn't read, where the words name it.
+fn tell_reading(rt: HostRuntime, trouble: Trouble, words: &[String]) {
+    let Trouble { port, kind } = trouble;
+    let Ok(CommandWords::Page(asked)) = read_words(rt.alloc(), words) else {
+        return;
+    };
+    let part = part_of(port);
+    let path = path_of(port, &asked);
+    let _ = if kind == ErrorKind::NotFound {
+        eprintln!(rt; "  {part} {path}: no such file")
+    } else {
+        eprintln!(rt; "  {part} {path}: {kind}")
+    };
+}
+
+// Which file lists no entities.
+fn tell_entities(rt: HostRuntime, words: &[String]) {
+    if let Ok(CommandWords::Page(asked)) = read_words(rt.alloc(), words) {
+        let path = asked.entities.as_str();
+        let _ = eprintln!(rt; "  entities {path}: no list of named character references");
+    }
+}
+
+// What helps, behind the word of a status.
+fn tell_more(rt: HostRuntime, ended: &Ended, words: &[String]) {
+    match (ended.status, ended.reading, ended.writing) {
+        (Status::Usage, _, _) => {
+            let _ = eprintln!(rt; "{USAGE}");
+        }
+        (Status::Entities, _, _) => tell_entities(rt, words),
+        (Status::Absent | Status::ReadFault, Some(trouble), _) => tell_reading(rt, trouble, words),
+        (Status::WriteFault, _, Some(kind)) => {
+            let _ = eprintln!(rt; "  {kind}");
+        }
+        _ => {}
+    }
+}
+
+/// Says how a run ended, where the output tells nothing of it.
+pub fn tell(rt: HostRuntime, ended: &Ended, words: &[String]) {
+    if let Some(word) = word_of(ended.status) {
+        let _ = eprintln!(rt; "specparse: {word}");
+        tell_more(rt, ended, words);
+    }
+}
