@@ -56,12 +56,7 @@ fn mode_of_root(head: Option<NodeId>) -> Mode
 }
 
 /// The mode that an element of that name tells, which stands right below the elements that are left of a walk.
-fn told_mode(
-    name: &Name,
-    above: &Elements<'_>,
-    head: Option<NodeId>,
-    modes: &Modes,
-) -> Option<Mode>
+fn told_mode(name: &Name, above: &Elements<'_>, head: Option<NodeId>, modes: &Modes) -> Option<Mode>
     ensures { result ≡ told_mode name.now (select_mode above.now) (template_mode modes.now) (root_mode head) }
 {
     let Name::Known(word) = name else {

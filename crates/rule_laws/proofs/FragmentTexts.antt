@@ -213,7 +213,6 @@ unfolding known_after_all
 roots-serve t true = record { stack_bound = (refl, tt); formats_bound = tt; head_bound = tt; form_bound = refl; coming = free }
   where
     free : (k : ℕ) → known_after_all (is_bound (with_none t).bound) (roots_made true) (later k (record { realm = 0; n = 2 })) ≡ false
-    unfolding known_after_all
     free k =
         let root : (2 + k == 0) ≡ false = grind arith in
         let form : (2 + k == 1) ≡ false = grind arith in
@@ -221,7 +220,6 @@ roots-serve t true = record { stack_bound = (refl, tt); formats_bound = tt; head
 roots-serve t false = record { stack_bound = (refl, tt); formats_bound = tt; head_bound = tt; form_bound = tt; coming = free }
   where
     free : (k : ℕ) → known_after_all (is_bound (with_none t).bound) (roots_made false) (later k (record { realm = 0; n = 1 })) ≡ false
-    unfolding known_after_all
     free k =
         let root : (1 + k == 0) ≡ false = grind arith in
         ap (λ v. v || false) root
