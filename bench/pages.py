@@ -41,6 +41,9 @@ KINDS = {
     # a script finds its element, which stands far from the start
     "read by id": ("", '<i id=e{n}>x</i><script>console.log(document.getElementById("e{n}").outerHTML);</script>', ""),
     "removed": ("", '<i id=e{n}>x</i><script>document.getElementById("e{n}").remove();</script>', ""),
+    # one fragment of a long text, and many short ones
+    "inner": ('<div id=e></div><script>document.getElementById("e").innerHTML = "', "<p class='a b' id=x1>" + WORDS, '";</script>'),
+    "inners": ("", '<p id=e{n}></p><script>document.getElementById("e{n}").innerHTML = "<i>x</i>y";</script>', ""),
     "writer": ("<body>", '<script>document.write("' + "<i>x</i>" * 100 + '");</script>', ""),
 }
 # as many as the characters that scripts may write allow

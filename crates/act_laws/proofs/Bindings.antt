@@ -134,9 +134,9 @@ module _ (d : Doc) (id : NodeId) (name : Name) (attributes : List Attribute) (na
   named_made n is = elim (cases_eq n (length d.tree)) [
     | inl last ↦ (id, own_made d id name attributes names.binds free id refl ∙ ap Some (sym last))
     | inr before ↦
-      let more : IsMore d.tree (element_made d.tree name attributes) = IsMore-element_made d.tree name attributes in
-      let old = names.named n (sym (more.elsewhere n before) ∙ is) in
-      (old.0, other_made d id name attributes names.binds free old.0 n old.1)
+        let more : IsMore d.tree (element_made d.tree name attributes) = IsMore-element_made d.tree name attributes in
+        let old = names.named n (sym (more.elsewhere n before) ∙ is) in
+        (old.0, other_made d id name attributes names.binds free old.0 n old.1)
   ]
 
   NamesElements-made : NamesElements (act d (Make id name attributes))

@@ -7,4 +7,3 @@ pub record Stays (t s : Nodes) : Type 0 where
   pub nodes : length t ≤ length s
   pub hosts : (n : ℕ) → n < length t → host_of s n ≡ host_of t n
   pub elements : (n : ℕ) → n < length t → is_element_at s n ≡ is_element_at t n
-

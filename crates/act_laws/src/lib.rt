@@ -22,14 +22,16 @@ pub fn same_up_to_renaming()
         → (appended d'.tree (find_id d'.tree v) (find_id d'.tree c) ≡ Some t) × SameUpTo r (record d { tree = t }) (record d' { tree = t }) }
 {}
 
-/// What an element's children are set to by a script (a fragment, 13.4), whatever its operations are, leaves the nodes that there were: they keep
-/// their numbers, templates their contents, and elements are elements.
+/// What an element's children are set to by a script (a fragment, 13.4), whatever its operations
+/// are, leaves the nodes that there were: they keep their numbers, templates their contents, and
+/// elements are elements.
 pub fn fragments_leave_nodes()
     ensures { (t : Nodes) (n : ℕ) (form : Bool) (ops : List Op) → Stays t (filled t n form ops) }
 {}
 
-/// Each id stands for an element, and no two ids for one: so it stays behind operations whose ids are bound before, and where a script removes
-/// or moves an element, or sets its children. A fragment's elements have no id.
+/// Each id stands for an element, and no two ids for one: so it stays behind operations whose ids
+/// are bound before, and where a script removes or moves an element, or sets its children. A
+/// fragment's elements have no id.
 pub fn ids_stay_one_to_one()
     ensures one { (d : Doc) → BindsElements d → (op : Op) → IsOpBound (is_bound d.bound) op → BindsElements (act d op) }
     ensures all { (d : Doc) → BindsElements d → (ops : List Op) → AreOpsBound (is_bound d.bound) ops → BindsElements (acts d ops) }

@@ -75,9 +75,9 @@ impl Builder {
         }
     }
 
-    /// The open state at the beginning of a fragment (13.4), whose ids are of that realm. The caller
-    /// makes an html element under the realm's first id and, where the context is in a form, a form
-    /// element under its second.
+    /// The open state at the beginning of a fragment (13.4), whose ids are of that realm. The
+    /// caller makes an html element under the realm's first id and, where the context is in a
+    /// form, a form element under its second.
     pub fn fragment(alloc: Global, context: Context, realm: u32) -> Result<Builder, NoMemory>
         ensures { IfOk result (λ b. b ≡ fragment_opening context realm) }
     {

@@ -180,15 +180,18 @@ pub struct Open {
     pub foster: bool,
     /// The id of the next element that is made.
     pub next: NodeId,
-    /// Of a fragment (13.4) its context, under the id of the first element of the stack, for which it stands; of a page, none.
+    /// Of a fragment (13.4) its context, under the id of the first element of the stack, for
+    /// which it stands; of a page, none.
     pub context: Option<OpenElement>,
 }
 
-/// What the parse of a fragment (13.4) asks of its context, the element whose children the fragment comes to be.
+/// What the parse of a fragment (13.4) asks of its context, the element whose children the
+/// fragment comes to be.
 #[derive(Drop)]
 pub struct Context {
     pub name: Name,
-    /// An annotation-xml of MathML whose `encoding` is one of HTML: an HTML integration point (13.2.6).
+    /// An annotation-xml of MathML whose `encoding` is one of HTML: an HTML integration point
+    /// (13.2.6).
     pub html_point: bool,
     /// It is a form, or stands under one: the form element pointer is set.
     pub form: bool,

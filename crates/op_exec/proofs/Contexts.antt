@@ -1,5 +1,5 @@
 -- Whether a node is a form or stands under one, a step at a time.
-use Rattle.std.proofs.Common.{◌≡◌, ℕ, zero, suc, Bool, true, false, Option, Some, None, refl, ap, ◌∙◌}
+use Rattle.std.proofs.Common.{◌≡◌, ℕ, suc, true, false, Some, None, ap, ◌∙◌}
 use Rattle.std.specs.Prelude.{◌||◌, unwrap_or}
 use Rattle.std.specs.Option.{option_map}
 use Rattle.standard.specs.Tree.{Nodes, kind_of, parent_of}

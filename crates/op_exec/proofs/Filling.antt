@@ -1,6 +1,6 @@
 -- A fragment's nodes beside a document's.
-use Rattle.std.proofs.Common.{◌≡◌, ◌<◌, ◌≤◌, ℕ, Bool, true, false, List, [], ◌∷◌, ◌++◌, length, Option, Some, None, Result, Ok, Err, OnOk, OnErr, map, refl, sym, ap, subst, ◌∙◌, append-nil, arith}
-use Rattle.std.specs.Prelude.{IsTrue, All, ◌||◌, if◌then◌else◌}
+use Rattle.std.proofs.Common.{◌≡◌, ◌<◌, ◌≤◌, ℕ, Bool, true, false, List, [], ◌∷◌, ◌++◌, length, Result, Ok, Err, OnOk, OnErr, map, refl, sym, ap, subst, ◌∙◌, append-nil}
+use Rattle.std.specs.Prelude.{◌||◌, if◌then◌else◌}
 use Rattle.std.specs.Map.{values_of}
 use Rattle.std.specs.BTreeMap.{insert_entry}
 use Rattle.html_types.specs.declared.operation.NodeId.{NodeId}
@@ -11,13 +11,13 @@ use Rattle.html_types.specs.declared.operation.Place.TheVariants.{Page, Inside, 
 use Rattle.html_types.specs.Operations.{same_id, spelled_one}
 use Rattle.html_types.specs.declared.attributes.Attribute.{Attribute}
 use Rattle.html_types.specs.declared.name.Name.{Name}
-use Rattle.standard.specs.Tree.{Nodes, Keeps, is_element_at, children_of, detached, all_out, emptied, children_moved}
-use Rattle.standard.specs.Act.{Bound, Doc, id_cmp, is_bound, node_of, end_of, act, acts, known_after, IsPlaceBound, AreOpsBound}
+use Rattle.standard.specs.Tree.{Nodes, children_of, detached, all_out, emptied}
+use Rattle.standard.specs.Act.{Bound, Doc, id_cmp, is_bound, act, acts, known_after, IsPlaceBound, AreOpsBound}
 use Rattle.standard.specs.Fragment.{root_id, form_id, roots_made, place_in_root, all_in_root, with_fragment, exchanged, filled}
 use Rattle.act_laws.specs.Staying.{Stays}
 use Rattle.act_laws.proofs.Elements.{Alike, Alike-detached}
 use Rattle.act_laws.proofs.Known.{known_after-is}
-use Rattle.act_laws.proofs.Staying.{same, chain, Stays-act, Stays-acts, Stays-all_out, Stays-children_moved}
+use Rattle.act_laws.proofs.Staying.{same, Stays-act, Stays-acts, Stays-all_out}
 use Rattle.op_exec.specs.Docs.{IsPlain, IsDoc, IsDoneInPart, html_made, form_made}
 use Rattle.op_exec.proofs.Docs.{IsPlain-kept}
 use Rattle.op_exec.proofs.Lists.{acts-append}

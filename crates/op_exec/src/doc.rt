@@ -455,10 +455,10 @@ impl Doc {
         self.exchange(target)
     }
 
-    /// Takes an element's children out (a template's: its contents' children), and puts there what
-    /// those operations make under the root of a fragment. They name the fragment's elements by ids
-    /// of its own, of realm 0, of which none is bound behind it; what ids stand for stays. Also
-    /// where memory runs out the nodes that there were keep their numbers; some may be new.
+    /// Takes an element's children out (a template's: its contents' children), and puts there
+    /// what those operations make under the root of a fragment. They name the fragment's elements
+    /// by ids of its own, of realm 0, of which none is bound behind it; what ids stand for stays.
+    /// Also where memory runs out the nodes that there were keep their numbers; some may be new.
     pub fn fill(&mut self, target: usize, form: bool, ops: Ops) -> Result<(), NoMemory>
         requires here { target < length self.old.tree }
         requires bound { AreOpsBound (is_bound (with_fragment self.old.tree form []).bound) ops }
@@ -473,7 +473,8 @@ impl Doc {
     }
 
     /// A document of a fragment's own: those operations executed under its root, an html element,
-    /// whose number it says too. The root stands nowhere, and its children are the fragment's nodes.
+    /// whose number it says too. The root stands nowhere, and its children are the fragment's
+    /// nodes.
     pub fn of_fragment(alloc: Global, form: bool, ops: Ops) -> Result<(Doc, usize), NoMemory>
         requires { AreOpsBound (is_bound (with_fragment new_tree form []).bound) ops }
         ensures made { IfOk result (λ made. made.0 ≡ with_fragment new_tree form ops) }

@@ -421,9 +421,9 @@ impl Machine {
         }
     }
 
-    /// The parser at the beginning of a fragment with that context (13.4). Its elements are of that
-    /// realm. The caller makes its root, an html element, under the realm's first id and, where the
-    /// context is in a form, a form element under its second.
+    /// The parser at the beginning of a fragment with that context (13.4). Its elements are of
+    /// that realm. The caller makes its root, an html element, under the realm's first id and,
+    /// where the context is in a form, a form element under its second.
     #[tactic(auto, unfolding(standard::specs::Fragment::fragment_parser))]
     pub fn fragment(alloc: Global, context: Context, realm: u32) -> Result<Machine, NoMemory>
         ensures { IfOk result (λ m. m ≡ fragment_parser context realm) }
@@ -876,10 +876,10 @@ impl Machine {
         Ok(ran)
     }
 
-    /// Reads a text through: at the end tag of a script nothing runs, and the parser goes on behind
-    /// it. Operations are added at the end of `ops`. False at a push that would open element 513,
-    /// behind which nothing is read. Where it answers want of memory, the machine and the operations
-    /// only keep their types.
+    /// Reads a text through: at the end tag of a script nothing runs, and the parser goes on
+    /// behind it. Operations are added at the end of `ops`. False at a push that would open
+    /// element 513, behind which nothing is read. Where it answers want of memory, the machine
+    /// and the operations only keep their types.
     pub fn read_through(
         &mut self,
         alloc: Global,
@@ -901,9 +901,9 @@ impl Machine {
         }
     }
 
-    /// Reads a text through that is the whole input, and takes the end of the input: the operations,
-    /// or none at a push that would open element 513. Where it answers want of memory, the machine
-    /// only keeps its type.
+    /// Reads a text through that is the whole input, and takes the end of the input: the
+    /// operations, or none at a push that would open element 513. Where it answers want of
+    /// memory, the machine only keeps its type.
     pub fn parse_whole(
         &mut self,
         alloc: Global,

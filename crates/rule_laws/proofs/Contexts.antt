@@ -1,7 +1,6 @@
 -- The context of a fragment stays behind every token.
-use Rattle.std.proofs.Common.{◌≡◌, refl, ◌∙◌, ℕ, zero, suc, ◌-◌, Bool, true, false, not, List, [], ◌∷◌, Option, Some, None}
+use Rattle.std.proofs.Common.{◌≡◌, refl, ◌∙◌, ℕ, zero, suc, ◌-◌, Bool, true, false, not, List, ◌∷◌, Option, Some, None}
 use Rattle.std.specs.Prelude.{if◌then◌else◌}
-use Rattle.html_types.specs.Operations.{later}
 use Rattle.html_types.specs.declared.word.Word.{Word}
 use Rattle.html_types.specs.declared.name.Name.{Name}
 use Rattle.html_types.specs.declared.instruction.Scope.TheVariants as scope
@@ -11,12 +10,11 @@ use Rattle.html_types.specs.declared.token.Tag.{Tag}
 use Rattle.html_types.specs.declared.token.Token.{Token}
 use Rattle.html_types.specs.declared.operation.NodeId.{NodeId}
 use Rattle.html_types.specs.declared.operation.Op.{Op}
-use Rattle.html_types.specs.declared.open.OpenElement.{OpenElement}
 use Rattle.html_types.specs.declared.open.Open.{Open}
 use Rattle.standard.specs.Elements.{is_word}
-use Rattle.standard.specs.Stack.{is_open, current_id, pop, open_in_scope, below, above, block_below}
+use Rattle.standard.specs.Stack.{is_open, current_id, pop, open_in_scope, block_below}
 use Rattle.standard.specs.Formatting.{entry_named, tag_of_entry, without_entry}
-use Rattle.standard.specs.Adoption.{Climb, climb_at, climb_clone, climb_drop, climb_one, climb, Turned, turned, turn_with, turn_at, turn, turns, Adopted, adopted, adopted_by, is_plain, adopt}
+use Rattle.standard.specs.Adoption.{Turned, turned, turn_with, turn_at, turn, turns, Adopted, adopted, adopted_by, is_plain, adopt}
 use Rattle.standard.specs.Rules.{construct}
 use Rattle.rule_laws.proofs.Closed.{IsClosedWhole, construct-in}
 

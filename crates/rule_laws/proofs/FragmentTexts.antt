@@ -1,7 +1,7 @@
 -- Texts in the parser of a fragment, and texts that are read through.
 use Rattle.std.proofs.Common.{◌≡◌, refl, sym, ap, ◌∙◌, subst, true≢false, ℕ, ◌+◌, ◌==◌, Bool, true, false, ◌||◌, ◌&&◌, List, [], ◌∷◌, ◌++◌, append-nil, Option, Some, None, arith}
 use Rattle.std.specs.Prelude.{is_some, unwrap_or, if◌then◌else◌}
-use Rattle.html_types.specs.Operations.{same_id, later}
+use Rattle.html_types.specs.Operations.{later}
 use Rattle.html_types.specs.declared.instruction.Next.{Next}
 use Rattle.html_types.specs.declared.instruction.Next.TheVariants as next
 use Rattle.html_types.specs.declared.instruction.Stop.{Stop}
@@ -12,7 +12,6 @@ use Rattle.html_types.specs.declared.state.TokState.{TokState}
 use Rattle.html_types.specs.declared.token.Token.{Token}
 use Rattle.html_types.specs.declared.operation.NodeId.{NodeId}
 use Rattle.html_types.specs.declared.operation.Op.{Op}
-use Rattle.html_types.specs.declared.open.Context.{Context}
 use Rattle.html_types.specs.declared.open.Open.{Open}
 use Rattle.html_types.specs.declared.open.OpenElement.{OpenElement}
 use Rattle.standard.specs.Entities.{Entities}
@@ -23,10 +22,10 @@ use Rattle.standard.specs.Parser.{Parser, read_as, Took, took, after_ops, build_
 use Rattle.standard.specs.Quiet.{Through, through, deep, after_those, and_through, read_through, if_finished, with_end, whole}
 use Rattle.standard.specs.Tree.{Nodes}
 use Rattle.standard.specs.Act.{Doc, is_bound, AreOpsBound}
-use Rattle.standard.specs.Fragment.{root_id, form_id, root_element, fragment_opening, fragment_parser, fragment, roots_made, with_fragment, all_in_root}
-use Rattle.rule_laws.specs.Naming.{Holds, Serves, AreFresh, known_after_all, IsStopBound}
+use Rattle.standard.specs.Fragment.{form_id, root_element, fragment_opening, fragment_parser, fragment, roots_made, with_fragment}
+use Rattle.rule_laws.specs.Naming.{Holds, Serves, AreFresh, known_after_all}
 use Rattle.rule_laws.specs.NamingLaws.{StaysBound, TookBound, parser_of}
-use Rattle.rule_laws.specs.Fragments.{TokensKeepContext, CharactersKeepContext, EndsKeepContext, TextsKeepContext, asks_for_script, is_at_script, stop_of, IsFragment, CharactersNeverStop, TextsNeverStop, come_to, come_by, FragmentsParse, FragmentByParse, ThroughServed, DocsServeThrough, FragmentIsBound}
+use Rattle.rule_laws.specs.Fragments.{CharactersKeepContext, EndsKeepContext, TextsKeepContext, asks_for_script, is_at_script, stop_of, IsFragment, CharactersNeverStop, TextsNeverStop, come_to, come_by, FragmentsParse, FragmentByParse, ThroughServed, DocsServeThrough, FragmentIsBound}
 use Rattle.rule_laws.proofs.Contexts.{context-stays}
 use Rattle.rule_laws.proofs.NeverStops.{tokens-never_stop}
 use Rattle.rule_laws.proofs.FreshnessOps.{known-append, bound-append, Follows}
@@ -213,7 +212,6 @@ unfolding known_after_all
 roots-serve t true = record { stack_bound = (refl, tt); formats_bound = tt; head_bound = tt; form_bound = refl; coming = free }
   where
     free : (k : ℕ) → known_after_all (is_bound (with_none t).bound) (roots_made true) (later k (record { realm = 0; n = 2 })) ≡ false
-    unfolding known_after_all
     free k =
         let root : (2 + k == 0) ≡ false = grind arith in
         let form : (2 + k == 1) ≡ false = grind arith in
@@ -221,7 +219,6 @@ roots-serve t true = record { stack_bound = (refl, tt); formats_bound = tt; head
 roots-serve t false = record { stack_bound = (refl, tt); formats_bound = tt; head_bound = tt; form_bound = tt; coming = free }
   where
     free : (k : ℕ) → known_after_all (is_bound (with_none t).bound) (roots_made false) (later k (record { realm = 0; n = 1 })) ≡ false
-    unfolding known_after_all
     free k =
         let root : (1 + k == 0) ≡ false = grind arith in
         ap (λ v. v || false) root

@@ -14,7 +14,6 @@ use Rattle.html_types.specs.declared.instruction.Next.TheVariants as next
 use Rattle.html_types.specs.declared.instruction.Then.{Then}
 use Rattle.html_types.specs.declared.instruction.Mode.{Mode}
 use Rattle.html_types.specs.declared.instruction.Mode.TheVariants.{InBody}
-use Rattle.html_types.specs.declared.token.Tag.{Tag}
 use Rattle.html_types.specs.declared.token.Token.{Token}
 use Rattle.html_types.specs.declared.token.Token.TheVariants.{StartTag, EndTag, Character}
 use Rattle.html_types.specs.declared.operation.NodeId.{NodeId}
@@ -27,7 +26,7 @@ use Rattle.standard.specs.Formatting.{entry_named}
 use Rattle.standard.specs.Instructions.{Config, config, on, holds, for_tag, foreign_end, end_foreign_with, end_foreign, adopt_name, adopt_own, adopt_anchor, next_at_script, stop_at_script, append_pending, all_space, texts, here, body_characters, none_pending, insert_pending, step, run}
 use Rattle.standard.specs.Adoption.{Adopted, adopt}
 use Rattle.standard.specs.RulesBody.{after_adopt}
-use Rattle.standard.specs.Rules.{Answer, answer, answer_of, next_of, row, by_mode, adopting, with_adoption, by_rules, rules_for, round_after, go_round, process, rounds, is_line_feed, settled_answer, construct}
+use Rattle.standard.specs.Rules.{Answer, answer, next_of, row, by_mode, adopting, with_adoption, by_rules, rules_for, round_after, go_round, process, rounds, is_line_feed, settled_answer, construct}
 use Rattle.rule_laws.specs.Fragments.{asks_for_script, IsFragment, TokensNeverStop}
 use Rattle.rule_laws.proofs.Closed.{goes_on, body_characters-went, step-in, step-went, by_mode-in, by_rules-in}
 use Rattle.rule_laws.proofs.Calm.{Any, any}

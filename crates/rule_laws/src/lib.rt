@@ -106,8 +106,8 @@ pub fn context_stays()
     ensures texts { TextsKeepContext }
 {}
 
-/// No script's end tag stops the parser of a fragment (13.4). So a fragment's text is parsed as any other is, to its end or to a push
-/// that would open element 513.
+/// No script's end tag stops the parser of a fragment (13.4). So a fragment's text is parsed as
+/// any other is, to its end or to a push that would open element 513.
 pub fn fragments_never_stop()
     ensures tokens { TokensNeverStop }
     ensures characters { CharactersNeverStop }
@@ -116,8 +116,9 @@ pub fn fragments_never_stop()
     ensures fragment { FragmentByParse }
 {}
 
-/// The operations of a fragment (13.4) can be executed where its roots were made, with no id bound before: they name ids that are
-/// bound, and make elements under ids that aren't. So can those of any text that is read through, by whatever document serves its parser.
+/// The operations of a fragment (13.4) can be executed where its roots were made, with no id
+/// bound before: they name ids that are bound, and make elements under ids that aren't. So can
+/// those of any text that is read through, by whatever document serves its parser.
 pub fn fragment_is_bound()
     ensures fragment { FragmentIsBound }
     ensures through { DocsServeThrough AreFresh }

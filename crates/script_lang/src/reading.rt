@@ -10,8 +10,9 @@ use crate::string::string_value;
 use html_types::{NoMemory, Statement, Text};
 use std::alloc::Global;
 
-/// Reads a script's text: its statements in order, none where the text isn't a list of these seven, with space, TAB, LF
-/// and CR before, between and behind them, and none inside them but in a string. `"V"` is a JSON string, and V its value.
+/// Reads a script's text: its statements in order, none where the text isn't a list of these
+/// seven, with space, TAB, LF and CR before, between and behind them, and none inside them but in
+/// a string. `"V"` is a JSON string, and V its value.
 ///
 /// - `document.write("V");`
 /// - `document.writeln("V");`

@@ -15,7 +15,7 @@ use Rattle.html_types.specs.declared.operation.NodeId.{NodeId}
 use Rattle.html_types.specs.declared.open.OpenElement.{OpenElement}
 use Rattle.standard.specs.Rows.{has_word}
 use Rattle.standard.specs.Elements.{is_word, is_one_of}
-use Rattle.standard.specs.Reset.{select_mode, template_mode, root_mode, told_mode, reset_mode}
+use Rattle.standard.specs.Reset.{select_mode, template_mode, root_mode, reset_mode}
 use Rattle.stack_laws.specs.Grounded.{is_vital, is_guard, is_known, with_name, core, no_words, has_no, is_orderly, reaches, has_facts, is_template_mode}
 use Rattle.rule_laws.specs.Proper.{is_late}
 use Rattle.rule_laws.proofs.Calm.{split}

@@ -1,7 +1,7 @@
 //! Laws of the serial parse, proved of the definitions in `standard`: on functions that do nothing, so that a contract names each.
 //!
-//! `specs/Laws` has what they say; `specs/Frames` has nested scripts as a list of frames; `specs/Quiet` texts that are read
-//! through, and pages none of whose scripts runs.
+//! `specs/Laws` has what they say; `specs/Frames` has nested scripts as a list of frames;
+//! `specs/Quiet` texts that are read through, and pages none of whose scripts runs.
 #![tactic(auto)]
 
 ghost use Rattle.standard_laws.specs.Laws.{HasOneOutcome, ParsesInPieces, AdvancesByParse, BatchesLead, WholeBatchesLead, LeavesNothing, EndLeads, FinishLeads, OverIsSerial};
@@ -111,14 +111,15 @@ pub fn lines_begin()
     ensures output { OutputBegins }
 {}
 
-/// A text that is read through (a fragment's, or that of a page whose scripts don't run) is parsed up to the first stop, and from the end tag
-/// of a script on. It may come in two pieces.
+/// A text that is read through (a fragment's, or that of a page whose scripts don't run) is
+/// parsed up to the first stop, and from the end tag of a script on. It may come in two pieces.
 pub fn texts_are_read_through()
     ensures parse { ThroughByParse }
     ensures pieces { ThroughInPieces }
 {}
 
-/// The serial parse of a page none of whose scripts runs comes to the document, or the refusal, of the parse in which scripts don't run.
+/// The serial parse of a page none of whose scripts runs comes to the document, or the refusal,
+/// of the parse in which scripts don't run.
 pub fn quiet_parse_is_serial()
     ensures { QuietIsSerial }
 {}

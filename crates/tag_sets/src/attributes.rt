@@ -50,8 +50,8 @@ fn has_html_encoding(attributes: &[Attribute]) -> bool
     }
 }
 
-/// Whether an element of that name with those attributes is an annotation-xml of MathML that is an
-/// HTML integration point (13.2.6).
+/// Whether an element of that name with those attributes is an annotation-xml of MathML that is
+/// an HTML integration point (13.2.6).
 #[tactic(auto, unfolding(standard::specs::Foreign::is_html_annotation))]
 pub fn is_html_annotation(name: &Name, attributes: &[Attribute]) -> bool
     ensures { result ≡ definition.is_html_annotation (record { name = name.now; attributes = attributes.now; self_closing = false }) }

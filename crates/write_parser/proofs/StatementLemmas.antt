@@ -199,17 +199,22 @@ does-append es k v w old rest new rest' d going waits same = by_left (appended o
 module _ (es : Entities) (quirks : Bool) (old : Live) (found : Option ℕ) (text : List ℕ) where
   pub set-lacking : found ≡ None → HasSet (inner_set es quirks old.doc.tree found text) old old did.Nothing
   unfolding inner_set
-  set-lacking none = rw none (refl, refl)
+  set-lacking none = subst (λ (f : Option ℕ). HasSet (inner_set es quirks old.doc.tree f text) old old did.Nothing) (sym none) (refl, refl)
 
   module _ (n : ℕ) (context : Context) (is : found ≡ Some n) (there : context ≡ context_at old.doc.tree n quirks) where
-    pub set-deep : None ≡ fragment es context text → HasSet (inner_set es quirks old.doc.tree found text) old (record old { halted = Some limit.Depth }) did.All
+    set-as : (ops : Option (List Op)) → ops ≡ fragment es context text → inner_set es quirks old.doc.tree found text ≡ set_by old.doc.tree n context.form ops
     unfolding inner_set
-    set-deep none = rw (is, ← there, ← none) (refl, refl)
+    set-as ops same =
+        ap (λ (f : Option ℕ). inner_set es quirks old.doc.tree f text) is
+        ∙ (ap (λ (c : Context). set_by old.doc.tree n c.form (fragment es c text)) (sym there) ∙ ap (set_by old.doc.tree n context.form) (sym same))
+
+    pub set-deep : None ≡ fragment es context text → HasSet (inner_set es quirks old.doc.tree found text) old (record old { halted = Some limit.Depth }) did.All
+    set-deep none = subst (λ (s : Setting). HasSet s old (record old { halted = Some limit.Depth }) did.All) (sym (set-as None none)) (refl, refl)
 
     pub set-filled : (ops : List Op) (doc : Doc) → Some ops ≡ fragment es context text → doc ≡ record old.doc { tree = filled old.doc.tree n context.form ops }
         → HasSet (inner_set es quirks old.doc.tree found text) old (record old { doc = doc }) did.All
-    unfolding inner_set
-    set-filled ops doc some done = rw (is, ← there, ← some, done) (refl, refl)
+    set-filled ops doc some done =
+        subst (λ (s : Setting). HasSet s old (record old { doc = doc }) did.All) (sym (set-as (Some ops) some)) (ap (λ (d : Doc). record old { doc = d }) done, refl)
 
 lacking-none : (es : Entities) (quirks : Bool) (t : Nodes) (found : Option ℕ) (text : List ℕ) → inner_set es quirks t found text ≡ lacking → found ≡ None
 unfolding inner_set

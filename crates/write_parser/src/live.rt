@@ -208,8 +208,8 @@ impl Live {
         }
     }
 
-    // Takes the children of that element out, and puts the fragment of that text there (13.4). A fragment that is too deep refuses the
-    // page, and changes nothing else.
+    // Takes the children of that element out, and puts the fragment of that text there (13.4). A
+    // fragment that is too deep refuses the page, and changes nothing else.
     fn fill(&mut self, table: &Table, target: usize, text: &Text) -> Result<Did, NoMemory>
         requires { target < length self.old.doc.tree }
         ensures { IfOk result (λ did. HasSet (inner_set table.now self.old.machine.open_state.quirks self.old.doc.tree (Some target) text.now) self.old self.new did) }

@@ -1,4 +1,3 @@
-use Rattle.std.proofs.Common.{sym}
 use Rattle.standard.specs.Fragment.{all_in_root}
 use Rattle.act_laws.proofs.Staying.{chain}
 use Rattle.op_exec.proofs.Filling.{Stays-part, Stays-all, root-bound, rooted-bound, fragment-made}

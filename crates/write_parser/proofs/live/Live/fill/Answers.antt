@@ -1,4 +1,4 @@
-use Rattle.std.proofs.Common.{◌≡◌, Some, None, refl, sym, ap, ◌∙◌}
+use Rattle.std.proofs.Common.{◌≡◌, Some, refl, sym, ap, ◌∙◌}
 use Rattle.standard.specs.Fragment.{context_at, fragment}
 use Rattle.rule_laws.proofs.FragmentTexts.{fragment-bound}
 use Rattle.write_parser.proofs.StatementLemmas.{set-deep, set-filled}
