@@ -6,6 +6,7 @@ use page_runner::Status;
 use std::io::ErrorKind;
 
 /// How a run ended, and why the latest call failed that did.
+#[derive(Drop)]
 pub struct Ended {
     pub status: Status,
     pub reading: Option<Trouble>,
