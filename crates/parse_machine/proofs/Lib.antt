@@ -4,6 +4,7 @@ pub mod Characters
 pub mod Marks
 pub mod Runs
 pub mod Tags
+pub mod RawRuns
 pub mod References
 pub mod Dispatcher
 pub mod Fronts

@@ -50,14 +50,14 @@ pub none_before : (k : Took) → after_ops [] k ≡ k
 none_before (took ops p s) = refl
 
 -- a character other than a CR, which leads to a state and makes tokens
-taken : (es : Entities) (s : TokState) (b : Open) (c : ℕ) (o : List Op) (m : Reached) (t : Took) → (c == 13) ≡ false → read es (is_foreign b) s c ≡ m
+pub taken : (es : Entities) (s : TokState) (b : Open) (c : ℕ) (o : List Op) (m : Reached) (t : Took) → (c == 13) ≡ false → read es (is_foreign b) s c ≡ m
     → after_ops o (build m.state false m.tokens b) ≡ t → after_ops o (take_character es (parser s false b) c) ≡ t
 taken es s b c o m t no_cr reached is =
     let itself : c ≡ (if c == 13 then 10 else c) = rw no_cr refl in
     taken-read es s false b c c o t refl itself
     (ap (λ (r : Reached). after_ops o (build r.state (c == 13) r.tokens b)) reached ∙ ap (λ v. after_ops o (build m.state v m.tokens b)) no_cr ∙ is)
 
-silent_taken : (es : Entities) (s : TokState) (b : Open) (c : ℕ) → (c == 13) ≡ false → (read es (is_foreign b) s c).tokens ≡ [] → take_character es (parser s false b) c ≡ took [] (parser (read es (is_foreign b) s c).state false b) stop.InputEnd
+pub silent_taken : (es : Entities) (s : TokState) (b : Open) (c : ℕ) → (c == 13) ≡ false → (read es (is_foreign b) s c).tokens ≡ [] → take_character es (parser s false b) c ≡ took [] (parser (read es (is_foreign b) s c).state false b) stop.InputEnd
 unfolding build
 silent_taken es s b c no_cr silent =
     sym (none_before (take_character es (parser s false b) c))
@@ -127,7 +127,7 @@ some-split cs [] last e = (last, [], e)
 some-split cs (x ∷ xs) last e = (x, xs ++ last ∷ [], e)
 
 -- what was taken of the text is what these characters come to
-takes : (es : Entities) (text run : List ℕ) (from end : ℕ) (at : Stop) (p p' : Parser) (o o' : List Op) → IsSomeText run → chars (take end text) ≡ chars (take from text) ++ run
+pub takes : (es : Entities) (text run : List ℕ) (from end : ℕ) (at : Stop) (p p' : Parser) (o o' : List Op) → IsSomeText run → chars (take end text) ≡ chars (take from text) ++ run
     → IsOver (parse es p run) o (length run) p' o' at → Takes es text from (record { stop = at; used = end }) p o p' o'
 takes es text run from end at p p' o o' some front over = record { run = run; some = some; front = front; ops = over.ops; state = over.state; used = over.used; stop = over.at_stop }
 

@@ -1,5 +1,5 @@
 -- Runs of characters, and tags, that are parsed at once.
-use Rattle.std.specs.Prelude.{◌≡◌, ℕ, Bool, true, false, List, [], ◌∷◌, ◌++◌, ◌==◌, length, take, drop}
+use Rattle.std.specs.Prelude.{◌≡◌, ℕ, Bool, true, false, List, ◌∷◌, ◌++◌, length, take, drop}
 use Rattle.std.specs.List.{list_any}
 use Rattle.std.specs.Str.{chars}
 use Rattle.html_types.specs.declared.operation.Op.{Op}
@@ -35,14 +35,6 @@ reads_raw (Text (Raw Rcdata last)) = true
 reads_raw (Text (Raw Rawtext last)) = true
 reads_raw (Text (Raw ScriptData last)) = true
 reads_raw _ = false
-
--- a `<`, and a character with which nothing begins in such a text
-pub record BeginsNothing (cs : List ℕ) : Type 0 where
-  pub next : ℕ
-  pub two : cs ≡ 60 ∷ next ∷ []
-  pub plain : is_mark next ≡ false
-  pub no_slash : (next == 47) ≡ false
-  pub no_bang : (next == 33) ≡ false
 
 -- The parser inserts such characters as they are.
 pub record TakesRuns (p : Parser) : Type 0 where

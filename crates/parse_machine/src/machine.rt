@@ -14,7 +14,7 @@ ghost use Rattle.standard.specs.Instructions.{here, texts};
 ghost use Rattle.std.specs.List.{list_any};
 ghost use Rattle.entity_table.specs.View.{characters_in};
 ghost use Rattle.tokenizer.specs.Reference.{found_characters, open_characters};
-ghost use Rattle.parse_machine.specs.Runs.{ArePlain, reads_runs as state_reads_runs, reads_raw as state_reads_raw, BeginsNothing, Ahead, Inserts, ReadsTags, Takes, TakesRuns, TakesRun};
+ghost use Rattle.parse_machine.specs.Runs.{ArePlain, reads_runs as state_reads_runs, reads_raw as state_reads_raw, Ahead, Inserts, ReadsTags, Takes, TakesRuns, TakesRun};
 ghost use Rattle.core_rules.specs.Batches.{end_batch, finishing};
 ghost use Rattle.standard.specs.Quiet.{after_those, read_through, whole};
 ghost use Rattle.standard.specs.Fragment.{fragment_parser};
@@ -34,7 +34,7 @@ use html_types::{
 use std::alloc::Global;
 use std::marker::Model;
 use tokenizer::Tokenizer;
-use tokenizer::raw::raw_end;
+use tokenizer::raw::{raw_end, raw_less};
 use tokenizer::reading::is_plain;
 use tokenizer::reference::{OpenReference, open_reference, whole_reference};
 use tokenizer::whole::whole_token;
@@ -331,20 +331,6 @@ fn end_and_build(
     build_last(alloc, tokenizer, builder, ops)
 }
 
-// Whether a `<` stands at a place, and behind it a character with which nothing begins in a text that is read up to its end tag.
-fn begins_nothing(text: &str, from: usize) -> bool
-    requires { IsCharBoundary text.now from }
-    ensures within { IsTrue result → IsCharBoundary text.now (from + 2) }
-    ensures read { IsTrue result → BeginsNothing (chars (slice_range text.now from (from + 2))) }
-{
-    let bytes = text.as_bytes();
-    if bytes.len() < 2 || from > bytes.len() - 2 || bytes[from] != b'<' {
-        return false;
-    }
-    let next = bytes[from + 1];
-    next < 128 && !matches!(next, b'\0' | b'\r' | b'&' | b'<' | b'/' | b'!')
-}
-
 // The answer where the end of the input came to that.
 fn page_end(finish: Finish) -> PageEnd
     ensures { halt_at result ≡ finishing finish }
@@ -614,13 +600,16 @@ impl Machine {
         ensures none { IfOk result (λ o. o ≡ None → self.new ≡ self.old) }
         ensures none_added { IfOk result (λ o. o ≡ None → ops.new ≡ ops.old) }
     {
-        if !begins_nothing(text, from) || !self.takes_runs() || !reads_raw(self.tokenizer.state()) {
+        if !self.takes_runs() || !reads_raw(self.tokenizer.state()) {
             return Ok(None);
         }
-        self.insert_run(alloc, &text[from..from + 2], ops)?;
+        let Some(used) = raw_less(text, from) else {
+            return Ok(None);
+        };
+        self.insert_run(alloc, &text[from..used], ops)?;
         Ok(Some(Ran {
             stop: Stop::InputEnd,
-            used: from + 2,
+            used,
         }))
     }
 
@@ -846,7 +835,8 @@ impl Machine {
         // The operations, the next state, the characters used and the stop are those of the parse of the text.
         ensures parsed { IfOk result (λ ran. RanAs (parse table.now self.old (chars text.now)) ops.old self.new ops.new ran text.now) }
     {
-        let mut used = self.take_run(alloc, text, 0, ops)?;
+        let start = self.take_run(alloc, text, 0, ops)?;
+        let mut used = start;
         while let Some(ran) = self.take_next(alloc, table, text, used, ops)? {
             if stops(ran.stop) {
                 return Ok(ran);

@@ -11,7 +11,7 @@ use std::process::ExitCode;
 use std::rt::Files;
 use std::sync::{Arc, Wait};
 use std::thread::Threads;
-use words::{Ended, tell};
+use words::{Ended, tell, tell_why};
 
 // Words that aren't UTF-8 are none of the command's.
 fn words_of(rt: HostRuntime) -> Result<Vec<String>, Status> {
@@ -34,7 +34,11 @@ fn run_words<R: AllocGlobal + Files + Print + Threads + Wait + Copy + Send + Syn
     words: &[String],
 ) -> Ended {
     let Ok(gate) = Arc::new(rt.alloc(), OpenGate) else {
-        return Ended::at(Status::NoMemory);
+        return Ended {
+            status: Status::NoMemory,
+            reading: None,
+            writing: None,
+        };
     };
     let mut files = DiskFiles::new(rt);
     let mut out = StdoutSink::new(io::writer(&rt));
@@ -50,12 +54,12 @@ fn main(rt: HostRuntime) -> ExitCode {
     match words_of(rt) {
         Ok(words) => {
             let ended = run_words(rt, &words);
-            tell(rt, &ended, &words);
+            tell(rt, ended.status);
+            tell_why(rt, &ended, &words);
             ExitCode::from(ended.status.exit())
         }
         Err(status) => {
-            let ended = Ended::at(status);
-            tell(rt, &ended, &[]);
+            tell(rt, status);
             ExitCode::from(status.exit())
         }
     }

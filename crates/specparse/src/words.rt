@@ -6,28 +6,12 @@ use page_runner::Status;
 use std::io::ErrorKind;
 
 /// How a run ended, and why the latest call failed that did.
+#[derive(Drop)]
 pub struct Ended {
     pub status: Status,
     pub reading: Option<Trouble>,
     pub writing: Option<ErrorKind>,
 }
-
-impl Ended {
-    /// With a status alone.
-    pub fn at(status: Status) -> Ended {
-        Ended {
-            status,
-            reading: None,
-            writing: None,
-        }
-    }
-}
-
-// How the command is called.
-const USAGE: &str = "\
-usage: specparse page [--piece N] [--ahead K] [--dump] PAGE DIR ENTITIES
-       specparse make NUMBER COUNT
-N is 1 to 65536, K 1 to 64, NUMBER 0 to 2147483647, COUNT 1 to 50000; PAGE may be /dev/stdin";
 
 // The word of a status of which the output tells nothing.
 fn word_of(status: Status) -> Option<&'static str> {
@@ -85,25 +69,31 @@ fn tell_entities(rt: HostRuntime, words: &[String]) {
     }
 }
 
-// What helps, behind the word of a status.
-fn tell_more(rt: HostRuntime, ended: &Ended, words: &[String]) {
+// How the command is called.
+fn tell_usage(rt: HostRuntime) {
+    let _ = eprintln!(rt; "usage: specparse page [--piece N] [--ahead K] [--dump] PAGE DIR ENTITIES");
+    let _ = eprintln!(rt; "       specparse make NUMBER COUNT");
+    let _ = eprintln!(rt; "N 1 to 65536, K 1 to 64, NUMBER 0 to 2147483647, COUNT 1 to 50000");
+}
+
+/// Says how a run ended, where the output tells nothing of it.
+pub fn tell(rt: HostRuntime, status: Status) {
+    if let Some(word) = word_of(status) {
+        let _ = eprintln!(rt; "specparse: {word}");
+    }
+    if status == Status::Usage {
+        tell_usage(rt);
+    }
+}
+
+/// Says which file, and why, behind that.
+pub fn tell_why(rt: HostRuntime, ended: &Ended, words: &[String]) {
     match (ended.status, ended.reading, ended.writing) {
-        (Status::Usage, _, _) => {
-            let _ = eprintln!(rt; "{USAGE}");
-        }
         (Status::Entities, _, _) => tell_entities(rt, words),
         (Status::Absent | Status::ReadFault, Some(trouble), _) => tell_reading(rt, trouble, words),
         (Status::WriteFault, _, Some(kind)) => {
             let _ = eprintln!(rt; "  {kind}");
         }
         _ => {}
-    }
-}
-
-/// Says how a run ended, where the output tells nothing of it.
-pub fn tell(rt: HostRuntime, ended: &Ended, words: &[String]) {
-    if let Some(word) = word_of(ended.status) {
-        let _ = eprintln!(rt; "specparse: {word}");
-        tell_more(rt, ended, words);
     }
 }

@@ -1,10 +1,11 @@
 -- The end tag of an element whose text is read up to it.
-use Rattle.std.specs.Prelude.{◌≡◌, ℕ, Bool, false, List, [], ◌∷◌, ◌++◌}
+use Rattle.std.specs.Prelude.{◌≡◌, ◌==◌, ℕ, Bool, false, List, [], ◌∷◌, ◌++◌}
 use Rattle.html_types.specs.declared.name.Name.TheVariants.{Known}
 use Rattle.html_types.specs.declared.state.TokState.{TokState}
 use Rattle.html_types.specs.declared.token.Token.{Token}
 use Rattle.html_types.specs.declared.token.Token.TheVariants.{EndTag}
 use Rattle.html_types.specs.declared.word.Word.{Word}
+use Rattle.standard.specs.Class.{is_mark}
 use Rattle.standard.specs.Entities.{Entities}
 use Rattle.standard.specs.Step.{data_state}
 use Rattle.standard.specs.Tokenizer.{feed}
@@ -22,3 +23,11 @@ pub record MakesFrom (es : Entities) (s : TokState) (cs : List ℕ) (t : Token) 
 pub record Ends (s : TokState) (word : Word) (cs : List ℕ) : Type 0 where
   pub makes : (es : Entities) → MakesFrom es s cs (EndTag (record { name = Known word; attributes = []; self_closing = false }))
   pub no_cr : has_cr cs ≡ false
+
+-- a `<`, and a character with which nothing begins behind it
+pub record BeginsNothing (cs : List ℕ) : Type 0 where
+  pub next : ℕ
+  pub two : cs ≡ 60 ∷ next ∷ []
+  pub plain : is_mark next ≡ false
+  pub no_slash : (next == 47) ≡ false
+  pub no_bang : (next == 33) ≡ false

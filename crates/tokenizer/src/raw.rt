@@ -1,12 +1,13 @@
-//! The end tag of an element whose text is read up to it, read at once where it stands whole in a text.
+//! A text that is read up to its end tag: that tag, read at once where it stands whole, and a `<` that begins nothing.
 
-ghost use Rattle.std.specs.Prelude.{◌≡◌, ◌<◌, ◌≤◌, false, IfSome};
+ghost use Rattle.std.specs.Prelude.{◌≡◌, ◌<◌, ◌≤◌, ◌==◌, ◌||◌, false, IfSome};
 ghost use Rattle.std.specs.Str.{chars, IsCharBoundary};
 ghost use Rattle.standard.specs.Entities.{Entities};
 ghost use Rattle.tokenizer.specs.Whole.{has_cr, piece};
-ghost use Rattle.tokenizer.specs.Raw.{Ends, MakesFrom};
+ghost use Rattle.standard.specs.Class.{is_mark};
+ghost use Rattle.tokenizer.specs.Raw.{Ends, MakesFrom, BeginsNothing};
 
-use crate::place::past;
+use crate::place::{ascii_at, past};
 use crate::whole::Whole;
 use html_types::{Attributes, Name, RawText, Tag, TextState, TokState, Token, Word};
 use std::alloc::Global;
@@ -61,4 +62,23 @@ pub fn raw_end(alloc: Global, state: &TokState, text: &str, from: usize) -> Opti
         token: Token::EndTag(tag),
         end,
     })
+}
+
+// Whether something begins with a character behind a `<`, or it isn't read as it is.
+fn begins(c: char) -> bool
+    ensures { result ≡ (is_mark c || c == 47 || c == 33) }
+{
+    c == '\0' || c == '\r' || c == '&' || c == '<' || c == '/' || c == '!'
+}
+
+/// The place behind a `<` at a place and the character behind it, where nothing begins with them in such a text.
+pub fn raw_less(text: &str, from: usize) -> Option<usize>
+    requires { IsCharBoundary text.now from }
+    ensures boundary { IfSome result (λ to. IsCharBoundary text.now to) }
+    ensures onward { IfSome result (λ to. from < to) }
+    ensures nothing { IfSome result (λ to. BeginsNothing (piece text.now from to)) }
+{
+    let less = past(text, from, '<')?;
+    let next = ascii_at(text, less)?;
+    if begins(next) { None } else { Some(less + 1) }
 }

@@ -9,9 +9,14 @@ use Rattle.parse_machine.proofs.machine.Machine.run.Goals as goal
 
 pub loop-ran-init : goal.loop-ran-init
 loop-ran-init c = record {
-  boundary = IsCharBoundary-start c.args.text.now c.utf8.text;
-  over = subst (λ (x : List ℕ). IsOver (parse c.args.table.now c.args.self.now x) c.args.ops.now (length x) c.args.self.now c.args.ops.now InputEnd) (sym chars-nil) (over-nothing c.args.table.now c.args.self.now c.args.ops.now);
+  boundary = c.in_ok-start.ensures.boundary;
+  over = over-both_taken c.args.table.now _ _ c.args.text.now 0 c.in_ok-start.start _ _ _ _
+      (subst (λ (x : List ℕ). IsOver (parse c.args.table.now c.args.self.now x) c.args.ops.now (length x) c.args.self.now c.args.ops.now InputEnd) (sym chars-nil) (over-nothing c.args.table.now c.args.self.now c.args.ops.now))
+      c.in_ok-start.ensures.parsed;
 }
+
+pub take_run-start-requires : goal.take_run-start-requires
+take_run-start-requires c = IsCharBoundary-start c.args.text.now c.utf8.text
 
 pub loop-ran-preserved : goal.loop-ran-preserved
 loop-ran-preserved c =
