@@ -1,6 +1,6 @@
 use Rattle.std.proofs.Common.{◌≡◌, ◌+◌, ◌≤◌, ◌++◌, length}
 use Rattle.std.specs.VecDeque.{deque_len, deque_capacity}
-use Rattle.core_rules.specs.Desk.{sent_again}
+use Rattle.core_definitions.specs.Desk.{sent_again}
 use Rattle.page_pieces.proofs.piece.move_again.Given as goal
 
 -- what is moved and what isn't come to the same, and there is room
