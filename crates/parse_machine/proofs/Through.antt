@@ -7,7 +7,7 @@ use Rattle.html_types.specs.declared.instruction.Stop.TheVariants as stop
 use Rattle.html_types.specs.declared.instruction.Finish.{Finish}
 use Rattle.standard.specs.Entities.{Entities}
 use Rattle.standard.specs.Parser.{Parser, Parsed, parse, Finished, finish, after_all}
-use Rattle.standard.specs.Quiet.{Through, through, deep, after_those, read_through, if_finished, with_end, whole}
+use Rattle.standard.specs.Through.{Through, through, deep, after_those, read_through, if_finished, with_end, whole}
 use Rattle.standard_laws.specs.Quiet.{on_from}
 use Rattle.standard_laws.proofs.Quiet.{after-none, after-twice, through-parse}
 use Rattle.parse_machine.specs.declared.machine.Ran.{Ran}

@@ -5,7 +5,7 @@ use Rattle.html_types.specs.declared.instruction.Stop.{Stop}
 use Rattle.html_types.specs.declared.instruction.Stop.TheVariants as stop
 use Rattle.standard.specs.Entities.{Entities}
 use Rattle.standard.specs.Parser.{Parser}
-use Rattle.standard.specs.Quiet.{Through, through, deep, after_those, read_through}
+use Rattle.standard.specs.Through.{Through, through, deep, after_those, read_through}
 
 -- The parser and the operations behind a text; where it doesn't go on, a push was refused.
 abbrev pub came_to : Parser → List Op → Bool → Through

@@ -16,7 +16,7 @@ ghost use Rattle.entity_table.specs.View.{characters_in};
 ghost use Rattle.tokenizer.specs.Reference.{found_characters, open_characters};
 ghost use Rattle.parse_machine.specs.Runs.{ArePlain, reads_runs as state_reads_runs, reads_raw as state_reads_raw, Ahead, Inserts, ReadsTags, Takes, TakesRuns, TakesRun};
 ghost use Rattle.core_definitions.specs.Batches.{end_batch, finishing};
-ghost use Rattle.standard.specs.Quiet.{after_those, read_through, whole};
+ghost use Rattle.standard.specs.Through.{after_those, read_through, whole};
 ghost use Rattle.standard.specs.Fragment.{fragment_parser};
 ghost use Rattle.parse_machine.specs.Through.{came_to, from_stop};
 ghost use Rattle.parse_machine.specs.Machine.{WentTo, EndedTo, Builds, BuildsLast, RanAs, halt_at, EndsAs, stops as stops_at};

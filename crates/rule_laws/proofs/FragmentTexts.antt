@@ -19,7 +19,7 @@ use Rattle.standard.specs.Foreign.{is_foreign}
 use Rattle.standard.specs.Tokenizer.{read, read_end}
 use Rattle.standard.specs.Rules.{Answer, construct}
 use Rattle.standard.specs.Parser.{Parser, read_as, Took, took, after_ops, build_on, build, built, take_character, Finished, build_end_on, build_end, finish, Parsed, after_character, and_rest, parse}
-use Rattle.standard.specs.Quiet.{Through, through, deep, after_those, and_through, read_through, if_finished, with_end, whole}
+use Rattle.standard.specs.Through.{Through, through, deep, after_those, and_through, read_through, if_finished, with_end, whole}
 use Rattle.standard.specs.Tree.{Nodes}
 use Rattle.standard.specs.Act.{Doc, is_bound, AreOpsBound}
 use Rattle.standard.specs.Fragment.{form_id, root_element, fragment_opening, fragment_parser, fragment, roots_made, with_fragment}

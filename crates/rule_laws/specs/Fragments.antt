@@ -12,7 +12,7 @@ use Rattle.html_types.specs.declared.open.Open.{Open}
 use Rattle.standard.specs.Entities.{Entities}
 use Rattle.standard.specs.Rules.{construct}
 use Rattle.standard.specs.Parser.{Parser, Took, took, take_character, finish, Parsed, parse}
-use Rattle.standard.specs.Quiet.{Through, through, deep, read_through, with_end}
+use Rattle.standard.specs.Through.{Through, through, deep, read_through, with_end}
 use Rattle.standard.specs.Tree.{Nodes}
 use Rattle.standard.specs.Act.{is_bound, AreOpsBound, Doc}
 use Rattle.standard.specs.Fragment.{fragment_parser, fragment, with_fragment}

@@ -29,7 +29,7 @@ use Rattle.standard.specs.Foreign.{is_html_annotation}
 use Rattle.standard.specs.Tree.{Nodes, kind_of, parent_of, emptied, children_moved}
 use Rattle.standard.specs.Act.{Doc, acts, node_of, end_of}
 use Rattle.standard.specs.Parser.{Parser, parser}
-use Rattle.standard.specs.Quiet.{whole}
+use Rattle.standard.specs.Through.{whole}
 
 -- ---- how the parser of a fragment begins
 

@@ -36,7 +36,8 @@ pub mod Prepare
 pub mod Page
 pub mod Scripts
 pub mod Parser
-pub mod Quiet
+pub mod Through
 pub mod Fragment
 pub mod Serial
+pub mod Quiet
 pub mod Output

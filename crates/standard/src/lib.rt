@@ -5,5 +5,5 @@
 //! CdataStates, MarkStates, Entities, ReferenceStates, Tokenizer (13.2.5); WhiteSpace, Groups, ForeignNames, Elements,
 //! Stack, Reset, Formatting, Foreign, Instructions (13.2.4); Rows, RulesHead, RulesBody, RulesTable, RulesRest,
 //! RulesForeign, Adoption, Rules (13.2.6); Tree, Act, Outer, Dump (the tree and its texts); Page, Statements, Prepare,
-//! Scripts (scripts and their files); Parser, Quiet, Fragment, Serial (the serial parse); Output.
+//! Scripts (scripts and their files); Parser, Through, Fragment, Serial (the serial parse); Quiet, Output.
 #![tactic(auto)]

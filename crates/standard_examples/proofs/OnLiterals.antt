@@ -17,7 +17,7 @@ use Rattle.standard.specs.Statements.{statements}
 use Rattle.standard.specs.Prepare.{prepare}
 use Rattle.standard.specs.Scripts.{is_lawful, file_statements}
 use Rattle.standard.specs.Parser.{build, take_character, build_end, finish}
-use Rattle.standard.specs.Quiet.{read_through, whole}
+use Rattle.standard.specs.Through.{read_through, whole}
 use Rattle.standard.specs.Fragment.{fragment_parser, fragment, context_at, filled, inner_set}
 use Rattle.standard.specs.Serial.{advance, execute, moment_after, serial_with}
 use Rattle.standard.specs.Output.{output_with}

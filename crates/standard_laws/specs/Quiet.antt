@@ -8,7 +8,8 @@ use Rattle.standard.specs.Entities.{Entities}
 use Rattle.standard.specs.Prepare.{still}
 use Rattle.standard.specs.Page.{Page}
 use Rattle.standard.specs.Parser.{Parser, Parsed, parse}
-use Rattle.standard.specs.Quiet.{Through, through, deep, after_those, read_through, Quiet, tree, quiet}
+use Rattle.standard.specs.Through.{Through, through, deep, after_those, read_through}
+use Rattle.standard.specs.Quiet.{Quiet, tree, quiet}
 use Rattle.standard.specs.Quiet as quietly
 use Rattle.standard.specs.Serial.{World, Serial, Outcome, IsSerial, Passes, tag_ended, prepared, finished, refused}
 

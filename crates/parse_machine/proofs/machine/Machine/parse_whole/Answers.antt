@@ -1,6 +1,6 @@
 use Rattle.std.proofs.Common.{sym, ap, ◌∙◌}
 use Rattle.std.specs.Str.{chars}
-use Rattle.standard.specs.Quiet.{if_finished}
+use Rattle.standard.specs.Through.{if_finished}
 use Rattle.parse_machine.specs.Through.{came_to}
 use Rattle.parse_machine.proofs.Through.{whole-ended, whole-deep}
 use Rattle.parse_machine.proofs.machine.Machine.parse_whole.Goals as goal

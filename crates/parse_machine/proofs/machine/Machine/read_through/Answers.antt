@@ -1,6 +1,6 @@
 use Rattle.std.proofs.Common.{◌<◌, List, ℕ, length, refl, sym, ap, subst, ◌∙◌, drop}
 use Rattle.std.specs.Str.{chars}
-use Rattle.standard.specs.Quiet.{after_those, read_through}
+use Rattle.standard.specs.Through.{after_those, read_through}
 use Rattle.parse_machine.specs.Through.{from_stop}
 use Rattle.parse_machine.proofs.machine.Machine.read_through.Goals as goal
 

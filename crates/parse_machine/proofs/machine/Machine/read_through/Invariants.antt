@@ -2,7 +2,7 @@ use Rattle.std.proofs.Common.{◌≡◌, length}
 use Rattle.std.specs.Str.{chars}
 use denote.Text.{Utf8}
 use denote.Shadow.{shadow}
-use Rattle.standard.specs.Quiet.{after_those, read_through}
+use Rattle.standard.specs.Through.{after_those, read_through}
 use Rattle.parse_machine.proofs.machine.Machine.read_through.Given as goal
 
 -- what is left of the text comes to what all of it comes to
