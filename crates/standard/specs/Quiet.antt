@@ -8,6 +8,8 @@ use Rattle.html_types.specs.declared.script.Why.TheVariants as why
 use Rattle.standard.specs.Entities.{Entities}
 use Rattle.standard.specs.Act.{Doc, new_doc, acts}
 use Rattle.standard.specs.Page.{Page}
+use Rattle.standard.specs.Parser.{new_parser}
+use Rattle.standard.specs.Through.{Through, through, deep, read_through, with_end}
 
 -- its document, or why it is refused
 pub data Quiet : Type 0 where
