@@ -6,9 +6,9 @@ use Rattle.std.specs.Str.Pattern.{FindsTextPrefix, StripsPrefix}
 use Rattle.std.proofs.lemmas.Str.{IsUtf8-from_is_utf8}
 use denote.Ref.{Bor}
 use Prim.Native.String.{String}
-use Rattle.html_types.specs.declared.script.Statement.{Statement}
-use Rattle.html_types.specs.declared.script.Statement.TheVariants.{Write, WriteLine, Remove, LogById, LogRoot}
-use Rattle.standard.specs.Statements.{behind, string_value, string_between, with_strings, statement}
+use Rattle.serial.specs.declared.script.Statement.{Statement}
+use Rattle.serial.specs.declared.script.Statement.TheVariants.{Write, WriteLine, Remove, LogById, LogRoot}
+use Rattle.serial.specs.Statements.{behind, string_value, string_between, with_strings, statement}
 use Rattle.script_lang.specs.Parts.{append, set_inner}
 use Rattle.script_lang.proofs.Words.{behind-stripped}
 

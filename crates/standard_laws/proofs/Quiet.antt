@@ -6,17 +6,17 @@ use Rattle.html_types.specs.declared.instruction.Stop.TheVariants as stop
 use Rattle.html_types.specs.declared.instruction.Finish.{Finish}
 use Rattle.html_types.specs.declared.instruction.Finish.TheVariants as finale
 use Rattle.html_types.specs.declared.operation.Op.{Op}
-use Rattle.html_types.specs.declared.script.Ending.{Ending}
-use Rattle.html_types.specs.declared.script.Ending.TheVariants as ending
-use Rattle.html_types.specs.declared.script.Why.TheVariants as why
+use Rattle.html_types.specs.declared.ending.Ending.{Ending}
+use Rattle.html_types.specs.declared.ending.Ending.TheVariants as ending
+use Rattle.html_types.specs.declared.ending.Why.TheVariants as why
 use Rattle.standard.specs.Entities.{Entities}
 use Rattle.standard.specs.Act.{Doc, acts}
-use Rattle.standard.specs.Page.{Page}
+use Rattle.serial.specs.Page.{Page}
 use Rattle.standard.specs.Parser.{Parser, Took, took, take_character, Finished, finish, Parsed, after_character, and_rest, parse}
 use Rattle.standard.specs.Through.{Through, through, deep, after_those, and_through, read_through, if_finished}
-use Rattle.standard.specs.Quiet.{Quiet, tree, made, ended_quietly, quiet}
-use Rattle.standard.specs.Serial.{World, Serial, Outcome, Passes, reading, tag_ended, over, taken, at_end, ended, first, unless_pending, behind_script, read_next, moment_after}
-use Rattle.standard.specs.Serial as serial
+use Rattle.serial.specs.Quiet.{Quiet, tree, made, ended_quietly, quiet}
+use Rattle.serial.specs.Serial.{World, Serial, Outcome, Passes, reading, tag_ended, over, taken, at_end, ended, first, unless_pending, behind_script, read_next, moment_after}
+use Rattle.serial.specs.Serial as serial
 use Rattle.standard_laws.specs.Laws.{outcome_at}
 use Rattle.standard_laws.specs.Quiet.{on_from, on_behind, ThroughByParse, go_through, ThroughInPieces, RunsNoScript, ComesTo, QuietIsSerial}
 use Rattle.standard_laws.proofs.Parse.{acts-append}

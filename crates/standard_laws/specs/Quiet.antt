@@ -6,12 +6,12 @@ use Rattle.html_types.specs.declared.operation.NodeId.{NodeId}
 use Rattle.html_types.specs.declared.operation.Op.{Op}
 use Rattle.standard.specs.Entities.{Entities}
 use Rattle.standard.specs.Prepare.{still}
-use Rattle.standard.specs.Page.{Page}
+use Rattle.serial.specs.Page.{Page}
 use Rattle.standard.specs.Parser.{Parser, Parsed, parse}
 use Rattle.standard.specs.Through.{Through, through, deep, after_those, read_through}
-use Rattle.standard.specs.Quiet.{Quiet, tree, quiet}
-use Rattle.standard.specs.Quiet as quietly
-use Rattle.standard.specs.Serial.{World, Serial, Outcome, IsSerial, Passes, tag_ended, prepared, finished, refused}
+use Rattle.serial.specs.Quiet.{Quiet, tree, quiet}
+use Rattle.serial.specs.Quiet as quietly
+use Rattle.serial.specs.Serial.{World, Serial, Outcome, IsSerial, Passes, tag_ended, prepared, finished, refused}
 
 -- ---- by the parses between scripts
 

@@ -1,6 +1,6 @@
 use Rattle.std.proofs.Common.{sym, ap, ◌∙◌, option_map}
 use Rattle.std.specs.Str.{chars}
-use Rattle.html_types.specs.declared.script.Statement.TheVariants.{SetInner}
+use Rattle.serial.specs.declared.script.Statement.TheVariants.{SetInner}
 use Rattle.script_lang.specs.Parts.{parted}
 use Rattle.script_lang.proofs.Fronts.{strings-no_first, strings-no_second, strings-whole}
 use Rattle.script_lang.proofs.reading.set_inner.Goals as goal

@@ -1,13 +1,13 @@
 -- The parse of a page whose scripts don't run: its document, or why it is refused. The scripting flag is on.
 use Rattle.std.specs.Prelude.{List, Option, Some, None}
 use Rattle.html_types.specs.declared.operation.Op.{Op}
-use Rattle.html_types.specs.declared.script.Ending.{Ending}
-use Rattle.html_types.specs.declared.script.Ending.TheVariants as ending
-use Rattle.html_types.specs.declared.script.Why.{Why}
-use Rattle.html_types.specs.declared.script.Why.TheVariants as why
+use Rattle.html_types.specs.declared.ending.Ending.{Ending}
+use Rattle.html_types.specs.declared.ending.Ending.TheVariants as ending
+use Rattle.html_types.specs.declared.ending.Why.{Why}
+use Rattle.html_types.specs.declared.ending.Why.TheVariants as why
 use Rattle.standard.specs.Entities.{Entities}
 use Rattle.standard.specs.Act.{Doc, new_doc, acts}
-use Rattle.standard.specs.Page.{Page}
+use Rattle.serial.specs.Page.{Page}
 use Rattle.standard.specs.Parser.{new_parser}
 use Rattle.standard.specs.Through.{Through, through, deep, read_through, with_end}
 

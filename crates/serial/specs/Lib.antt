@@ -1,0 +1,7 @@
+pub mod Page
+pub mod Statements
+pub mod Scripts
+pub mod Serial
+pub mod Quiet
+pub mod Dump
+pub mod Output
