@@ -7,7 +7,7 @@ use Rattle.html_types.specs.declared.attributes.Attribute.{Attribute}
 use Rattle.html_types.specs.declared.name.Name.{Name}
 use Rattle.html_types.specs.declared.word.Word.TheVariants.{Template}
 use Rattle.html_types.specs.declared.operation.Op.{Op}
-use Rattle.html_types.specs.declared.operation.Op.TheVariants.{Make, Put, Text, Note, Doctype, Detach, MoveChildren, AddAttributes}
+use Rattle.html_types.specs.declared.operation.Op.TheVariants.{Make, Put, Text, Comment, Doctype, Detach, MoveChildren, AddAttributes}
 use Rattle.html_types.specs.declared.tree.Node.{Node}
 use Rattle.html_types.specs.declared.tree.Kind.{Kind}
 use Rattle.html_types.specs.declared.tree.Kind.TheVariants as kind
@@ -124,7 +124,7 @@ unfolding act
 Stays-act d (Make id name attributes) = Stays-element_made d.tree name attributes
 Stays-act d (Put id place) = Stays-put_at d.tree (node_of d.bound id) (spot_of d place)
 Stays-act d (Text place text) = let s : Spot = spot_of d place in Stays-text_added d.tree s.parent _ text
-Stays-act d (Note place text) = let s : Spot = spot_of d place in Stays-with_new d.tree s.parent _ (kind.Comment text)
+Stays-act d (Comment place text) = let s : Spot = spot_of d place in Stays-with_new d.tree s.parent _ (kind.Comment text)
 Stays-act d (Doctype name) = let s : Spot = end_of d.tree 0 in Stays-with_new d.tree s.parent _ (kind.Doctype name)
 Stays-act d (Detach id) = Stays-detached d.tree (node_of d.bound id)
 Stays-act d (MoveChildren from to) = Stays-children_moved d.tree (node_of d.bound from) (end_of d.tree (node_of d.bound to)).parent

@@ -5,7 +5,8 @@ ghost use Rattle.standard.specs.Fragment.{form_id, root_element, modes_in, fragm
 
 use crate::reset::mode_to_reset_to;
 use html_types::{
-    Context, Formats, Mode, Modes, Name, NoMemory, NodeId, Open, OpenElement, Stack, Text, Word,
+    ActiveFormatting, Context, Mode, Modes, Name, NoMemory, NodeId, Open, OpenElement, Stack, Text,
+    Word,
 };
 use std::alloc::Global;
 use tag_sets::is_the;
@@ -75,7 +76,7 @@ pub fn fragment_state(alloc: Global, context: Context, realm: u32) -> Result<Ope
     let mode = mode_to_reset_to(&standing, &stack, None, &template_modes);
     Ok(Open {
         stack,
-        formats: Formats::new(alloc),
+        formats: ActiveFormatting::new(alloc),
         head: None,
         form: form_in(form, realm),
         mode,

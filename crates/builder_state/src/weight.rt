@@ -1,6 +1,6 @@
 //! How much of an open state a copy copies, and a comparison reads. These are hints: no contract speaks of them.
 
-use html_types::{Elements, Format, Formats, Name, Open, Tag};
+use html_types::{ActiveFormatting, Elements, FormattingEntry, Name, Open, Tag};
 
 /// A text of so many bytes is short.
 const SHORT: usize = 4096;
@@ -21,11 +21,11 @@ fn left_of_tag(tag: &Tag, bytes: usize) -> Option<usize> {
 }
 
 /// What is left of so many bytes behind the entries and the names and attributes of their tags, where they have no more.
-fn left_of_formats(formats: &Formats, bytes: usize) -> Option<usize> {
+fn left_of_formats(formats: &ActiveFormatting, bytes: usize) -> Option<usize> {
     let mut left = bytes;
     for entry in formats.walk() {
         left = left.checked_sub(16)?;
-        if let Format::Element { id: _, tag } = entry {
+        if let FormattingEntry::Element { id: _, tag } = entry {
             left = left_of_tag(tag, left)?;
         }
     }

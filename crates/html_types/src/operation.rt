@@ -91,7 +91,7 @@ pub enum Op {
         text: Text,
     },
     /// Inserts a comment.
-    Note {
+    Comment {
         place: Place,
         text: Text,
     },
@@ -139,7 +139,7 @@ impl Op {
                 place: *place,
                 text: text.copy(alloc)?,
             }),
-            Op::Note { place, text } => Ok(Op::Note {
+            Op::Comment { place, text } => Ok(Op::Comment {
                 place: *place,
                 text: text.copy(alloc)?,
             }),

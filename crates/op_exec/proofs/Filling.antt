@@ -5,7 +5,7 @@ use Rattle.std.specs.Map.{values_of}
 use Rattle.std.specs.BTreeMap.{insert_entry}
 use Rattle.html_types.specs.declared.operation.NodeId.{NodeId}
 use Rattle.html_types.specs.declared.operation.Op.{Op}
-use Rattle.html_types.specs.declared.operation.Op.TheVariants.{Make, Put, Text, Note, Doctype, Detach, MoveChildren, AddAttributes}
+use Rattle.html_types.specs.declared.operation.Op.TheVariants.{Make, Put, Text, Comment, Doctype, Detach, MoveChildren, AddAttributes}
 use Rattle.html_types.specs.declared.operation.Place.{Place}
 use Rattle.html_types.specs.declared.operation.Place.TheVariants.{Page, Inside, Contents, Foster}
 use Rattle.html_types.specs.Operations.{same_id, spelled_one}
@@ -87,7 +87,7 @@ known-stays : (known : NodeId → Bool) (o : Op) (q : NodeId) → known q ≡ tr
 known-stays known (Make id name as') q is = or-true (same_id q id) (known q) is
 known-stays known (Put id place) q is = is
 known-stays known (Text place text) q is = is
-known-stays known (Note place text) q is = is
+known-stays known (Comment place text) q is = is
 known-stays known (Doctype name) q is = is
 known-stays known (Detach id) q is = is
 known-stays known (MoveChildren from to) q is = is
@@ -123,7 +123,7 @@ in_root-bound known (Make id name as' ∷ os) root bound =
     (bound.0, in_root-bound (known_after known (Make id name as')) os (known-stays known (Make id name as') (root_id 0) root) bound.1)
 in_root-bound known (Put id place ∷ os) root bound = ((bound.0.0, place-bound known place root bound.0.1), in_root-bound known os root bound.1)
 in_root-bound known (Text place text ∷ os) root bound = (place-bound known place root bound.0, in_root-bound known os root bound.1)
-in_root-bound known (Note place text ∷ os) root bound = (place-bound known place root bound.0, in_root-bound known os root bound.1)
+in_root-bound known (Comment place text ∷ os) root bound = (place-bound known place root bound.0, in_root-bound known os root bound.1)
 in_root-bound known (Doctype name ∷ os) root bound = in_root-bound known os root bound.1
 in_root-bound known (Detach id ∷ os) root bound = (bound.0, in_root-bound known os root bound.1)
 in_root-bound known (MoveChildren from to ∷ os) root bound = (bound.0, in_root-bound known os root bound.1)

@@ -102,7 +102,7 @@ pub(crate) fn in_root(op: Op) -> Option<Op>
             place: place_in_root(place),
             text,
         }),
-        Op::Note { place, text } => Some(Op::Note {
+        Op::Comment { place, text } => Some(Op::Comment {
             place: place_in_root(place),
             text,
         }),

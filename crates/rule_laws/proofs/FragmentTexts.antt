@@ -46,13 +46,13 @@ after-kept c ops (took more p why) k = k
 build_on-kept : (c : Option OpenElement) (s : TokState) (cr : Bool) (t : Token) (b : Open) (rest : TokState → Took) (n : Next) → b.context ≡ c → (is_some c ≡ true → asks_for_script n ≡ false)
     → ((s' : TokState) → Kept c (rest s')) → Kept c (build_on s cr t b rest n)
 build_on-kept c s cr t b rest next.Done h i each = each s
-build_on-kept c s cr t b rest (next.Switch r) h i each = each (read_as r t)
+build_on-kept c s cr t b rest (next.SwitchTokenizer r) h i each = each (read_as r t)
 build_on-kept c s cr t b rest (next.Script id) h i each = (h, i)
 build_on-kept c s cr t b rest next.Deep h i each = (h, λ u. refl)
 build_on-kept c s cr t b rest (next.Adopt w x) h i each = each s
-build_on-kept c s cr t b rest next.Again h i each = each s
-build_on-kept c s cr t b rest (next.Using m) h i each = each s
-build_on-kept c s cr t b rest next.Foster h i each = each s
+build_on-kept c s cr t b rest next.Reprocess h i each = each s
+build_on-kept c s cr t b rest (next.UsingRules m) h i each = each s
+build_on-kept c s cr t b rest next.InBodyFostering h i each = each s
 build_on-kept c s cr t b rest next.Finished h i each = each s
 
 build-kept : (c : Option OpenElement) (s : TokState) (cr : Bool) (ts : List Token) (b : Open) → b.context ≡ c → Kept c (build s cr ts b)
@@ -107,13 +107,13 @@ texts-never_stop es p text h = (text-kept text p.open_state.context es p refl).1
 
 build_end_on-context : (c : Option OpenElement) (s : TokState) (cr : Bool) (b : Open) (rest : Finished) (n : Next) → b.context ≡ c → rest.parser.open_state.context ≡ c → (build_end_on s cr b rest n).parser.open_state.context ≡ c
 build_end_on-context c s cr b rest next.Done h g = g
-build_end_on-context c s cr b rest (next.Switch r) h g = g
+build_end_on-context c s cr b rest (next.SwitchTokenizer r) h g = g
 build_end_on-context c s cr b rest (next.Script id) h g = g
 build_end_on-context c s cr b rest next.Deep h g = h
 build_end_on-context c s cr b rest (next.Adopt w i) h g = g
-build_end_on-context c s cr b rest next.Again h g = g
-build_end_on-context c s cr b rest (next.Using m) h g = g
-build_end_on-context c s cr b rest next.Foster h g = g
+build_end_on-context c s cr b rest next.Reprocess h g = g
+build_end_on-context c s cr b rest (next.UsingRules m) h g = g
+build_end_on-context c s cr b rest next.InBodyFostering h g = g
 build_end_on-context c s cr b rest next.Finished h g = h
 
 build_end-context : (c : Option OpenElement) (s : TokState) (cr : Bool) (ts : List Token) (b : Open) → b.context ≡ c → (build_end s cr ts b).parser.open_state.context ≡ c

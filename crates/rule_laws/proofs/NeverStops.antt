@@ -98,21 +98,21 @@ step-asks (ins.Need c) t b o h = either (holds c t b) On (Leave next.Done) refl 
 step-asks (ins.Forbid c) t b o h = either (holds c t b) (Leave next.Done) On refl refl
 step-asks (ins.When c) t b o h = either (holds c t b) On Skip refl refl
 step-asks (ins.Unless c) t b o h = either (holds c t b) Skip On refl refl
-step-asks (ins.Enter m) t b o h = refl
-step-asks ins.KeepMode t b o h = refl
-step-asks ins.Restore t b o h = refl
+step-asks (ins.SwitchMode m) t b o h = refl
+step-asks ins.SaveMode t b o h = refl
+step-asks ins.RestoreMode t b o h = refl
 step-asks (ins.PushTemplateMode m) t b o h = refl
 step-asks ins.PopTemplateMode t b o h = refl
-step-asks ins.Reset t b o h = refl
+step-asks ins.ResetMode t b o h = refl
 step-asks ins.AppendPending t b o h = append_pending-asks t b o
 step-asks ins.InsertPending t b o h = pending-asks b o
 step-asks ins.Adopt t b o h = adopt-asks t b o
 step-asks ins.AdoptAnchor t b o h = anchor-asks (entry_named (is_word word.A) b.formats) b o
 step-asks ins.AdoptNobr t b o h = refl
-step-asks (ins.Switch r) t b o h = refl
-step-asks (ins.Using m) t b o h = refl
-step-asks ins.Foster t b o h = refl
-step-asks ins.Again t b o h = refl
+step-asks (ins.SwitchTokenizer r) t b o h = refl
+step-asks (ins.UsingRules m) t b o h = refl
+step-asks ins.InBodyFostering t b o h = refl
+step-asks ins.Reprocess t b o h = refl
 step-asks ins.StopAtScript t b o h = script-asks b.stack b o h
 step-asks ins.Finish t b o h = refl
 step-asks ins.BreakOut t b o h = refl
@@ -160,9 +160,9 @@ by_rules-asks m t b o h =
 
 round-asks : (t : Token) (more : Mode → Answer) (b : Open) (o : List Op) (n : Next) → asks_for_script n ≡ false → ((m : Mode) → asks_for_script (more m).next ≡ false)
     → asks_for_script (go_round more b o (round_after t b n)).next ≡ false
-round-asks t more b o next.Again s each = each (rules_for t b)
-round-asks t more b o (next.Using m) s each = each m
-round-asks t more b o next.Foster s each = each InBody
+round-asks t more b o next.Reprocess s each = each (rules_for t b)
+round-asks t more b o (next.UsingRules m) s each = each m
+round-asks t more b o next.InBodyFostering s each = each InBody
 round-asks t more b o (next.Script i) s each = s
 round-asks t more b o _ s each = refl
 

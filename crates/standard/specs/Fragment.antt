@@ -127,7 +127,7 @@ place_in_root place = place
 abbrev pub in_root : Op → List Op
 in_root (op.Put id place) = op.Put id (place_in_root place) ∷ []
 in_root (op.Text place text) = op.Text (place_in_root place) text ∷ []
-in_root (op.Note place text) = op.Note (place_in_root place) text ∷ []
+in_root (op.Comment place text) = op.Comment (place_in_root place) text ∷ []
 in_root (op.Doctype name) = []
 in_root o = o ∷ []
 
