@@ -35,7 +35,7 @@ pub fn take_id(next: &mut NodeId) -> Result<NodeId, NoMemory>
     ensures next { IfOk result (λ _. next.new ≡ later 1 next.old) }
 {
     let id = *next;
-    if id.n == u64::MAX {
+    if id.n == u32::MAX {
         return Err(NoMemory);
     }
     *next = id.later(1);

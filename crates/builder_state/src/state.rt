@@ -64,7 +64,7 @@ impl Model for Builder {
 
 impl Builder {
     /// The open state at the beginning of a page, whose ids are of that realm. It takes no memory.
-    pub fn new(alloc: Global, realm: u64) -> Builder
+    pub fn new(alloc: Global, realm: u32) -> Builder
         ensures { result ≡ opening realm }
     {
         Builder {
@@ -242,7 +242,7 @@ impl Builder {
     }
 
     /// The elements that are made from now on have the ids of that realm, from its first on.
-    pub fn renew(&mut self, realm: u64)
+    pub fn renew(&mut self, realm: u32)
         ensures { self.new ≡ record self.old { next = record { realm = realm; n = 0 } } }
     {
         self.state.next = NodeId { realm, n: 0 };
@@ -304,7 +304,7 @@ impl Builder {
 }
 
 /// The open state at the beginning of a page.
-fn first_state(alloc: Global, realm: u64) -> Open
+fn first_state(alloc: Global, realm: u32) -> Open
     ensures { result ≡ opening realm }
 {
     Open {

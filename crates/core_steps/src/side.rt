@@ -42,7 +42,7 @@ use write_parser::{Left, Overrun, Writer};
 #[derive(Drop)]
 pub(crate) struct Counts {
     pub epoch: u64,
-    pub realm: u64,
+    pub realm: u32,
     pub place: u64,
     pub sent_to: u64,
 }
@@ -276,7 +276,9 @@ impl Side {
         let failed = epoch.saturating_sub(1);
         Tally {
             scripts: self.writer.executed(),
-            kept: realm.saturating_sub(*epoch).saturating_sub(failed),
+            kept: u64::from(*realm)
+                .saturating_sub(*epoch)
+                .saturating_sub(failed),
             failed,
             nodes: count_nodes(self.writer.doc().tree()),
             written: self.writer.written(),
@@ -401,7 +403,7 @@ impl Side {
     }
 
     // A realm that no element's id has, and the next behind it.
-    fn new_realm(&mut self) -> Result<u64, NoMemory>
+    fn new_realm(&mut self) -> Result<u32, NoMemory>
         ensures realm { IfOk result (λ realm. realm ≡ self.old.counts.realm) }
         ensures next { OnOk result (self.new ≡ record self.old { counts = record self.old.counts { realm = suc self.old.counts.realm } }) }
         ensures err { OnErr result (self.new ≡ self.old) }

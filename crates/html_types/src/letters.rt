@@ -59,21 +59,8 @@ impl Letters {
         ensures ok { OnOk result (letter_bytes self.new ≡ letter_bytes self.old ++ encode_utf8 c) }
         ensures err { OnErr result (letter_bytes self.new ≡ letter_bytes self.old) }
     {
-        let mut long = match self {
-            Letters::Long(long) => {
-                long.push(c)?;
-                return Ok(());
-            }
-            Letters::Short(short) => {
-                if short.try_push(c).is_ok() {
-                    return Ok(());
-                }
-                spilled(alloc, short.as_str(), SHORT)?
-            }
-        };
-        long.push(c)?;
-        *self = Letters::Long(long);
-        Ok(())
+        let mut bytes = [0; 4];
+        self.push_str(alloc, c.encode_utf8(&mut bytes))
     }
 
     /// Adds those of a `&str` at the end.

@@ -15,14 +15,14 @@ use std::marker::Model;
 /// The id of an element: the n-th of its realm.
 #[derive(Clone, Copy, PartialEq, Eq, PartialOrd, Ord)]
 pub struct NodeId {
-    pub realm: u64,
-    pub n: u64,
+    pub realm: u32,
+    pub n: u32,
 }
 
 impl NodeId {
     /// The id that comes so many later in the realm.
-    pub fn later(self, by: u64) -> NodeId
-        requires { self.n + by < 2 ^ 64 }
+    pub fn later(self, by: u32) -> NodeId
+        requires { self.n + by < 2 ^ 32 }
         ensures { result ≡ later by self }
     {
         NodeId {
@@ -183,6 +183,11 @@ impl Ops {
     {
         let list = Vec::with_capacity(alloc, capacity)?;
         Ok(Ops { list })
+    }
+
+    /// How many operations are kept, a text in one: for how many the next list has room. No contract speaks of it.
+    pub fn stored(&self) -> usize {
+        self.list.len()
     }
 
     /// Adds an operation at the end.

@@ -17,7 +17,7 @@ use std::marker::Model;
 /// The nodes that the ids of a realm stand for, the n-th for the n-th id.
 #[derive(Drop)]
 struct Realm {
-    realm: u64,
+    realm: u32,
     nodes: Vec<u32>,
 }
 
@@ -55,7 +55,7 @@ fn listed(realms: &[Realm], id: NodeId) -> Option<usize>
     ensures { result ≡ listed realms.now id }
 {
     for realm in realms {
-        if realm.realm == id.realm && id.n < realm.nodes.len() as u64 {
+        if realm.realm == id.realm && (id.n as usize) < realm.nodes.len() {
             return Some(realm.nodes[id.n as usize] as usize);
         }
     }
@@ -76,7 +76,7 @@ fn next_in(realms: &[Realm], id: NodeId) -> Option<usize>
     ensures next { ForSome result (IsNext realms.now id) }
 {
     for place in 0..realms.len() {
-        if realms[place].realm == id.realm && realms[place].nodes.len() as u64 == id.n {
+        if realms[place].realm == id.realm && realms[place].nodes.len() == id.n as usize {
             return Some(place);
         }
     }

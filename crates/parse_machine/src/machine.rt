@@ -379,7 +379,7 @@ fn some_nul(found: Option<Characters>) -> bool
 
 impl Machine {
     /// The parser at the beginning of a page. Its elements are of that realm. It takes no memory.
-    pub fn new(alloc: Global, realm: u64) -> Machine
+    pub fn new(alloc: Global, realm: u32) -> Machine
         ensures { result ≡ new_parser realm }
     {
         Machine {
@@ -804,7 +804,7 @@ impl Machine {
     }
 
     /// The elements that are made from now on have the ids of that realm, from its first on.
-    pub fn renew(&mut self, realm: u64)
+    pub fn renew(&mut self, realm: u32)
         ensures { self.new ≡ record self.old { open_state = record self.old.open_state { next = record { realm = realm; n = 0 } } } }
     {
         self.builder.renew(realm);

@@ -94,6 +94,8 @@ impl Batch {
 #[derive(Drop)]
 pub struct Batches {
     list: VecDeque<Batch>,
+    // For so many operations the next batch has room.
+    room: usize,
 }
 
 impl Model for Batches {
@@ -110,9 +112,22 @@ impl Batches {
     pub fn new(alloc: Global) -> Batches
         ensures { result ≡ [] }
     {
+        Batches::with_room(alloc, 0)
+    }
+
+    /// No batches, which take no memory. The first will have room for so many operations.
+    pub fn with_room(alloc: Global, room: usize) -> Batches
+        ensures { result ≡ [] }
+    {
         Batches {
             list: VecDeque::new(alloc),
+            room,
         }
+    }
+
+    /// For how many operations the next batch has room: for somewhat more than the last came to.
+    pub fn room(&self) -> usize {
+        self.room
     }
 
     /// How many they are.
@@ -134,7 +149,9 @@ impl Batches {
         ensures ok { OnOk result (self.new ≡ self.old ++ batch ∷ []) }
         ensures err { OnErr result (self.new ≡ self.old) }
     {
+        let came_to = batch.ops.stored();
         self.list.push_back(batch)?;
+        self.room = came_to.saturating_add(came_to / 8);
         Ok(())
     }
 

@@ -15,9 +15,6 @@ use parse_machine::Machine;
 use std::alloc::Global;
 use std::snapshot::Snapshot;
 
-// So many bytes of a page make an operation, where it has much markup.
-const BYTES_OF_AN_OPERATION: usize = 6;
-
 // The batch up to the first stop in a text, which is taken off the text. Room is made for so many operations at once.
 fn next_batch(
     alloc: Global,
@@ -64,11 +61,8 @@ fn cut_text(
     ensures machine { IfOk result (λ goes_on. (cut (length text) table.now machine.old text).parser ≡ (if goes_on then Some machine.new else None)) }
 {
     let mut rest = text;
-    // The first batch is mostly the only one.
-    let mut room = rest.as_str().len() / BYTES_OF_AN_OPERATION;
     'cuts: while !rest.is_empty() {
-        let batch = next_batch(alloc, table, machine, &mut rest, room)?;
-        room = 0;
+        let batch = next_batch(alloc, table, machine, &mut rest, batches.room())?;
         let deep = is_deep(&batch);
         batches.push(batch)?;
         if deep {

@@ -21,6 +21,8 @@ use std::marker::{Model, PhantomData};
 #[derive(Drop)]
 pub struct Worker {
     machine: Option<Machine>,
+    // For so many operations the next batch has room.
+    room: usize,
 }
 
 impl Model for Worker {
@@ -50,18 +52,19 @@ fn start_of(carried: Option<Machine>, last: Option<Machine>) -> Option<Machine>
     }
 }
 
-// Parses a piece, where there is a state to parse it from.
+// Parses a piece, where there is a state to parse it from. The first batch has room for so many operations.
 fn parse_from(
     alloc: Global,
     table: &Table,
     machine: Option<Machine>,
     piece: &Piece,
+    room: usize,
 ) -> Result<Parse, NoMemory>
     ensures start { IfOk result (λ p. p.start ≡ machine) }
     ensures batches { IfOk result (λ p. p.batches ≡ (answer table.now machine piece.now).batches) }
     ensures machine { IfOk result (λ p. p.machine ≡ (answer table.now machine piece.now).parser) }
 {
-    let mut batches = Batches::new(alloc);
+    let mut batches = Batches::with_room(alloc, room);
     match machine {
         None => Ok(Parse {
             start: None,
@@ -89,6 +92,7 @@ impl Worker {
     {
         Worker {
             machine: Some(Machine::new(alloc, 0)),
+            room: 0,
         }
     }
 
@@ -118,8 +122,9 @@ impl Worker {
             from,
         } = request;
         let machine = start_of(start, self.machine.take());
-        let parse = parse_from(alloc, table, machine, &piece)?;
+        let parse = parse_from(alloc, table, machine, &piece, self.room)?;
         self.machine = parse.machine;
+        self.room = parse.batches.room();
         Ok(Reply {
             said: Said {
                 epoch,

@@ -64,7 +64,7 @@ fn one_more(executed: u64) -> Result<u64, NoMemory>
 // The parser, and the text of a page.
 impl Live {
     /// At the beginning of a page, with an empty document.
-    pub fn new(alloc: Global, realm: u64) -> Result<Live, NoMemory>
+    pub fn new(alloc: Global, realm: u32) -> Result<Live, NoMemory>
         ensures { IfOk result (λ live. IsFirst realm live) }
     {
         let doc = Doc::new(alloc)?;

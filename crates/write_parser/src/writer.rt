@@ -45,7 +45,7 @@ impl Model for Writer {
 
 impl Writer {
     /// At the beginning of a page, with an empty document. The elements that it makes have the ids of that realm.
-    pub fn new(alloc: Global, realm: u64) -> Result<Writer, NoMemory>
+    pub fn new(alloc: Global, realm: u32) -> Result<Writer, NoMemory>
         ensures { IfOk result (λ w. w ≡ first_view realm) }
     {
         let live = Live::new(alloc, realm)?;
@@ -247,7 +247,7 @@ impl Writer {
 
     /// The elements that are made from now on have the ids of that realm, from its first on. No element has an id of it yet, nor of a later
     /// one. It takes no memory.
-    pub fn renew(&mut self, realm: u64)
+    pub fn renew(&mut self, realm: u32)
         requires below { AreBelow realm (is_bound self.old.doc.bound) }
         ensures { self.new ≡ record self.old { parser = renewed realm self.old.parser } }
     {
