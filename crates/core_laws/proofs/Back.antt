@@ -9,10 +9,10 @@ use Rattle.html_types.specs.declared.open.Format.{Format}
 use Rattle.html_types.specs.declared.open.Format.TheVariants.{Marker, Element}
 use Rattle.standard.specs.Parser.{Parser}
 use Rattle.rule_laws.specs.Naming.{rename_element, rename_format, rename_parser}
-use Rattle.core_rules.specs.declared.verdict.Verdict.{Verdict}
-use Rattle.core_rules.specs.declared.verdict.Verdict.TheVariants.{Keep, Rewind}
-use Rattle.core_rules.specs.Verdict.{IsVerdict}
-use Rattle.core_rules.specs.Settling.{is_empty}
+use Rattle.core_definitions.specs.declared.verdict.Verdict.{Verdict}
+use Rattle.core_definitions.specs.declared.verdict.Verdict.TheVariants.{Keep, Rewind}
+use Rattle.core_definitions.specs.Verdict.{IsVerdict}
+use Rattle.core_definitions.specs.Settling.{is_empty}
 use Rattle.core_laws.specs.Rebasing.{with_next}
 
 abbrev first_or : {A : Type 0} → A → List A → A

@@ -3,11 +3,11 @@ use Rattle.std.proofs.Common.{◌≡◌, ◌≤◌, ℕ, suc, ◌+◌, ◌*◌, 
 use Rattle.std.proofs.Math.Nat.{mul-suc}
 use Rattle.std.proofs.lemmas.Nat.{mul-le}
 use Rattle.standard.specs.Serial.{first, reading, over}
-use Rattle.core_rules.specs.declared.event.Event.{Event}
-use Rattle.core_rules.specs.Verdict.{first_watch}
-use Rattle.core_rules.specs.Desk.{Desk, first_desk, pieces_with}
-use Rattle.core_rules.specs.Core.{Setup, whole_page, Core, first_core, Runs}
-use Rattle.core_rules.specs.Journal.{own_events}
+use Rattle.core_definitions.specs.declared.event.Event.{Event}
+use Rattle.core_definitions.specs.Verdict.{first_watch}
+use Rattle.core_definitions.specs.Desk.{Desk, first_desk, pieces_with}
+use Rattle.core_definitions.specs.Core.{Setup, whole_page, Core, first_core, Runs}
+use Rattle.core_definitions.specs.Journal.{own_events}
 use Rattle.core_laws.specs.Bounds.{IsBounded, CreditIsKept, BoundedWhereItStands, BoundedByTheParse}
 use Rattle.core_laws.proofs.Standing.{failures-are-epochs}
 use Rattle.core_laws.proofs.Together.{core-is_desk}

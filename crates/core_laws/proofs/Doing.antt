@@ -25,9 +25,9 @@ use Rattle.rule_laws.proofs.FreshnessDocs.{texts-served}
 use Rattle.rule_laws.proofs.FreshnessTexts.{before-follows}
 use Rattle.rule_laws.proofs.RenamingTexts.{texts-renamed, ends-renamed}
 use Rattle.act_laws.proofs.Renamed.{acts-renamed}
-use Rattle.core_rules.specs.Batches.{Piece, Batch, text_batch, finish_batch, refusal_batch, end_batch, at, finishing}
-use Rattle.core_rules.specs.Verdict.{Watch, runs, at_tag, Watched, Reads as WatchReads, Watches}
-use Rattle.core_rules.specs.Desk.{Phase, free, done, Desk, at_end_tag, behind_halt, executes}
+use Rattle.core_definitions.specs.Batches.{Piece, Batch, text_batch, finish_batch, refusal_batch, end_batch, at, finishing}
+use Rattle.core_definitions.specs.Verdict.{Watch, runs, at_tag, Watched, Reads as WatchReads, Watches}
+use Rattle.core_definitions.specs.Desk.{Phase, free, done, Desk, at_end_tag, behind_halt, executes}
 use Rattle.core_laws.specs.Alike.{own_of, Okay}
 use Rattle.core_laws.specs.Rebasing.{with_next, rebased, Rebases}
 use Rattle.core_laws.proofs.Okay.{one-to-one, okay-parse}

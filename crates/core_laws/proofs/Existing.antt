@@ -7,14 +7,14 @@ use Rattle.html_types.specs.declared.script.Ending.TheVariants as ending
 use Rattle.standard.specs.Parser.{Parser}
 use Rattle.standard.specs.Serial.{World, Serial, first, Moment, reading, tag_ended, awaits, over, Outcome, moment_after, moments_on}
 use Rattle.standard_laws.proofs.Total.{IsCleared, rank, over_from, total-from}
-use Rattle.core_rules.specs.declared.event.Event.{Event}
-use Rattle.core_rules.specs.declared.event.Event.TheVariants.{Send, Pick, Give, Take, Do, Arrive}
-use Rattle.core_rules.specs.Verdict.{first_watch}
-use Rattle.core_rules.specs.Settling.{is_settled, Through, here, onward, Settles}
-use Rattle.core_rules.specs.Desk.{Phase, free, tagged, waits, done, Desk, can_do_in, executes, decided, Concludes, RunsOn, DoesIn}
-use Rattle.core_rules.specs.Core.{Setup, whole_page, Core, sent_from, picked_from, given_to, taken_from}
-use Rattle.core_rules.specs.Desk.{arrives}
-use Rattle.core_rules.specs.StandsFor.{own_moment}
+use Rattle.core_definitions.specs.declared.event.Event.{Event}
+use Rattle.core_definitions.specs.declared.event.Event.TheVariants.{Send, Pick, Give, Take, Do, Arrive}
+use Rattle.core_definitions.specs.Verdict.{first_watch}
+use Rattle.core_definitions.specs.Settling.{is_settled, Through, here, onward, Settles}
+use Rattle.core_definitions.specs.Desk.{Phase, free, tagged, waits, done, Desk, can_do_in, executes, decided, Concludes, RunsOn, DoesIn}
+use Rattle.core_definitions.specs.Core.{Setup, whole_page, Core, sent_from, picked_from, given_to, taken_from}
+use Rattle.core_definitions.specs.Desk.{arrives}
+use Rattle.core_definitions.specs.StandsFor.{own_moment}
 use Rattle.core_laws.specs.Alike.{AreAlike}
 use Rattle.core_laws.specs.CoreLaws.{DecidesSame, EnabledSteps}
 use Rattle.core_laws.proofs.Moving.{Holding}

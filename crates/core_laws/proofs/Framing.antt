@@ -25,7 +25,7 @@ use Rattle.standard.specs.Serial.{World, fetched, Serial, Course, goes, refuses,
 use Rattle.standard_laws.proofs.Parse.{advance-parse}
 use Rattle.rule_laws.proofs.RenamingTexts.{texts-renamed, characters-renamed}
 use Rattle.core_laws.specs.Alike.{own_of, behind, Okay, Both, ScriptsRename, AreAlike, MomentsRename, FetchesRename}
-use Rattle.core_rules.specs.Settling.{is_empty, is_settled}
+use Rattle.core_definitions.specs.Settling.{is_empty, is_settled}
 use Rattle.core_laws.proofs.Okay.{OkayBehind, okay-parse, okay-character}
 
 module _ (r : NodeId → NodeId) (page : List ℕ) where

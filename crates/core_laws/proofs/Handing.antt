@@ -8,14 +8,14 @@ use Rattle.html_types.specs.declared.instruction.Finish.TheVariants as finale
 use Rattle.standard.specs.Entities.{Entities}
 use Rattle.standard.specs.Parser.{Parser}
 use Rattle.standard.specs.Serial.{World, Serial, prepared, Moment, reading, tag_ended, awaits, over}
-use Rattle.core_rules.specs.declared.event.Event.{Event}
-use Rattle.core_rules.specs.declared.event.Event.TheVariants.{Send, Pick, Give, Take, Do, Arrive}
-use Rattle.core_rules.specs.declared.verdict.Verdict.{Verdict}
-use Rattle.core_rules.specs.declared.verdict.Verdict.TheVariants.{Keep, Rewind}
-use Rattle.core_rules.specs.Batches.{Piece, Batch, Halt, at, finishing, refusing}
-use Rattle.core_rules.specs.Verdict.{runs}
-use Rattle.core_rules.specs.Settling.{is_empty}
-use Rattle.core_rules.specs.Desk.{Phase, free, tagged, waits, done, Desk, with_more, is_done, outstanding, stale, sends_first, with_batches, drops, answer_called_for, at_end_tag, behind_halt, with_executed, executes, sent_again, decided, Concludes, RunsOn, DoesIn, Moves, can_do_in}
+use Rattle.core_definitions.specs.declared.event.Event.{Event}
+use Rattle.core_definitions.specs.declared.event.Event.TheVariants.{Send, Pick, Give, Take, Do, Arrive}
+use Rattle.core_definitions.specs.declared.verdict.Verdict.{Verdict}
+use Rattle.core_definitions.specs.declared.verdict.Verdict.TheVariants.{Keep, Rewind}
+use Rattle.core_definitions.specs.Batches.{Piece, Batch, Halt, at, finishing, refusing}
+use Rattle.core_definitions.specs.Verdict.{runs}
+use Rattle.core_definitions.specs.Settling.{is_empty}
+use Rattle.core_definitions.specs.Desk.{Phase, free, tagged, waits, done, Desk, with_more, is_done, outstanding, stale, sends_first, with_batches, drops, answer_called_for, at_end_tag, behind_halt, with_executed, executes, sent_again, decided, Concludes, RunsOn, DoesIn, Moves, can_do_in}
 use Rattle.core_laws.specs.DeskLaws.{MoreMayFollow}
 
 module _ (xs : List Piece) where

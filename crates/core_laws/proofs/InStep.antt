@@ -11,11 +11,11 @@ use Rattle.html_types.specs.declared.script.Ending.TheVariants as ending
 use Rattle.standard.specs.Entities.{Entities}
 use Rattle.standard.specs.Parser.{finish, Parser}
 use Rattle.standard.specs.Serial.{World, Serial, prepared, Moment, reading, tag_ended, awaits, over}
-use Rattle.core_rules.specs.declared.verdict.Verdict.TheVariants.{Keep, Rewind}
-use Rattle.core_rules.specs.Batches.{Piece, Batch, Halt, at, finishing, refusing, answer, end_batch}
-use Rattle.core_rules.specs.Verdict.{runs}
-use Rattle.core_rules.specs.Desk.{Phase, free, tagged, waits, done, Desk, renewed, stale, with_batches, drops, answer_called_for, takes, at_end_tag, behind_halt, with_executed, executes, decided, Concludes, RunsOn, DoesIn}
-use Rattle.core_rules.specs.Core.{Request, Reply, Core, started, answer_to, reply_to, request_for, takes_reply}
+use Rattle.core_definitions.specs.declared.verdict.Verdict.TheVariants.{Keep, Rewind}
+use Rattle.core_definitions.specs.Batches.{Piece, Batch, Halt, at, finishing, refusing, answer, end_batch}
+use Rattle.core_definitions.specs.Verdict.{runs}
+use Rattle.core_definitions.specs.Desk.{Phase, free, tagged, waits, done, Desk, renewed, stale, with_batches, drops, answer_called_for, takes, at_end_tag, behind_halt, with_executed, executes, decided, Concludes, RunsOn, DoesIn}
+use Rattle.core_definitions.specs.Core.{Request, Reply, Core, started, answer_to, reply_to, request_for, takes_reply}
 use Rattle.core_laws.proofs.Cutting.{GoesOn, IsText, first-batch, answered-by-nothing, blank-end}
 use Rattle.core_laws.proofs.Ledger.{Piped, Pipe}
 

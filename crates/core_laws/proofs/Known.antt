@@ -7,9 +7,9 @@ use Rattle.standard.specs.Act.{Doc}
 use Rattle.standard.specs.Parser.{Parser}
 use Rattle.standard.specs.Serial.{World, Serial, Moment, reading}
 use Rattle.rule_laws.specs.Naming.{rename_parser}
-use Rattle.core_rules.specs.Verdict.{Watch, Watches}
-use Rattle.core_rules.specs.Desk.{Phase, free, tagged, waits, done, Desk}
-use Rattle.core_rules.specs.StandsFor.{own_moment}
+use Rattle.core_definitions.specs.Verdict.{Watch, Watches}
+use Rattle.core_definitions.specs.Desk.{Phase, free, tagged, waits, done, Desk}
+use Rattle.core_definitions.specs.StandsFor.{own_moment}
 use Rattle.core_laws.specs.Alike.{own_of, Okay, AreAlike}
 use Rattle.core_laws.specs.Rebasing.{with_next, rebased, Rebases}
 use Rattle.core_laws.proofs.Rebasing.{rebased-one, rebased-low}

@@ -4,11 +4,11 @@ use Rattle.std.specs.Prelude.{◌&&◌, is_none, if◌then◌else◌}
 use Rattle.html_types.specs.declared.script.Ending.{Ending}
 use Rattle.standard.specs.Entities.{Entities}
 use Rattle.standard.specs.Parser.{Parser}
-use Rattle.core_rules.specs.Batches.{Piece, answer}
-use Rattle.core_rules.specs.Settling.{is_empty}
-use Rattle.core_rules.specs.Core.{joined}
-use Rattle.core_rules.specs.Desk.{Phase, free, tagged, waits, done, Desk, pieces_with, sent_again}
-use Rattle.core_rules.specs.StandsFor.{text_of}
+use Rattle.core_definitions.specs.Batches.{Piece, answer}
+use Rattle.core_definitions.specs.Settling.{is_empty}
+use Rattle.core_definitions.specs.Core.{joined}
+use Rattle.core_definitions.specs.Desk.{Phase, free, tagged, waits, done, Desk, pieces_with, sent_again}
+use Rattle.core_definitions.specs.StandsFor.{text_of}
 
 -- the last piece has the page's ending, and no other has one
 abbrev pub EndsAt : Option Ending → List Piece → Ending → Type 0 → Type 0

@@ -12,15 +12,15 @@ use Rattle.html_types.specs.declared.script.Ending.TheVariants as ending
 use Rattle.standard.specs.Entities.{Entities}
 use Rattle.standard.specs.Parser.{finish, Parser}
 use Rattle.standard.specs.Serial.{World, Serial, prepared, Moment, reading, tag_ended, awaits, over}
-use Rattle.core_rules.specs.declared.event.Event.{Event}
-use Rattle.core_rules.specs.declared.event.Event.TheVariants.{Send, Pick, Give, Take, Do, Arrive}
-use Rattle.core_rules.specs.declared.verdict.Verdict.{Verdict}
-use Rattle.core_rules.specs.declared.verdict.Verdict.TheVariants.{Keep, Rewind}
-use Rattle.core_rules.specs.Batches.{Piece, Batch, Halt, at, finishing, refusing, answer, end_batch}
-use Rattle.core_rules.specs.Verdict.{Watch, runs}
-use Rattle.core_rules.specs.Settling.{is_empty}
-use Rattle.core_rules.specs.Desk.{Phase, free, tagged, waits, done, Desk, blank, is_free, stale, wants_reply, sends_first, with_batches, drops, answer_called_for, takes, at_end_tag, behind_halt, with_executed, executes, decided, Concludes, RunsOn, DoesIn, Moves, MovesBy, renewed}
-use Rattle.core_rules.specs.StandsFor.{own_moment, text_of, page_left}
+use Rattle.core_definitions.specs.declared.event.Event.{Event}
+use Rattle.core_definitions.specs.declared.event.Event.TheVariants.{Send, Pick, Give, Take, Do, Arrive}
+use Rattle.core_definitions.specs.declared.verdict.Verdict.{Verdict}
+use Rattle.core_definitions.specs.declared.verdict.Verdict.TheVariants.{Keep, Rewind}
+use Rattle.core_definitions.specs.Batches.{Piece, Batch, Halt, at, finishing, refusing, answer, end_batch}
+use Rattle.core_definitions.specs.Verdict.{Watch, runs}
+use Rattle.core_definitions.specs.Settling.{is_empty}
+use Rattle.core_definitions.specs.Desk.{Phase, free, tagged, waits, done, Desk, blank, is_free, stale, wants_reply, sends_first, with_batches, drops, answer_called_for, takes, at_end_tag, behind_halt, with_executed, executes, decided, Concludes, RunsOn, DoesIn, Moves, MovesBy, renewed}
+use Rattle.core_definitions.specs.StandsFor.{own_moment, text_of, page_left}
 use Rattle.core_laws.specs.Alike.{AreAlike}
 use Rattle.core_laws.proofs.Cutting.{GoesOn, IsText, IsLast, first-batch, answered-by-nothing, blank-answer}
 use Rattle.core_laws.proofs.Known.{InPhase, InHand, InWatch, Stood, Reads, reads}

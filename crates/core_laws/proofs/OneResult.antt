@@ -6,10 +6,10 @@ use Rattle.html_types.specs.declared.script.Ending.TheVariants as ending
 use Rattle.standard.specs.Parser.{Parser}
 use Rattle.standard.specs.Serial.{World, Moment, reading, tag_ended, awaits, over, moment_after}
 use Rattle.standard_laws.proofs.Fuel.{moment_after-by}
-use Rattle.core_rules.specs.declared.event.Event.TheVariants.{Send, Pick, Give, Take, Do, Arrive}
-use Rattle.core_rules.specs.declared.verdict.Verdict.TheVariants.{Keep, Rewind}
-use Rattle.core_rules.specs.Settling.{is_settled, Through, here, onward}
-use Rattle.core_rules.specs.Desk.{Phase, free, tagged, waits, done, Desk, decided, Concludes, RunsOn, DoesIn}
+use Rattle.core_definitions.specs.declared.event.Event.TheVariants.{Send, Pick, Give, Take, Do, Arrive}
+use Rattle.core_definitions.specs.declared.verdict.Verdict.TheVariants.{Keep, Rewind}
+use Rattle.core_definitions.specs.Settling.{is_settled, Through, here, onward}
+use Rattle.core_definitions.specs.Desk.{Phase, free, tagged, waits, done, Desk, decided, Concludes, RunsOn, DoesIn}
 use Rattle.core_laws.specs.CoreLaws.{OneStep}
 use Rattle.core_laws.specs.OneResult.{OneVerdict, SettlesOnce, OneMove}
 

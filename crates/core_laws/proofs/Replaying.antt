@@ -5,13 +5,13 @@ use Rattle.std.specs.Prelude.{IsTrue, not, ◌&&◌, is_some}
 use Rattle.html_types.specs.declared.script.Ending.{Ending}
 use Rattle.standard.specs.Entities.{Entities}
 use Rattle.standard.specs.Serial.{Serial}
-use Rattle.core_rules.specs.declared.event.Event.{Event}
-use Rattle.core_rules.specs.declared.event.Event.TheVariants.{Send, Pick, Give, Take, Do, Arrive}
-use Rattle.core_rules.specs.Batches.{Piece}
-use Rattle.core_rules.specs.Settling.{is_empty}
-use Rattle.core_rules.specs.Desk.{Desk, first_desk, pieces_with, with_more, is_free, arrives, Moves, MovesBy}
-use Rattle.core_rules.specs.Core.{Setup, Request, Reply, Core, first_core, answer_to, reply_to, enabled, sent_from, picked_from, given_to, taken_from, Steps, Runs}
-use Rattle.core_rules.specs.Journal.{with_replies, IsPageOf}
+use Rattle.core_definitions.specs.declared.event.Event.{Event}
+use Rattle.core_definitions.specs.declared.event.Event.TheVariants.{Send, Pick, Give, Take, Do, Arrive}
+use Rattle.core_definitions.specs.Batches.{Piece}
+use Rattle.core_definitions.specs.Settling.{is_empty}
+use Rattle.core_definitions.specs.Desk.{Desk, first_desk, pieces_with, with_more, is_free, arrives, Moves, MovesBy}
+use Rattle.core_definitions.specs.Core.{Setup, Request, Reply, Core, first_core, answer_to, reply_to, enabled, sent_from, picked_from, given_to, taken_from, Steps, Runs}
+use Rattle.core_definitions.specs.Journal.{with_replies, IsPageOf}
 use Rattle.core_laws.specs.DeskLaws.{IsReached}
 use Rattle.core_laws.specs.Replaying.{DeskIsCore, JournalsReplay, JournalsAreReached}
 use Rattle.core_laws.proofs.InStep.{in_hand, replies_to, under_way, to_come, end_to_come, InStep, UnlessDone}

@@ -7,11 +7,11 @@ use Rattle.html_types.specs.declared.script.Ending.TheVariants as ending
 use Rattle.standard.specs.Parser.{AreSame, Parser}
 use Rattle.standard.specs.Serial.{World, Serial, Moment, reading, tag_ended, awaits, over, moment_after}
 use Rattle.rule_laws.specs.Naming.{rename_parser}
-use Rattle.core_rules.specs.declared.verdict.Verdict.{Verdict}
-use Rattle.core_rules.specs.declared.verdict.Verdict.TheVariants.{Keep, Rewind}
-use Rattle.core_rules.specs.Verdict.{IsVerdict, Watch, judged, Watched, Watches}
-use Rattle.core_rules.specs.Settling.{is_empty, is_settled, Through, here, onward}
-use Rattle.core_rules.specs.Desk.{Desk, renewed, decided, Concludes, RunsOn}
+use Rattle.core_definitions.specs.declared.verdict.Verdict.{Verdict}
+use Rattle.core_definitions.specs.declared.verdict.Verdict.TheVariants.{Keep, Rewind}
+use Rattle.core_definitions.specs.Verdict.{IsVerdict, Watch, judged, Watched, Watches}
+use Rattle.core_definitions.specs.Settling.{is_empty, is_settled, Through, here, onward}
+use Rattle.core_definitions.specs.Desk.{Desk, renewed, decided, Concludes, RunsOn}
 use Rattle.core_laws.specs.Alike.{own_of, Okay, AreAlike}
 use Rattle.core_laws.specs.Rebasing.{with_next, rebased, Rebases}
 use Rattle.core_laws.proofs.Framing.{moments-rename, fetches-rename}

@@ -11,12 +11,12 @@ use Rattle.standard_laws.proofs.Passing.{passes-over}
 use Rattle.standard_laws.proofs.Fuel.{one_outcome}
 use Rattle.standard_laws.proofs.Lines.{passed-lines}
 use Rattle.rule_laws.proofs.FreshnessDocs.{new-serves_alone}
-use Rattle.core_rules.specs.declared.event.Event.{Event}
-use Rattle.core_rules.specs.declared.event.Event.TheVariants.{Send, Pick, Give, Take, Do, Arrive}
-use Rattle.core_rules.specs.Verdict.{Watch, first_watch, stays}
-use Rattle.core_rules.specs.Desk.{Phase, free, tagged, waits, done, Desk, first_own, first_desk, pieces_with, is_free, is_done, can_do_in, Moves}
-use Rattle.core_rules.specs.Core.{Setup, joined, whole_page}
-use Rattle.core_rules.specs.StandsFor.{Carries, CarriesMoment, own_moment, page_left, StandsFor}
+use Rattle.core_definitions.specs.declared.event.Event.{Event}
+use Rattle.core_definitions.specs.declared.event.Event.TheVariants.{Send, Pick, Give, Take, Do, Arrive}
+use Rattle.core_definitions.specs.Verdict.{Watch, first_watch, stays}
+use Rattle.core_definitions.specs.Desk.{Phase, free, tagged, waits, done, Desk, first_own, first_desk, pieces_with, is_free, is_done, can_do_in, Moves}
+use Rattle.core_definitions.specs.Core.{Setup, joined, whole_page}
+use Rattle.core_definitions.specs.StandsFor.{Carries, CarriesMoment, own_moment, page_left, StandsFor}
 use Rattle.core_laws.specs.Alike.{own_of, Okay, AreAlike}
 use Rattle.core_laws.specs.DeskLaws.{IsReached, AlwaysStandsFor, EndsAsSerial, EndStays, LinesBegin, FailuresAreEpochs}
 use Rattle.core_laws.proofs.Cutting.{blank-answer}

@@ -7,14 +7,14 @@ use Rattle.html_types.specs.declared.script.Ending.{Ending}
 use Rattle.standard.specs.Entities.{Entities}
 use Rattle.standard.specs.Parser.{Parser, new_parser}
 use Rattle.standard.specs.Serial.{first, reading}
-use Rattle.core_rules.specs.declared.event.Event.{Event}
-use Rattle.core_rules.specs.declared.event.Event.TheVariants.{Send, Pick, Give, Take, Do, Arrive}
-use Rattle.core_rules.specs.Batches.{Piece, Batch}
-use Rattle.core_rules.specs.Verdict.{first_watch}
-use Rattle.core_rules.specs.Settling.{is_empty}
-use Rattle.core_rules.specs.Desk.{Phase, free, tagged, waits, done, Desk, is_free, is_done, outstanding, can_do_in, has_arrived, sends_first, takes, arrives, Moves, MovesBy}
-use Rattle.core_rules.specs.Core.{Setup, whole_page, Request, Reply, Core, first_core, answer_to, reply_to, request_for, enabled, sent_from, picked_from, given_to, takes_reply, taken_from, Steps, Runs}
-use Rattle.core_rules.specs.Journal.{own_events}
+use Rattle.core_definitions.specs.declared.event.Event.{Event}
+use Rattle.core_definitions.specs.declared.event.Event.TheVariants.{Send, Pick, Give, Take, Do, Arrive}
+use Rattle.core_definitions.specs.Batches.{Piece, Batch}
+use Rattle.core_definitions.specs.Verdict.{first_watch}
+use Rattle.core_definitions.specs.Settling.{is_empty}
+use Rattle.core_definitions.specs.Desk.{Phase, free, tagged, waits, done, Desk, is_free, is_done, outstanding, can_do_in, has_arrived, sends_first, takes, arrives, Moves, MovesBy}
+use Rattle.core_definitions.specs.Core.{Setup, whole_page, Request, Reply, Core, first_core, answer_to, reply_to, request_for, enabled, sent_from, picked_from, given_to, takes_reply, taken_from, Steps, Runs}
+use Rattle.core_definitions.specs.Journal.{own_events}
 use Rattle.core_laws.specs.DeskLaws.{IsReached}
 use Rattle.core_laws.specs.CoreLaws.{CoreIsDesk, AlwaysStandsFor, EndsAsSerial, EndStays, LinesBegin, IsIdle, IsOverOrAwaits, NeverStuck}
 use Rattle.core_laws.proofs.Cutting.{blank-end, ending-answered}

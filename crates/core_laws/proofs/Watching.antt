@@ -11,8 +11,8 @@ use Rattle.standard_laws.specs.Laws.{moment_at}
 use Rattle.standard_laws.proofs.Parse.{acts-append}
 use Rattle.standard_laws.proofs.Batch.{moment_behind}
 use Rattle.standard_laws.proofs.Passing.{leads-same, leads-next, leads-then}
-use Rattle.core_rules.specs.declared.verdict.Verdict.{Verdict}
-use Rattle.core_rules.specs.Verdict.{IsVerdict, Watch, runs, at_tag, judged, Reads, Watched, Watches, stays, goes_on}
+use Rattle.core_definitions.specs.declared.verdict.Verdict.{Verdict}
+use Rattle.core_definitions.specs.Verdict.{IsVerdict, Watch, runs, at_tag, judged, Reads, Watched, Watches, stays, goes_on}
 
 module _ (e : Ending) (w : World) where
   pub watches-then : (a b c : Moment) (u v x : Watch) → Watches e w a u b v → Watches e w b v c x → Watches e w a u c x

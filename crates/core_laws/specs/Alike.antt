@@ -6,7 +6,7 @@ use Rattle.standard.specs.Act.{Doc, is_bound, SameUpTo}
 use Rattle.standard.specs.Parser.{Parser}
 use Rattle.rule_laws.specs.Naming.{Serves, CameBefore, Renames, rename_parser}
 use Rattle.standard.specs.Serial.{World, Serial, Course, goes, refuses, starved, Moment, reading, tag_ended, awaits, over, Outcome, end_of_script, moment_after}
-use Rattle.core_rules.specs.Settling.{is_settled}
+use Rattle.core_definitions.specs.Settling.{is_settled}
 
 -- the state with its ids renamed, over this document
 abbrev pub own_of : (NodeId → NodeId) → Doc → Serial → Serial

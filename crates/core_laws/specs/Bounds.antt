@@ -1,11 +1,11 @@
 -- How many requests are sent, and how many replies are dropped.
 use Rattle.std.specs.Prelude.{◌≡◌, ◌≤◌, ◌+◌, ◌*◌, ℕ, List, length}
 use Rattle.standard.specs.Serial.{Moment}
-use Rattle.core_rules.specs.declared.event.Event.{Event}
-use Rattle.core_rules.specs.Verdict.{Watch, IsKnownAt, AreVerdicts}
-use Rattle.core_rules.specs.Desk.{Desk, outstanding}
-use Rattle.core_rules.specs.Core.{Setup, whole_page, Core, first_core, Runs}
-use Rattle.core_rules.specs.StandsFor.{StandsFor}
+use Rattle.core_definitions.specs.declared.event.Event.{Event}
+use Rattle.core_definitions.specs.Verdict.{Watch, IsKnownAt, AreVerdicts}
+use Rattle.core_definitions.specs.Desk.{Desk, outstanding}
+use Rattle.core_definitions.specs.Core.{Setup, whole_page, Core, first_core, Runs}
+use Rattle.core_definitions.specs.StandsFor.{StandsFor}
 
 -- By so many failed scripts: each that failed had at most `ahead` replies dropped, and each piece and the ending sent at most once more.
 pub record IsBounded (x : Setup) (failed : ℕ) (d : Desk) : Type 0 where

@@ -2,15 +2,15 @@
 use Rattle.std.specs.Prelude.{◌≡◌, ◌<◌, ℕ, false, IsTrue, List}
 use Rattle.standard.specs.Serial.{Moment, Result, Outcome, IsSerial, Passes, Leads}
 use Rattle.standard_laws.specs.Laws.{GoesOnFrom}
-use Rattle.core_rules.specs.declared.event.Event.{Event}
-use Rattle.core_rules.specs.declared.event.Event.TheVariants.{Arrive}
+use Rattle.core_definitions.specs.declared.event.Event.{Event}
+use Rattle.core_definitions.specs.declared.event.Event.TheVariants.{Arrive}
 use Rattle.standard.specs.Parser.{Parser}
-use Rattle.core_rules.specs.declared.verdict.Verdict.{Verdict}
-use Rattle.core_rules.specs.Verdict.{IsVerdict}
-use Rattle.core_rules.specs.Desk.{Phase, free, tagged, waits, done, Desk, has_arrived}
-use Rattle.core_rules.specs.Core.{Setup, whole_page, Core, first_core, enabled, Steps, Runs}
-use Rattle.core_rules.specs.StandsFor.{StandsFor}
-use Rattle.core_rules.specs.Journal.{own_events}
+use Rattle.core_definitions.specs.declared.verdict.Verdict.{Verdict}
+use Rattle.core_definitions.specs.Verdict.{IsVerdict}
+use Rattle.core_definitions.specs.Desk.{Phase, free, tagged, waits, done, Desk, has_arrived}
+use Rattle.core_definitions.specs.Core.{Setup, whole_page, Core, first_core, enabled, Steps, Runs}
+use Rattle.core_definitions.specs.StandsFor.{StandsFor}
+use Rattle.core_definitions.specs.Journal.{own_events}
 use Rattle.core_laws.specs.DeskLaws.{IsReached}
 
 -- The document's side of the core is the desk: what it takes is the answer that is called for, whatever order the events came in.

@@ -2,12 +2,12 @@
 use Rattle.std.specs.Prelude.{◌≡◌, ℕ, ◌+◌, List, Some}
 use Rattle.standard.specs.Serial.{World, Moment, Result, Outcome, IsSerial, Passes, Leads}
 use Rattle.standard_laws.specs.Laws.{GoesOnFrom}
-use Rattle.core_rules.specs.declared.event.Event.{Event}
-use Rattle.core_rules.specs.Batches.{Piece}
-use Rattle.core_rules.specs.Verdict.{Watch, IsKnownAt}
-use Rattle.core_rules.specs.Desk.{done, Desk, first_desk, pieces_with, with_more, MovesBy}
-use Rattle.core_rules.specs.Core.{Setup, whole_page}
-use Rattle.core_rules.specs.StandsFor.{StandsFor}
+use Rattle.core_definitions.specs.declared.event.Event.{Event}
+use Rattle.core_definitions.specs.Batches.{Piece}
+use Rattle.core_definitions.specs.Verdict.{Watch, IsKnownAt}
+use Rattle.core_definitions.specs.Desk.{done, Desk, first_desk, pieces_with, with_more, MovesBy}
+use Rattle.core_definitions.specs.Core.{Setup, whole_page}
+use Rattle.core_definitions.specs.StandsFor.{StandsFor}
 
 -- the desk to which events lead, each of them enabled
 abbrev pub IsReached : Setup → List Event → Desk → Type 0

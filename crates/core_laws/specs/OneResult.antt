@@ -2,11 +2,11 @@
 use Rattle.std.specs.Prelude.{◌≡◌, ℕ}
 use Rattle.standard.specs.Parser.{Parser}
 use Rattle.standard.specs.Serial.{World, Moment}
-use Rattle.core_rules.specs.declared.event.Event.{Event}
-use Rattle.core_rules.specs.declared.verdict.Verdict.{Verdict}
-use Rattle.core_rules.specs.Verdict.{IsVerdict}
-use Rattle.core_rules.specs.Settling.{Settles}
-use Rattle.core_rules.specs.Desk.{Desk, Moves}
+use Rattle.core_definitions.specs.declared.event.Event.{Event}
+use Rattle.core_definitions.specs.declared.verdict.Verdict.{Verdict}
+use Rattle.core_definitions.specs.Verdict.{IsVerdict}
+use Rattle.core_definitions.specs.Settling.{Settles}
+use Rattle.core_definitions.specs.Desk.{Desk, Moves}
 
 abbrev pub OneVerdict : Type 0
 OneVerdict = (held now : Parser) (a b : Verdict) → IsVerdict held now a → IsVerdict held now b → a ≡ b

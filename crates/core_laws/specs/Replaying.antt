@@ -1,10 +1,10 @@
 -- A journal replays in the core.
 use Rattle.std.specs.Prelude.{◌≡◌, ℕ, List}
 use Rattle.standard.specs.Entities.{Entities}
-use Rattle.core_rules.specs.declared.event.Event.{Event}
-use Rattle.core_rules.specs.Desk.{Desk}
-use Rattle.core_rules.specs.Core.{Setup, Core, first_core, Runs}
-use Rattle.core_rules.specs.Journal.{Journal, Replays, IsRunOf, with_replies, ReplaysInCore}
+use Rattle.core_definitions.specs.declared.event.Event.{Event}
+use Rattle.core_definitions.specs.Desk.{Desk}
+use Rattle.core_definitions.specs.Core.{Setup, Core, first_core, Runs}
+use Rattle.core_definitions.specs.Journal.{Journal, Replays, IsRunOf, with_replies, ReplaysInCore}
 use Rattle.core_laws.specs.DeskLaws.{IsReached}
 
 -- the desk to which events lead is that of the core to which they lead with each reply picked and given just before it is taken

@@ -6,11 +6,11 @@ use Rattle.std.specs.declared.snapshot.Snapshot.{Snapshot}
 use Rattle.html_types.specs.declared.script.Ending.{Ending}
 use Rattle.standard.specs.Entities.{Entities}
 use Rattle.standard.specs.Scripts.{Fetched, is_lawful}
-use Rattle.core_rules.specs.declared.event.Event.{Event}
-use Rattle.core_rules.specs.declared.event.Event.TheVariants.{Send, Give, Take, Do}
-use Rattle.core_rules.specs.Batches.{Piece}
-use Rattle.core_rules.specs.Desk.{Desk, is_among, can_arrive, sends, takes}
-use Rattle.core_rules.specs.Core.{Request, Reply, WorkSide, joined, answer_to, sent_from, given_to}
+use Rattle.core_definitions.specs.declared.event.Event.{Event}
+use Rattle.core_definitions.specs.declared.event.Event.TheVariants.{Send, Give, Take, Do}
+use Rattle.core_definitions.specs.Batches.{Piece}
+use Rattle.core_definitions.specs.Desk.{Desk, is_among, can_arrive, sends, takes}
+use Rattle.core_definitions.specs.Core.{Request, Reply, WorkSide, joined, answer_to, sent_from, given_to}
 use Rattle.speculation.specs.Asking.{Told}
 use Rattle.core_steps.specs.declared.fetch.FetchedFile.{FetchedFile}
 use Rattle.core_steps.specs.Fetches.{fetched_of, names_of}

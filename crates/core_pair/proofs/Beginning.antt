@@ -3,10 +3,10 @@ use Rattle.std.proofs.Common.{◌≡◌, ℕ, List, [], ◌∷◌, ◌++◌, app
 use Rattle.html_types.specs.declared.script.Ending.{Ending}
 use Rattle.standard.specs.Entities.{Entities}
 use Rattle.standard.specs.Scripts.{Fetched}
-use Rattle.core_rules.specs.declared.event.Event.{Event}
-use Rattle.core_rules.specs.Batches.{Piece, of_text, of_ending}
-use Rattle.core_rules.specs.Desk.{first_desk, pieces_with}
-use Rattle.core_rules.specs.Core.{Request, Reply, WorkSide, first_core, first_work}
+use Rattle.core_definitions.specs.declared.event.Event.{Event}
+use Rattle.core_definitions.specs.Batches.{Piece, of_text, of_ending}
+use Rattle.core_definitions.specs.Desk.{first_desk, pieces_with}
+use Rattle.core_definitions.specs.Core.{Request, Reply, WorkSide, first_core, first_work}
 use Rattle.core_steps.specs.Sides.{Shown, first_shown, with_ending}
 use Rattle.core_pair.specs.Pairs.{setup_from, first_paired, told_of, with_pieces}
 

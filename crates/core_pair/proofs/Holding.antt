@@ -2,7 +2,7 @@
 use Rattle.std.proofs.Common.{◌≡◌, Bool, true, false, true≢false, List, refl, sym, ◌∙◌, ap, subst}
 use Rattle.html_types.specs.declared.script.Line.{Line}
 use Rattle.standard.specs.Entities.{Entities}
-use Rattle.core_rules.specs.declared.event.Event.{Event}
+use Rattle.core_definitions.specs.declared.event.Event.{Event}
 use Rattle.core_pair.specs.Pairs.{Paired, stepped, paired_of, IsRun, IsKept}
 
 -- want of memory makes no difference to what is known

@@ -5,9 +5,9 @@ use Rattle.standard.specs.Act.{Doc}
 use Rattle.standard.specs.Entities.{Entities}
 use Rattle.standard.specs.Serial.{Serial}
 use Rattle.standard_laws.specs.Laws.{GoesOnFrom}
-use Rattle.core_rules.specs.declared.event.Event.{Event}
-use Rattle.core_rules.specs.Desk.{Phase, free, tagged, waits, done, Desk, has_arrived, outstanding}
-use Rattle.core_rules.specs.Core.{Setup, Core, first_core, enabled, Runs}
+use Rattle.core_definitions.specs.declared.event.Event.{Event}
+use Rattle.core_definitions.specs.Desk.{Phase, free, tagged, waits, done, Desk, has_arrived, outstanding}
+use Rattle.core_definitions.specs.Core.{Setup, Core, first_core, enabled, Runs}
 use Rattle.core_laws.specs.Bounds.{IsBounded}
 use Rattle.core_laws.specs.CoreLaws.{IsIdle, IsOverOrAwaits}
 use Rattle.core_laws.proofs.Bounding.{credit-is_kept, bounded-where_it_stands, bounded-by_the_parse}

@@ -10,15 +10,15 @@ use Rattle.standard.specs.Entities.{Entities}
 use Rattle.standard.specs.Parser.{Parser}
 use Rattle.standard.specs.Scripts.{Fetched, is_lawful}
 use Rattle.standard.specs.Serial.{World, prepared, fetched, fetched_if, Moment, reading, tag_ended, awaits, over}
-use Rattle.core_rules.specs.declared.event.Event.{Event}
-use Rattle.core_rules.specs.declared.event.Event.TheVariants.{Send, Pick, Give, Take, Do, Arrive}
-use Rattle.core_rules.specs.declared.verdict.Verdict.TheVariants.{Keep, Rewind}
-use Rattle.core_rules.specs.Batches.{Piece, Batch, Halt, at, finishing, refusing}
-use Rattle.core_rules.specs.Verdict.{runs}
-use Rattle.core_rules.specs.Settling.{is_empty}
-use Rattle.core_rules.specs.Desk.{Phase, free, tagged, waits, done, Desk, is_free, is_done, can_do_in, wants_reply, sends_first, takes, with_batches, drops, answer_called_for, stale, arrives, at_end_tag, behind_halt, with_executed, executes, Concludes, DoesIn, Does}
-use Rattle.core_rules.specs.Core.{Setup, Request, Reply, Core, first_core, enabled, sent_from, picked_from, given_to, taken_from, Steps, Runs}
-use Rattle.core_rules.specs.Journal.{Journal, Knows, own_events}
+use Rattle.core_definitions.specs.declared.event.Event.{Event}
+use Rattle.core_definitions.specs.declared.event.Event.TheVariants.{Send, Pick, Give, Take, Do, Arrive}
+use Rattle.core_definitions.specs.declared.verdict.Verdict.TheVariants.{Keep, Rewind}
+use Rattle.core_definitions.specs.Batches.{Piece, Batch, Halt, at, finishing, refusing}
+use Rattle.core_definitions.specs.Verdict.{runs}
+use Rattle.core_definitions.specs.Settling.{is_empty}
+use Rattle.core_definitions.specs.Desk.{Phase, free, tagged, waits, done, Desk, is_free, is_done, can_do_in, wants_reply, sends_first, takes, with_batches, drops, answer_called_for, stale, arrives, at_end_tag, behind_halt, with_executed, executes, Concludes, DoesIn, Does}
+use Rattle.core_definitions.specs.Core.{Setup, Request, Reply, Core, first_core, enabled, sent_from, picked_from, given_to, taken_from, Steps, Runs}
+use Rattle.core_definitions.specs.Journal.{Journal, Knows, own_events}
 use Rattle.core_laws.proofs.Together.{reached-together, steps-together}
 use Rattle.core_steps.specs.Acting.{fetch_or_missing}
 use Rattle.core_steps.specs.Fetches.{names_of}

@@ -4,12 +4,12 @@ use Rattle.std.specs.Prelude.{not, ◌&&◌}
 use Rattle.html_types.specs.declared.operation.NodeId.{NodeId}
 use Rattle.standard.specs.Act.{Doc, SameUpTo}
 use Rattle.standard.specs.Serial.{Serial, Moment, reading, tag_ended, awaits, over}
-use Rattle.core_rules.specs.declared.event.Event.{Event}
-use Rattle.core_rules.specs.declared.event.Event.TheVariants.{Send, Pick, Give, Take, Do, Arrive}
-use Rattle.core_rules.specs.Settling.{is_empty}
-use Rattle.core_rules.specs.Desk.{Phase, free, tagged, waits, done, Desk, is_free, is_done, can_send, can_do_in, can_do, can_arrive}
-use Rattle.core_rules.specs.Core.{Setup, Core, enabled}
-use Rattle.core_rules.specs.StandsFor.{CarriesMoment, own_moment, page_left, StandsFor}
+use Rattle.core_definitions.specs.declared.event.Event.{Event}
+use Rattle.core_definitions.specs.declared.event.Event.TheVariants.{Send, Pick, Give, Take, Do, Arrive}
+use Rattle.core_definitions.specs.Settling.{is_empty}
+use Rattle.core_definitions.specs.Desk.{Phase, free, tagged, waits, done, Desk, is_free, is_done, can_send, can_do_in, can_do, can_arrive}
+use Rattle.core_definitions.specs.Core.{Setup, Core, enabled}
+use Rattle.core_definitions.specs.StandsFor.{CarriesMoment, own_moment, page_left, StandsFor}
 use Rattle.core_steps.specs.Sides.{ShowsIn, Shows}
 use Rattle.core_steps.proofs.Counts.{counts-same}
 use Rattle.core_pair.specs.Pairs.{ShowsCore}

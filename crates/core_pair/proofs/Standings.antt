@@ -3,10 +3,10 @@ use Rattle.std.proofs.Common.{◌≡◌, ◌≢◌, true≢false, ℕ, Bool, tru
 use Rattle.std.proofs.lemmas.Bool.{and_parts}
 use Rattle.std.specs.Prelude.{◌||◌}
 use Rattle.standard.specs.Entities.{Entities}
-use Rattle.core_rules.specs.declared.event.Event.{Event}
-use Rattle.core_rules.specs.declared.event.Event.TheVariants.{Send, Pick, Give, Take, Do, Arrive}
-use Rattle.core_rules.specs.Desk.{Phase, free, tagged, waits, done, Desk, is_free, can_do_in, has_arrived}
-use Rattle.core_rules.specs.Core.{Setup, Core, enabled}
+use Rattle.core_definitions.specs.declared.event.Event.{Event}
+use Rattle.core_definitions.specs.declared.event.Event.TheVariants.{Send, Pick, Give, Take, Do, Arrive}
+use Rattle.core_definitions.specs.Desk.{Phase, free, tagged, waits, done, Desk, is_free, can_do_in, has_arrived}
+use Rattle.core_definitions.specs.Core.{Setup, Core, enabled}
 use Rattle.core_laws.specs.CoreLaws.{IsIdle, IsOverOrAwaits}
 use Rattle.core_steps.specs.Sides.{Standing, running, awaiting, over, unless_arrived, standing_in, standing_of}
 use Rattle.core_pair.specs.Pairs.{Paired, setup_of, is_busy, IsRun}

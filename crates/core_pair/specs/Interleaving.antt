@@ -2,11 +2,11 @@
 use Rattle.std.specs.Prelude.{◌≡◌, ◌≤◌, ◌+◌, ℕ, Bool, true, false, List, ◌++◌}
 use Rattle.standard.specs.Serial.{Moment, Result, Outcome, IsSerial, Passes, Leads}
 use Rattle.standard_laws.specs.Laws.{GoesOnFrom}
-use Rattle.core_rules.specs.declared.event.Event.{Event}
-use Rattle.core_rules.specs.Verdict.{Watch, IsKnownAt, AreVerdicts}
-use Rattle.core_rules.specs.Desk.{Phase, free, tagged, waits, done, Desk, has_arrived, outstanding}
-use Rattle.core_rules.specs.Core.{Setup, whole_page, Core, first_core, Runs}
-use Rattle.core_rules.specs.StandsFor.{StandsFor}
+use Rattle.core_definitions.specs.declared.event.Event.{Event}
+use Rattle.core_definitions.specs.Verdict.{Watch, IsKnownAt, AreVerdicts}
+use Rattle.core_definitions.specs.Desk.{Phase, free, tagged, waits, done, Desk, has_arrived, outstanding}
+use Rattle.core_definitions.specs.Core.{Setup, whole_page, Core, first_core, Runs}
+use Rattle.core_definitions.specs.StandsFor.{StandsFor}
 use Rattle.core_laws.specs.Bounds.{IsBounded}
 use Rattle.core_laws.specs.CoreLaws.{IsIdle}
 use Rattle.core_steps.specs.Sides.{Standing, running, awaiting, standing_of}

@@ -5,11 +5,11 @@ use Rattle.html_types.specs.declared.script.Line.{Line}
 use Rattle.html_types.specs.declared.script.Ending.{Ending}
 use Rattle.standard.specs.Entities.{Entities}
 use Rattle.standard.specs.Scripts.{Fetched}
-use Rattle.core_rules.specs.declared.event.Event.{Event}
-use Rattle.core_rules.specs.declared.event.Event.TheVariants.{Send, Pick, Give, Take, Do, Arrive}
-use Rattle.core_rules.specs.Desk.{Desk, can_send, can_do, can_arrive, wants_reply, takes, arrives}
-use Rattle.core_rules.specs.Core.{Setup, Request, Reply, WorkSide, Core, first_core, enabled, sent_from, picked_from, given_to, Steps, Runs}
-use Rattle.core_rules.specs.Journal.{Journal, Knows, own_events}
+use Rattle.core_definitions.specs.declared.event.Event.{Event}
+use Rattle.core_definitions.specs.declared.event.Event.TheVariants.{Send, Pick, Give, Take, Do, Arrive}
+use Rattle.core_definitions.specs.Desk.{Desk, can_send, can_do, can_arrive, wants_reply, takes, arrives}
+use Rattle.core_definitions.specs.Core.{Setup, Request, Reply, WorkSide, Core, first_core, enabled, sent_from, picked_from, given_to, Steps, Runs}
+use Rattle.core_definitions.specs.Journal.{Journal, Knows, own_events}
 use Rattle.core_steps.specs.Acting.{fetch_or_missing}
 use Rattle.core_steps.specs.Fetches.{names_of}
 use Rattle.core_steps.specs.Journals.{found}

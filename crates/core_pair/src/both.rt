@@ -2,10 +2,10 @@
 
 ghost use Rattle.std.specs.Prelude.{◌≡◌, ◌≤◌, ◌<◌, ◌+◌, ◌++◌, None, Some, false, length, is_some, OnOk, OnErr, IfOk, IsTrue};
 ghost use Rattle.std.specs.Str.{chars};
-ghost use Rattle.core_rules.specs.declared.event.Event.TheVariants as event;
-ghost use Rattle.core_rules.specs.Core.{joined, enabled};
-ghost use Rattle.core_rules.specs.Desk.{can_send, can_do, can_arrive, wants_reply};
-ghost use Rattle.core_rules.specs.Settling.{is_empty as has_none};
+ghost use Rattle.core_definitions.specs.declared.event.Event.TheVariants as event;
+ghost use Rattle.core_definitions.specs.Core.{joined, enabled};
+ghost use Rattle.core_definitions.specs.Desk.{can_send, can_do, can_arrive, wants_reply};
+ghost use Rattle.core_definitions.specs.Settling.{is_empty as has_none};
 ghost use Rattle.speculation.specs.Asking.{page_limit};
 ghost use Rattle.core_steps.specs.States.{standing_told};
 ghost use Rattle.core_pair.specs.Interleaving.{standing_of_core};

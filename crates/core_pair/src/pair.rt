@@ -1,7 +1,7 @@
 //! The pair of both sides.
 
 ghost use Rattle.std.specs.Prelude.{◌≡◌, ◌≢◌, ◌↔◌, ◌≤◌, ◌<◌, ◌++◌, ℕ, List, false, true, length, IfOk, OnOk, OnErr, IsErr, IsTrue};
-ghost use Rattle.core_rules.specs.Core.{joined, enabled};
+ghost use Rattle.core_definitions.specs.Core.{joined, enabled};
 ghost use Rattle.core_laws.specs.CoreLaws.{IsIdle};
 ghost use Rattle.speculation.specs.Asking.{page_limit};
 ghost use Rattle.core_steps.specs.Sides.{running, awaiting};

@@ -11,12 +11,12 @@ use Rattle.standard.specs.Parser.{Parser}
 use Rattle.standard.specs.Entities.{Entities}
 use Rattle.standard.specs.Scripts.{Fetched, got, missing, faulted, file_statements}
 use Rattle.standard.specs.Serial.{World, fetched, Serial, Moment, reading, tag_ended, awaits, over, refused, prepared}
-use Rattle.core_rules.specs.declared.verdict.Verdict.{Verdict}
-use Rattle.core_rules.specs.declared.verdict.Verdict.TheVariants.{Keep, Rewind}
-use Rattle.core_rules.specs.Batches.{Batch, Halt, at, finishing, refusing, answer}
-use Rattle.core_rules.specs.Verdict.{runs}
-use Rattle.core_rules.specs.Desk.{Desk, Phase, free, tagged, waits, done, blank, in_phase, at_end_tag, behind_halt, with_executed, executes, decided, Does, DoesIn, RunsOn, Concludes}
-use Rattle.core_rules.specs.Settling.{Settles}
+use Rattle.core_definitions.specs.declared.verdict.Verdict.{Verdict}
+use Rattle.core_definitions.specs.declared.verdict.Verdict.TheVariants.{Keep, Rewind}
+use Rattle.core_definitions.specs.Batches.{Batch, Halt, at, finishing, refusing, answer}
+use Rattle.core_definitions.specs.Verdict.{runs}
+use Rattle.core_definitions.specs.Desk.{Desk, Phase, free, tagged, waits, done, blank, in_phase, at_end_tag, behind_halt, with_executed, executes, decided, Does, DoesIn, RunsOn, Concludes}
+use Rattle.core_definitions.specs.Settling.{Settles}
 use Rattle.core_laws.proofs.Cutting.{GoesOn, blank-answer}
 use Rattle.write_parser.specs.declared.left.Left.{Left}
 use Rattle.write_parser.specs.declared.left.Left.TheVariants as left

@@ -2,10 +2,10 @@
 use Rattle.std.proofs.Common.{◌≡◌, ℕ, Bool, true, false, true≢false, List, [], ◌∷◌, ◌++◌, Option, Some, None, refl, sym, ◌∙◌, ap, subst, IsTrue}
 use Rattle.std.specs.Prelude.{not, ◌&&◌, ◌||◌, if◌then◌else◌}
 use Rattle.html_types.specs.declared.script.Line.{Line}
-use Rattle.core_rules.specs.declared.event.Event.TheVariants.{Do}
+use Rattle.core_definitions.specs.declared.event.Event.TheVariants.{Do}
 use Rattle.standard.specs.Scripts.{is_lawful}
-use Rattle.core_rules.specs.Desk.{Phase, free, tagged, waits, done, Desk, is_among, has_arrived, can_do, can_arrive}
-use Rattle.core_rules.specs.Journal.{Journal}
+use Rattle.core_definitions.specs.Desk.{Phase, free, tagged, waits, done, Desk, is_among, has_arrived, can_do, can_arrive}
+use Rattle.core_definitions.specs.Journal.{Journal}
 use Rattle.core_steps.specs.declared.side.Side.{Side}
 use Rattle.core_steps.specs.Sides.{Shown, Standing, running, awaiting, over, unless_arrived, standing_in, standing_of, desk_of, shown_of, journaled, DoesShow, IsSound, IsReplayed, IsKept}
 use Rattle.core_steps.proofs.Kept.{do-replayed}

@@ -10,11 +10,11 @@ use Rattle.standard.specs.Entities.{Entities}
 use Rattle.standard.specs.Parser.{Parser}
 use Rattle.standard.specs.Scripts.{Fetched, got, missing, faulted}
 use Rattle.standard.specs.Serial.{World, fetched}
-use Rattle.core_rules.specs.declared.event.Event.TheVariants.{Do}
-use Rattle.core_rules.specs.declared.verdict.Verdict.{Verdict}
-use Rattle.core_rules.specs.declared.verdict.Verdict.TheVariants.{Keep, Rewind}
-use Rattle.core_rules.specs.Desk.{Desk, Does, can_do}
-use Rattle.core_rules.specs.Journal.{Journal, Knows}
+use Rattle.core_definitions.specs.declared.event.Event.TheVariants.{Do}
+use Rattle.core_definitions.specs.declared.verdict.Verdict.{Verdict}
+use Rattle.core_definitions.specs.declared.verdict.Verdict.TheVariants.{Keep, Rewind}
+use Rattle.core_definitions.specs.Desk.{Desk, Does, can_do}
+use Rattle.core_definitions.specs.Journal.{Journal, Knows}
 use Rattle.write_parser.specs.declared.left.Left.{Left}
 use Rattle.write_parser.specs.declared.left.Left.TheVariants as left
 use Rattle.write_parser.specs.Writing.{View, why_of}

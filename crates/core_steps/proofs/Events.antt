@@ -11,12 +11,12 @@ use Rattle.html_types.specs.Text.{same_text}
 use Rattle.standard.specs.Entities.{Entities}
 use Rattle.standard.specs.Parser.{Parser}
 use Rattle.standard.specs.Scripts.{Fetched, is_lawful}
-use Rattle.core_rules.specs.Batches.{Piece, Batch, answer}
-use Rattle.core_rules.specs.Core.{Request, request_for, joined}
-use Rattle.core_rules.specs.Desk.{Desk, wants_reply, can_do, is_among, sends, sends_first, takes, with_batches, answer_called_for, drops}
-use Rattle.core_rules.specs.Journal.{Journal}
-use Rattle.core_rules.specs.Settling.{is_empty}
-use Rattle.core_rules.specs.StandsFor.{text_of}
+use Rattle.core_definitions.specs.Batches.{Piece, Batch, answer}
+use Rattle.core_definitions.specs.Core.{Request, request_for, joined}
+use Rattle.core_definitions.specs.Desk.{Desk, wants_reply, can_do, is_among, sends, sends_first, takes, with_batches, answer_called_for, drops}
+use Rattle.core_definitions.specs.Journal.{Journal}
+use Rattle.core_definitions.specs.Settling.{is_empty}
+use Rattle.core_definitions.specs.StandsFor.{text_of}
 use Rattle.core_laws.proofs.Cutting.{answered-by-nothing}
 use Rattle.page_pieces.specs.Keeping.{Kept, keeps, keeps_first, took, takes_first, stale as stale_kept, drops as drops_kept}
 use Rattle.core_steps.specs.declared.stage.Stage.{Stage}

@@ -9,8 +9,8 @@ use Rattle.html_types.specs.declared.script.Ending.{Ending}
 use Rattle.standard.specs.Act.{Doc, acts, is_bound}
 use Rattle.standard.specs.Entities.{Entities}
 use Rattle.standard.specs.Parser.{Parser, Parsed, parse}
-use Rattle.core_rules.specs.Batches.{Piece, Batch, Halt, at, finishing, refusing, end_batch, answer}
-use Rattle.core_rules.specs.Settling.{is_empty}
+use Rattle.core_definitions.specs.Batches.{Piece, Batch, Halt, at, finishing, refusing, end_batch, answer}
+use Rattle.core_definitions.specs.Settling.{is_empty}
 use Rattle.core_laws.proofs.Cutting.{GoesOn}
 use Rattle.moment_laws.specs.Served.{IsRoomy}
 use Rattle.parse_machine.specs.declared.machine.PageEnd.{PageEnd}

@@ -11,8 +11,8 @@ use Rattle.standard.specs.Act.{Doc, acts, is_bound, AreOpsBound}
 use Rattle.standard.specs.Entities.{Entities}
 use Rattle.standard.specs.Parser.{Parser, Took, took, take_character, Parsed, and_rest, parse}
 use Rattle.rule_laws.specs.Naming.{IsStopBound}
-use Rattle.core_rules.specs.Batches.{Piece, Batch, text_batch, end_batch, Halt, at, finishing, refusing, Answered, and_behind, cut, and_ending, answer}
-use Rattle.core_rules.specs.Settling.{is_empty}
+use Rattle.core_definitions.specs.Batches.{Piece, Batch, text_batch, end_batch, Halt, at, finishing, refusing, Answered, and_behind, cut, and_ending, answer}
+use Rattle.core_definitions.specs.Settling.{is_empty}
 use Rattle.core_laws.proofs.Cutting.{GoesOn, IsText, IsLast, first-batch, answered-by-nothing}
 use Rattle.moment_laws.specs.Served.{IsRoomy}
 use Rattle.core_steps.specs.Acting.{IsHaltBound}

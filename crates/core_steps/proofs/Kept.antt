@@ -8,11 +8,11 @@ use Rattle.html_types.specs.declared.script.Ending.{Ending}
 use Rattle.standard.specs.Entities.{Entities}
 use Rattle.standard.specs.Scripts.{Fetched, missing, is_lawful}
 use Rattle.standard.specs.Serial.{World, Result, fetched, fetched_if}
-use Rattle.core_rules.specs.declared.event.Event.{Event}
-use Rattle.core_rules.specs.declared.event.Event.TheVariants.{Send, Take, Do, Arrive}
-use Rattle.core_rules.specs.Batches.{Piece, of_text, of_ending}
-use Rattle.core_rules.specs.Desk.{Phase, free, tagged, waits, done, Desk, first_desk, pieces_with, with_more, is_free, is_done, is_among, has_arrived, can_send, wants_reply, can_do, can_do_in, can_arrive, sends, takes, arrives, Moves, MovesBy}
-use Rattle.core_rules.specs.Journal.{Journal, Knows}
+use Rattle.core_definitions.specs.declared.event.Event.{Event}
+use Rattle.core_definitions.specs.declared.event.Event.TheVariants.{Send, Take, Do, Arrive}
+use Rattle.core_definitions.specs.Batches.{Piece, of_text, of_ending}
+use Rattle.core_definitions.specs.Desk.{Phase, free, tagged, waits, done, Desk, first_desk, pieces_with, with_more, is_free, is_done, is_among, has_arrived, can_send, wants_reply, can_do, can_do_in, can_arrive, sends, takes, arrives, Moves, MovesBy}
+use Rattle.core_definitions.specs.Journal.{Journal, Knows}
 use Rattle.core_steps.specs.Fetches.{names_of}
 use Rattle.core_steps.specs.Journals.{found}
 use Rattle.core_steps.specs.Sides.{Shown, first_shown, with_piece, with_ending, journaled, with_fetch, ShowsIn, Shows, DoesShow, IsReplayed}

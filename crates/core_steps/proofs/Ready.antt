@@ -6,8 +6,8 @@ use Rattle.html_types.specs.declared.operation.Op.{Op}
 use Rattle.html_types.specs.declared.instruction.Stop.TheVariants as stop
 use Rattle.standard.specs.Act.{acts, is_bound, AreOpsBound}
 use Rattle.standard.specs.Parser.{Parser}
-use Rattle.core_rules.specs.Batches.{Batch}
-use Rattle.core_rules.specs.Settling.{is_empty}
+use Rattle.core_definitions.specs.Batches.{Batch}
+use Rattle.core_definitions.specs.Settling.{is_empty}
 use Rattle.moment_laws.specs.Served.{IsRoomy}
 use Rattle.moment_laws.proofs.Served.{room-serves}
 use Rattle.write_parser.specs.Parsing.{IsServed}

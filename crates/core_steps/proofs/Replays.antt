@@ -6,10 +6,10 @@ use Rattle.html_types.specs.declared.script.Ending.{Ending}
 use Rattle.standard.specs.Entities.{Entities}
 use Rattle.standard.specs.Scripts.{Fetched, missing, is_lawful}
 use Rattle.standard.specs.Serial.{World, fetched, fetched_if}
-use Rattle.core_rules.specs.declared.event.Event.{Event}
-use Rattle.core_rules.specs.Batches.{Piece, of_text, of_ending}
-use Rattle.core_rules.specs.Desk.{Desk, first_desk, pieces_with, with_more, Moves, MovesBy, is_among, has_arrived}
-use Rattle.core_rules.specs.Journal.{Knows}
+use Rattle.core_definitions.specs.declared.event.Event.{Event}
+use Rattle.core_definitions.specs.Batches.{Piece, of_text, of_ending}
+use Rattle.core_definitions.specs.Desk.{Desk, first_desk, pieces_with, with_more, Moves, MovesBy, is_among, has_arrived}
+use Rattle.core_definitions.specs.Journal.{Knows}
 use Rattle.core_laws.proofs.Handing.{more-may_follow}
 
 -- an event more

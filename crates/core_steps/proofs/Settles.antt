@@ -9,7 +9,7 @@ use Rattle.html_types.specs.declared.script.Line.TheVariants as line
 use Rattle.standard.specs.Scripts.{Fetched, got, missing, faulted, file_statements}
 use Rattle.standard.specs.Serial.{World, fetched, Serial, Course, goes, refuses, starved, with_line, awaiting, run_text, Moment, reading, tag_ended, awaits, over, refusal, after_script, after_fetch, moment_after}
 use Rattle.standard_laws.specs.Laws.{EndsIn}
-use Rattle.core_rules.specs.Settling.{is_settled, Through, here, onward, Settles}
+use Rattle.core_definitions.specs.Settling.{is_settled, Through, here, onward, Settles}
 use Rattle.moment_laws.proofs.Through.{goes-on, through-settles}
 use Rattle.write_parser.specs.declared.left.Left.{Left}
 use Rattle.write_parser.specs.declared.left.Left.TheVariants as left

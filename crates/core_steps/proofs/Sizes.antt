@@ -8,11 +8,11 @@ use Rattle.html_types.specs.declared.script.Why.TheVariants as why
 use Rattle.standard.specs.Parser.{Parser}
 use Rattle.standard.specs.Scripts.{Fetched, got, missing, faulted}
 use Rattle.standard.specs.Serial.{write_limit}
-use Rattle.core_rules.specs.declared.verdict.Verdict.{Verdict}
-use Rattle.core_rules.specs.declared.verdict.Verdict.TheVariants.{Keep, Rewind}
-use Rattle.core_rules.specs.Batches.{Piece, Halt}
-use Rattle.core_rules.specs.Desk.{Desk, sent_again}
-use Rattle.core_rules.specs.StandsFor.{text_of, page_left}
+use Rattle.core_definitions.specs.declared.verdict.Verdict.{Verdict}
+use Rattle.core_definitions.specs.declared.verdict.Verdict.TheVariants.{Keep, Rewind}
+use Rattle.core_definitions.specs.Batches.{Piece, Halt}
+use Rattle.core_definitions.specs.Desk.{Desk, sent_again}
+use Rattle.core_definitions.specs.StandsFor.{text_of, page_left}
 use Rattle.core_laws.proofs.Cutting.{GoesOn}
 use Rattle.page_pieces.specs.Keeping.{Kept, rewound}
 use Rattle.write_parser.specs.declared.left.Left.{Left}

@@ -16,14 +16,14 @@ use Rattle.standard.specs.Parser.{Parser}
 use Rattle.standard.specs.Scripts.{Fetched, got, missing, faulted, is_lawful, file_statements}
 use Rattle.standard.specs.Serial.{World, Serial, Course, Moment, reading, tag_ended, awaits, over, moment_after, Leads, after_fetch, after_script, run_text}
 use Rattle.rule_laws.specs.Naming.{Serves, AreFresh}
-use Rattle.core_rules.specs.declared.verdict.Verdict.{Verdict}
-use Rattle.core_rules.specs.declared.verdict.Verdict.TheVariants.{Keep, Rewind}
-use Rattle.core_rules.specs.Batches.{Piece, Batch, Halt, at, answer}
-use Rattle.core_rules.specs.Core.{joined}
-use Rattle.core_rules.specs.Journal.{Journal}
-use Rattle.core_rules.specs.Desk.{blank, renewed, sent_again}
-use Rattle.core_rules.specs.Settling.{Through, is_empty}
-use Rattle.core_rules.specs.StandsFor.{text_of}
+use Rattle.core_definitions.specs.declared.verdict.Verdict.{Verdict}
+use Rattle.core_definitions.specs.declared.verdict.Verdict.TheVariants.{Keep, Rewind}
+use Rattle.core_definitions.specs.Batches.{Piece, Batch, Halt, at, answer}
+use Rattle.core_definitions.specs.Core.{joined}
+use Rattle.core_definitions.specs.Journal.{Journal}
+use Rattle.core_definitions.specs.Desk.{blank, renewed, sent_again}
+use Rattle.core_definitions.specs.Settling.{Through, is_empty}
+use Rattle.core_definitions.specs.StandsFor.{text_of}
 use Rattle.core_laws.proofs.Cutting.{GoesOn}
 use Rattle.moment_laws.specs.Served.{HasRoom, IsRoomy, AreBelow, state_at, IsServedAt, Binds}
 use Rattle.moment_laws.proofs.Served.{room-serves, renewing-room, moments-room, moments-bind, held-room}

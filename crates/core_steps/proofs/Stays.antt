@@ -7,11 +7,11 @@ use Rattle.html_types.specs.declared.script.Ending.{Ending}
 use Rattle.html_types.specs.declared.script.Line.{Line}
 use Rattle.standard.specs.Entities.{Entities}
 use Rattle.standard.specs.Parser.{Parser, new_parser}
-use Rattle.core_rules.specs.Batches.{Piece, Batch, answer}
-use Rattle.core_rules.specs.Core.{joined}
-use Rattle.core_rules.specs.Desk.{Phase, free, Desk, first_desk, is_free, wants_reply}
-use Rattle.core_rules.specs.Journal.{Journal}
-use Rattle.core_rules.specs.Settling.{is_empty}
+use Rattle.core_definitions.specs.Batches.{Piece, Batch, answer}
+use Rattle.core_definitions.specs.Core.{joined}
+use Rattle.core_definitions.specs.Desk.{Phase, free, Desk, first_desk, is_free, wants_reply}
+use Rattle.core_definitions.specs.Journal.{Journal}
+use Rattle.core_definitions.specs.Settling.{is_empty}
 use Rattle.moment_laws.proofs.Served.{first-room}
 use Rattle.page_pieces.specs.Keeping.{Kept, first_kept, keeps, keeps_first, took}
 use Rattle.write_parser.specs.Writing.{View, first_view, serial_of}

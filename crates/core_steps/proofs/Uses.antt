@@ -3,8 +3,8 @@ use Rattle.std.proofs.Common.{◌≡◌, ◌≤◌, ◌+◌, ℕ, List, ◌∷�
 use Rattle.std.specs.Str.{chars, IsUtf8, IsCharBoundary, encode_utf8_all}
 use Rattle.std.proofs.lemmas.Str.{encodes-chars, chars-append, IsUtf8-take}
 use Rattle.std.proofs.lemmas.List.{take-append-drop}
-use Rattle.core_rules.specs.Journal.{Journal}
-use Rattle.core_rules.specs.StandsFor.{text_of}
+use Rattle.core_definitions.specs.Journal.{Journal}
+use Rattle.core_definitions.specs.StandsFor.{text_of}
 use Rattle.page_pieces.specs.Keeping.{Kept}
 use Rattle.core_steps.specs.declared.side.Side.{Side}
 use Rattle.core_steps.specs.Sides.{IsPlaced}

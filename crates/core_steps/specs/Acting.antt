@@ -10,11 +10,11 @@ use Rattle.standard.specs.Act.{acts, is_bound, node_of}
 use Rattle.standard.specs.Parser.{Parser}
 use Rattle.standard.specs.Prepare.{prepare}
 use Rattle.standard.specs.Scripts.{Fetched, got, missing, faulted, file_statements}
-use Rattle.core_rules.specs.declared.verdict.Verdict.{Verdict}
-use Rattle.core_rules.specs.declared.verdict.Verdict.TheVariants.{Keep, Rewind}
-use Rattle.core_rules.specs.Batches.{Batch, Halt, at, finishing, refusing, answer}
-use Rattle.core_rules.specs.Verdict.{IsVerdict, runs}
-use Rattle.core_rules.specs.Desk.{renewed}
+use Rattle.core_definitions.specs.declared.verdict.Verdict.{Verdict}
+use Rattle.core_definitions.specs.declared.verdict.Verdict.TheVariants.{Keep, Rewind}
+use Rattle.core_definitions.specs.Batches.{Batch, Halt, at, finishing, refusing, answer}
+use Rattle.core_definitions.specs.Verdict.{IsVerdict, runs}
+use Rattle.core_definitions.specs.Desk.{renewed}
 use Rattle.core_laws.proofs.Cutting.{GoesOn}
 use Rattle.moment_laws.specs.Served.{IsRoomy}
 use Rattle.page_pieces.specs.Keeping.{rewound}

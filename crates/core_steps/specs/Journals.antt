@@ -5,7 +5,7 @@ use Rattle.std.specs.Str.{chars, IsUtf8}
 use Rattle.std.specs.declared.snapshot.Snapshot.{Snapshot}
 use Rattle.html_types.specs.Text.{same_text}
 use Rattle.standard.specs.Scripts.{Fetched}
-use Rattle.core_rules.specs.Journal.{Journal}
+use Rattle.core_definitions.specs.Journal.{Journal}
 use Rattle.core_steps.specs.declared.fetch.Fetch.{Fetch}
 use Rattle.core_steps.specs.Fetches.{fetched_of}
 

@@ -10,13 +10,13 @@ use Rattle.standard.specs.Parser.{Parser}
 use Rattle.standard.specs.Scripts.{Fetched}
 use Rattle.standard.specs.Serial.{World, Serial, Result, finished, refused, write_limit}
 use Rattle.standard.specs.Serial as serial
-use Rattle.core_rules.specs.declared.event.Event.{Event}
-use Rattle.core_rules.specs.declared.event.Event.TheVariants.{Arrive}
-use Rattle.core_rules.specs.Batches.{Piece, of_text, of_ending, Batch, answer}
-use Rattle.core_rules.specs.Core.{Request, request_for, joined}
-use Rattle.core_rules.specs.Desk.{Phase, free, tagged, waits, done, Desk, first_desk, pieces_with, with_more, has_arrived, arrives, Does, MovesBy}
-use Rattle.core_rules.specs.Journal.{Journal, Knows}
-use Rattle.core_rules.specs.StandsFor.{text_of, page_left}
+use Rattle.core_definitions.specs.declared.event.Event.{Event}
+use Rattle.core_definitions.specs.declared.event.Event.TheVariants.{Arrive}
+use Rattle.core_definitions.specs.Batches.{Piece, of_text, of_ending, Batch, answer}
+use Rattle.core_definitions.specs.Core.{Request, request_for, joined}
+use Rattle.core_definitions.specs.Desk.{Phase, free, tagged, waits, done, Desk, first_desk, pieces_with, with_more, has_arrived, arrives, Does, MovesBy}
+use Rattle.core_definitions.specs.Journal.{Journal, Knows}
+use Rattle.core_definitions.specs.StandsFor.{text_of, page_left}
 use Rattle.moment_laws.specs.Served.{IsRoomy}
 use Rattle.page_pieces.specs.Keeping.{Kept}
 use Rattle.write_parser.specs.Writing.{View, serial_of}

@@ -1,5 +1,5 @@
 -- Where a run stands, as its caller is told.
-use Rattle.core_rules.specs.Desk.{Desk}
+use Rattle.core_definitions.specs.Desk.{Desk}
 use Rattle.standard.specs.Serial.{finished, refused}
 use Rattle.core_steps.specs.declared.state.State.{State}
 use Rattle.core_steps.specs.declared.state.State.TheVariants.{Running, Awaits, Done, Refused}

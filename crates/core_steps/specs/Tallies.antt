@@ -1,7 +1,7 @@
 -- What a desk comes to in numbers.
 use Rattle.std.specs.Prelude.{ℕ, ◌-◌, ◌^◌, min, length}
 use Rattle.standard.specs.Tree.{Nodes, after_node}
-use Rattle.core_rules.specs.Desk.{Desk}
+use Rattle.core_definitions.specs.Desk.{Desk}
 use Rattle.core_steps.specs.declared.tally.Tally.{Tally}
 
 -- how many nodes are below the Document: those that come after it in tree order

@@ -2,7 +2,7 @@
 use Rattle.std.specs.Prelude.{◌≡◌, Option, Some, None}
 use Rattle.standard.specs.Entities.{Entities}
 use Rattle.standard.specs.Parser.{Parser}
-use Rattle.core_rules.specs.Core.{Request, WorkSide, started, answer_to, reply_to}
+use Rattle.core_definitions.specs.Core.{Request, WorkSide, started, answer_to, reply_to}
 use Rattle.speculation.specs.Asking.{Asked, Told}
 
 abbrev pub request_in : Option Asked → Option Request

@@ -2,9 +2,9 @@
 
 ghost use Rattle.std.specs.Prelude.{◌≡◌, ◌<◌, ◌≤◌, ◌+◌, ◌++◌, ℕ, List, length, true, false, None, IfOk, OnOk, OnErr, IsErr, IsTrue};
 ghost use Rattle.std.specs.Str.{chars};
-ghost use Rattle.core_rules.specs.declared.event.Event.TheVariants as event;
-ghost use Rattle.core_rules.specs.Core.{joined};
-ghost use Rattle.core_rules.specs.Desk.{can_send, can_do, wants_reply, can_arrive, sends, takes};
+ghost use Rattle.core_definitions.specs.declared.event.Event.TheVariants as event;
+ghost use Rattle.core_definitions.specs.Core.{joined};
+ghost use Rattle.core_definitions.specs.Desk.{can_send, can_do, wants_reply, can_arrive, sends, takes};
 ghost use Rattle.speculation.specs.Asking.{page_limit};
 ghost use Rattle.core_steps.specs.Fetches.{fetched_of};
 ghost use Rattle.core_steps.specs.Sides.{first_shown, with_piece, with_ending, journaled, with_fetch, IsRequestFor, sent_before, DoesShow, awaiting, standing_of, left_to_do, IsReplayed};

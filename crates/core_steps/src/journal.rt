@@ -2,12 +2,12 @@
 
 ghost use Rattle.std.specs.Prelude.{◌≡◌, ◌++◌, ◌∷◌, [], None, Some, OnOk, OnErr, IfSome, IfNone, length};
 ghost use Rattle.std.specs.Str.{chars};
-ghost use Rattle.core_rules.specs.declared.event.Event.TheVariants.{Arrive as arrived};
+ghost use Rattle.core_definitions.specs.declared.event.Event.TheVariants.{Arrive as arrived};
 ghost use Rattle.core_steps.specs.Fetches.{fetched_of};
 ghost use Rattle.core_steps.specs.Journals.{empty_journal, found};
 
 use crate::fetch::{Fetch, FetchedFile};
-use core_rules::Event;
+use core_definitions::Event;
 use html_types::{Ending, NoMemory, Text};
 use page_pieces::SharedText;
 use std::alloc::Global;
@@ -31,7 +31,7 @@ pub struct Journal {
 }
 
 impl Model for Journal {
-    ghost use Rattle.core_rules.specs.Journal as rules;
+    ghost use Rattle.core_definitions.specs.Journal as rules;
     ghost use Rattle.std.specs.Prelude.{reverse};
     ghost use Rattle.core_steps.specs.Fetches.{fetches_of};
     ghost use Rattle.core_steps.specs.Journals.{AreIndexed, pieces_read};

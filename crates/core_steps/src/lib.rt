@@ -1,5 +1,5 @@
-//! The core, step by step: the document's side and the parser's side. What each event does is exactly what the definitions in `core_rules`
-//! say of it.
+//! The core, step by step: the document's side and the parser's side. What each event does is
+//! exactly what the definitions in `core_definitions` say of it.
 #![tactic(auto)]
 
 pub mod doc_side;
@@ -12,7 +12,7 @@ pub mod state;
 pub mod tally;
 pub mod work_side;
 
-pub use core_rules::Event;
+pub use core_definitions::Event;
 pub use doc_side::DocSide;
 pub use fetch::{Fetch, FetchedFile};
 pub use file::is_lawful;

@@ -1,7 +1,7 @@
 //! The parser's side.
 
 ghost use Rattle.std.specs.Prelude.{◌≡◌, None, not, is_some, IfOk, OnOk, IsTrue};
-ghost use Rattle.core_rules.specs.Core.{first_work};
+ghost use Rattle.core_definitions.specs.Core.{first_work};
 ghost use Rattle.core_steps.specs.Working.{IsGiven, IsBehind};
 
 use entity_table::Table;
@@ -19,7 +19,7 @@ pub struct WorkSide {
 }
 
 impl Model for WorkSide {
-    ghost use Rattle.core_rules.specs.Core as rules;
+    ghost use Rattle.core_definitions.specs.Core as rules;
     ghost use Rattle.core_steps.specs.Working.{request_in};
 
     ghost Value = { rules.WorkSide };

@@ -1,7 +1,7 @@
 //! Pages that both sides of the core run, event by event.
 
 ghost use Rattle.std.specs.Prelude.{◌≡◌, ◌<◌, ◌≤◌, length, IsTrue};
-ghost use Rattle.core_rules.specs.Core.{joined};
+ghost use Rattle.core_definitions.specs.Core.{joined};
 ghost use Rattle.speculation.specs.Asking.{page_limit};
 
 use crate::events::{KINDS, Kind, event_of};

@@ -24,7 +24,7 @@ use Rattle.rule_laws.specs.NamingLaws.{TookBound}
 use Rattle.rule_laws.proofs.FreshnessOps.{Follows}
 use Rattle.rule_laws.proofs.FreshnessTexts.{characters-bound, fresh-follows}
 use Rattle.rule_laws.proofs.FreshnessDocs.{acts-bind, texts-served, ends-served, serves-more}
-use Rattle.core_rules.specs.Desk.{renewed}
+use Rattle.core_definitions.specs.Desk.{renewed}
 use Rattle.moment_laws.specs.Served.{AreBelow, HasRoom, RoomServes, FirstHasRoom, TextsHaveRoom, EndsHaveRoom, RenewingHasRoom, state_at, IsServedAt, MomentsServe, MomentsHaveRoom, MomentsBind, HeldHaveRoom}
 
 -- ---- from moment to moment

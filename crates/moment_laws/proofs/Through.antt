@@ -11,7 +11,7 @@ use Rattle.standard_laws.specs.Laws.{moment_at}
 use Rattle.standard_laws.proofs.Parse.{acts-append}
 use Rattle.standard_laws.proofs.Batch.{moment_behind}
 use Rattle.standard_laws.proofs.Passing.{leads-next}
-use Rattle.core_rules.specs.Settling.{is_empty, is_settled, Through, here, onward}
+use Rattle.core_definitions.specs.Settling.{is_empty, is_settled, Through, here, onward}
 use Rattle.moment_laws.specs.Ways.{BatchesGoThrough, GoesOn, ThroughLeads, ThroughSettles, NoEndingMatters, ParsesItsFront}
 
 pub goes-on : GoesOn

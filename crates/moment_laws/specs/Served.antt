@@ -7,7 +7,7 @@ use Rattle.standard.specs.Parser.{Parser, new_parser}
 use Rattle.standard.specs.Serial.{World, Serial, Moment, reading, tag_ended, awaits, over, Leads}
 use Rattle.rule_laws.specs.Naming.{Serves, AreFresh}
 use Rattle.rule_laws.specs.NamingLaws.{DocsServeTexts, DocsServeEnds}
-use Rattle.core_rules.specs.Desk.{renewed}
+use Rattle.core_definitions.specs.Desk.{renewed}
 
 -- ---- realms
 

@@ -8,7 +8,7 @@ use Rattle.standard.specs.Entities.{Entities}
 use Rattle.standard.specs.Parser.{Parser, parse}
 use Rattle.standard.specs.Serial.{World, Serial, Moment, reading, moment_after, Leads}
 use Rattle.standard_laws.specs.Laws.{HasParsed, moment_at}
-use Rattle.core_rules.specs.Settling.{is_settled, Through, Settles}
+use Rattle.core_definitions.specs.Settling.{is_settled, Through, Settles}
 
 -- ---- any two moments
 

@@ -1,9 +1,9 @@
 -- Pieces that are sent again.
 use Rattle.std.proofs.Common.{◌≡◌, Bool, true, false, List, [], ◌∷◌, ◌++◌, refl, sym, ◌∙◌, ap, append_assoc}
 use Rattle.std.specs.Prelude.{◌&&◌, is_none, if◌then◌else◌}
-use Rattle.core_rules.specs.Batches.{Piece}
-use Rattle.core_rules.specs.Settling.{is_empty}
-use Rattle.core_rules.specs.Desk.{sent_again}
+use Rattle.core_definitions.specs.Batches.{Piece}
+use Rattle.core_definitions.specs.Settling.{is_empty}
+use Rattle.core_definitions.specs.Desk.{sent_again}
 
 pub again-append : (xs ys : List Piece) → sent_again (xs ++ ys) ≡ sent_again xs ++ sent_again ys
 again-append [] ys = refl

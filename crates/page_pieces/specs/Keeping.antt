@@ -1,8 +1,8 @@
 -- What is kept of the pieces that were sent, in the terms of the document's side.
 use Rattle.std.specs.Prelude.{ℕ, suc, ◌-◌, nat_lt, Bool, not, ◌&&◌, if◌then◌else◌, List, [], ◌∷◌, ◌++◌, length}
-use Rattle.core_rules.specs.Batches.{Piece}
-use Rattle.core_rules.specs.Settling.{is_empty}
-use Rattle.core_rules.specs.Desk.{blank, sent_again}
+use Rattle.core_definitions.specs.Batches.{Piece}
+use Rattle.core_definitions.specs.Settling.{is_empty}
+use Rattle.core_definitions.specs.Desk.{blank, sent_again}
 
 pub record Kept : Type 0 where
   -- so many requests are sent ahead at most

@@ -2,8 +2,8 @@
 
 ghost use Rattle.std.specs.Prelude.{◌≡◌, ◌-◌, ◌<◌, [], ◌∷◌, ◌++◌, false, not, nat_lt, drop, IfOk, OnOk, OnErr, IsTrue, MatchOption};
 ghost use Rattle.std.specs.Str.{chars, encode_utf8_all, IsCharBoundary};
-ghost use Rattle.core_rules.specs.Desk.{blank, sent_again};
-ghost use Rattle.core_rules.specs.Settling.{is_empty as has_none};
+ghost use Rattle.core_definitions.specs.Desk.{blank, sent_again};
+ghost use Rattle.core_definitions.specs.Settling.{is_empty as has_none};
 ghost use Rattle.page_pieces.specs.Keeping as keeping;
 ghost use Rattle.page_pieces.specs.Keeping.{first_kept, can_keep, keeps, rewound};
 

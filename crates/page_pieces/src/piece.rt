@@ -2,8 +2,8 @@
 
 ghost use Rattle.std.specs.Prelude.{◌≡◌, ◌↔◌, ◌&&◌, [], ◌∷◌, ◌++◌, is_none, length, drop, IfOk, OnOk, OnErr, IsTrue, MatchOption};
 ghost use Rattle.std.specs.Str.{chars, encode_utf8_all, IsCharBoundary};
-ghost use Rattle.core_rules.specs.Desk.{blank as no_text};
-ghost use Rattle.core_rules.specs.Settling.{is_empty as has_none};
+ghost use Rattle.core_definitions.specs.Desk.{blank as no_text};
+ghost use Rattle.core_definitions.specs.Settling.{is_empty as has_none};
 
 use crate::shared_text::SharedText;
 use html_types::{Ending, NoMemory};
@@ -19,7 +19,7 @@ pub struct Piece {
 }
 
 impl Model for Piece {
-    ghost use Rattle.core_rules.specs.Batches as rules;
+    ghost use Rattle.core_definitions.specs.Batches as rules;
 
     ghost Value = { rules.Piece };
 
@@ -98,7 +98,7 @@ pub struct Pieces {
 
 impl Model for Pieces {
     ghost use Rattle.std.specs.Prelude.{List};
-    ghost use Rattle.core_rules.specs.Batches as rules;
+    ghost use Rattle.core_definitions.specs.Batches as rules;
 
     ghost Value = { List rules.Piece };
 

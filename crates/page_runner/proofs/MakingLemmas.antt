@@ -22,9 +22,9 @@ use Rattle.standard.specs.Scripts.{Fetched, got, missing}
 use Rattle.standard.specs.Serial.{World, Moment, reading, over, Result, finished, refused, Outcome, IsSerial, first}
 use Rattle.standard_laws.proofs.Total.{has_outcome}
 use Rattle.standard_laws.proofs.Fuel.{one_outcome}
-use Rattle.core_rules.specs.Verdict.{Watch, first_watch, Watches, stays, goes_on, AreVerdicts}
-use Rattle.core_rules.specs.Core.{whole_page}
-use Rattle.core_rules.specs.Desk.{done, Desk}
+use Rattle.core_definitions.specs.Verdict.{Watch, first_watch, Watches, stays, goes_on, AreVerdicts}
+use Rattle.core_definitions.specs.Core.{whole_page}
+use Rattle.core_definitions.specs.Desk.{done, Desk}
 use Rattle.core_laws.proofs.Standing.{ends-as-serial}
 use Rattle.tally_laws.specs.TallyLaws.{Tallies}
 use Rattle.tally_laws.proofs.Tallying.{tallies-as-serial}

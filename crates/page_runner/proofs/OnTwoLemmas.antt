@@ -3,9 +3,9 @@ use Rattle.std.proofs.Common.{◌≡◌, ℕ, List, [], ◌∷◌, ◌++◌, len
 use Rattle.std.specs.Prelude.{IfSome}
 use Rattle.std.proofs.lemmas.List.{map-append}
 use Rattle.standard.specs.Entities.{Entities}
-use Rattle.core_rules.specs.declared.event.Event.{Event}
-use Rattle.core_rules.specs.Core.{Setup}
-use Rattle.core_rules.specs.Desk.{Desk}
+use Rattle.core_definitions.specs.declared.event.Event.{Event}
+use Rattle.core_definitions.specs.Core.{Setup}
+use Rattle.core_definitions.specs.Desk.{Desk}
 use Rattle.speculation.specs.declared.in_force.InForce as InForce
 use Rattle.speculation.specs.Asking.{Asked}
 use Rattle.core_steps.specs.Sides.{Shown}

@@ -10,7 +10,7 @@ use Rattle.outside.specs.declared.never_fails.NeverFails.{NeverFails}
 use Rattle.standard.specs.Page.{Page}
 use Rattle.standard.specs.Scripts.{Fetched, got, missing}
 use Rattle.standard.specs.Serial.{World, Result, finished, refused, Outcome, IsSerial}
-use Rattle.core_rules.specs.Verdict.{Watch, AreVerdicts}
+use Rattle.core_definitions.specs.Verdict.{Watch, AreVerdicts}
 use Rattle.core_steps.specs.Sides.{Shown, IsReplayed}
 use Rattle.core_steps.specs.Tallies.{nodes_below, tally_of}
 use Rattle.core_steps.specs.declared.tally.Tally.{Tally}

@@ -2,8 +2,8 @@
 use Rattle.std.specs.Prelude.{◌≡◌, ◌⊎◌, ℕ, List, [], ◌∷◌, ◌++◌, length, map, Option, IfSome}
 use mathlib.Core.List.{IsPrefix}
 use Rattle.standard.specs.Entities.{Entities}
-use Rattle.core_rules.specs.Core.{Request}
-use Rattle.core_rules.specs.Journal.{Journal}
+use Rattle.core_definitions.specs.Core.{Request}
+use Rattle.core_definitions.specs.Journal.{Journal}
 use Rattle.speculation.specs.declared.in_force.InForce as InForce
 use Rattle.speculation.specs.Asking.{Asked}
 use Rattle.parser_thread.specs.declared.messages.ToParser.{ToParser}

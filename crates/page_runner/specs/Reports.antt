@@ -6,8 +6,8 @@ use Rattle.standard.specs.Entities.{Entities}
 use Rattle.standard.specs.Output.{line_text, result_with}
 use Rattle.standard.specs.Scripts.{Fetched}
 use Rattle.standard.specs.Serial.{Result}
-use Rattle.core_rules.specs.Desk.{done}
-use Rattle.core_rules.specs.Journal.{Journal}
+use Rattle.core_definitions.specs.Desk.{done}
+use Rattle.core_definitions.specs.Journal.{Journal}
 use Rattle.core_steps.specs.Journals.{found}
 use Rattle.core_steps.specs.Sides.{Shown}
 use Rattle.page_runner.specs.declared.status.Status.{Status}

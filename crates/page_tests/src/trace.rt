@@ -1,7 +1,7 @@
 //! The events of a run, in order, with what became of each reply.
 
 use crate::exchange::{Asked, Passed, Step};
-use core_rules::Event;
+use core_definitions::Event;
 use html_types::{NoMemory, Text};
 use std::alloc::Global;
 

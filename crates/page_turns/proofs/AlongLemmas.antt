@@ -9,13 +9,13 @@ use Rattle.html_types.specs.declared.script.Line.{Line}
 use Rattle.standard.specs.Entities.{Entities}
 use Rattle.standard.specs.Scripts.{Fetched}
 use Rattle.standard.specs.Serial.{World}
-use Rattle.core_rules.specs.declared.event.Event.{Event}
-use Rattle.core_rules.specs.declared.event.Event.TheVariants.{Send, Pick, Give, Take, Do, Arrive}
-use Rattle.core_rules.specs.Batches.{Piece, of_text, of_ending}
-use Rattle.core_rules.specs.Core.{Setup, Request, request_for}
-use Rattle.core_rules.specs.Desk.{Phase, free, tagged, waits, done, Desk, first_desk, pieces_with, with_more, outstanding, is_done, is_free, can_send, wants_reply, can_do, can_do_in, can_arrive, sends_first, sends, takes, Moves}
-use Rattle.core_rules.specs.Settling.{is_empty}
-use Rattle.core_rules.specs.Journal.{Journal, Knows, IsPageOf, IsRunOf}
+use Rattle.core_definitions.specs.declared.event.Event.{Event}
+use Rattle.core_definitions.specs.declared.event.Event.TheVariants.{Send, Pick, Give, Take, Do, Arrive}
+use Rattle.core_definitions.specs.Batches.{Piece, of_text, of_ending}
+use Rattle.core_definitions.specs.Core.{Setup, Request, request_for}
+use Rattle.core_definitions.specs.Desk.{Phase, free, tagged, waits, done, Desk, first_desk, pieces_with, with_more, outstanding, is_done, is_free, can_send, wants_reply, can_do, can_do_in, can_arrive, sends_first, sends, takes, Moves}
+use Rattle.core_definitions.specs.Settling.{is_empty}
+use Rattle.core_definitions.specs.Journal.{Journal, Knows, IsPageOf, IsRunOf}
 use Rattle.core_laws.proofs.Handing.{more-may_follow}
 use Rattle.speculation.specs.Asking.{Asked}
 use Rattle.core_steps.specs.Sides.{Shown, first_shown, ShowsIn, Shows, DoesShow, journaled, with_piece, with_ending, with_fetch, IsRequestFor}

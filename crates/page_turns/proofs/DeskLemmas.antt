@@ -10,13 +10,13 @@ use Rattle.standard.specs.Entities.{Entities}
 use Rattle.standard.specs.Parser.{Parser}
 use Rattle.standard.specs.Scripts.{Fetched, faulted}
 use Rattle.standard.specs.Serial.{World, fetched, Serial, prepared, Moment, reading, tag_ended, awaits, over, refusal, refused, Outcome, moment_after}
-use Rattle.core_rules.specs.declared.verdict.Verdict.{Verdict}
-use Rattle.core_rules.specs.declared.verdict.Verdict.TheVariants.{Keep, Rewind}
-use Rattle.core_rules.specs.Batches.{Piece, Batch, Halt, at, finishing, refusing}
-use Rattle.core_rules.specs.Verdict.{runs}
-use Rattle.core_rules.specs.Settling.{is_empty, Through, here, onward, Settles}
-use Rattle.core_rules.specs.Desk.{Phase, free, tagged, waits, done, Desk, with_more, stale, sends_first, sends, with_batches, drops, answer_called_for, takes, in_phase, at_end_tag, behind_halt, with_executed, executes, sent_again, decided, Concludes, DoesIn, Does, arrives}
-use Rattle.core_rules.specs.StandsFor.{text_of, page_left}
+use Rattle.core_definitions.specs.declared.verdict.Verdict.{Verdict}
+use Rattle.core_definitions.specs.declared.verdict.Verdict.TheVariants.{Keep, Rewind}
+use Rattle.core_definitions.specs.Batches.{Piece, Batch, Halt, at, finishing, refusing}
+use Rattle.core_definitions.specs.Verdict.{runs}
+use Rattle.core_definitions.specs.Settling.{is_empty, Through, here, onward, Settles}
+use Rattle.core_definitions.specs.Desk.{Phase, free, tagged, waits, done, Desk, with_more, stale, sends_first, sends, with_batches, drops, answer_called_for, takes, in_phase, at_end_tag, behind_halt, with_executed, executes, sent_again, decided, Concludes, DoesIn, Does, arrives}
+use Rattle.core_definitions.specs.StandsFor.{text_of, page_left}
 use Rattle.core_steps.specs.Sides.{ShowsIn, Shows, left_in, left_to_do}
 
 -- ---- what Do leaves alone

@@ -9,12 +9,12 @@ use Rattle.standard.specs.Parser.{Parser}
 use Rattle.standard.specs.Serial.{World, prepared, Serial, Moment, reading, tag_ended, awaits, over, moment_after}
 use Rattle.standard_laws.specs.Laws.{lines_of, GoesOnFrom}
 use Rattle.standard_laws.proofs.Lines.{moment-follows}
-use Rattle.core_rules.specs.declared.verdict.Verdict.{Verdict}
-use Rattle.core_rules.specs.declared.verdict.Verdict.TheVariants.{Keep, Rewind}
-use Rattle.core_rules.specs.Batches.{Batch, Halt, at, finishing, refusing}
-use Rattle.core_rules.specs.Verdict.{runs}
-use Rattle.core_rules.specs.Settling.{Through, here, onward, Settles}
-use Rattle.core_rules.specs.Desk.{Phase, free, tagged, waits, done, Desk, at_end_tag, behind_halt, with_executed, executes, decided, Concludes, DoesIn, Does}
+use Rattle.core_definitions.specs.declared.verdict.Verdict.{Verdict}
+use Rattle.core_definitions.specs.declared.verdict.Verdict.TheVariants.{Keep, Rewind}
+use Rattle.core_definitions.specs.Batches.{Batch, Halt, at, finishing, refusing}
+use Rattle.core_definitions.specs.Verdict.{runs}
+use Rattle.core_definitions.specs.Settling.{Through, here, onward, Settles}
+use Rattle.core_definitions.specs.Desk.{Phase, free, tagged, waits, done, Desk, at_end_tag, behind_halt, with_executed, executes, decided, Concludes, DoesIn, Does}
 use Rattle.core_steps.specs.Sides.{Shows}
 use Rattle.page_turns.proofs.EndLemmas.{shown-lines}
 

@@ -9,8 +9,8 @@ use Rattle.standard.specs.Serial.{World, Serial, Outcome, IsSerial}
 use Rattle.standard.specs.Serial as serial
 use Rattle.standard_laws.specs.Laws.{GoesOnFrom}
 use Rattle.standard_laws.proofs.Total.{has_outcome}
-use Rattle.core_rules.specs.Core.{whole_page}
-use Rattle.core_rules.specs.Desk.{Phase, free, tagged, waits, done, Desk}
+use Rattle.core_definitions.specs.Core.{whole_page}
+use Rattle.core_definitions.specs.Desk.{Phase, free, tagged, waits, done, Desk}
 use Rattle.core_laws.proofs.Standing.{ends-as-serial, lines-begin}
 use Rattle.core_steps.specs.Sides.{Shown, ShowsIn, IsReplayed}
 use Rattle.page_turns.specs.declared.outcome.Outcome.{Outcome as Told}

@@ -11,12 +11,12 @@ use Rattle.standard.specs.Entities.{Entities}
 use Rattle.standard.specs.Output.{line_text}
 use Rattle.standard.specs.Scripts.{is_lawful, missing}
 use Rattle.standard.specs.Serial.{World, Serial}
-use Rattle.core_rules.specs.declared.event.Event.TheVariants as event
-use Rattle.core_rules.specs.Batches.{Piece}
-use Rattle.core_rules.specs.Core.{joined}
-use Rattle.core_rules.specs.Desk.{Phase, free, tagged, waits, done, Desk, outstanding, is_done, is_free, is_among, has_arrived, can_send, wants_reply, can_do, can_do_in, can_arrive, sends_first, sends, takes, arrives}
-use Rattle.core_rules.specs.Settling.{is_empty}
-use Rattle.core_rules.specs.StandsFor.{text_of}
+use Rattle.core_definitions.specs.declared.event.Event.TheVariants as event
+use Rattle.core_definitions.specs.Batches.{Piece}
+use Rattle.core_definitions.specs.Core.{joined}
+use Rattle.core_definitions.specs.Desk.{Phase, free, tagged, waits, done, Desk, outstanding, is_done, is_free, is_among, has_arrived, can_send, wants_reply, can_do, can_do_in, can_arrive, sends_first, sends, takes, arrives}
+use Rattle.core_definitions.specs.Settling.{is_empty}
+use Rattle.core_definitions.specs.StandsFor.{text_of}
 use Rattle.speculation.specs.Asking.{Asked}
 use Rattle.core_steps.specs.Sides.{Shown, ShowsIn, journaled, with_fetch, IsReplayed, Standing, running, awaiting, over, unless_arrived, standing_in, standing_of, left_to_do}
 use Rattle.page_turns.specs.declared.outcome.Outcome.{Outcome as Told}

@@ -8,10 +8,10 @@ use Rattle.standard.specs.Entities.{Entities}
 use Rattle.standard.specs.Page.{Page}
 use Rattle.standard.specs.Scripts.{Fetched, is_lawful}
 use Rattle.standard.specs.Serial.{World, fetched_if}
-use Rattle.core_rules.specs.Batches.{Piece}
-use Rattle.core_rules.specs.Core.{Setup, joined, whole_page}
-use Rattle.core_rules.specs.Desk.{Desk, first_desk, pieces_with, with_more, MovesBy}
-use Rattle.core_rules.specs.Journal.{Knows}
+use Rattle.core_definitions.specs.Batches.{Piece}
+use Rattle.core_definitions.specs.Core.{Setup, joined, whole_page}
+use Rattle.core_definitions.specs.Desk.{Desk, first_desk, pieces_with, with_more, MovesBy}
+use Rattle.core_definitions.specs.Journal.{Knows}
 use Rattle.core_laws.specs.DeskLaws.{IsReached}
 use Rattle.core_laws.proofs.Handing.{more-may_follow}
 use Rattle.core_steps.specs.Fetches.{names_of}

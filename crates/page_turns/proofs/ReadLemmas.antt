@@ -14,7 +14,7 @@ use Rattle.standard.specs.Page.{Page, front, without_mark, text_of, ending_of, s
 use Rattle.utf8_pieces.specs.Decoder.{HasRead}
 use Rattle.utf8_pieces.proofs.DecoderLemmas.{text_is_so_far, not_lt}
 use Rattle.utf8_pieces.proofs.PageLaws.{text_of-nil, text_of-extends, shown-stays}
-use Rattle.core_rules.specs.Core.{joined}
+use Rattle.core_definitions.specs.Core.{joined}
 use Rattle.page_turns.specs.declared.page.TheConstants.{PAGE_LIMIT}
 use Rattle.page_turns.specs.declared.reader.PageReader.{PageReader}
 use Rattle.page_turns.specs.Given.{FaultsRose, NoFault}

@@ -3,10 +3,10 @@ use Rattle.std.proofs.Common.{◌≡◌, ℕ, List, ◌++◌, Option, Some, None
 use Rattle.html_types.specs.declared.script.Ending.{Ending}
 use Rattle.standard.specs.Entities.{Entities}
 use Rattle.standard.specs.Serial.{Serial}
-use Rattle.core_rules.specs.Batches.{Piece}
-use Rattle.core_rules.specs.Core.{Setup, Core, first_core, Runs}
-use Rattle.core_rules.specs.Desk.{Phase, free, tagged, waits, done, Desk, first_desk, pieces_with, with_more, MovesBy}
-use Rattle.core_rules.specs.Journal.{IsPageOf, IsRunOf, with_replies}
+use Rattle.core_definitions.specs.Batches.{Piece}
+use Rattle.core_definitions.specs.Core.{Setup, Core, first_core, Runs}
+use Rattle.core_definitions.specs.Desk.{Phase, free, tagged, waits, done, Desk, first_desk, pieces_with, with_more, MovesBy}
+use Rattle.core_definitions.specs.Journal.{IsPageOf, IsRunOf, with_replies}
 use Rattle.core_laws.specs.DeskLaws.{IsReached}
 use Rattle.core_laws.proofs.Handing.{more-may_follow}
 use Rattle.core_laws.proofs.Replaying.{desk-is_core}

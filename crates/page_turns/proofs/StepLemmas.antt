@@ -8,11 +8,11 @@ use Rattle.outside.specs.declared.traits.Port.TheVariants as port
 use Rattle.standard.specs.Output.{line_text}
 use Rattle.standard.specs.Page.{text_of, shown}
 use Rattle.utf8_pieces.specs.Decoder.{HasRead}
-use Rattle.core_rules.specs.declared.event.Event.{Event}
-use Rattle.core_rules.specs.declared.event.Event.TheVariants as event
-use Rattle.core_rules.specs.Batches.{of_text, of_ending}
-use Rattle.core_rules.specs.Core.{joined}
-use Rattle.core_rules.specs.Desk.{Desk}
+use Rattle.core_definitions.specs.declared.event.Event.{Event}
+use Rattle.core_definitions.specs.declared.event.Event.TheVariants as event
+use Rattle.core_definitions.specs.Batches.{of_text, of_ending}
+use Rattle.core_definitions.specs.Core.{joined}
+use Rattle.core_definitions.specs.Desk.{Desk}
 use Rattle.core_steps.specs.Sides.{Shown, with_piece, with_ending, journaled, DoesShow, left_to_do}
 use Rattle.page_turns.specs.declared.page.TheConstants.{PAGE_LIMIT}
 use Rattle.page_turns.specs.declared.reader.PageReader.{PageReader}

@@ -8,9 +8,9 @@ use Rattle.standard.specs.Scripts.{Fetched, got, missing, faulted, is_lawful}
 use Rattle.standard.specs.Serial.{World, fetched_if, fetched, Serial, first, Moment, reading, tag_ended, awaits, over, Outcome, refusal, after_fetch, moment_after, IsSerial, Passes}
 use Rattle.standard_laws.proofs.Fuel.{one_outcome}
 use Rattle.standard_laws.proofs.Passing.{leads-next, passes-over}
-use Rattle.core_rules.specs.Core.{whole_page}
-use Rattle.core_rules.specs.Desk.{waits, Desk}
-use Rattle.core_rules.specs.StandsFor.{CarriesMoment, own_moment, page_left}
+use Rattle.core_definitions.specs.Core.{whole_page}
+use Rattle.core_definitions.specs.Desk.{waits, Desk}
+use Rattle.core_definitions.specs.StandsFor.{CarriesMoment, own_moment, page_left}
 use Rattle.core_laws.proofs.Standing.{always-stands_for}
 use Rattle.core_steps.specs.Sides.{Shown}
 use Rattle.page_turns.specs.Scripts.{Alike, AreKnown}

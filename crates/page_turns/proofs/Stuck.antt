@@ -3,12 +3,12 @@ use Rattle.std.proofs.Common.{◌≡◌, ◌<◌, ◌≤◌, ◌+◌, true, fals
 use Rattle.std.proofs.lemmas.Bool.{and_parts}
 use Rattle.std.specs.Prelude.{not, is_some}
 use Rattle.standard.specs.Entities.{Entities}
-use Rattle.core_rules.specs.declared.event.Event.{Event}
-use Rattle.core_rules.specs.declared.event.Event.TheVariants.{Send, Pick, Give, Take, Do, Arrive}
-use Rattle.core_rules.specs.Settling.{is_empty}
-use Rattle.core_rules.specs.Desk.{Phase, free, Desk, outstanding, can_send, can_do}
-use Rattle.core_rules.specs.Core.{Setup, Request, Core}
-use Rattle.core_rules.specs.Journal.{with_replies}
+use Rattle.core_definitions.specs.declared.event.Event.{Event}
+use Rattle.core_definitions.specs.declared.event.Event.TheVariants.{Send, Pick, Give, Take, Do, Arrive}
+use Rattle.core_definitions.specs.Settling.{is_empty}
+use Rattle.core_definitions.specs.Desk.{Phase, free, Desk, outstanding, can_send, can_do}
+use Rattle.core_definitions.specs.Core.{Setup, Request, Core}
+use Rattle.core_definitions.specs.Journal.{with_replies}
 use Rattle.core_laws.specs.DeskLaws.{IsReached}
 use Rattle.core_laws.specs.CoreLaws.{IsIdle, IsOverOrAwaits}
 use Rattle.core_laws.proofs.InStep.{in_hand, replies_to, under_way, to_come, end_to_come, InStep, UnlessDone}

@@ -12,11 +12,11 @@ use Rattle.standard.specs.Output.{line_text}
 use Rattle.standard.specs.Parser.{Parser}
 use Rattle.standard.specs.Scripts.{faulted, missing, is_lawful}
 use Rattle.standard.specs.Serial.{World, fetched_if, fetched}
-use Rattle.core_rules.specs.declared.event.Event.TheVariants as event
-use Rattle.core_rules.specs.Batches.{Piece}
-use Rattle.core_rules.specs.Core.{joined}
-use Rattle.core_rules.specs.Desk.{Phase, free, tagged, waits, done, Desk, outstanding, is_free, is_done, is_among, has_arrived, can_send, wants_reply, can_do, can_do_in, sends_first, sends, takes, Does}
-use Rattle.core_rules.specs.Settling.{is_empty}
+use Rattle.core_definitions.specs.declared.event.Event.TheVariants as event
+use Rattle.core_definitions.specs.Batches.{Piece}
+use Rattle.core_definitions.specs.Core.{joined}
+use Rattle.core_definitions.specs.Desk.{Phase, free, tagged, waits, done, Desk, outstanding, is_free, is_done, is_among, has_arrived, can_send, wants_reply, can_do, can_do_in, sends_first, sends, takes, Does}
+use Rattle.core_definitions.specs.Settling.{is_empty}
 use Rattle.core_steps.specs.Fetches.{names_of}
 use Rattle.core_steps.specs.Journals.{found}
 use Rattle.core_steps.specs.Sides.{Shown, first_shown, journaled, with_fetch, Shows, DoesShow, IsReplayed, awaiting, unless_arrived, standing_in}

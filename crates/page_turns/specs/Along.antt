@@ -2,12 +2,12 @@
 use Rattle.std.specs.Prelude.{◌≡◌, ◌⊎◌, ℕ, nat_lt, false, List, [], ◌++◌, length, map, Option, None, IfSome, IsSome}
 use Rattle.html_types.specs.declared.script.Ending.{Ending}
 use Rattle.standard.specs.Serial.{World}
-use Rattle.core_rules.specs.declared.event.Event.{Event}
-use Rattle.core_rules.specs.declared.event.Event.TheVariants.{Do, Arrive}
-use Rattle.core_rules.specs.Batches.{Piece}
-use Rattle.core_rules.specs.Core.{Request}
-use Rattle.core_rules.specs.Desk.{Desk, first_desk, pieces_with, with_more, outstanding}
-use Rattle.core_rules.specs.Journal.{Knows}
+use Rattle.core_definitions.specs.declared.event.Event.{Event}
+use Rattle.core_definitions.specs.declared.event.Event.TheVariants.{Do, Arrive}
+use Rattle.core_definitions.specs.Batches.{Piece}
+use Rattle.core_definitions.specs.Core.{Request}
+use Rattle.core_definitions.specs.Desk.{Desk, first_desk, pieces_with, with_more, outstanding}
+use Rattle.core_definitions.specs.Journal.{Knows}
 use Rattle.run_laws.specs.Along.{MovesWith, sends_in, SendsOf}
 use Rattle.speculation.specs.Asking.{Asked}
 use Rattle.core_steps.specs.Sides.{Shown, Shows, DoesShow, journaled}

@@ -1,7 +1,7 @@
 -- The messages that the document's side takes from the parser's side, beside the journal.
 use Rattle.std.specs.Prelude.{◌≡◌, ◌⊎◌, ℕ, List, ◌∷◌, [], ◌++◌, length, map, Option, Some, IfSome}
 use Rattle.std.specs.Option.{option_map}
-use Rattle.core_rules.specs.declared.event.Event.{Event}
+use Rattle.core_definitions.specs.declared.event.Event.{Event}
 use Rattle.run_laws.specs.Along.{takes_in}
 use Rattle.speculation.specs.Asking.{Told}
 

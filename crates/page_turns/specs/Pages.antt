@@ -11,7 +11,7 @@ use Rattle.standard.specs.Act.{Doc}
 use Rattle.standard.specs.Serial.{World, fetched, Serial, Outcome, refusal, awaits, IsSerial, Passes}
 use Rattle.standard.specs.Output.{line_text, output_with}
 use Rattle.utf8_pieces.specs.Decoder.{HasRead}
-use Rattle.core_rules.specs.Core.{joined}
+use Rattle.core_definitions.specs.Core.{joined}
 use Rattle.page_turns.specs.declared.page.TheConstants.{PAGE_LIMIT}
 use Rattle.page_turns.specs.declared.outcome.Outcome.{Outcome as Told}
 use Rattle.page_turns.specs.declared.reader.PageReader.{PageReader}

@@ -1,8 +1,8 @@
 -- The journal of a page's run replays in the core.
 use Rattle.std.specs.Prelude.{◌≡◌, ℕ}
 use Rattle.standard.specs.Entities.{Entities}
-use Rattle.core_rules.specs.Core.{Setup, Core, first_core, Runs}
-use Rattle.core_rules.specs.Journal.{IsRunOf, with_replies}
+use Rattle.core_definitions.specs.Core.{Setup, Core, first_core, Runs}
+use Rattle.core_definitions.specs.Journal.{IsRunOf, with_replies}
 use Rattle.core_steps.specs.Sides.{Shown}
 
 -- In each run in which all is as the journal has it, its events, each of them enabled, lead the core to what is shown.

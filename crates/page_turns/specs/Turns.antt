@@ -8,13 +8,13 @@ use Rattle.standard.specs.Entities.{Entities}
 use Rattle.standard.specs.Output.{line_text}
 use Rattle.standard.specs.Parser.{Parser}
 use Rattle.standard.specs.Scripts.{Fetched, faulted}
-use Rattle.core_rules.specs.declared.event.Event.{Event}
-use Rattle.core_rules.specs.declared.event.Event.TheVariants as event
-use Rattle.core_rules.specs.Batches.{Piece}
-use Rattle.core_rules.specs.Core.{Request, joined}
-use Rattle.core_rules.specs.Desk.{Phase, free, tagged, waits, done, Desk, with_more}
-use Rattle.core_rules.specs.Journal.{Journal}
-use Rattle.core_rules.specs.StandsFor.{text_of}
+use Rattle.core_definitions.specs.declared.event.Event.{Event}
+use Rattle.core_definitions.specs.declared.event.Event.TheVariants as event
+use Rattle.core_definitions.specs.Batches.{Piece}
+use Rattle.core_definitions.specs.Core.{Request, joined}
+use Rattle.core_definitions.specs.Desk.{Phase, free, tagged, waits, done, Desk, with_more}
+use Rattle.core_definitions.specs.Journal.{Journal}
+use Rattle.core_definitions.specs.StandsFor.{text_of}
 use Rattle.core_steps.specs.Fetches.{names_of}
 use Rattle.core_steps.specs.Journals.{found}
 use Rattle.core_steps.specs.Sides.{Shown, journaled, with_fetch, DoesShow, IsReplayed, Standing, awaiting, standing_of, left_to_do}

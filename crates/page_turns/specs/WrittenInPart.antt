@@ -4,7 +4,7 @@ use Rattle.std.specs.Prelude.{◌≡◌, ℕ, List, [], ◌∷◌, ◌++◌, fla
 use Rattle.html_types.specs.declared.script.Line.{Line}
 use Rattle.standard.specs.Entities.{Entities}
 use Rattle.standard.specs.Output.{line_text}
-use Rattle.core_rules.specs.declared.event.Event.TheVariants.{Do}
+use Rattle.core_definitions.specs.declared.event.Event.TheVariants.{Do}
 use Rattle.core_steps.specs.Sides.{Shown}
 use Rattle.page_turns.specs.Taken.{TookWithFront}
 use Rattle.page_turns.specs.Replaying.{ReplaysTo}

@@ -2,8 +2,8 @@
 ghost use Rattle.std.specs.Prelude.{◌≡◌, ◌<◌, ◌≤◌, [], length, suc, nat_lt, ◌&&◌, is_none, false, IfOk, IfSome, IfNone, OnOk, OnErr, IsErrOf, IsTrue};
 ghost use Rattle.std.specs.String.{string_bytes};
 ghost use Rattle.outside.specs.Outside.{Rose, KeepsOthers};
-ghost use Rattle.core_rules.specs.declared.event.Event.TheVariants as event;
-ghost use Rattle.core_rules.specs.Desk.{done, is_done, can_do, wants_reply, takes};
+ghost use Rattle.core_definitions.specs.declared.event.Event.TheVariants as event;
+ghost use Rattle.core_definitions.specs.Desk.{done, is_done, can_do, wants_reply, takes};
 ghost use Rattle.core_steps.specs.Sides.{first_shown, journaled, IsReplayed, awaiting, standing_of};
 ghost use Rattle.page_turns.specs.declared.page.Failure.TheVariants as failures;
 ghost use Rattle.page_turns.specs.Shown.{result_of};

@@ -33,7 +33,7 @@ use Rattle.standard_laws.proofs.Parse.{parse-append}
 use Rattle.html_types.specs.declared.script.Ending.{Ending}
 use Rattle.html_types.specs.declared.script.Ending.TheVariants as ending
 use Rattle.html_types.specs.declared.script.Why.{Why}
-use Rattle.core_rules.specs.Batches.{Batch, finishing, refusal_batch, end_batch}
+use Rattle.core_definitions.specs.Batches.{Batch, finishing, refusal_batch, end_batch}
 use Rattle.parse_machine.specs.declared.machine.PageEnd.{PageEnd}
 use Rattle.parse_machine.specs.declared.machine.PageEnd.TheVariants as page_end
 use Rattle.parse_machine.specs.Machine.{WentTo, EndedTo, finished_as, stops, RanAs, halt_at, EndsAs}

@@ -9,7 +9,7 @@ use Rattle.html_types.specs.declared.instruction.Finish.TheVariants as finale
 use Rattle.html_types.specs.declared.open.Open.{Open}
 use Rattle.standard.specs.Tokenizer.{Reached}
 use Rattle.standard.specs.Parser.{Parser, parser, Parsed, Took, took, after_ops, build, Finished, after_all, build_end}
-use Rattle.core_rules.specs.Batches.{Batch, Halt, finishing, refusing}
+use Rattle.core_definitions.specs.Batches.{Batch, Halt, finishing, refusing}
 use Rattle.parse_machine.specs.declared.machine.Ran.{Ran}
 use Rattle.parse_machine.specs.declared.machine.PageEnd.{PageEnd}
 use Rattle.parse_machine.specs.declared.machine.PageEnd.TheVariants as page_end

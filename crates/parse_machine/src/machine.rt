@@ -15,7 +15,7 @@ ghost use Rattle.std.specs.List.{list_any};
 ghost use Rattle.entity_table.specs.View.{characters_in};
 ghost use Rattle.tokenizer.specs.Reference.{found_characters, open_characters};
 ghost use Rattle.parse_machine.specs.Runs.{ArePlain, reads_runs as state_reads_runs, Ahead, Inserts, ReadsTags, Takes, TakesRuns, TakesRun};
-ghost use Rattle.core_rules.specs.Batches.{end_batch, finishing};
+ghost use Rattle.core_definitions.specs.Batches.{end_batch, finishing};
 ghost use Rattle.parse_machine.specs.Machine.{WentTo, EndedTo, Builds, BuildsLast, RanAs, halt_at, EndsAs, stops as stops_at};
 
 use crate::token::construct;

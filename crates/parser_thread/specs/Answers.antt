@@ -2,7 +2,7 @@
 use Rattle.std.specs.Prelude.{◌≡◌, ℕ, List, [], ◌∷◌, ◌++◌, ◌⊎◌, Option, Some, None, map}
 use Rattle.standard.specs.Entities.{Entities}
 use Rattle.standard.specs.Parser.{Parser}
-use Rattle.core_rules.specs.Core.{first_work, started, answer_to, reply_to}
+use Rattle.core_definitions.specs.Core.{first_work, started, answer_to, reply_to}
 use Rattle.speculation.specs.declared.in_force.InForce as InForce
 use Rattle.speculation.specs.declared.reply.Reply.{Reply}
 use Rattle.speculation.specs.Asking.{Asked, Told}

@@ -2,13 +2,13 @@
 use Rattle.std.specs.Prelude.{◌≡◌, ◌≤◌, ◌<◌, ◌⊎◌, ℕ, suc, nat_lt, false, List, [], ◌∷◌, Some, slice_get}
 use Rattle.standard.specs.Entities.{Entities}
 use Rattle.standard.specs.Serial.{World, Moment}
-use Rattle.core_rules.specs.declared.event.Event.{Event}
-use Rattle.core_rules.specs.declared.event.Event.TheVariants.{Send, Take, Do, Arrive}
-use Rattle.core_rules.specs.Batches.{Piece}
-use Rattle.core_rules.specs.Core.{Setup, Request, request_for, whole_page}
-use Rattle.core_rules.specs.Desk.{Desk, first_desk, pieces_with, outstanding, stale, Moves}
-use Rattle.core_rules.specs.Journal.{Journal, IsRunOf}
-use Rattle.core_rules.specs.Verdict.{Watch, IsKnownAt}
+use Rattle.core_definitions.specs.declared.event.Event.{Event}
+use Rattle.core_definitions.specs.declared.event.Event.TheVariants.{Send, Take, Do, Arrive}
+use Rattle.core_definitions.specs.Batches.{Piece}
+use Rattle.core_definitions.specs.Core.{Setup, Request, request_for, whole_page}
+use Rattle.core_definitions.specs.Desk.{Desk, first_desk, pieces_with, outstanding, stale, Moves}
+use Rattle.core_definitions.specs.Journal.{Journal, IsRunOf}
+use Rattle.core_definitions.specs.Verdict.{Watch, IsKnownAt}
 
 -- enabled events one behind another, of each of which that is so, with the desk before it
 abbrev pub MovesWith : (Event → Desk → Type 0) → ℕ → World → List Event → Desk → Desk → Type 0

@@ -1,8 +1,8 @@
 -- What is claimed of a journal's events.
 use Rattle.std.specs.Prelude.{ℕ, List}
 use Rattle.standard.specs.Entities.{Entities}
-use Rattle.core_rules.specs.Core.{Request}
-use Rattle.core_rules.specs.Journal.{Journal}
+use Rattle.core_definitions.specs.Core.{Request}
+use Rattle.core_definitions.specs.Journal.{Journal}
 use Rattle.run_laws.specs.Along.{HoldsAlong, SendsOf, DropsOver}
 
 -- where the requests are those of its Sends

@@ -1,4 +1,5 @@
-//! Laws of the events of a journal, proved of the definitions in `core_rules`: on functions that do nothing, so that a contract names each.
+//! Laws of the events of a journal, proved of the definitions in `core_definitions`: on functions
+//! that do nothing, so that a contract names each.
 #![tactic(auto)]
 
 ghost use Rattle.run_laws.specs.RunLaws.{DropsAreOver};

@@ -13,7 +13,7 @@ use Rattle.standard.specs.Parser.{Parser, Parsed, parse}
 use Rattle.parse_machine.specs.declared.machine.Ran.{Ran}
 use Rattle.parse_machine.specs.declared.machine.PageEnd.{PageEnd}
 use Rattle.parse_machine.specs.Machine.{RanAs, halt_at, EndsAs}
-use Rattle.core_rules.specs.Batches.{Piece, Batch, Halt, at, finishing, refusing, Answered, and_behind, cut, end_batch, and_ending, answer}
+use Rattle.core_definitions.specs.Batches.{Piece, Batch, Halt, at, finishing, refusing, Answered, and_behind, cut, end_batch, and_ending, answer}
 use Rattle.core_laws.proofs.Cutting.{cut-enough, shorter}
 use Rattle.speculation.specs.Halting.{first_batch}
 

@@ -2,8 +2,8 @@
 use Rattle.std.specs.Prelude.{◌≡◌, ℕ, Option}
 use Rattle.standard.specs.Entities.{Entities}
 use Rattle.standard.specs.Parser.{Parser}
-use Rattle.core_rules.specs.Batches.{Piece, answer}
-use Rattle.core_rules.specs.Core.{Request, Reply}
+use Rattle.core_definitions.specs.Batches.{Piece, answer}
+use Rattle.core_definitions.specs.Core.{Request, Reply}
 
 -- a page has at most so many characters, each of a byte or more
 abbrev pub page_limit : ℕ

@@ -2,7 +2,7 @@
 use Rattle.std.specs.Prelude.{ℕ, List, take}
 use Rattle.standard.specs.Entities.{Entities}
 use Rattle.standard.specs.Parser.{Parser, Parsed, parse}
-use Rattle.core_rules.specs.Batches.{Halt, at, finishing, refusing, Batch, text_batch}
+use Rattle.core_definitions.specs.Batches.{Halt, at, finishing, refusing, Batch, text_batch}
 use Rattle.speculation.specs.declared.batch.Halt as code
 use Rattle.speculation.specs.declared.batch.Halt.TheVariants.{At, Finishing, Refusing}
 

@@ -1,7 +1,7 @@
 //! Batches: texts that were parsed, and whose operations aren't executed yet.
 
 ghost use Rattle.std.specs.Prelude.{◌≡◌, [], ◌∷◌, ◌++◌, length, OnOk, OnErr, MatchOption};
-ghost use Rattle.core_rules.specs.Settling.{is_empty as has_none};
+ghost use Rattle.core_definitions.specs.Settling.{is_empty as has_none};
 ghost use Rattle.parse_machine.specs.Machine.{halt_at};
 ghost use Rattle.speculation.specs.Halting.{halt_of};
 
@@ -51,7 +51,7 @@ pub struct Batch {
 }
 
 impl Model for Batch {
-    ghost use Rattle.core_rules.specs.Batches as rules;
+    ghost use Rattle.core_definitions.specs.Batches as rules;
     ghost use Rattle.speculation.specs.Halting.{halt_of};
 
     ghost Value = { rules.Batch };
@@ -100,7 +100,7 @@ pub struct Batches {
 
 impl Model for Batches {
     ghost use Rattle.std.specs.Prelude.{List};
-    ghost use Rattle.core_rules.specs.Batches as rules;
+    ghost use Rattle.core_definitions.specs.Batches as rules;
 
     ghost Value = { List rules.Batch };
 

@@ -3,7 +3,7 @@
 ghost use Rattle.std.specs.Prelude.{◌≡◌, ◌↔◌, ◌++◌, Some, None, length, drop, if◌then◌else◌, IfOk, OnOk, IsTrue};
 ghost use Rattle.html_types.specs.declared.instruction.Stop.TheVariants as stop;
 ghost use Rattle.standard.specs.Parser.{parse};
-ghost use Rattle.core_rules.specs.Batches.{at, cut, end_batch, answer};
+ghost use Rattle.core_definitions.specs.Batches.{at, cut, end_batch, answer};
 ghost use Rattle.speculation.specs.Halting.{first_batch};
 
 use crate::batch::{Batch, Batches, Halt};

@@ -2,10 +2,10 @@
 
 ghost use Rattle.std.specs.Prelude.{◌≡◌, ◌↔◌};
 ghost use Rattle.standard.specs.Parser.{AreSame};
-ghost use Rattle.core_rules.specs.Verdict.{IsVerdict};
-ghost use Rattle.core_rules.specs.declared.verdict.Verdict.TheVariants as verdict;
+ghost use Rattle.core_definitions.specs.Verdict.{IsVerdict};
+ghost use Rattle.core_definitions.specs.declared.verdict.Verdict.TheVariants as verdict;
 
-use core_rules::Verdict;
+use core_definitions::Verdict;
 use parse_machine::Machine;
 
 /// A script has ended, and all that it wrote is used. The text behind its end tag was parsed ahead from the state `held`, and the parser now

@@ -13,7 +13,7 @@ pub mod worker;
 
 pub use batch::{Batch, Batches, Halt};
 pub use checkpoint::Checkpoint;
-pub use core_rules::Verdict;
+pub use core_definitions::Verdict;
 pub use deciding::decide;
 pub use in_force::InForce;
 pub use reply::{Reply, Said};

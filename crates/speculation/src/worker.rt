@@ -1,8 +1,8 @@
 //! The parser's side.
 
 ghost use Rattle.std.specs.Prelude.{◌≡◌, IfOk, OnOk};
-ghost use Rattle.core_rules.specs.Batches.{answer};
-ghost use Rattle.core_rules.specs.Core.{first_work, started, answer_to, reply_to};
+ghost use Rattle.core_definitions.specs.Batches.{answer};
+ghost use Rattle.core_definitions.specs.Core.{first_work, started, answer_to, reply_to};
 
 use crate::batch::Batches;
 use crate::checkpoint::Checkpoint;

@@ -5,9 +5,9 @@ use Rattle.std.proofs.lemmas.Bool.{leb-true, ltb-true}
 use Rattle.html_types.specs.declared.script.Ending.{Ending}
 use Rattle.standard.specs.Parser.{Parser}
 use Rattle.standard.specs.Serial.{World, Moment, reading, tag_ended, awaits, over, Outcome, prepared, moment_after}
-use Rattle.core_rules.specs.declared.verdict.Verdict.{Verdict}
-use Rattle.core_rules.specs.declared.verdict.Verdict.TheVariants.{Keep, Rewind}
-use Rattle.core_rules.specs.Verdict.{Watch, runs, at_tag, judged, Reads, Watched, Watches, stays, goes_on}
+use Rattle.core_definitions.specs.declared.verdict.Verdict.{Verdict}
+use Rattle.core_definitions.specs.declared.verdict.Verdict.TheVariants.{Keep, Rewind}
+use Rattle.core_definitions.specs.Verdict.{Watch, runs, at_tag, judged, Reads, Watched, Watches, stays, goes_on}
 use Rattle.core_laws.proofs.OneResult.{one-next}
 use Rattle.core_laws.proofs.Comparing.{watched-once}
 

@@ -21,16 +21,16 @@ use Rattle.standard_laws.proofs.Passing.{passes-over}
 use Rattle.standard_laws.proofs.Fuel.{one_outcome}
 use Rattle.rule_laws.specs.Naming.{rename_parser, rename_ops, rename_stop, rename_parsed, rename_finished}
 use Rattle.rule_laws.proofs.RenamingTexts.{texts-renamed, ends-renamed}
-use Rattle.core_rules.specs.declared.event.Event.{Event}
-use Rattle.core_rules.specs.declared.event.Event.TheVariants.{Send, Pick, Give, Take, Do, Arrive}
-use Rattle.core_rules.specs.declared.verdict.Verdict.{Verdict}
-use Rattle.core_rules.specs.declared.verdict.Verdict.TheVariants.{Keep, Rewind}
-use Rattle.core_rules.specs.Batches.{Piece, Batch, text_batch, finish_batch, end_batch, Halt, at, finishing, refusing, answer}
-use Rattle.core_rules.specs.Verdict.{Watch, first_watch, runs, at_tag, judged, Watches, stays}
-use Rattle.core_rules.specs.Settling.{Settles, is_empty}
-use Rattle.core_rules.specs.Desk.{Phase, free, tagged, waits, done, Desk, first_desk, pieces_with, stale, wants_reply, can_do_in, sends_first, with_batches, drops, answer_called_for, takes, at_end_tag, behind_halt, with_executed, executes, decided, Concludes, RunsOn, DoesIn, Moves, MovesBy}
-use Rattle.core_rules.specs.Core.{Setup, whole_page}
-use Rattle.core_rules.specs.StandsFor.{own_moment, text_of, page_left}
+use Rattle.core_definitions.specs.declared.event.Event.{Event}
+use Rattle.core_definitions.specs.declared.event.Event.TheVariants.{Send, Pick, Give, Take, Do, Arrive}
+use Rattle.core_definitions.specs.declared.verdict.Verdict.{Verdict}
+use Rattle.core_definitions.specs.declared.verdict.Verdict.TheVariants.{Keep, Rewind}
+use Rattle.core_definitions.specs.Batches.{Piece, Batch, text_batch, finish_batch, end_batch, Halt, at, finishing, refusing, answer}
+use Rattle.core_definitions.specs.Verdict.{Watch, first_watch, runs, at_tag, judged, Watches, stays}
+use Rattle.core_definitions.specs.Settling.{Settles, is_empty}
+use Rattle.core_definitions.specs.Desk.{Phase, free, tagged, waits, done, Desk, first_desk, pieces_with, stale, wants_reply, can_do_in, sends_first, with_batches, drops, answer_called_for, takes, at_end_tag, behind_halt, with_executed, executes, decided, Concludes, RunsOn, DoesIn, Moves, MovesBy}
+use Rattle.core_definitions.specs.Core.{Setup, whole_page}
+use Rattle.core_definitions.specs.StandsFor.{own_moment, text_of, page_left}
 use Rattle.core_laws.specs.Alike.{own_of, Okay, AreAlike}
 use Rattle.core_laws.specs.DeskLaws.{IsReached}
 use Rattle.core_laws.proofs.Okay.{okay-parse}

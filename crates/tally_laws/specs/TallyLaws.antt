@@ -1,10 +1,10 @@
 -- What is claimed of the numbers of a desk at which the parse finished.
 use Rattle.std.specs.Prelude.{◌≡◌, ◌+◌, ◌*◌, List}
 use Rattle.standard.specs.Serial.{finished, Outcome, IsSerial}
-use Rattle.core_rules.specs.declared.event.Event.{Event}
-use Rattle.core_rules.specs.Verdict.{Watch, AreVerdicts}
-use Rattle.core_rules.specs.Desk.{done, Desk}
-use Rattle.core_rules.specs.Core.{Setup, whole_page}
+use Rattle.core_definitions.specs.declared.event.Event.{Event}
+use Rattle.core_definitions.specs.Verdict.{Watch, AreVerdicts}
+use Rattle.core_definitions.specs.Desk.{done, Desk}
+use Rattle.core_definitions.specs.Core.{Setup, whole_page}
 use Rattle.core_laws.specs.DeskLaws.{IsReached}
 
 -- An epoch is over for each script of the page that failed. Each script of the page that was in hand took a realm of ids, and each that failed

@@ -22,7 +22,7 @@ use Rattle.write_parser.specs.Writing.{View, why_of, serial_of, moment_by, momen
 use Rattle.write_parser.specs.Steps.{IsGoing, halted_of, view_of, with_begun, nest_of, ThenBy, Then, weight, Moves, WroteNothing, Begins, Prepares, Keeps, Continues, EndsTag, awaits_none, RunsText, FeedsOn, StaysAt}
 use Rattle.standard_laws.proofs.Passing.{parse-left}
 use Rattle.standard_laws.proofs.Frames.{frames-end, scripts-enter}
-use Rattle.core_rules.specs.Settling.{Through, here, onward}
+use Rattle.core_definitions.specs.Settling.{Through, here, onward}
 use Rattle.moment_laws.proofs.Through.{goes-on, batches-through}
 use Rattle.write_parser.proofs.NestingLemmas.{awaited-one}
 

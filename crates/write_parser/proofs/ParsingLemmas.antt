@@ -12,7 +12,7 @@ use Rattle.standard.specs.Entities.{Entities}
 use Rattle.standard.specs.Act.{Doc, is_bound, acts, AreOpsBound}
 use Rattle.standard_laws.specs.Laws.{HasParsed}
 use Rattle.standard.specs.Parser.{Parser, Took, took, take_character, Parsed, and_rest, parse}
-use Rattle.core_rules.specs.Batches.{Batch, end_batch}
+use Rattle.core_definitions.specs.Batches.{Batch, end_batch}
 use Rattle.rule_laws.specs.Naming.{AreFresh}
 use Rattle.rule_laws.proofs.FreshnessTexts.{fresh-follows}
 use Rattle.rule_laws.proofs.FreshnessDocs.{texts-served, ends-served}

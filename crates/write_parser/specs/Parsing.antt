@@ -9,7 +9,7 @@ use Rattle.standard.specs.Act.{Doc, acts, is_bound}
 use Rattle.standard.specs.Parser.{Parser}
 use Rattle.rule_laws.specs.Naming.{Serves, AreFresh, IsStopBound}
 use Rattle.standard_laws.specs.Laws.{HasParsed}
-use Rattle.core_rules.specs.Batches.{end_batch}
+use Rattle.core_definitions.specs.Batches.{end_batch}
 use Rattle.parse_machine.specs.declared.machine.PageEnd.{PageEnd}
 use Rattle.parse_machine.specs.declared.machine.Ran.{Ran}
 use Rattle.parse_machine.specs.Machine.{halt_at}

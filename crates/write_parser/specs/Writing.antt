@@ -14,7 +14,7 @@ use Rattle.standard.specs.Act.{Doc, new_doc, is_bound}
 use Rattle.standard.specs.Parser.{Parser, new_parser}
 use Rattle.rule_laws.specs.Naming.{IsStopBound}
 use Rattle.standard.specs.Serial.{World, Serial, Course, goes, refuses, awaiting, run_text, write_limit, Moment, reading, tag_ended, awaits, over, refusal}
-use Rattle.core_rules.specs.Settling.{Through}
+use Rattle.core_definitions.specs.Settling.{Through}
 use Rattle.standard_laws.specs.Laws.{HasParsed, EndsIn}
 use Rattle.parse_machine.specs.declared.machine.PageEnd.{PageEnd}
 use Rattle.parse_machine.specs.declared.machine.Ran.{Ran}

@@ -4,7 +4,7 @@ ghost use Rattle.std.specs.Prelude.{◌≡◌, ◌≢◌, ◌<◌, ◌≤◌, �
 ghost use Rattle.std.specs.Str.{chars};
 ghost use Rattle.standard.specs.Act.{acts, is_bound, AreOpsBound};
 ghost use Rattle.standard.specs.Statements.{statements};
-ghost use Rattle.core_rules.specs.Desk.{renewed};
+ghost use Rattle.core_definitions.specs.Desk.{renewed};
 ghost use Rattle.moment_laws.specs.Served.{AreBelow};
 ghost use Rattle.write_parser.specs.Parsing.{IsServed};
 ghost use Rattle.write_parser.specs.Writing.{first_view, Parses, Finishes, AtTag, LeadsTo, HasRun, HasMissed, Feeds, left_to_do};

@@ -1,5 +1,5 @@
 use Rattle.std.proofs.Common.{◌≡◌, ◌≤◌, ◌+◌, length, None}
-use Rattle.core_rules.specs.Core.{joined}
+use Rattle.core_definitions.specs.Core.{joined}
 use Rattle.speculation.specs.Asking.{page_limit}
 use Rattle.core_pair.specs.Pairs.{with_pieces}
 use Rattle.core_pair.proofs.both.hand_in.Given as goal

@@ -1,5 +1,5 @@
 use Rattle.std.proofs.Common.{◌≡◌, ◌+◌, ◌≤◌, length}
-use Rattle.core_rules.specs.Core.{joined}
+use Rattle.core_definitions.specs.Core.{joined}
 use Rattle.core_tests.proofs.running.is_short.Given as goal
 
 abbrev pub invariant-pieces : goal.invariant-pieces

@@ -1,5 +1,5 @@
 use Rattle.std.proofs.Common.{◌≡◌, ◌++◌, length}
-use Rattle.core_rules.specs.Desk.{sent_again}
+use Rattle.core_definitions.specs.Desk.{sent_again}
 use Rattle.page_pieces.proofs.ledger.put_all_again.Given as goal
 
 abbrev pub invariant-pieces : goal.invariant-pieces

@@ -1,6 +1,6 @@
 use Rattle.std.proofs.Common.{◌≡◌, ◌∙◌, ap, length, arith}
 use Rattle.std.specs.Str.{chars}
-use Rattle.core_rules.specs.Batches.{Piece}
+use Rattle.core_definitions.specs.Batches.{Piece}
 use Rattle.page_tests.proofs.lanes.request_of.Goals as goal
 
 pub new-requires : goal.new-requires

@@ -1,6 +1,6 @@
 use Rattle.std.proofs.Common.{◌∙◌, subst, flat_map}
 use Rattle.standard.specs.Output.{line_text}
-use Rattle.core_rules.specs.declared.event.Event.TheVariants as event
+use Rattle.core_definitions.specs.declared.event.Event.TheVariants as event
 use Rattle.page_turns.specs.Taken.{Took, TookFront}
 use Rattle.page_turns.proofs.LineLemmas.{on_err, ok_weaker, err_weaker}
 use Rattle.page_turns.proofs.StepLemmas.{stays_spent, stays_journaled, ran_on, ran_cut, stays_ran}

@@ -1,6 +1,6 @@
 use Rattle.std.proofs.Common.{◌∙◌, sym, ap, subst, refl, arith}
-use Rattle.core_rules.specs.declared.event.Event.TheVariants as event
-use Rattle.core_rules.specs.Desk.{sends}
+use Rattle.core_definitions.specs.declared.event.Event.TheVariants as event
+use Rattle.core_definitions.specs.Desk.{sends}
 use Rattle.standard.specs.Serial.{Serial}
 use Rattle.core_steps.specs.Sides.{Shown}
 use Rattle.page_turns.specs.Turns.{Arrives, BeginsAwaited}

@@ -1,6 +1,6 @@
 use Rattle.std.proofs.Common.{◌∙◌, sym, ap, Option}
 use Rattle.standard.specs.Parser.{Parser}
-use Rattle.core_rules.specs.Batches.{Answered, answer}
+use Rattle.core_definitions.specs.Batches.{Answered, answer}
 use Rattle.speculation.proofs.Cuts.{answer-none}
 use Rattle.speculation.proofs.worker.parse_from.Goals as goal
 

@@ -1,6 +1,6 @@
 use Rattle.std.proofs.Common.{sym, ◌∙◌, ap}
 use Rattle.standard.specs.Scripts.{is_lawful}
-use Rattle.core_rules.specs.Journal.{Journal}
+use Rattle.core_definitions.specs.Journal.{Journal}
 use Rattle.core_pair.specs.Pairs.{Paired}
 use Rattle.core_pair.proofs.Applying.{may-arrive}
 use Rattle.core_pair.proofs.both.Both.can_arrive.Goals as goal

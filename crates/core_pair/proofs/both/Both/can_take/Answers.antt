@@ -1,5 +1,5 @@
 use Rattle.std.proofs.Common.{◌∙◌, ap}
-use Rattle.core_rules.specs.Desk.{wants_reply}
+use Rattle.core_definitions.specs.Desk.{wants_reply}
 use Rattle.core_pair.specs.Pairs.{Paired}
 use Rattle.core_pair.proofs.Running.{take-unwanted}
 use Rattle.core_pair.proofs.both.Both.can_take.Goals as goal

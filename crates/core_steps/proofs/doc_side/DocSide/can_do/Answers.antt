@@ -1,5 +1,5 @@
 use Rattle.std.proofs.Common.{◌∙◌, sym, ap}
-use Rattle.core_rules.specs.Desk.{can_do}
+use Rattle.core_definitions.specs.Desk.{can_do}
 use Rattle.core_steps.specs.Sides.{Shown}
 use Rattle.core_steps.proofs.DocSides.{told-now}
 use Rattle.core_steps.proofs.doc_side.DocSide.can_do.Goals as goal

@@ -1,5 +1,5 @@
-use Rattle.core_rules.specs.declared.event.Event.TheVariants as event
-use Rattle.core_rules.specs.Desk.{sends}
+use Rattle.core_definitions.specs.declared.event.Event.TheVariants as event
+use Rattle.core_definitions.specs.Desk.{sends}
 use Rattle.core_steps.specs.Sides.{Shown, journaled}
 use Rattle.core_steps.proofs.Kept.{send-replayed}
 use Rattle.core_steps.proofs.DocSides.{kept-behind}

@@ -1,5 +1,5 @@
 use Rattle.std.proofs.Common.{subst}
-use Rattle.core_rules.specs.Journal.{Journal}
+use Rattle.core_definitions.specs.Journal.{Journal}
 use Rattle.core_steps.proofs.Indexes.{found-some, found-none}
 use Rattle.core_steps.proofs.journal.Journal.find.Goals as goal
 

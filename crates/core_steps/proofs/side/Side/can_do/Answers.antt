@@ -1,7 +1,7 @@
 use Rattle.std.proofs.Common.{ap, ◌∙◌}
 use Rattle.std.specs.Prelude.{◌&&◌, is_none}
-use Rattle.core_rules.specs.Batches.{Piece}
-use Rattle.core_rules.specs.Settling.{is_empty}
+use Rattle.core_definitions.specs.Batches.{Piece}
+use Rattle.core_definitions.specs.Settling.{is_empty}
 use Rattle.core_steps.proofs.Events.{does-free}
 use Rattle.core_steps.proofs.side.Side.can_do.Goals as goal
 

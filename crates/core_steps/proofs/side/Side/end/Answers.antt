@@ -1,5 +1,5 @@
 use Rattle.std.proofs.Common.{ap, Some}
-use Rattle.core_rules.specs.Journal.{Journal}
+use Rattle.core_definitions.specs.Journal.{Journal}
 use Rattle.core_steps.proofs.Stays.{ending-sound}
 use Rattle.core_steps.proofs.side.Side.end.Goals as goal
 

@@ -1,5 +1,5 @@
 use Rattle.std.proofs.Common.{◌∙◌, sym, ap, refl}
-use Rattle.core_rules.specs.Batches.{Piece}
+use Rattle.core_definitions.specs.Batches.{Piece}
 use Rattle.core_steps.proofs.Executes.{ending-executed}
 use Rattle.core_steps.proofs.side.Side.parse_ending.Goals as goal
 

@@ -1,5 +1,5 @@
 use Rattle.std.proofs.Common.{◌∙◌, ap, refl, sym, subst}
-use Rattle.core_rules.specs.Batches.{Piece}
+use Rattle.core_definitions.specs.Batches.{Piece}
 use Rattle.speculation.specs.declared.batch.Halt.TheVariants as halt
 use Rattle.core_steps.specs.Acting.{Executed}
 use Rattle.core_steps.proofs.Executes.{parsed-front, parsed-executed}

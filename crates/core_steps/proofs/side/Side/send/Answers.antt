@@ -1,6 +1,6 @@
 use Rattle.std.proofs.Common.{refl, ◌∙◌, ap, length, None}
-use Rattle.core_rules.specs.Batches.{Piece}
-use Rattle.core_rules.specs.Journal.{Journal}
+use Rattle.core_definitions.specs.Batches.{Piece}
+use Rattle.core_definitions.specs.Journal.{Journal}
 use Rattle.core_steps.proofs.Stays.{sound-sent}
 use Rattle.core_steps.proofs.side.Side.send.Goals as goal
 

@@ -1,7 +1,7 @@
 use Rattle.std.proofs.Common.{Some, sym, subst, ap}
 use Rattle.std.proofs.lemmas.Result.{on_ok_weaker}
-use Rattle.core_rules.specs.Batches.{answer}
-use Rattle.core_rules.specs.Journal.{Journal}
+use Rattle.core_definitions.specs.Batches.{answer}
+use Rattle.core_definitions.specs.Journal.{Journal}
 use Rattle.core_steps.specs.Sides.{AreAhead}
 use Rattle.core_steps.proofs.Stays.{sound-took}
 use Rattle.core_steps.proofs.side.Side.take.Goals as goal

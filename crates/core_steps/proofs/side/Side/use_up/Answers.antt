@@ -1,6 +1,6 @@
 use Rattle.std.proofs.Common.{◌+◌, ◌∙◌, List, ℕ, ap, subst, sym, take, arith, length}
 use Rattle.std.specs.Str.{chars, encode_utf8_all, IsCharBoundary}
-use Rattle.core_rules.specs.Batches.{Piece}
+use Rattle.core_definitions.specs.Batches.{Piece}
 use Rattle.page_pieces.specs.Keeping.{Kept}
 use Rattle.core_steps.proofs.Uses.{left-boundary, use-fits, uses-up}
 use Rattle.core_steps.proofs.side.Side.use_up.Goals as goal

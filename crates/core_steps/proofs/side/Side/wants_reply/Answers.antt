@@ -1,7 +1,7 @@
 use Rattle.std.proofs.Common.{◌≡◌, ◌-◌, Bool, nat_lt, sym, ap, ◌∙◌}
 use Rattle.std.specs.Prelude.{◌&&◌, is_none}
-use Rattle.core_rules.specs.Batches.{Piece}
-use Rattle.core_rules.specs.Settling.{is_empty}
+use Rattle.core_definitions.specs.Batches.{Piece}
+use Rattle.core_definitions.specs.Settling.{is_empty}
 use Rattle.core_steps.proofs.Events.{wants-free}
 use Rattle.core_steps.proofs.side.Side.wants_reply.Goals as goal
 

@@ -1,5 +1,5 @@
 use Rattle.std.proofs.Common.{ap, sym, ◌∙◌}
-use Rattle.core_rules.specs.Core.{Reply}
+use Rattle.core_definitions.specs.Core.{Reply}
 use Rattle.parser_thread.proofs.Serves.{serves}
 use Rattle.parser_thread.proofs.side.ParserSide.serve.Goals as goal
 

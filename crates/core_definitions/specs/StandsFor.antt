@@ -4,8 +4,8 @@ use Rattle.html_types.specs.declared.operation.NodeId.{NodeId}
 use Rattle.standard.specs.Act.{SameUpTo}
 use Rattle.standard.specs.Serial.{Serial, Moment, reading, tag_ended, awaits, over}
 use Rattle.rule_laws.specs.Naming.{rename_parser}
-use Rattle.core_rules.specs.Batches.{Piece}
-use Rattle.core_rules.specs.Desk.{Phase, free, tagged, waits, done, Desk}
+use Rattle.core_definitions.specs.Batches.{Piece}
+use Rattle.core_definitions.specs.Desk.{Phase, free, tagged, waits, done, Desk}
 
 -- A state is that of the serial parse under other ids, and without the rest of the page behind its input: the parser, the tree, the text
 -- that was written and isn't used, and all else that the document's side holds (level, pending script, characters written, scripts

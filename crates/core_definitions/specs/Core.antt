@@ -5,11 +5,11 @@ use Rattle.standard.specs.Entities.{Entities}
 use Rattle.standard.specs.Page.{Page}
 use Rattle.standard.specs.Parser.{Parser, new_parser}
 use Rattle.standard.specs.Serial.{World}
-use Rattle.core_rules.specs.declared.event.Event.{Event}
-use Rattle.core_rules.specs.declared.event.Event.TheVariants.{Send, Pick, Give, Take, Do, Arrive}
-use Rattle.core_rules.specs.Batches.{Piece, Batch, Answered, answer}
-use Rattle.core_rules.specs.Settling.{is_empty}
-use Rattle.core_rules.specs.Desk.{Desk, first_desk, pieces_with, is_free, can_send, can_do, can_arrive, sends, with_batches, drops, arrives, Does}
+use Rattle.core_definitions.specs.declared.event.Event.{Event}
+use Rattle.core_definitions.specs.declared.event.Event.TheVariants.{Send, Pick, Give, Take, Do, Arrive}
+use Rattle.core_definitions.specs.Batches.{Piece, Batch, Answered, answer}
+use Rattle.core_definitions.specs.Settling.{is_empty}
+use Rattle.core_definitions.specs.Desk.{Desk, first_desk, pieces_with, is_free, can_send, can_do, can_arrive, sends, with_batches, drops, arrives, Does}
 
 -- ---- what a run is given
 

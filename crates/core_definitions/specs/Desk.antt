@@ -13,13 +13,13 @@ use Rattle.standard.specs.Act.{new_doc, acts}
 use Rattle.standard.specs.Parser.{Parser, new_parser}
 use Rattle.standard.specs.Scripts.{is_lawful}
 use Rattle.standard.specs.Serial.{World, Serial, Result, finished, refused, prepared, Moment, reading, tag_ended, awaits, over}
-use Rattle.core_rules.specs.declared.event.Event.{Event}
-use Rattle.core_rules.specs.declared.event.Event.TheVariants.{Send, Pick, Give, Take, Do, Arrive}
-use Rattle.core_rules.specs.declared.verdict.Verdict.{Verdict}
-use Rattle.core_rules.specs.declared.verdict.Verdict.TheVariants.{Keep, Rewind}
-use Rattle.core_rules.specs.Batches.{Piece, of_text, of_ending, Batch, Halt, at, finishing, refusing, answer}
-use Rattle.core_rules.specs.Verdict.{IsVerdict, runs}
-use Rattle.core_rules.specs.Settling.{is_empty, Settles}
+use Rattle.core_definitions.specs.declared.event.Event.{Event}
+use Rattle.core_definitions.specs.declared.event.Event.TheVariants.{Send, Pick, Give, Take, Do, Arrive}
+use Rattle.core_definitions.specs.declared.verdict.Verdict.{Verdict}
+use Rattle.core_definitions.specs.declared.verdict.Verdict.TheVariants.{Keep, Rewind}
+use Rattle.core_definitions.specs.Batches.{Piece, of_text, of_ending, Batch, Halt, at, finishing, refusing, answer}
+use Rattle.core_definitions.specs.Verdict.{IsVerdict, runs}
+use Rattle.core_definitions.specs.Settling.{is_empty, Settles}
 
 -- ---- the state
 

@@ -4,10 +4,10 @@ use Rattle.html_types.specs.declared.script.Ending.{Ending}
 use Rattle.standard.specs.Entities.{Entities}
 use Rattle.standard.specs.Scripts.{Fetched}
 use Rattle.standard.specs.Serial.{World, fetched, Side}
-use Rattle.core_rules.specs.declared.event.Event.{Event}
-use Rattle.core_rules.specs.declared.event.Event.TheVariants.{Pick, Give, Take}
-use Rattle.core_rules.specs.Desk.{Phase, Desk, first_desk, pieces_with, MovesBy}
-use Rattle.core_rules.specs.Core.{Setup, Core, first_core, Runs}
+use Rattle.core_definitions.specs.declared.event.Event.{Event}
+use Rattle.core_definitions.specs.declared.event.Event.TheVariants.{Pick, Give, Take}
+use Rattle.core_definitions.specs.Desk.{Phase, Desk, first_desk, pieces_with, MovesBy}
+use Rattle.core_definitions.specs.Core.{Setup, Core, first_core, Runs}
 
 pub record Journal : Type 0 where
   -- the page's text, in the pieces in which it was read, and its ending where that was read
