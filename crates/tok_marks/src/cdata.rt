@@ -3,11 +3,11 @@
 ghost use Rattle.std.specs.Prelude.{◌≡◌, ◌∷◌, [], IfOk};
 ghost use Rattle.standard.specs.CdataStates as rows;
 ghost use Rattle.standard.specs.Step as steps;
-ghost use Rattle.char_class.specs.Steps.{Follows};
+ghost use Rattle.tok_rows.specs.Steps.{Follows};
 ghost use Rattle.html_types.specs.declared.token.Token.TheVariants.{Character};
 
-use char_class::next::{Transition, again, data_state, finish, to};
 use html_types::{CdataState, Class, MarkState, NoMemory, TokState, Token, Tokens};
+use tok_rows::next::{Transition, again, data_state, finish, to};
 
 /// The row of a state of CDATA sections.
 pub fn cdata_state_row(

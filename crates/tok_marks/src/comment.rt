@@ -3,12 +3,12 @@
 ghost use Rattle.std.specs.Prelude.{◌≡◌, ◌∷◌, ◌++◌, [], IfOk};
 ghost use Rattle.standard.specs.CommentStates as rows;
 ghost use Rattle.standard.specs.Step as steps;
-ghost use Rattle.char_class.specs.Steps.{Follows};
+ghost use Rattle.tok_rows.specs.Steps.{Follows};
 
-use char_class::next::{Transition, again, emit_comment, finish_after, to};
 use char_class::shown;
 use html_types::{Class, CommentState, MarkState, NoMemory, Text, TokState, Token, Tokens};
 use std::alloc::Global;
+use tok_rows::next::{Transition, again, emit_comment, finish_after, to};
 
 /// The row of a state of comments.
 pub fn comment_state_row(

@@ -4,18 +4,18 @@ ghost use Rattle.std.specs.Prelude.{◌≡◌, ◌||◌, ◌&&◌, IfOk, codes};
 ghost use Rattle.std.specs.Str.{chars};
 ghost use Rattle.standard.specs.Entities.{is_front};
 ghost use Rattle.standard.specs.MarkStates as rows;
-ghost use Rattle.char_class.specs.Steps.{Follows};
+ghost use Rattle.tok_rows.specs.Steps.{Follows};
 
 use crate::cdata::cdata_state_row;
 use crate::comment::comment_state_row;
 use crate::doctype::doctype_state_row;
-use char_class::next::{Transition, again, emit_comment, finish_after, to};
 use char_class::shown;
 use html_types::{
     CdataState, Class, CommentState, DoctypeState, MarkState, NoMemory, Text, TokState, Token,
     Tokens,
 };
 use std::alloc::Global;
+use tok_rows::next::{Transition, again, emit_comment, finish_after, to};
 
 /// One row: the next state, and the tokens that are emitted, added to `out`. `foreign` says that the adjusted current node
 /// isn't an HTML element. After NoMemory `out` holds any tokens.

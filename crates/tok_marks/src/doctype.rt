@@ -4,15 +4,15 @@ ghost use Rattle.std.specs.Prelude.{◌≡◌, ◌||◌, IfOk, codes};
 ghost use Rattle.standard.specs.Entities.{is_front};
 ghost use Rattle.standard.specs.DoctypeStates as rows;
 ghost use Rattle.standard.specs.Step as steps;
-ghost use Rattle.char_class.specs.Steps.{Follows};
+ghost use Rattle.tok_rows.specs.Steps.{Follows};
 
 use crate::declaration::begins;
 use char_class::name_char;
-use char_class::next::{Transition, again, emit, finish_after, to};
 use html_types::{
     Class, DoctypeState, MarkState, NoMemory, Quote, Text, TextState, TokState, Token, Tokens,
 };
 use std::alloc::Global;
+use tok_rows::next::{Transition, again, emit, finish_after, to};
 
 /// The row of a state of doctypes.
 pub fn doctype_state_row(

@@ -5,8 +5,8 @@ use Rattle.html_types.specs.declared.token.Token.{Token}
 use Rattle.html_types.specs.declared.class.Class.{Class}
 use Rattle.html_types.specs.declared.class.Class.TheVariants.{InputEnd}
 use Rattle.html_types.specs.declared.reference_state.ReturnState.{ReturnState}
-use Rattle.char_class.specs.declared.next.Transition.{Transition}
-use Rattle.char_class.specs.Steps.{Follows}
+use Rattle.tok_rows.specs.declared.next.Transition.{Transition}
+use Rattle.tok_rows.specs.Steps.{Follows}
 use Rattle.standard.specs.Entities.{Entities, begins_some, longest}
 use Rattle.standard.specs.ReferenceStates.{named_row, named_step}
 use Rattle.entity_table.specs.declared.cursor.Step.{Step}

@@ -2,14 +2,14 @@
 
 ghost use Rattle.std.specs.Prelude.{◌≡◌, ◌++◌, map, true, IfOk, OnOk};
 ghost use Rattle.std.specs.Str.{chars};
-ghost use Rattle.char_class.specs.Steps.{Follows};
+ghost use Rattle.tok_rows.specs.Steps.{Follows};
 ghost use Rattle.standard.specs.ReferenceStates as rows;
 ghost use Rattle.html_types.specs.declared.token.Token.TheVariants.{Character};
 
-use char_class::Transition;
 use html_types::{
     Attribute, NoMemory, RawText, ReturnState, TagState, TextState, TokState, Token, Tokens,
 };
+use tok_rows::Transition;
 
 // A token for each character.
 fn emit_characters(text: &str, out: &mut Tokens) -> Result<(), NoMemory>

@@ -2,7 +2,7 @@
 
 ghost use Rattle.std.specs.Prelude.{◌≡◌, ◌++◌, ◌&&◌, not, drop, Option, IfOk};
 ghost use Rattle.std.specs.Str.{chars};
-ghost use Rattle.char_class.specs.Steps.{Follows};
+ghost use Rattle.tok_rows.specs.Steps.{Follows};
 ghost use Rattle.standard.specs.Entities.{Entity, ends_in_semicolon};
 ghost use Rattle.standard.specs.ReferenceStates as rows;
 ghost use Rattle.entity_table.specs.Matches.{IsMatch, Tells};
@@ -10,10 +10,10 @@ ghost use Rattle.entity_table.specs.View.{characters_in};
 
 use crate::literal::literally;
 use char_class::class_of;
-use char_class::next::{Transition, to};
 use entity_table::{Characters, Cursor, Match, Step, Table};
 use html_types::{Class, NoMemory, ReferenceState, ReturnState, Text, TokState, Tokens};
 use std::alloc::Global;
+use tok_rows::next::{Transition, to};
 
 /// 13.2.5.73 Named character reference state
 pub fn named_row(

@@ -2,13 +2,13 @@
 
 ghost use Rattle.std.specs.Prelude.{◌≡◌, ◌+◌, ◌*◌, ◌≤◌, [], ◌∷◌, min, true, false, MatchOption, IfOk};
 ghost use Rattle.std.specs.Char.{is_digit};
-ghost use Rattle.char_class.specs.Steps.{Follows};
+ghost use Rattle.tok_rows.specs.Steps.{Follows};
 ghost use Rattle.standard.specs.ReferenceStates as rows;
 
 use crate::literal::{literally, put};
-use char_class::next::{Transition, again, to};
 use html_types::{Class, NoMemory, ReferenceState, ReturnState, Text, TokState, Tokens};
 use std::alloc::Global;
+use tok_rows::next::{Transition, again, to};
 
 // All codes beyond the last character stand as this one.
 const BEYOND: u32 = 0x11_0000;

@@ -1,16 +1,16 @@
 //! The rows of these states: what each does with a character of each class, or at the end of the input.
 
 ghost use Rattle.std.specs.Prelude.{IfOk};
-ghost use Rattle.char_class.specs.Steps.{Follows};
+ghost use Rattle.tok_rows.specs.Steps.{Follows};
 ghost use Rattle.standard.specs.ReferenceStates as rows;
 
 use crate::literal::literally;
 use crate::named::named_row;
 use crate::numeric::{decimal_row, hexadecimal_row, hexadecimal_start_row, numeric_row};
-use char_class::next::{Transition, again, to};
 use entity_table::Table;
 use html_types::{Class, NoMemory, ReferenceState, ReturnState, Text, TokState, Tokens};
 use std::alloc::Global;
+use tok_rows::next::{Transition, again, to};
 
 /// One row: the next state, and the tokens that are emitted, added to `out`. After NoMemory `out` holds any tokens.
 pub fn step(

@@ -2,19 +2,19 @@
 
 ghost use Rattle.std.specs.Prelude.{IfOk};
 ghost use Rattle.standard.specs.TagStates as rows;
-ghost use Rattle.char_class.specs.Steps.{Follows};
+ghost use Rattle.tok_rows.specs.Steps.{Follows};
 
 use crate::parts::{bare, fresh, longer_value, with_attribute, with_bare};
 use char_class::name_char;
-use char_class::next::{
-    Transition, again, data_state, emit_again, emit_tag, emit_tag_as, finish, finish_after,
-    new_tag, to,
-};
 use html_types::{
     Attribute, Class, MarkState, NoMemory, PartialTag, Quote, ReferenceState, ReturnState, TagKind,
     TagState, Text, TextState, TokState, Token, Tokens,
 };
 use std::alloc::Global;
+use tok_rows::next::{
+    Transition, again, data_state, emit_again, emit_tag, emit_tag_as, finish, finish_after,
+    new_tag, to,
+};
 
 /// One row: the next state, and the tokens that are emitted, added to `out`. After NoMemory `out` holds any tokens.
 pub fn step(

@@ -4,12 +4,12 @@ ghost use Rattle.std.specs.Prelude.{◌≡◌, IfOk, codes};
 ghost use Rattle.html_types.specs.Text.{same_text};
 ghost use Rattle.standard.specs.EscapeStates as rows;
 ghost use Rattle.standard.specs.Step as steps;
-ghost use Rattle.char_class.specs.Steps.{Follows};
+ghost use Rattle.tok_rows.specs.Steps.{Follows};
 
-use char_class::next::{Transition, again, emit, finish, to};
 use char_class::{name_char, shown};
 use html_types::{Class, NoMemory, RawText, Text, TextState, TokState, Token, Tokens, Word};
 use std::alloc::Global;
+use tok_rows::next::{Transition, again, emit, finish, to};
 
 /// Reconsumes the character in a state of text.
 fn again_in(state: TextState, out: &mut Tokens) -> Result<Transition, NoMemory>

@@ -2,20 +2,20 @@
 
 ghost use Rattle.std.specs.Prelude.{◌≡◌, IfOk, MatchOption, true, false};
 ghost use Rattle.standard.specs.TextStates as rows;
-ghost use Rattle.char_class.specs.Steps.{Follows};
+ghost use Rattle.tok_rows.specs.Steps.{Follows};
 
 use crate::escapes::{
     double_escape_end_row, double_escape_start_row, double_escaped_dash_dash_row,
     double_escaped_dash_row, double_escaped_less_than_row, double_escaped_row,
     escape_start_dash_row, escape_start_row, escaped_dash_dash_row, escaped_dash_row,
 };
-use char_class::next::{Transition, again, emit, emit_again, emit_tag, finish, new_tag, to};
 use char_class::shown;
 use html_types::{
     Class, NoMemory, PartialTag, RawText, ReferenceState, ReturnState, TagKind, TagState, Text,
     TextState, TokState, Token, Tokens, Word,
 };
 use std::alloc::Global;
+use tok_rows::next::{Transition, again, emit, emit_again, emit_tag, finish, new_tag, to};
 
 /// One row: the next state, and the tokens that are emitted, added to `out`. After NoMemory `out` holds any tokens.
 pub fn step(

@@ -4,8 +4,8 @@ use Rattle.html_types.specs.declared.memory.NoMemory.{NoMemory}
 use Rattle.html_types.specs.declared.token.Token.{Token}
 use Rattle.html_types.specs.declared.state.TokState.{TokState}
 use Rattle.html_types.specs.declared.class.Class.{Class}
-use Rattle.char_class.specs.declared.next.Transition.{Transition}
-use Rattle.char_class.specs.Steps.{Follows}
+use Rattle.tok_rows.specs.declared.next.Transition.{Transition}
+use Rattle.tok_rows.specs.Steps.{Follows}
 use Rattle.standard.specs.Entities.{Entities}
 use Rattle.standard.specs.Tokenizer.{Reached, row, settle}
 use Rattle.tokenizer_laws.proofs.SettleLemmas.{settle-again, settle-done}

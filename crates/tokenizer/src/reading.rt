@@ -1,17 +1,17 @@
 //! One character, or the end of the input: a row, closed under reconsuming.
 
 ghost use Rattle.std.specs.Prelude.{◌≡◌, ℕ, Bool, [], ◌∷◌, IfOk, IsTrue, MatchBool};
-ghost use Rattle.char_class.specs.Steps.{Follows};
+ghost use Rattle.tok_rows.specs.Steps.{Follows};
 ghost use Rattle.standard.specs.Entities.{Entities};
 ghost use Rattle.standard.specs.Step as steps;
 ghost use Rattle.standard.specs.Tokenizer as rows;
 ghost use Rattle.html_types.specs.declared.token.Token.TheVariants.{Character};
 ghost use Rattle.tokenizer.specs.Adds.{Adds};
 
-use char_class::Transition;
 use entity_table::Table;
 use html_types::{Class, NoMemory, TokState, Tokens};
 use std::alloc::Global;
+use tok_rows::Transition;
 
 /// How often one character is read at most; no row asks for more.
 pub const READINGS: u8 = 5;

@@ -1,7 +1,7 @@
 -- What code does, against a row.
 use Rattle.std.specs.Prelude.{◌≡◌, List, ◌++◌}
 use Rattle.html_types.specs.declared.token.Token.{Token}
-use Rattle.char_class.specs.declared.next.Transition.{Transition}
+use Rattle.tok_rows.specs.declared.next.Transition.{Transition}
 use Rattle.standard.specs.Step.{Step}
 
 -- the code did what the row says: the next state, whether the character is read again, and the tokens added at the end

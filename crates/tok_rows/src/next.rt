@@ -2,7 +2,7 @@
 
 ghost use Rattle.std.specs.Prelude.{◌≡◌, [], ◌∷◌, IfOk};
 ghost use Rattle.standard.specs.Step as steps;
-ghost use Rattle.char_class.specs.Steps.{Follows};
+ghost use Rattle.tok_rows.specs.Steps.{Follows};
 ghost use Rattle.html_types.specs.declared.token.Token.TheVariants.{Comment, EndOfFile};
 
 use html_types::{
