@@ -6,13 +6,13 @@ use Rattle.html_types.specs.Text.{same_text}
 use Rattle.html_types.specs.declared.operation.NodeId.{NodeId}
 use Rattle.html_types.specs.declared.instruction.Stop.TheVariants as stop
 use Rattle.html_types.specs.declared.instruction.Finish.TheVariants as finale
-use Rattle.html_types.specs.declared.script.Ending.{Ending}
-use Rattle.html_types.specs.declared.script.Why.TheVariants as why
+use Rattle.html_types.specs.declared.ending.Ending.{Ending}
+use Rattle.html_types.specs.declared.ending.Why.TheVariants as why
 use Rattle.standard.specs.Entities.{Entities}
 use Rattle.standard.specs.Act.{new_doc, acts}
 use Rattle.standard.specs.Parser.{Parser, new_parser}
-use Rattle.standard.specs.Scripts.{is_lawful}
-use Rattle.standard.specs.Serial.{World, Serial, Result, finished, refused, prepared, Moment, reading, tag_ended, awaits, over}
+use Rattle.serial.specs.Scripts.{is_lawful}
+use Rattle.serial.specs.Serial.{World, Serial, Result, finished, refused, prepared, Moment, reading, tag_ended, awaits, over}
 use Rattle.core_definitions.specs.declared.event.Event.{Event}
 use Rattle.core_definitions.specs.declared.event.Event.TheVariants.{Send, Pick, Give, Take, Do, Arrive}
 use Rattle.core_definitions.specs.declared.verdict.Verdict.{Verdict}

@@ -1,9 +1,9 @@
 -- What a run leaves behind, and its replay.
 use Rattle.std.specs.Prelude.{◌≡◌, ℕ, List, [], ◌∷◌, ◌++◌, Option, Some, None}
-use Rattle.html_types.specs.declared.script.Ending.{Ending}
+use Rattle.html_types.specs.declared.ending.Ending.{Ending}
 use Rattle.standard.specs.Entities.{Entities}
-use Rattle.standard.specs.Scripts.{Fetched}
-use Rattle.standard.specs.Serial.{World, fetched, Side}
+use Rattle.serial.specs.Scripts.{Fetched}
+use Rattle.serial.specs.Serial.{World, fetched, Side}
 use Rattle.core_definitions.specs.declared.event.Event.{Event}
 use Rattle.core_definitions.specs.declared.event.Event.TheVariants.{Pick, Give, Take}
 use Rattle.core_definitions.specs.Desk.{Phase, Desk, first_desk, pieces_with, MovesBy}

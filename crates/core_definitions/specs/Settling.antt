@@ -1,8 +1,8 @@
 -- How far a script that is in hand runs: until it has ended and all that was written is used, or another script is awaited.
 use Rattle.std.specs.Prelude.{◌≡◌, ℕ, Bool, true, false, List, [], ◌∷◌, Some}
-use Rattle.html_types.specs.declared.script.Ending.{Ending}
-use Rattle.html_types.specs.declared.script.Ending.TheVariants as ending
-use Rattle.standard.specs.Serial.{World, Moment, reading, tag_ended, awaits, over, moment_after}
+use Rattle.html_types.specs.declared.ending.Ending.{Ending}
+use Rattle.html_types.specs.declared.ending.Ending.TheVariants as ending
+use Rattle.serial.specs.Serial.{World, Moment, reading, tag_ended, awaits, over, moment_after}
 
 abbrev pub is_empty : {A : Type 0} → List A → Bool
 is_empty [] = true

@@ -2,7 +2,7 @@
 use Rattle.std.specs.Prelude.{◌≡◌, ℕ, List, [], ◌∷◌, ◌++◌}
 use Rattle.html_types.specs.declared.operation.NodeId.{NodeId}
 use Rattle.standard.specs.Act.{SameUpTo}
-use Rattle.standard.specs.Serial.{Serial, Moment, reading, tag_ended, awaits, over}
+use Rattle.serial.specs.Serial.{Serial, Moment, reading, tag_ended, awaits, over}
 use Rattle.rule_laws.specs.Naming.{rename_parser}
 use Rattle.core_definitions.specs.Batches.{Piece}
 use Rattle.core_definitions.specs.Desk.{Phase, free, tagged, waits, done, Desk}

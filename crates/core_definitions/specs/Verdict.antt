@@ -1,12 +1,12 @@
 -- Which scripts of a page leave what was parsed ahead of them standing, and which do not. That is told of the serial parse alone.
 use Rattle.std.specs.Prelude.{◌≡◌, ℕ, suc, nat_lt, nat_le, Bool, true, false, length, Option, Some, None}
-use Rattle.html_types.specs.declared.script.Ending.{Ending}
+use Rattle.html_types.specs.declared.ending.Ending.{Ending}
 use Rattle.core_definitions.specs.declared.verdict.Verdict.{Verdict}
 use Rattle.core_definitions.specs.declared.verdict.Verdict.TheVariants.{Keep, Rewind}
-use Rattle.standard.specs.Page.{Page}
+use Rattle.serial.specs.Page.{Page}
 use Rattle.standard.specs.Prepare.{Prepared, still, inline, external}
 use Rattle.standard.specs.Parser.{Parser, AreSame}
-use Rattle.standard.specs.Serial.{World, first, prepared, Moment, reading, tag_ended, awaits, over, Outcome, moment_after}
+use Rattle.serial.specs.Serial.{World, first, prepared, Moment, reading, tag_ended, awaits, over, Outcome, moment_after}
 
 -- The text behind a script's end tag was parsed from the state `held`, and the parser now stands at `now`: what was made of the text is
 -- kept exactly where these are the same, the next id aside.

@@ -2,7 +2,7 @@
 use Rattle.std.proofs.Common.{◌≡◌, ◌≤◌, ℕ, suc, ◌+◌, ◌*◌, List, length, Some, refl, sym, ◌∙◌, ap, arith}
 use Rattle.std.proofs.Math.Nat.{mul-suc}
 use Rattle.std.proofs.lemmas.Nat.{mul-le}
-use Rattle.standard.specs.Serial.{first, reading, over}
+use Rattle.serial.specs.Serial.{first, reading, over}
 use Rattle.core_definitions.specs.declared.event.Event.{Event}
 use Rattle.core_definitions.specs.Verdict.{first_watch}
 use Rattle.core_definitions.specs.Desk.{Desk, first_desk, pieces_with}

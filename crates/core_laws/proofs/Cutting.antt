@@ -3,7 +3,7 @@ use Rattle.std.proofs.Common.{◌≡◌, ◌≤◌, ◌⊎◌, inl, inr, ℕ, ze
 use Rattle.std.proofs.lemmas.List.{take-append-drop, length-drop, length-take, drop_all}
 use Rattle.html_types.specs.declared.instruction.Stop.{Stop}
 use Rattle.html_types.specs.declared.instruction.Stop.TheVariants as stop
-use Rattle.html_types.specs.declared.script.Ending.{Ending}
+use Rattle.html_types.specs.declared.ending.Ending.{Ending}
 use Rattle.standard.specs.Entities.{Entities}
 use Rattle.standard.specs.Parser.{Parser, Took, took, take_character, Parsed, and_rest, parse}
 use Rattle.core_definitions.specs.Batches.{Piece, Batch, text_batch, end_batch, Halt, at, finishing, refusing, Answered, and_behind, cut, and_ending, answer}

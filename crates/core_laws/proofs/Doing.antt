@@ -7,15 +7,15 @@ use Rattle.html_types.specs.declared.instruction.Stop.{Stop}
 use Rattle.html_types.specs.declared.instruction.Stop.TheVariants as stop
 use Rattle.html_types.specs.declared.instruction.Finish.{Finish}
 use Rattle.html_types.specs.declared.instruction.Finish.TheVariants as finale
-use Rattle.html_types.specs.declared.script.Ending.{Ending}
-use Rattle.html_types.specs.declared.script.Ending.TheVariants as ending
-use Rattle.html_types.specs.declared.script.Why.{Why}
-use Rattle.html_types.specs.declared.script.Why.TheVariants as why
+use Rattle.html_types.specs.declared.ending.Ending.{Ending}
+use Rattle.html_types.specs.declared.ending.Ending.TheVariants as ending
+use Rattle.html_types.specs.declared.ending.Why.{Why}
+use Rattle.html_types.specs.declared.ending.Why.TheVariants as why
 use Rattle.standard.specs.Entities.{Entities}
 use Rattle.standard.specs.Act.{Doc, is_bound, acts, SameUpTo}
 use Rattle.standard.specs.Parser.{Finished, finish, Parsed, parse, Parser}
 use Rattle.standard.specs.Prepare.{Prepared, still, inline, external}
-use Rattle.standard.specs.Serial.{World, Serial, Outcome, prepared, ended, Moment, reading, tag_ended, over, refusal, taken, after_script, unless_pending, moment_after}
+use Rattle.serial.specs.Serial.{World, Serial, Outcome, prepared, ended, Moment, reading, tag_ended, over, refusal, taken, after_script, unless_pending, moment_after}
 use Rattle.standard_laws.specs.Laws.{moment_at, outcome_at, ScriptComesTo}
 use Rattle.standard_laws.proofs.Batch.{moment_behind}
 use Rattle.standard_laws.proofs.Passing.{finished-at}

@@ -2,10 +2,10 @@
 use Rattle.std.proofs.Common.{◌≡◌, true≢false, ℕ, zero, suc, Bool, true, false, List, Option, Some, None, option_and_then, refl, sym, ◌∙◌, ap, arith}
 use Rattle.std.proofs.lemmas.Option.{none-some, same_Some}
 use Rattle.std.specs.Prelude.{IsTrue}
-use Rattle.html_types.specs.declared.script.Ending.{Ending}
-use Rattle.html_types.specs.declared.script.Ending.TheVariants as ending
+use Rattle.html_types.specs.declared.ending.Ending.{Ending}
+use Rattle.html_types.specs.declared.ending.Ending.TheVariants as ending
 use Rattle.standard.specs.Parser.{Parser}
-use Rattle.standard.specs.Serial.{World, Serial, first, Moment, reading, tag_ended, awaits, over, Outcome, moment_after, moments_on}
+use Rattle.serial.specs.Serial.{World, Serial, first, Moment, reading, tag_ended, awaits, over, Outcome, moment_after, moments_on}
 use Rattle.standard_laws.proofs.Total.{IsCleared, rank, over_from, total-from}
 use Rattle.core_definitions.specs.declared.event.Event.{Event}
 use Rattle.core_definitions.specs.declared.event.Event.TheVariants.{Send, Pick, Give, Take, Do, Arrive}

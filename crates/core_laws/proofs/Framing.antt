@@ -4,24 +4,24 @@ use Rattle.std.proofs.lemmas.List.{length-append, take-append-le, drop-append-le
 use Rattle.std.proofs.lemmas.Option.{none-some, same_Some}
 use Rattle.std.specs.Prelude.{unwrap_or}
 use Rattle.html_types.specs.declared.operation.NodeId.{NodeId}
-use Rattle.html_types.specs.declared.script.Ending.{Ending}
-use Rattle.html_types.specs.declared.script.Why.TheVariants as why
-use Rattle.html_types.specs.declared.script.Line.TheVariants as line
-use Rattle.html_types.specs.declared.script.Statement.{Statement}
-use Rattle.html_types.specs.declared.script.Statement.TheVariants as statement
+use Rattle.html_types.specs.declared.ending.Ending.{Ending}
+use Rattle.html_types.specs.declared.ending.Why.TheVariants as why
+use Rattle.serial.specs.declared.script.Line.TheVariants as line
+use Rattle.serial.specs.declared.script.Statement.{Statement}
+use Rattle.serial.specs.declared.script.Statement.TheVariants as statement
 use Rattle.html_types.specs.declared.instruction.Stop.{Stop}
 use Rattle.html_types.specs.declared.instruction.Stop.TheVariants as stop
 use Rattle.standard.specs.Entities.{Entities}
 use Rattle.standard.specs.Tree.{Nodes, detached, appended, find_id, first_element}
 use Rattle.standard.specs.Outer.{outer_text}
 use Rattle.standard.specs.Act.{Doc, acts, node_of}
-use Rattle.standard.specs.Statements.{statements}
-use Rattle.standard.specs.Scripts.{Fetched, got, missing, faulted, file_statements}
+use Rattle.serial.specs.Statements.{statements}
+use Rattle.serial.specs.Scripts.{Fetched, got, missing, faulted, file_statements}
 use Rattle.standard.specs.Prepare.{Prepared, still, inline, external, prepare}
 use Rattle.standard.specs.Parser.{Parser, Took, took, take_character, Parsed, parse}
 use Rattle.rule_laws.specs.Naming.{rename_parser, rename_ops, rename_stop, rename_took}
 use Rattle.standard_laws.specs.Laws.{executed}
-use Rattle.standard.specs.Serial.{World, fetched, Serial, Course, goes, refuses, starved, ◌then◌, advanced, advance, before_point, after_point, moved, tree_of, inside, back_at, with_line_feed, may_write, insert, awaiting, with_tree, remove, with_line, read, one_more_executed, prepared, execute, run_statements, on_element, on_move, write, go_on, stopped, end_of_script, run_prepared, Moment, reading, tag_ended, awaits, over, refusal, after_script, after_fetch, behind_script, unless_pending, read_next, after_character, moment_after}
+use Rattle.serial.specs.Serial.{World, fetched, Serial, Course, goes, refuses, starved, ◌then◌, advanced, advance, before_point, after_point, moved, tree_of, inside, back_at, with_line_feed, may_write, insert, awaiting, with_tree, remove, with_line, read, one_more_executed, prepared, execute, run_statements, on_element, on_move, write, go_on, stopped, end_of_script, run_prepared, Moment, reading, tag_ended, awaits, over, refusal, after_script, after_fetch, behind_script, unless_pending, read_next, after_character, moment_after}
 use Rattle.standard_laws.proofs.Parse.{advance-parse}
 use Rattle.rule_laws.proofs.RenamingTexts.{texts-renamed, characters-renamed}
 use Rattle.core_laws.specs.Alike.{own_of, behind, Okay, Both, ScriptsRename, AreAlike, MomentsRename, FetchesRename}

@@ -6,11 +6,11 @@ use Rattle.html_types.specs.declared.operation.NodeId.{NodeId}
 use Rattle.html_types.specs.declared.instruction.Stop.TheVariants as stop
 use Rattle.html_types.specs.declared.instruction.Finish.{Finish}
 use Rattle.html_types.specs.declared.instruction.Finish.TheVariants as finale
-use Rattle.html_types.specs.declared.script.Ending.{Ending}
-use Rattle.html_types.specs.declared.script.Ending.TheVariants as ending
+use Rattle.html_types.specs.declared.ending.Ending.{Ending}
+use Rattle.html_types.specs.declared.ending.Ending.TheVariants as ending
 use Rattle.standard.specs.Entities.{Entities}
 use Rattle.standard.specs.Parser.{finish, Parser}
-use Rattle.standard.specs.Serial.{World, Serial, prepared, Moment, reading, tag_ended, awaits, over}
+use Rattle.serial.specs.Serial.{World, Serial, prepared, Moment, reading, tag_ended, awaits, over}
 use Rattle.core_definitions.specs.declared.verdict.Verdict.TheVariants.{Keep, Rewind}
 use Rattle.core_definitions.specs.Batches.{Piece, Batch, Halt, at, finishing, refusing, answer, end_batch}
 use Rattle.core_definitions.specs.Verdict.{runs}

@@ -2,10 +2,10 @@
 use Rattle.std.proofs.Common.{◌≡◌, ◌≢◌, ◌<◌, ℕ, suc, ◌+◌, List, [], ◌++◌, length, Some, None, sym, ◌∙◌, ap, arith}
 use Rattle.html_types.specs.Operations.{later}
 use Rattle.html_types.specs.declared.operation.NodeId.{NodeId}
-use Rattle.html_types.specs.declared.script.Ending.{Ending}
+use Rattle.html_types.specs.declared.ending.Ending.{Ending}
 use Rattle.standard.specs.Act.{Doc}
 use Rattle.standard.specs.Parser.{Parser}
-use Rattle.standard.specs.Serial.{World, Serial, Moment, reading}
+use Rattle.serial.specs.Serial.{World, Serial, Moment, reading}
 use Rattle.rule_laws.specs.Naming.{rename_parser}
 use Rattle.core_definitions.specs.Verdict.{Watch, Watches}
 use Rattle.core_definitions.specs.Desk.{Phase, free, tagged, waits, done, Desk}

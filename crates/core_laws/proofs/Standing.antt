@@ -5,7 +5,7 @@ use Rattle.std.specs.Prelude.{not}
 use Rattle.html_types.specs.declared.operation.NodeId.{NodeId}
 use Rattle.standard.specs.Act.{Doc, new_doc}
 use Rattle.standard.specs.Parser.{new_parser}
-use Rattle.standard.specs.Serial.{World, Serial, first, Moment, reading, tag_ended, awaits, over, Result, Outcome, Passes}
+use Rattle.serial.specs.Serial.{World, Serial, first, Moment, reading, tag_ended, awaits, over, Result, Outcome, Passes}
 use Rattle.standard_laws.specs.Laws.{GoesOnFrom, lines_of}
 use Rattle.standard_laws.proofs.Passing.{passes-over}
 use Rattle.standard_laws.proofs.Fuel.{one_outcome}

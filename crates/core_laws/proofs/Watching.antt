@@ -1,12 +1,12 @@
 -- How what is known of a page's scripts goes on along the serial parse.
 use Rattle.std.proofs.Common.{◌≡◌, ◌≤◌, ◌<◌, ℕ, suc, nat_le, nat_lt, Bool, true, false, List, [], ◌∷◌, ◌++◌, length, drop, Option, Some, None, refl, subst, sym, ap, arith}
 use Rattle.html_types.specs.declared.operation.NodeId.{NodeId}
-use Rattle.html_types.specs.declared.script.Ending.{Ending}
+use Rattle.html_types.specs.declared.ending.Ending.{Ending}
 use Rattle.html_types.specs.declared.instruction.Stop.TheVariants as stop
 use Rattle.standard.specs.Act.{Doc, acts}
 use Rattle.standard.specs.Parser.{Parser, Took, took, take_character, Parsed, and_rest, parse}
-use Rattle.standard.specs.Serial.{World, Serial, Moment, reading, tag_ended, awaits, over, prepared, taken, moment_after, Leads}
-use Rattle.standard.specs.Serial as serial
+use Rattle.serial.specs.Serial.{World, Serial, Moment, reading, tag_ended, awaits, over, prepared, taken, moment_after, Leads}
+use Rattle.serial.specs.Serial as serial
 use Rattle.standard_laws.specs.Laws.{moment_at}
 use Rattle.standard_laws.proofs.Parse.{acts-append}
 use Rattle.standard_laws.proofs.Batch.{moment_behind}

@@ -1,11 +1,11 @@
 -- Two states of the serial parse that are one: the second has its ids renamed, and hasn't the page's rest behind its input.
 use Rattle.std.specs.Prelude.{None, ◌≡◌, ℕ, ◌+◌, false, List, ◌++◌, length, Some, IsTrue}
 use Rattle.html_types.specs.declared.operation.NodeId.{NodeId}
-use Rattle.html_types.specs.declared.script.Ending.{Ending}
+use Rattle.html_types.specs.declared.ending.Ending.{Ending}
 use Rattle.standard.specs.Act.{Doc, is_bound, SameUpTo}
 use Rattle.standard.specs.Parser.{Parser}
 use Rattle.rule_laws.specs.Naming.{Serves, CameBefore, Renames, rename_parser}
-use Rattle.standard.specs.Serial.{World, Serial, Course, goes, refuses, starved, Moment, reading, tag_ended, awaits, over, Outcome, end_of_script, moment_after}
+use Rattle.serial.specs.Serial.{World, Serial, Course, goes, refuses, starved, Moment, reading, tag_ended, awaits, over, Outcome, end_of_script, moment_after}
 use Rattle.core_definitions.specs.Settling.{is_settled}
 
 -- the state with its ids renamed, over this document

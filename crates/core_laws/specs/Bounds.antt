@@ -1,6 +1,6 @@
 -- How many requests are sent, and how many replies are dropped.
 use Rattle.std.specs.Prelude.{◌≡◌, ◌≤◌, ◌+◌, ◌*◌, ℕ, List, length}
-use Rattle.standard.specs.Serial.{Moment}
+use Rattle.serial.specs.Serial.{Moment}
 use Rattle.core_definitions.specs.declared.event.Event.{Event}
 use Rattle.core_definitions.specs.Verdict.{Watch, IsKnownAt, AreVerdicts}
 use Rattle.core_definitions.specs.Desk.{Desk, outstanding}

@@ -1,6 +1,6 @@
 -- What is claimed of the core, for every list of enabled events of both sides.
 use Rattle.std.specs.Prelude.{◌≡◌, ◌<◌, ℕ, false, IsTrue, List}
-use Rattle.standard.specs.Serial.{Moment, Result, Outcome, IsSerial, Passes, Leads}
+use Rattle.serial.specs.Serial.{Moment, Result, Outcome, IsSerial, Passes, Leads}
 use Rattle.standard_laws.specs.Laws.{GoesOnFrom}
 use Rattle.core_definitions.specs.declared.event.Event.{Event}
 use Rattle.core_definitions.specs.declared.event.Event.TheVariants.{Arrive}

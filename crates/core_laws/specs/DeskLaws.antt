@@ -1,6 +1,6 @@
 -- What is claimed of the document's side, for every list of enabled events.
 use Rattle.std.specs.Prelude.{◌≡◌, ℕ, ◌+◌, List, Some}
-use Rattle.standard.specs.Serial.{World, Moment, Result, Outcome, IsSerial, Passes, Leads}
+use Rattle.serial.specs.Serial.{World, Moment, Result, Outcome, IsSerial, Passes, Leads}
 use Rattle.standard_laws.specs.Laws.{GoesOnFrom}
 use Rattle.core_definitions.specs.declared.event.Event.{Event}
 use Rattle.core_definitions.specs.Batches.{Piece}

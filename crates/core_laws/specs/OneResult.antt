@@ -1,7 +1,7 @@
 -- A verdict, and an event of the document's side, come to one result.
 use Rattle.std.specs.Prelude.{◌≡◌, ℕ}
 use Rattle.standard.specs.Parser.{Parser}
-use Rattle.standard.specs.Serial.{World, Moment}
+use Rattle.serial.specs.Serial.{World, Moment}
 use Rattle.core_definitions.specs.declared.event.Event.{Event}
 use Rattle.core_definitions.specs.declared.verdict.Verdict.{Verdict}
 use Rattle.core_definitions.specs.Verdict.{IsVerdict}

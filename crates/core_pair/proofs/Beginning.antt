@@ -1,8 +1,8 @@
 -- What a pair holds before any event.
 use Rattle.std.proofs.Common.{◌≡◌, ℕ, List, [], ◌∷◌, ◌++◌, append-nil, append_assoc, Some, None, refl, sym, ◌∙◌, ap}
-use Rattle.html_types.specs.declared.script.Ending.{Ending}
+use Rattle.html_types.specs.declared.ending.Ending.{Ending}
 use Rattle.standard.specs.Entities.{Entities}
-use Rattle.standard.specs.Scripts.{Fetched}
+use Rattle.serial.specs.Scripts.{Fetched}
 use Rattle.core_definitions.specs.declared.event.Event.{Event}
 use Rattle.core_definitions.specs.Batches.{Piece, of_text, of_ending}
 use Rattle.core_definitions.specs.Desk.{first_desk, pieces_with}

@@ -1,6 +1,6 @@
 -- What is known of a pair is kept over its events, and after want of memory.
 use Rattle.std.proofs.Common.{◌≡◌, Bool, true, false, true≢false, List, refl, sym, ◌∙◌, ap, subst}
-use Rattle.html_types.specs.declared.script.Line.{Line}
+use Rattle.serial.specs.declared.script.Line.{Line}
 use Rattle.standard.specs.Entities.{Entities}
 use Rattle.core_definitions.specs.declared.event.Event.{Event}
 use Rattle.core_pair.specs.Pairs.{Paired, stepped, paired_of, IsRun, IsKept}

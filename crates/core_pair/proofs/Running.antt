@@ -5,11 +5,11 @@ use Rattle.std.specs.Prelude.{IsTrue, not, is_some, if◌then◌else◌}
 use Rattle.html_types.specs.declared.operation.NodeId.{NodeId}
 use Rattle.html_types.specs.declared.instruction.Stop.TheVariants as stop
 use Rattle.html_types.specs.declared.instruction.Finish.TheVariants as finale
-use Rattle.html_types.specs.declared.script.Ending.{Ending}
+use Rattle.html_types.specs.declared.ending.Ending.{Ending}
 use Rattle.standard.specs.Entities.{Entities}
 use Rattle.standard.specs.Parser.{Parser}
-use Rattle.standard.specs.Scripts.{Fetched, is_lawful}
-use Rattle.standard.specs.Serial.{World, prepared, fetched, fetched_if, Moment, reading, tag_ended, awaits, over}
+use Rattle.serial.specs.Scripts.{Fetched, is_lawful}
+use Rattle.serial.specs.Serial.{World, prepared, fetched, fetched_if, Moment, reading, tag_ended, awaits, over}
 use Rattle.core_definitions.specs.declared.event.Event.{Event}
 use Rattle.core_definitions.specs.declared.event.Event.TheVariants.{Send, Pick, Give, Take, Do, Arrive}
 use Rattle.core_definitions.specs.declared.verdict.Verdict.TheVariants.{Keep, Rewind}

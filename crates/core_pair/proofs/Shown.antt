@@ -3,7 +3,7 @@ use Rattle.std.proofs.Common.{◌≡◌, true≢false, ℕ, true, false, List, r
 use Rattle.std.specs.Prelude.{not, ◌&&◌}
 use Rattle.html_types.specs.declared.operation.NodeId.{NodeId}
 use Rattle.standard.specs.Act.{Doc, SameUpTo}
-use Rattle.standard.specs.Serial.{Serial, Moment, reading, tag_ended, awaits, over}
+use Rattle.serial.specs.Serial.{Serial, Moment, reading, tag_ended, awaits, over}
 use Rattle.core_definitions.specs.declared.event.Event.{Event}
 use Rattle.core_definitions.specs.declared.event.Event.TheVariants.{Send, Pick, Give, Take, Do, Arrive}
 use Rattle.core_definitions.specs.Settling.{is_empty}

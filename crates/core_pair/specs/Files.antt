@@ -1,6 +1,6 @@
 -- The files of scripts.
 use Rattle.std.specs.Prelude.{ℕ, List, [], ◌∷◌}
-use Rattle.standard.specs.Scripts.{Fetched}
+use Rattle.serial.specs.Scripts.{Fetched}
 use Rattle.core_steps.specs.declared.fetch.FetchedFile.{FetchedFile}
 use Rattle.core_steps.specs.Fetches.{fetched_of}
 

@@ -1,6 +1,6 @@
 -- What holds of a pair, whatever events were taken and in whatever order.
 use Rattle.std.specs.Prelude.{◌≡◌, ◌≤◌, ◌+◌, ℕ, Bool, true, false, List, ◌++◌}
-use Rattle.standard.specs.Serial.{Moment, Result, Outcome, IsSerial, Passes, Leads}
+use Rattle.serial.specs.Serial.{Moment, Result, Outcome, IsSerial, Passes, Leads}
 use Rattle.standard_laws.specs.Laws.{GoesOnFrom}
 use Rattle.core_definitions.specs.declared.event.Event.{Event}
 use Rattle.core_definitions.specs.Verdict.{Watch, IsKnownAt, AreVerdicts}

@@ -1,10 +1,10 @@
 -- A pair of both sides: what it shows, and what an event makes of it.
 use Rattle.std.specs.Prelude.{◌≡◌, ◌<◌, ℕ, Bool, false, ◌||◌, is_some, IsTrue, if◌then◌else◌, List, [], ◌∷◌, ◌++◌, Some, None}
 use Rattle.std.specs.declared.snapshot.Snapshot.{Snapshot}
-use Rattle.html_types.specs.declared.script.Line.{Line}
-use Rattle.html_types.specs.declared.script.Ending.{Ending}
+use Rattle.serial.specs.declared.script.Line.{Line}
+use Rattle.html_types.specs.declared.ending.Ending.{Ending}
 use Rattle.standard.specs.Entities.{Entities}
-use Rattle.standard.specs.Scripts.{Fetched}
+use Rattle.serial.specs.Scripts.{Fetched}
 use Rattle.core_definitions.specs.declared.event.Event.{Event}
 use Rattle.core_definitions.specs.declared.event.Event.TheVariants.{Send, Pick, Give, Take, Do, Arrive}
 use Rattle.core_definitions.specs.Desk.{Desk, can_send, can_do, can_arrive, wants_reply, takes, arrives}

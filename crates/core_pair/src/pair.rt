@@ -12,8 +12,9 @@ ghost use Rattle.core_pair.specs.Pairs.{setup_of, first_paired, StepsShown, step
 use crate::both::Both;
 use crate::setup::Setup;
 use core_steps::{Event, Journal, State};
-use html_types::{Lines, NoMemory};
+use html_types::NoMemory;
 use op_exec::Doc;
+use serial::Lines;
 use speculation::InForce;
 use std::alloc::Global;
 use std::marker::Model;

@@ -20,7 +20,7 @@ pub struct Scripts {
 
 impl Model for Scripts {
     ghost use Rattle.std.specs.Prelude.{List, ℕ};
-    ghost use Rattle.standard.specs.Scripts.{Fetched};
+    ghost use Rattle.serial.specs.Scripts.{Fetched};
 
     ghost Value = { List (List ℕ × Fetched) };
 

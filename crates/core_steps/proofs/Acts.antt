@@ -4,13 +4,13 @@ use Rattle.std.proofs.Math.Seq.{drop-append_seam}
 use Rattle.html_types.specs.declared.operation.NodeId.{NodeId}
 use Rattle.html_types.specs.declared.instruction.Stop.TheVariants as stop
 use Rattle.html_types.specs.declared.instruction.Finish.TheVariants as finale
-use Rattle.html_types.specs.declared.script.Why.{Why}
-use Rattle.html_types.specs.declared.script.Why.TheVariants as why
-use Rattle.html_types.specs.declared.script.Line.{Line}
+use Rattle.html_types.specs.declared.ending.Why.{Why}
+use Rattle.html_types.specs.declared.ending.Why.TheVariants as why
+use Rattle.serial.specs.declared.script.Line.{Line}
 use Rattle.standard.specs.Parser.{Parser}
 use Rattle.standard.specs.Entities.{Entities}
-use Rattle.standard.specs.Scripts.{Fetched, got, missing, faulted, file_statements}
-use Rattle.standard.specs.Serial.{World, fetched, Serial, Moment, reading, tag_ended, awaits, over, refused, prepared}
+use Rattle.serial.specs.Scripts.{Fetched, got, missing, faulted, file_statements}
+use Rattle.serial.specs.Serial.{World, fetched, Serial, Moment, reading, tag_ended, awaits, over, refused, prepared}
 use Rattle.core_definitions.specs.declared.verdict.Verdict.{Verdict}
 use Rattle.core_definitions.specs.declared.verdict.Verdict.TheVariants.{Keep, Rewind}
 use Rattle.core_definitions.specs.Batches.{Batch, Halt, at, finishing, refusing, answer}

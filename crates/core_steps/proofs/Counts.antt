@@ -1,6 +1,6 @@
 -- Two states of one run count the same.
 use Rattle.std.proofs.Common.{◌≡◌, ap}
-use Rattle.standard.specs.Serial.{Side, Result, finished, refused}
+use Rattle.serial.specs.Serial.{Side, Result, finished, refused}
 use Rattle.core_steps.specs.Sides.{CountsAlike}
 
 pub counts-same : (r : Result) (a b : Side) → a ≡ b → CountsAlike r a b

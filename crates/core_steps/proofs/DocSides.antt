@@ -1,9 +1,9 @@
 -- What the document's side keeps: over its events, and after want of memory.
 use Rattle.std.proofs.Common.{◌≡◌, ℕ, Bool, true, false, true≢false, List, [], ◌∷◌, ◌++◌, Option, Some, None, refl, sym, ◌∙◌, ap, subst, IsTrue}
 use Rattle.std.specs.Prelude.{not, ◌&&◌, ◌||◌, if◌then◌else◌}
-use Rattle.html_types.specs.declared.script.Line.{Line}
+use Rattle.serial.specs.declared.script.Line.{Line}
 use Rattle.core_definitions.specs.declared.event.Event.TheVariants.{Do}
-use Rattle.standard.specs.Scripts.{is_lawful}
+use Rattle.serial.specs.Scripts.{is_lawful}
 use Rattle.core_definitions.specs.Desk.{Phase, free, tagged, waits, done, Desk, is_among, has_arrived, can_do, can_arrive}
 use Rattle.core_definitions.specs.Journal.{Journal}
 use Rattle.core_steps.specs.declared.side.Side.{Side}

@@ -10,7 +10,7 @@ use Rattle.std.proofs.lemmas.List.{take-append-drop}
 use Rattle.html_types.specs.Text.{same_text}
 use Rattle.standard.specs.Entities.{Entities}
 use Rattle.standard.specs.Parser.{Parser}
-use Rattle.standard.specs.Scripts.{Fetched, is_lawful}
+use Rattle.serial.specs.Scripts.{Fetched, is_lawful}
 use Rattle.core_definitions.specs.Batches.{Piece, Batch, answer}
 use Rattle.core_definitions.specs.Core.{Request, request_for, joined}
 use Rattle.core_definitions.specs.Desk.{Desk, wants_reply, can_do, is_among, sends, sends_first, takes, with_batches, answer_called_for, drops}

@@ -5,7 +5,7 @@ use Rattle.std.proofs.lemmas.Str.{IsUtf8-take, chars-append}
 use Rattle.std.proofs.lemmas.List.{take-append-drop}
 use Rattle.html_types.specs.declared.instruction.Stop.{Stop}
 use Rattle.html_types.specs.declared.instruction.Stop.TheVariants as stop
-use Rattle.html_types.specs.declared.script.Ending.{Ending}
+use Rattle.html_types.specs.declared.ending.Ending.{Ending}
 use Rattle.standard.specs.Act.{Doc, acts, is_bound}
 use Rattle.standard.specs.Entities.{Entities}
 use Rattle.standard.specs.Parser.{Parser, Parsed, parse}

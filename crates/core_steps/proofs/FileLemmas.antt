@@ -10,9 +10,9 @@ use Rattle.std.proofs.lemmas.Bool.Decides.{nat_tests}
 use Rattle.std.proofs.lemmas.Bool.{lt-leb, le-leb, leb-true, leb-false}
 use Rattle.std.proofs.lemmas.List.{take_all}
 use Rattle.std.proofs.lemmas.Str.{encodes-chars, encode_ascii, is_utf8-from_IsUtf8, IsUtf8-from_is_utf8}
-use Rattle.standard.specs.Page.{without_mark}
-use Rattle.standard.specs.Scripts.{is_name_character, is_lawful, statements_if, script_limit, file_statements}
-use Rattle.standard.specs.Statements.{string_value, string_between, statement, statements}
+use Rattle.serial.specs.Page.{without_mark}
+use Rattle.serial.specs.Scripts.{is_name_character, is_lawful, statements_if, script_limit, file_statements}
+use Rattle.serial.specs.Statements.{string_value, string_between, statement, statements}
 
 -- ---- names
 

@@ -5,8 +5,8 @@ use Rattle.std.proofs.lemmas.List.{take-append-drop, append_cancel_left}
 use Rattle.html_types.specs.declared.operation.NodeId.{NodeId}
 use Rattle.html_types.specs.declared.instruction.Stop.{Stop}
 use Rattle.html_types.specs.declared.instruction.Stop.TheVariants as stop
-use Rattle.html_types.specs.declared.script.Ending.{Ending}
-use Rattle.html_types.specs.declared.script.Ending.TheVariants as ending
+use Rattle.html_types.specs.declared.ending.Ending.{Ending}
+use Rattle.html_types.specs.declared.ending.Ending.TheVariants as ending
 use Rattle.standard.specs.Act.{Doc, acts, is_bound, AreOpsBound}
 use Rattle.standard.specs.Entities.{Entities}
 use Rattle.standard.specs.Parser.{Parser, Took, took, take_character, Parsed, and_rest, parse}

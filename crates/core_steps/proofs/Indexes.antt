@@ -12,7 +12,7 @@ use Rattle.std.specs.Str.{chars, bytes_eq, IsUtf8}
 use Rattle.std.proofs.lemmas.List.{reverse-append}
 use Rattle.html_types.specs.Text.{same_text}
 use Rattle.html_types.proofs.TextLemmas.{same_text-chars}
-use Rattle.standard.specs.Scripts.{Fetched}
+use Rattle.serial.specs.Scripts.{Fetched}
 use Rattle.core_steps.specs.declared.fetch.Fetch.{Fetch}
 use Rattle.core_steps.specs.declared.fetch.FetchedFile.{FetchedFile}
 use Rattle.core_steps.specs.Fetches.{fetched_of, fetches_of}

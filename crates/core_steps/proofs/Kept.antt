@@ -4,10 +4,10 @@ use Rattle.std.specs.Prelude.{not, ◌&&◌, ◌||◌, if◌then◌else◌}
 use Rattle.std.proofs.lemmas.Bool.{and_parts}
 use Rattle.std.specs.Cmp.Lexicographic.{bytes_decides}
 use Rattle.html_types.specs.Text.{same_text}
-use Rattle.html_types.specs.declared.script.Ending.{Ending}
+use Rattle.html_types.specs.declared.ending.Ending.{Ending}
 use Rattle.standard.specs.Entities.{Entities}
-use Rattle.standard.specs.Scripts.{Fetched, missing, is_lawful}
-use Rattle.standard.specs.Serial.{World, Result, fetched, fetched_if}
+use Rattle.serial.specs.Scripts.{Fetched, missing, is_lawful}
+use Rattle.serial.specs.Serial.{World, Result, fetched, fetched_if}
 use Rattle.core_definitions.specs.declared.event.Event.{Event}
 use Rattle.core_definitions.specs.declared.event.Event.TheVariants.{Send, Take, Do, Arrive}
 use Rattle.core_definitions.specs.Batches.{Piece, of_text, of_ending}

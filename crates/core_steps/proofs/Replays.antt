@@ -2,10 +2,10 @@
 use Rattle.std.proofs.Common.{◌≡◌, ℕ, Bool, true, false, true≢false, List, [], ◌∷◌, ◌++◌, Option, Some, None, refl, sym, ◌∙◌, ap, subst, IsTrue}
 use Rattle.std.specs.Prelude.{not, ◌||◌, if◌then◌else◌}
 use Rattle.html_types.specs.Text.{same_text}
-use Rattle.html_types.specs.declared.script.Ending.{Ending}
+use Rattle.html_types.specs.declared.ending.Ending.{Ending}
 use Rattle.standard.specs.Entities.{Entities}
-use Rattle.standard.specs.Scripts.{Fetched, missing, is_lawful}
-use Rattle.standard.specs.Serial.{World, fetched, fetched_if}
+use Rattle.serial.specs.Scripts.{Fetched, missing, is_lawful}
+use Rattle.serial.specs.Serial.{World, fetched, fetched_if}
 use Rattle.core_definitions.specs.declared.event.Event.{Event}
 use Rattle.core_definitions.specs.Batches.{Piece, of_text, of_ending}
 use Rattle.core_definitions.specs.Desk.{Desk, first_desk, pieces_with, with_more, Moves, MovesBy, is_among, has_arrived}

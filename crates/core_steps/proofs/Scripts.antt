@@ -3,11 +3,11 @@ use Rattle.std.proofs.Common.{◌≡◌, ◌≤◌, ◌+◌, ◌<◌, ℕ, suc, 
 use Rattle.std.specs.Prelude.{◌≢◌}
 use Rattle.std.proofs.lemmas.Option.{none-some}
 use Rattle.html_types.specs.declared.operation.NodeId.{NodeId}
-use Rattle.html_types.specs.declared.script.Statement.{Statement}
-use Rattle.html_types.specs.declared.script.Why.TheVariants as why
+use Rattle.serial.specs.declared.script.Statement.{Statement}
+use Rattle.html_types.specs.declared.ending.Why.TheVariants as why
 use Rattle.standard.specs.Act.{is_bound}
 use Rattle.standard.specs.Parser.{Parser}
-use Rattle.standard.specs.Scripts.{Fetched, got, missing, faulted, file_statements}
+use Rattle.serial.specs.Scripts.{Fetched, got, missing, faulted, file_statements}
 use Rattle.write_parser.specs.declared.left.Left.{Left}
 use Rattle.write_parser.specs.declared.left.Left.TheVariants as left
 use Rattle.write_parser.specs.Writing.{View, AtTag, LeadsTo, LeftIs, Feeds, HasRun, HasMissed, left_to_do}

@@ -1,13 +1,13 @@
 -- From the moments through which a writer's calls lead to the moment at which a script in hand settles.
 use Rattle.std.proofs.Common.{◌≡◌, ℕ, true, false, List, [], ◌∷◌, ◌++◌, Option, Some, None, refl, sym, ◌∙◌, ap, subst, append_assoc}
 use Rattle.html_types.specs.declared.operation.NodeId.{NodeId}
-use Rattle.html_types.specs.declared.script.Ending.TheVariants as ending
-use Rattle.html_types.specs.declared.script.Why.{Why}
-use Rattle.html_types.specs.declared.script.Why.TheVariants as why
-use Rattle.html_types.specs.declared.script.Line.{Line}
-use Rattle.html_types.specs.declared.script.Line.TheVariants as line
-use Rattle.standard.specs.Scripts.{Fetched, got, missing, faulted, file_statements}
-use Rattle.standard.specs.Serial.{World, fetched, Serial, Course, goes, refuses, starved, with_line, awaiting, run_text, Moment, reading, tag_ended, awaits, over, refusal, after_script, after_fetch, moment_after}
+use Rattle.html_types.specs.declared.ending.Ending.TheVariants as ending
+use Rattle.html_types.specs.declared.ending.Why.{Why}
+use Rattle.html_types.specs.declared.ending.Why.TheVariants as why
+use Rattle.serial.specs.declared.script.Line.{Line}
+use Rattle.serial.specs.declared.script.Line.TheVariants as line
+use Rattle.serial.specs.Scripts.{Fetched, got, missing, faulted, file_statements}
+use Rattle.serial.specs.Serial.{World, fetched, Serial, Course, goes, refuses, starved, with_line, awaiting, run_text, Moment, reading, tag_ended, awaits, over, refusal, after_script, after_fetch, moment_after}
 use Rattle.standard_laws.specs.Laws.{EndsIn}
 use Rattle.core_definitions.specs.Settling.{is_settled, Through, here, onward, Settles}
 use Rattle.moment_laws.proofs.Through.{goes-on, through-settles}

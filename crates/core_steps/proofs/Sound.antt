@@ -5,16 +5,16 @@ use Rattle.std.proofs.lemmas.Bool.{and_parts}
 use Rattle.html_types.specs.declared.operation.NodeId.{NodeId}
 use Rattle.html_types.specs.declared.instruction.Stop.TheVariants as stop
 use Rattle.html_types.specs.declared.instruction.Finish.TheVariants as finale
-use Rattle.html_types.specs.declared.script.Ending.{Ending}
-use Rattle.html_types.specs.declared.script.Ending.TheVariants as ending
-use Rattle.html_types.specs.declared.script.Why.{Why}
-use Rattle.html_types.specs.declared.script.Why.TheVariants as why
-use Rattle.html_types.specs.declared.script.Line.{Line}
+use Rattle.html_types.specs.declared.ending.Ending.{Ending}
+use Rattle.html_types.specs.declared.ending.Ending.TheVariants as ending
+use Rattle.html_types.specs.declared.ending.Why.{Why}
+use Rattle.html_types.specs.declared.ending.Why.TheVariants as why
+use Rattle.serial.specs.declared.script.Line.{Line}
 use Rattle.standard.specs.Act.{Doc, is_bound}
 use Rattle.standard.specs.Entities.{Entities}
 use Rattle.standard.specs.Parser.{Parser}
-use Rattle.standard.specs.Scripts.{Fetched, got, missing, faulted, is_lawful, file_statements}
-use Rattle.standard.specs.Serial.{World, Serial, Course, Moment, reading, tag_ended, awaits, over, moment_after, Leads, after_fetch, after_script, run_text}
+use Rattle.serial.specs.Scripts.{Fetched, got, missing, faulted, is_lawful, file_statements}
+use Rattle.serial.specs.Serial.{World, Serial, Course, Moment, reading, tag_ended, awaits, over, moment_after, Leads, after_fetch, after_script, run_text}
 use Rattle.rule_laws.specs.Naming.{Serves, AreFresh}
 use Rattle.core_definitions.specs.declared.verdict.Verdict.{Verdict}
 use Rattle.core_definitions.specs.declared.verdict.Verdict.TheVariants.{Keep, Rewind}

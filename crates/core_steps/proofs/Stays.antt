@@ -3,8 +3,8 @@ use Rattle.std.proofs.Common.{◌≡◌, ◌≤◌, ◌+◌, ℕ, suc, nat_lt, B
 use Rattle.std.specs.Prelude.{◌&&◌}
 use Rattle.std.specs.declared.snapshot.Snapshot.{Snapshot}
 use Rattle.std.proofs.lemmas.Bool.{and_parts, false≢true}
-use Rattle.html_types.specs.declared.script.Ending.{Ending}
-use Rattle.html_types.specs.declared.script.Line.{Line}
+use Rattle.html_types.specs.declared.ending.Ending.{Ending}
+use Rattle.serial.specs.declared.script.Line.{Line}
 use Rattle.standard.specs.Entities.{Entities}
 use Rattle.standard.specs.Parser.{Parser, new_parser}
 use Rattle.core_definitions.specs.Batches.{Piece, Batch, answer}

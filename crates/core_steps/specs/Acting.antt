@@ -4,12 +4,12 @@ use Rattle.std.specs.Str.{chars, IsUtf8}
 use Rattle.html_types.specs.declared.operation.NodeId.{NodeId}
 use Rattle.html_types.specs.declared.instruction.Stop.TheVariants as stop
 use Rattle.html_types.specs.declared.instruction.Finish.TheVariants as finale
-use Rattle.html_types.specs.declared.script.Why.{Why}
-use Rattle.html_types.specs.declared.script.Why.TheVariants as why
+use Rattle.html_types.specs.declared.ending.Why.{Why}
+use Rattle.html_types.specs.declared.ending.Why.TheVariants as why
 use Rattle.standard.specs.Act.{acts, is_bound, node_of}
 use Rattle.standard.specs.Parser.{Parser}
 use Rattle.standard.specs.Prepare.{prepare}
-use Rattle.standard.specs.Scripts.{Fetched, got, missing, faulted, file_statements}
+use Rattle.serial.specs.Scripts.{Fetched, got, missing, faulted, file_statements}
 use Rattle.core_definitions.specs.declared.verdict.Verdict.{Verdict}
 use Rattle.core_definitions.specs.declared.verdict.Verdict.TheVariants.{Keep, Rewind}
 use Rattle.core_definitions.specs.Batches.{Batch, Halt, at, finishing, refusing, answer}

@@ -1,7 +1,7 @@
 -- What came of fetching scripts.
 use Rattle.std.specs.Prelude.{ℕ, List, [], ◌∷◌}
 use Rattle.std.specs.declared.snapshot.Snapshot.{Snapshot}
-use Rattle.standard.specs.Scripts.{Fetched, got, missing, faulted}
+use Rattle.serial.specs.Scripts.{Fetched, got, missing, faulted}
 use Rattle.core_steps.specs.declared.fetch.Fetch.{Fetch}
 use Rattle.core_steps.specs.declared.fetch.Fetch.TheVariants.{Got, Missing, Faulted}
 use Rattle.core_steps.specs.declared.fetch.FetchedFile.{FetchedFile}

@@ -4,7 +4,7 @@ use Rattle.std.specs.BTreeMap.{BTreeMap, get_by_text}
 use Rattle.std.specs.Str.{chars, IsUtf8}
 use Rattle.std.specs.declared.snapshot.Snapshot.{Snapshot}
 use Rattle.html_types.specs.Text.{same_text}
-use Rattle.standard.specs.Scripts.{Fetched}
+use Rattle.serial.specs.Scripts.{Fetched}
 use Rattle.core_definitions.specs.Journal.{Journal}
 use Rattle.core_steps.specs.declared.fetch.Fetch.{Fetch}
 use Rattle.core_steps.specs.Fetches.{fetched_of}

@@ -1,15 +1,15 @@
 -- The document's side: what it shows, and the desk that what it holds comes to.
 use Rattle.std.specs.Prelude.{◌≡◌, ◌≢◌, ◌≤◌, ◌+◌, ◌-◌, ◌*◌, ℕ, suc, Bool, true, false, IsTrue, is_none, List, [], ◌∷◌, ◌++◌, length, Option, Some, None}
 use Rattle.std.specs.declared.snapshot.Snapshot.{Snapshot}
-use Rattle.html_types.specs.declared.script.Line.{Line}
-use Rattle.html_types.specs.declared.script.Ending.{Ending}
-use Rattle.html_types.specs.declared.script.Why.{Why}
+use Rattle.serial.specs.declared.script.Line.{Line}
+use Rattle.html_types.specs.declared.ending.Ending.{Ending}
+use Rattle.html_types.specs.declared.ending.Why.{Why}
 use Rattle.standard.specs.Act.{is_bound}
 use Rattle.standard.specs.Entities.{Entities}
 use Rattle.standard.specs.Parser.{Parser}
-use Rattle.standard.specs.Scripts.{Fetched}
-use Rattle.standard.specs.Serial.{World, Serial, Result, finished, refused, write_limit}
-use Rattle.standard.specs.Serial as serial
+use Rattle.serial.specs.Scripts.{Fetched}
+use Rattle.serial.specs.Serial.{World, Serial, Result, finished, refused, write_limit}
+use Rattle.serial.specs.Serial as serial
 use Rattle.core_definitions.specs.declared.event.Event.{Event}
 use Rattle.core_definitions.specs.declared.event.Event.TheVariants.{Arrive}
 use Rattle.core_definitions.specs.Batches.{Piece, of_text, of_ending, Batch, answer}

@@ -1,6 +1,6 @@
 -- Where a run stands, as its caller is told.
 use Rattle.core_definitions.specs.Desk.{Desk}
-use Rattle.standard.specs.Serial.{finished, refused}
+use Rattle.serial.specs.Serial.{finished, refused}
 use Rattle.core_steps.specs.declared.state.State.{State}
 use Rattle.core_steps.specs.declared.state.State.TheVariants.{Running, Awaits, Done, Refused}
 use Rattle.core_steps.specs.Sides.{Standing, running, awaiting, over}

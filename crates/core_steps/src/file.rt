@@ -4,8 +4,8 @@ ghost use Rattle.std.specs.Prelude.{◌≡◌, IfOk};
 ghost use Rattle.std.specs.List.{list_all};
 ghost use Rattle.std.specs.Str.{chars};
 ghost use Rattle.std.specs.String.{string_bytes};
-ghost use Rattle.standard.specs.Scripts.{is_lawful, is_name_character, file_statements};
-ghost use Rattle.standard.specs.Statements.{statements};
+ghost use Rattle.serial.specs.Scripts.{is_lawful, is_name_character, file_statements};
+ghost use Rattle.serial.specs.Statements.{statements};
 
 use html_types::NoMemory;
 use std::alloc::Global;

@@ -1,7 +1,8 @@
 //! What is written of a page.
 
-use html_types::{Line, Lines, NoMemory, Text};
+use html_types::{NoMemory, Text};
 use op_exec::Doc;
+use serial::{Line, Lines};
 use serialiser::document;
 use std::alloc::Global;
 

@@ -1,7 +1,8 @@
 //! Texts that are scripts, and texts that aren't.
 
-use html_types::{NoMemory, Statement};
+use html_types::NoMemory;
 use script_lang::read;
+use serial::Statement;
 use std::alloc::Global;
 use std::test::Fail;
 

@@ -9,10 +9,10 @@ use Rattle.std.proofs.lemmas.Str.{chars-IsAscii, IsAscii-append, IsUtf8-from_asc
 use Rattle.std.proofs.lemmas.Str.Ascii.{IsAscii-nil, IsAscii-cons}
 use Rattle.std.proofs.lemmas.Fmt.{IsAscii-decimal, length-decimal-le}
 use Rattle.serde_json.proofs.OnLiterals.{serde_json_on_literals}
-use Rattle.html_types.specs.declared.script.Ending.{Ending}
-use Rattle.html_types.specs.declared.script.Ending.TheVariants.{End, Bad, Long, Fault}
+use Rattle.html_types.specs.declared.ending.Ending.{Ending}
+use Rattle.html_types.specs.declared.ending.Ending.TheVariants.{End, Bad, Long, Fault}
 use Rattle.standard.specs.Entities.{entities_of}
-use Rattle.standard.specs.Page.{Page, front, without_mark, text_of, is_text_so_far, shown, ending_of, page_of}
+use Rattle.serial.specs.Page.{Page, front, without_mark, text_of, is_text_so_far, shown, ending_of, page_of}
 use Rattle.page_maker.specs.Made.{kind, number_at, item, items, made_page}
 use Rattle.made_laws.specs.MadeLaws.{IsInAscii, IsReadAsMade, NamesNoEntity}
 

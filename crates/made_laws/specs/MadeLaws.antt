@@ -1,9 +1,9 @@
 -- What is claimed of a page that is made from a number.
 use Rattle.std.specs.Prelude.{◌≡◌, ◌≤◌, ℕ, [], codes, false, Some}
 use Rattle.std.specs.Str.{IsAscii}
-use Rattle.html_types.specs.declared.script.Ending.TheVariants.{End}
+use Rattle.html_types.specs.declared.ending.Ending.TheVariants.{End}
 use Rattle.standard.specs.Entities.{entities_of}
-use Rattle.standard.specs.Page.{page_of}
+use Rattle.serial.specs.Page.{page_of}
 use Rattle.page_maker.specs.Made.{made_page}
 
 abbrev pub IsInAscii : Type 0

@@ -5,16 +5,16 @@ use Rattle.std.proofs.lemmas.Option.{none-some, same_Some}
 use Rattle.html_types.specs.Operations.{same_id, later}
 use Rattle.html_types.specs.declared.operation.NodeId.{NodeId}
 use Rattle.html_types.specs.declared.open.Open.{Open}
-use Rattle.html_types.specs.declared.script.Ending.{Ending}
-use Rattle.html_types.specs.declared.script.Ending.TheVariants as ending
+use Rattle.html_types.specs.declared.ending.Ending.{Ending}
+use Rattle.html_types.specs.declared.ending.Ending.TheVariants as ending
 use Rattle.html_types.specs.declared.instruction.Stop.TheVariants as stop
 use Rattle.html_types.specs.declared.instruction.Finish.{Finish}
 use Rattle.html_types.specs.declared.instruction.Finish.TheVariants as finale
 use Rattle.standard.specs.Act.{Doc, acts, is_bound}
 use Rattle.standard.specs.Parser.{Parser, Took, took, take_character, Finished, finish}
-use Rattle.standard.specs.Scripts.{Fetched, got, missing, faulted, file_statements}
-use Rattle.standard.specs.Serial.{World, Serial, Course, goes, refuses, starved, Advanced, advanced, advance, before_point, moved, run_text, end_of_script, Moment, reading, tag_ended, awaits, over, taken, at_end, read_next, unless_pending, behind_script, after_script, after_fetch, fetched, moment_after, moments_on, Leads}
-use Rattle.standard.specs.Serial as serial
+use Rattle.serial.specs.Scripts.{Fetched, got, missing, faulted, file_statements}
+use Rattle.serial.specs.Serial.{World, Serial, Course, goes, refuses, starved, Advanced, advanced, advance, before_point, moved, run_text, end_of_script, Moment, reading, tag_ended, awaits, over, taken, at_end, read_next, unless_pending, behind_script, after_script, after_fetch, fetched, moment_after, moments_on, Leads}
+use Rattle.serial.specs.Serial as serial
 use Rattle.standard_laws.specs.Laws.{outcome_at}
 use Rattle.standard_laws.proofs.Parse.{advance-parse}
 use Rattle.standard_laws.proofs.Passing.{finished-at}

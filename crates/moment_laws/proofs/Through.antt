@@ -1,12 +1,12 @@
 -- Moments one behind another, none of them settled before the last.
 use Rattle.std.proofs.Common.{◌≡◌, ◌∙◌, ℕ, List, [], ◌∷◌, ◌++◌, drop, Some, refl, subst, sym, ap, false, true≢false, take}
-use Rattle.html_types.specs.declared.script.Ending.{Ending}
+use Rattle.html_types.specs.declared.ending.Ending.{Ending}
 use Rattle.html_types.specs.declared.instruction.Stop.TheVariants as stop
 use Rattle.standard.specs.Act.{Doc, acts}
 use Rattle.standard.specs.Entities.{Entities}
 use Rattle.standard.specs.Parser.{Parser, Took, took, take_character, Parsed, after_character, and_rest, parse}
-use Rattle.standard.specs.Serial.{World, Serial, Moment, reading, tag_ended, awaits, over, taken, read_next, moment_after, Leads}
-use Rattle.standard.specs.Serial as serial
+use Rattle.serial.specs.Serial.{World, Serial, Moment, reading, tag_ended, awaits, over, taken, read_next, moment_after, Leads}
+use Rattle.serial.specs.Serial as serial
 use Rattle.standard_laws.specs.Laws.{moment_at}
 use Rattle.standard_laws.proofs.Parse.{acts-append}
 use Rattle.standard_laws.proofs.Batch.{moment_behind}

@@ -1,10 +1,10 @@
 -- Which ids are bound at the moments of the serial parse.
 use Rattle.std.specs.Prelude.{◌≡◌, ◌≢◌, ◌<◌, ◌⊎◌, ℕ, suc, Bool, IsTrue}
 use Rattle.html_types.specs.declared.operation.NodeId.{NodeId}
-use Rattle.html_types.specs.declared.script.Ending.{Ending}
+use Rattle.html_types.specs.declared.ending.Ending.{Ending}
 use Rattle.standard.specs.Act.{Doc, new_doc, is_bound}
 use Rattle.standard.specs.Parser.{Parser, new_parser}
-use Rattle.standard.specs.Serial.{World, Serial, Moment, reading, tag_ended, awaits, over, Leads}
+use Rattle.serial.specs.Serial.{World, Serial, Moment, reading, tag_ended, awaits, over, Leads}
 use Rattle.rule_laws.specs.Naming.{Serves, AreFresh}
 use Rattle.rule_laws.specs.NamingLaws.{DocsServeTexts, DocsServeEnds}
 use Rattle.core_definitions.specs.Desk.{renewed}

@@ -1,12 +1,12 @@
 -- How moments of the serial parse come one behind another.
 use Rattle.std.specs.Prelude.{◌≡◌, ℕ, true, false, List, ◌++◌, take, Some}
-use Rattle.html_types.specs.declared.script.Ending.{Ending}
-use Rattle.html_types.specs.declared.script.Ending.TheVariants as ending
+use Rattle.html_types.specs.declared.ending.Ending.{Ending}
+use Rattle.html_types.specs.declared.ending.Ending.TheVariants as ending
 use Rattle.html_types.specs.declared.instruction.Stop.{Stop}
 use Rattle.standard.specs.Act.{Doc}
 use Rattle.standard.specs.Entities.{Entities}
 use Rattle.standard.specs.Parser.{Parser, parse}
-use Rattle.standard.specs.Serial.{World, Serial, Moment, reading, moment_after, Leads}
+use Rattle.serial.specs.Serial.{World, Serial, Moment, reading, moment_after, Leads}
 use Rattle.standard_laws.specs.Laws.{HasParsed, moment_at}
 use Rattle.core_definitions.specs.Settling.{is_settled, Through, Settles}
 

@@ -1,12 +1,12 @@
 -- The causes of single statuses.
 use Rattle.std.proofs.Common.{◌≡◌, ℕ, Bool, List, [], ◌∷◌, Option, Some, None, refl, subst, inl, inr}
 use Rattle.std.specs.Prelude.{◌⊎◌, true, false, if◌then◌else◌}
-use Rattle.html_types.specs.declared.script.Why.TheVariants as why
+use Rattle.html_types.specs.declared.ending.Why.TheVariants as why
 use Rattle.outside.specs.Outside.{Rose, Seen}
 use Rattle.outside.specs.declared.traits.Port.TheVariants.{Entities}
 use Rattle.standard.specs.Entities.{Entities as Table}
-use Rattle.standard.specs.Scripts as fetched
-use Rattle.standard.specs.Serial.{Result, finished, refused, Outcome, IsSerial}
+use Rattle.serial.specs.Scripts as fetched
+use Rattle.serial.specs.Serial.{Result, finished, refused, Outcome, IsSerial}
 use Rattle.page_runner.specs.declared.command.TheConstants.{ENTITIES_LIMIT}
 use Rattle.page_runner.specs.declared.status.Status.{Status}
 use Rattle.page_runner.specs.declared.status.Status.TheVariants as status

@@ -8,10 +8,10 @@ use Rattle.std.specs.Option.{option_map}
 use Rattle.outside.specs.Outside.{Rose, Files, Seen}
 use Rattle.outside.specs.declared.traits.Port.TheVariants.{Entities, Page, Script}
 use Rattle.standard.specs.Entities.{Entities as Table, entities_of}
-use Rattle.standard.specs.Scripts.{Fetched}
-use Rattle.standard.specs.Scripts as fetched
-use Rattle.standard.specs.Serial.{Outcome, finished}
-use Rattle.standard.specs.Output.{output_with}
+use Rattle.serial.specs.Scripts.{Fetched}
+use Rattle.serial.specs.Scripts as fetched
+use Rattle.serial.specs.Serial.{Outcome, finished}
+use Rattle.serial.specs.Output.{output_with}
 use Rattle.standard_laws.proofs.Fuel.{one_outcome}
 use Rattle.page_runner.specs.declared.command.TheConstants.{ENTITIES_LIMIT}
 use Rattle.page_runner.specs.declared.status.Status.{Status}

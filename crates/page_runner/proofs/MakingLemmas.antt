@@ -9,17 +9,17 @@ use Rattle.std.specs.Str.{bytes_eq}
 use Rattle.std.specs.Option.{option_map}
 use Rattle.std.proofs.Math.Path.{fun_ext}
 use Rattle.html_types.specs.Text.{same_text}
-use Rattle.html_types.specs.declared.script.Ending.{Ending}
-use Rattle.html_types.specs.declared.script.Ending.TheVariants.{End}
-use Rattle.html_types.specs.declared.script.Why.TheVariants as why
+use Rattle.html_types.specs.declared.ending.Ending.{Ending}
+use Rattle.html_types.specs.declared.ending.Ending.TheVariants.{End}
+use Rattle.html_types.specs.declared.ending.Why.TheVariants as why
 use Rattle.std.specs.Cmp.Lexicographic.{bytes_decides}
 use Rattle.outside.specs.Outside.{Rose, Files, Seen}
 use Rattle.outside.specs.Memory.{files_of}
 use Rattle.outside.specs.declared.never_fails.NeverFails.{NeverFails}
 use Rattle.outside.specs.declared.traits.Port.TheVariants.{Page, Script}
 use Rattle.standard.specs.Entities.{Entities}
-use Rattle.standard.specs.Scripts.{Fetched, got, missing}
-use Rattle.standard.specs.Serial.{World, Moment, reading, over, Result, finished, refused, Outcome, IsSerial, first}
+use Rattle.serial.specs.Scripts.{Fetched, got, missing}
+use Rattle.serial.specs.Serial.{World, Moment, reading, over, Result, finished, refused, Outcome, IsSerial, first}
 use Rattle.standard_laws.proofs.Total.{has_outcome}
 use Rattle.standard_laws.proofs.Fuel.{one_outcome}
 use Rattle.core_definitions.specs.Verdict.{Watch, first_watch, Watches, stays, goes_on, AreVerdicts}

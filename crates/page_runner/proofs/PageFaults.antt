@@ -2,22 +2,22 @@
 use Rattle.std.proofs.Common.{◌≡◌, ℕ, zero, suc, Bool, true, false, List, [], ◌∷◌, Option, Some, None, option_and_then, refl, subst, inl, inr}
 use Rattle.std.specs.Prelude.{◌⊎◌, unwrap_or, if◌then◌else◌}
 use Rattle.html_types.specs.declared.operation.NodeId.{NodeId}
-use Rattle.html_types.specs.declared.script.Ending.{Ending}
-use Rattle.html_types.specs.declared.script.Ending.TheVariants as ending
-use Rattle.html_types.specs.declared.script.Why.TheVariants as why
-use Rattle.html_types.specs.declared.script.Statement.{Statement}
-use Rattle.html_types.specs.declared.script.Statement.TheVariants as statement
+use Rattle.html_types.specs.declared.ending.Ending.{Ending}
+use Rattle.html_types.specs.declared.ending.Ending.TheVariants as ending
+use Rattle.html_types.specs.declared.ending.Why.TheVariants as why
+use Rattle.serial.specs.declared.script.Statement.{Statement}
+use Rattle.serial.specs.declared.script.Statement.TheVariants as statement
 use Rattle.html_types.specs.declared.instruction.Stop.TheVariants as stop
 use Rattle.html_types.specs.declared.instruction.Finish.{Finish}
 use Rattle.html_types.specs.declared.instruction.Finish.TheVariants as finale
 use Rattle.standard.specs.Tree.{Nodes, appended, find_id, first_element}
 use Rattle.standard.specs.Act.{Doc, acts}
-use Rattle.standard.specs.Page.{Page, ending_of}
+use Rattle.serial.specs.Page.{Page, ending_of}
 use Rattle.standard.specs.Parser.{Parser, Took, took, take_character, Finished, finish}
 use Rattle.standard.specs.Prepare.{Prepared, still, inline, external}
-use Rattle.standard.specs.Scripts.{Fetched, got, missing, faulted, is_lawful, file_statements}
-use Rattle.standard.specs.Statements.{statements}
-use Rattle.standard.specs.Serial.{World, fetched_if, fetched, Serial, Outcome, refused, Course, goes, refuses, starved, ◌then◌, Advanced, advanced, advance, before_point, moved, with_line_feed, may_write, insert, tree_of, inside, back_at, with_tree, remove, read, one_more_executed, prepared, execute, run_statements, on_element, on_move, write, go_on, stopped, end_of_script, run_prepared, run_text, Moment, reading, tag_ended, awaits, over, at_end, after_character, unless_pending, after_script, after_fetch, read_next, moment_after, moments_on, first, IsSerial}
+use Rattle.serial.specs.Scripts.{Fetched, got, missing, faulted, is_lawful, file_statements}
+use Rattle.serial.specs.Statements.{statements}
+use Rattle.serial.specs.Serial.{World, fetched_if, fetched, Serial, Outcome, refused, Course, goes, refuses, starved, ◌then◌, Advanced, advanced, advance, before_point, moved, with_line_feed, may_write, insert, tree_of, inside, back_at, with_tree, remove, read, one_more_executed, prepared, execute, run_statements, on_element, on_move, write, go_on, stopped, end_of_script, run_prepared, run_text, Moment, reading, tag_ended, awaits, over, at_end, after_character, unless_pending, after_script, after_fetch, read_next, moment_after, moments_on, first, IsSerial}
 use Rattle.standard_laws.specs.Laws.{outcome_at}
 use Rattle.standard_laws.proofs.Fuel.{serial-over}
 use Rattle.standard_laws.proofs.Passing.{finished-at}

@@ -2,7 +2,7 @@
 use Rattle.std.proofs.Common.{◌≡◌, ℕ, Bool, true, false, true≢false, List, Option, flat_map, refl, inl, inr, ◌∙◌}
 use Rattle.std.specs.Prelude.{IsTrue}
 use Rattle.standard.specs.Entities.{Entities}
-use Rattle.standard.specs.Output.{line_text, result_with}
+use Rattle.serial.specs.Output.{line_text, result_with}
 use Rattle.core_steps.specs.Sides.{Shown}
 use Rattle.outside.specs.Outside.{Seen, KeepsOthers}
 use Rattle.outside.specs.declared.traits.Port.TheVariants.{Page}

@@ -3,16 +3,16 @@ use Rattle.std.proofs.Common.{◌≡◌, ℕ, ◌≤◌, ◌+◌, List, [], ◌�
 use Rattle.std.specs.Prelude.{◌⊎◌, IsSome, IsSomeAnd, IsTrue}
 use Rattle.std.specs.Bool.{OnTrue, OnFalse}
 use Rattle.std.specs.Option.{option_map}
-use Rattle.html_types.specs.declared.script.Why.TheVariants as why
+use Rattle.html_types.specs.declared.ending.Why.TheVariants as why
 use Rattle.outside.specs.Outside.{Rose, Files, Begun, Seen, KeepsOthers}
 use Rattle.outside.specs.declared.traits.Port.{Port}
 use Rattle.outside.specs.declared.traits.Port.TheVariants.{Entities, Page, Script}
 use Rattle.standard.specs.Act.{Doc}
 use Rattle.standard.specs.Entities.{Entities as Table}
-use Rattle.standard.specs.Scripts.{Fetched}
-use Rattle.standard.specs.Scripts as fetched
-use Rattle.standard.specs.Serial.{World}
-use Rattle.standard.specs.Output.{line_text, result_with, output_with}
+use Rattle.serial.specs.Scripts.{Fetched}
+use Rattle.serial.specs.Scripts as fetched
+use Rattle.serial.specs.Serial.{World}
+use Rattle.serial.specs.Output.{line_text, result_with, output_with}
 use Rattle.standard_laws.proofs.Total.{has_outcome}
 use Rattle.page_runner.specs.declared.command.TheConstants.{ENTITIES_LIMIT}
 use Rattle.page_runner.specs.declared.command.Unread.{Unread}

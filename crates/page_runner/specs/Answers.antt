@@ -1,12 +1,12 @@
 -- What a run answers: its status and the bytes that the sink took, as a function of what it met outside.
 use Rattle.std.specs.Prelude.{◌≡◌, ◌⊎◌, ℕ, Bool, true, false, List, [], ◌++◌, length, nat_le, if◌then◌else◌, Option, Some, None, IfSome, IsSome, IsTrue}
-use Rattle.html_types.specs.declared.script.Why.TheVariants as why
+use Rattle.html_types.specs.declared.ending.Why.TheVariants as why
 use Rattle.outside.specs.Outside.{Rose, Begun, Seen}
 use Rattle.outside.specs.declared.traits.Port.TheVariants.{Entities, Page, Script}
 use Rattle.standard.specs.Entities.{Entities as Table, entities_of}
-use Rattle.standard.specs.Scripts.{Fetched}
-use Rattle.standard.specs.Serial.{Result, finished, refused, Outcome}
-use Rattle.standard.specs.Output.{output_with}
+use Rattle.serial.specs.Scripts.{Fetched}
+use Rattle.serial.specs.Serial.{Result, finished, refused, Outcome}
+use Rattle.serial.specs.Output.{output_with}
 use Rattle.page_runner.specs.declared.command.TheConstants.{ENTITIES_LIMIT}
 use Rattle.page_runner.specs.declared.command.Unread.{Unread}
 use Rattle.page_runner.specs.declared.command.Unread.TheVariants as unread

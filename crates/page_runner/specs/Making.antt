@@ -2,14 +2,14 @@
 use Rattle.std.specs.Prelude.{◌≡◌, ◌≢◌, false, ◌⊎◌, ◌-◌, ◌^◌, ℕ, List, [], ◌∷◌, ◌++◌, min, codes, decimal, Option, Some, if◌then◌else◌}
 use Rattle.html_types.specs.Text.{same_text}
 use Rattle.std.specs.Str.{bytes_eq}
-use Rattle.html_types.specs.declared.script.Ending.TheVariants.{End}
-use Rattle.html_types.specs.declared.script.Why.{Why}
+use Rattle.html_types.specs.declared.ending.Ending.TheVariants.{End}
+use Rattle.html_types.specs.declared.ending.Why.{Why}
 use Rattle.outside.specs.Outside.{Rose, Seen}
 use Rattle.outside.specs.Memory.{files_of}
 use Rattle.outside.specs.declared.never_fails.NeverFails.{NeverFails}
-use Rattle.standard.specs.Page.{Page}
-use Rattle.standard.specs.Scripts.{Fetched, got, missing}
-use Rattle.standard.specs.Serial.{World, Result, finished, refused, Outcome, IsSerial}
+use Rattle.serial.specs.Page.{Page}
+use Rattle.serial.specs.Scripts.{Fetched, got, missing}
+use Rattle.serial.specs.Serial.{World, Result, finished, refused, Outcome, IsSerial}
 use Rattle.core_definitions.specs.Verdict.{Watch, AreVerdicts}
 use Rattle.core_steps.specs.Sides.{Shown, IsReplayed}
 use Rattle.core_steps.specs.Tallies.{nodes_below, tally_of}

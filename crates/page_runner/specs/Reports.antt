@@ -3,9 +3,9 @@ use Rattle.std.specs.Prelude.{◌≡◌, ◌⊎◌, ℕ, Bool, true, false, List
 use Rattle.outside.specs.Outside.{Seen}
 use Rattle.outside.specs.declared.traits.Port.TheVariants.{Page}
 use Rattle.standard.specs.Entities.{Entities}
-use Rattle.standard.specs.Output.{line_text, result_with}
-use Rattle.standard.specs.Scripts.{Fetched}
-use Rattle.standard.specs.Serial.{Result}
+use Rattle.serial.specs.Output.{line_text, result_with}
+use Rattle.serial.specs.Scripts.{Fetched}
+use Rattle.serial.specs.Serial.{Result}
 use Rattle.core_definitions.specs.Desk.{done}
 use Rattle.core_definitions.specs.Journal.{Journal}
 use Rattle.core_steps.specs.Journals.{found}

@@ -1,5 +1,5 @@
 -- The status of a run, by what its parse comes to.
-use Rattle.html_types.specs.declared.script.Why.TheVariants as why
+use Rattle.html_types.specs.declared.ending.Why.TheVariants as why
 use Rattle.page_turns.specs.declared.outcome.Outcome.{Outcome}
 use Rattle.page_turns.specs.declared.outcome.Outcome.TheVariants.{Finished, Refused}
 use Rattle.page_runner.specs.declared.status.Limit.TheVariants as limits

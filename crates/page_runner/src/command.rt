@@ -1,7 +1,7 @@
 // A run, from the words to the status.
 ghost use Rattle.std.specs.Prelude.{◌≡◌, ◌≤◌, ◌<◌, [], ◌∷◌, map, Some, None, false, Err, IfOk, IfErr, OnOk, OnErr, IsErrOf, IsTrue};
 ghost use Rattle.std.specs.String.{string_bytes};
-ghost use Rattle.standard.specs.Output.{result_with};
+ghost use Rattle.serial.specs.Output.{result_with};
 ghost use Rattle.outside.specs.Outside.{Rose, Begun, KeepsOthers};
 ghost use Rattle.command_words.specs.Words.{for_page, asked, shown};
 ghost use Rattle.page_turns.specs.Given.{ReadTo};

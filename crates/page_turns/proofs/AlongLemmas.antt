@@ -4,11 +4,11 @@ use Rattle.std.specs.Prelude.{◌⊎◌, Result, OnOk, OnErr, IsTrue, IfSome, no
 use Rattle.std.specs.Option.{option_map}
 use Rattle.std.proofs.lemmas.List.{map-append}
 use Rattle.std.proofs.lemmas.Bool.{and_parts}
-use Rattle.html_types.specs.declared.script.Ending.{Ending}
-use Rattle.html_types.specs.declared.script.Line.{Line}
+use Rattle.html_types.specs.declared.ending.Ending.{Ending}
+use Rattle.serial.specs.declared.script.Line.{Line}
 use Rattle.standard.specs.Entities.{Entities}
-use Rattle.standard.specs.Scripts.{Fetched}
-use Rattle.standard.specs.Serial.{World}
+use Rattle.serial.specs.Scripts.{Fetched}
+use Rattle.serial.specs.Serial.{World}
 use Rattle.core_definitions.specs.declared.event.Event.{Event}
 use Rattle.core_definitions.specs.declared.event.Event.TheVariants.{Send, Pick, Give, Take, Do, Arrive}
 use Rattle.core_definitions.specs.Batches.{Piece, of_text, of_ending}

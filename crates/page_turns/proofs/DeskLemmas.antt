@@ -2,14 +2,14 @@
 use Rattle.std.proofs.Common.{◌≡◌, ◌<◌, ◌≤◌, ℕ, suc, ◌+◌, ◌*◌, nat_lt, Bool, true, false, true≢false, List, [], ◌∷◌, ◌++◌, length, Option, Some, None, refl, sym, ◌∙◌, ap, subst, append_assoc, length-append, arith}
 use Rattle.std.specs.Prelude.{◌&&◌, is_none, if◌then◌else◌}
 use Rattle.html_types.specs.declared.operation.NodeId.{NodeId}
-use Rattle.html_types.specs.declared.script.Ending.TheVariants as ending
-use Rattle.html_types.specs.declared.script.Why.TheVariants as why
+use Rattle.html_types.specs.declared.ending.Ending.TheVariants as ending
+use Rattle.html_types.specs.declared.ending.Why.TheVariants as why
 use Rattle.html_types.specs.declared.instruction.Stop.TheVariants as stop
 use Rattle.html_types.specs.declared.instruction.Finish.TheVariants as finale
 use Rattle.standard.specs.Entities.{Entities}
 use Rattle.standard.specs.Parser.{Parser}
-use Rattle.standard.specs.Scripts.{Fetched, faulted}
-use Rattle.standard.specs.Serial.{World, fetched, Serial, prepared, Moment, reading, tag_ended, awaits, over, refusal, refused, Outcome, moment_after}
+use Rattle.serial.specs.Scripts.{Fetched, faulted}
+use Rattle.serial.specs.Serial.{World, fetched, Serial, prepared, Moment, reading, tag_ended, awaits, over, refusal, refused, Outcome, moment_after}
 use Rattle.core_definitions.specs.declared.verdict.Verdict.{Verdict}
 use Rattle.core_definitions.specs.declared.verdict.Verdict.TheVariants.{Keep, Rewind}
 use Rattle.core_definitions.specs.Batches.{Piece, Batch, Halt, at, finishing, refusing}
@@ -116,7 +116,7 @@ fault-settles w name s m is settles =
     fault-through w (refusal why.Fault s) m (subst (λ x. Through ending.End w x m) (sym there) settles.through)
   where
     after : ℕ → Fetched → Option Moment
-    after n f = Rattle.standard.specs.Serial.after_fetch n w name s f
+    after n f = Rattle.serial.specs.Serial.after_fetch n w name s f
 
     some-same : {A : Type 0} {a b : A} → Some a ≡ Some b → a ≡ b
     some-same e = cc e

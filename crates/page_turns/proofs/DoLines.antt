@@ -1,12 +1,12 @@
 -- The lines that a Do gives stand behind those that were there.
 use Rattle.std.proofs.Common.{◌≡◌, ℕ, Bool, true, false, List, [], ◌∷◌, ◌++◌, Option, Some, None, refl, sym, ap, subst, ◌∙◌, append_assoc, append-nil}
-use Rattle.html_types.specs.declared.script.Line.{Line}
-use Rattle.html_types.specs.declared.script.Ending.TheVariants as ending
+use Rattle.serial.specs.declared.script.Line.{Line}
+use Rattle.html_types.specs.declared.ending.Ending.TheVariants as ending
 use Rattle.html_types.specs.declared.operation.NodeId.{NodeId}
 use Rattle.html_types.specs.declared.instruction.Stop.TheVariants as stop
 use Rattle.html_types.specs.declared.instruction.Finish.TheVariants as finale
 use Rattle.standard.specs.Parser.{Parser}
-use Rattle.standard.specs.Serial.{World, prepared, Serial, Moment, reading, tag_ended, awaits, over, moment_after}
+use Rattle.serial.specs.Serial.{World, prepared, Serial, Moment, reading, tag_ended, awaits, over, moment_after}
 use Rattle.standard_laws.specs.Laws.{lines_of, GoesOnFrom}
 use Rattle.standard_laws.proofs.Lines.{moment-follows}
 use Rattle.core_definitions.specs.declared.verdict.Verdict.{Verdict}

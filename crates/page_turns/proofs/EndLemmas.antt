@@ -4,9 +4,9 @@ use Rattle.std.specs.Prelude.{Result, IfOk}
 use Rattle.std.proofs.lemmas.Grind.{flat_map-append}
 use Rattle.outside.specs.Outside.{Seen}
 use Rattle.standard.specs.Entities.{Entities}
-use Rattle.standard.specs.Output.{line_text, result_with, output_with}
-use Rattle.standard.specs.Serial.{World, Serial, Outcome, IsSerial}
-use Rattle.standard.specs.Serial as serial
+use Rattle.serial.specs.Output.{line_text, result_with, output_with}
+use Rattle.serial.specs.Serial.{World, Serial, Outcome, IsSerial}
+use Rattle.serial.specs.Serial as serial
 use Rattle.standard_laws.specs.Laws.{GoesOnFrom}
 use Rattle.standard_laws.proofs.Total.{has_outcome}
 use Rattle.core_definitions.specs.Core.{whole_page}

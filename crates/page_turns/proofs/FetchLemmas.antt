@@ -1,7 +1,7 @@
 -- The path of a script's file.
 use Rattle.std.proofs.Common.{◌≡◌, true, ℕ, List, ◌∷◌, ◌++◌, sym, ap, ◌∙◌}
 use Rattle.std.specs.Str.{chars, IsUtf8}
-use Rattle.standard.specs.Scripts.{is_lawful}
+use Rattle.serial.specs.Scripts.{is_lawful}
 use Rattle.core_steps.proofs.FileLemmas.{lawful-bytes}
 use Rattle.page_turns.specs.Scripts.{path_of}
 

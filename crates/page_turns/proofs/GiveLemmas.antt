@@ -3,14 +3,14 @@ use Rattle.std.proofs.Common.{◌≡◌, ℕ, suc, ◌≤◌, ◌<◌, ◌+◌, 
 use Rattle.std.specs.Prelude.{IsTrue, not, ◌&&◌, ◌||◌, is_none, is_some}
 use Rattle.std.proofs.lemmas.Bool.{and_parts, lt-ltb, ltb-false, ltb-true}
 use Rattle.std.proofs.lemmas.Grind.{flat_map-append}
-use Rattle.html_types.specs.declared.script.Ending.{Ending}
-use Rattle.html_types.specs.declared.script.Line.{Line}
+use Rattle.html_types.specs.declared.ending.Ending.{Ending}
+use Rattle.serial.specs.declared.script.Line.{Line}
 use Rattle.outside.specs.Outside.{Seen, KeepsOthers}
 use Rattle.outside.specs.declared.traits.Port.TheVariants as port
 use Rattle.standard.specs.Entities.{Entities}
-use Rattle.standard.specs.Output.{line_text}
-use Rattle.standard.specs.Scripts.{is_lawful, missing}
-use Rattle.standard.specs.Serial.{World, Serial}
+use Rattle.serial.specs.Output.{line_text}
+use Rattle.serial.specs.Scripts.{is_lawful, missing}
+use Rattle.serial.specs.Serial.{World, Serial}
 use Rattle.core_definitions.specs.declared.event.Event.TheVariants as event
 use Rattle.core_definitions.specs.Batches.{Piece}
 use Rattle.core_definitions.specs.Core.{joined}

@@ -2,8 +2,8 @@
 use Rattle.std.proofs.Common.{◌≡◌, ℕ, suc, List, ◌∷◌, ◌++◌, drop, ◌<◌, ◌+◌, length, take, get_or, drop-cons, add-one, take-append-drop, flat_map, Option, Some, None, Ok, Err, OnErr, sym, ap, ◌∙◌, subst}
 use Rattle.std.specs.Prelude.{Result, OnOk, IfOk, IfSome, option_to_list}
 use Rattle.std.proofs.lemmas.Grind.{flat_map-append}
-use Rattle.html_types.specs.declared.script.Line.{Line}
-use Rattle.standard.specs.Output.{line_text}
+use Rattle.serial.specs.declared.script.Line.{Line}
+use Rattle.serial.specs.Output.{line_text}
 use Rattle.page_turns.specs.Taken.{Took, TookFront}
 use Rattle.page_turns.specs.Turns.{Load}
 use Rattle.page_turns.proofs.PageTakenLemmas.{front_then, front_longer}

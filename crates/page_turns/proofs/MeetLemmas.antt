@@ -8,7 +8,7 @@ use Rattle.html_types.specs.Text.{same_text}
 use Rattle.outside.specs.Outside.{Seen, Paths, Begun, KeepsOthers}
 use Rattle.outside.specs.declared.traits.Port.{Port}
 use Rattle.outside.specs.declared.traits.Port.TheVariants as port
-use Rattle.standard.specs.Scripts.{Fetched, got, missing, faulted, is_lawful, file_statements}
+use Rattle.serial.specs.Scripts.{Fetched, got, missing, faulted, is_lawful, file_statements}
 use Rattle.core_definitions.specs.Desk.{is_among}
 use Rattle.core_steps.specs.declared.fetch.Fetch.{Fetch}
 use Rattle.core_steps.specs.declared.fetch.Fetch.TheVariants as fetches

@@ -3,11 +3,11 @@ use Rattle.std.proofs.Common.{◌≡◌, ℕ, Bool, true, false, List, [], ◌�
 use Rattle.std.specs.Prelude.{◌≢◌, cond}
 use Rattle.std.specs.List.{AllByRecursion}
 use Rattle.html_types.specs.Text.{same_text}
-use Rattle.html_types.specs.declared.script.Ending.{Ending}
+use Rattle.html_types.specs.declared.ending.Ending.{Ending}
 use Rattle.standard.specs.Entities.{Entities}
-use Rattle.standard.specs.Page.{Page}
-use Rattle.standard.specs.Scripts.{Fetched, is_lawful}
-use Rattle.standard.specs.Serial.{World, fetched_if}
+use Rattle.serial.specs.Page.{Page}
+use Rattle.serial.specs.Scripts.{Fetched, is_lawful}
+use Rattle.serial.specs.Serial.{World, fetched_if}
 use Rattle.core_definitions.specs.Batches.{Piece}
 use Rattle.core_definitions.specs.Core.{Setup, joined, whole_page}
 use Rattle.core_definitions.specs.Desk.{Desk, first_desk, pieces_with, with_more, MovesBy}

@@ -6,11 +6,11 @@ use Rattle.std.specs.Str.Lossy.{utf8_valid_len}
 use Rattle.std.proofs.lemmas.Bool.{ltb-false}
 use Rattle.std.proofs.lemmas.List.{take_all}
 use Rattle.std.proofs.lemmas.Str.{IsUtf8-nil}
-use Rattle.html_types.specs.declared.script.Ending.{Ending}
-use Rattle.html_types.specs.declared.script.Ending.TheVariants as ending
+use Rattle.html_types.specs.declared.ending.Ending.{Ending}
+use Rattle.html_types.specs.declared.ending.Ending.TheVariants as ending
 use Rattle.outside.specs.Outside.{Rose, Seen, KeepsOthers}
 use Rattle.outside.specs.declared.traits.Port.TheVariants as port
-use Rattle.standard.specs.Page.{Page, front, without_mark, text_of, ending_of, shown, is_text_so_far}
+use Rattle.serial.specs.Page.{Page, front, without_mark, text_of, ending_of, shown, is_text_so_far}
 use Rattle.utf8_pieces.specs.Decoder.{HasRead}
 use Rattle.utf8_pieces.proofs.DecoderLemmas.{text_is_so_far, not_lt}
 use Rattle.utf8_pieces.proofs.PageLaws.{text_of-nil, text_of-extends, shown-stays}

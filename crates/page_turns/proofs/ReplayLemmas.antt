@@ -1,8 +1,8 @@
 -- The journal of a page's run replays in the core.
 use Rattle.std.proofs.Common.{◌≡◌, ℕ, List, ◌++◌, Option, Some, None, refl, sym, ap, subst, ◌∙◌}
-use Rattle.html_types.specs.declared.script.Ending.{Ending}
+use Rattle.html_types.specs.declared.ending.Ending.{Ending}
 use Rattle.standard.specs.Entities.{Entities}
-use Rattle.standard.specs.Serial.{Serial}
+use Rattle.serial.specs.Serial.{Serial}
 use Rattle.core_definitions.specs.Batches.{Piece}
 use Rattle.core_definitions.specs.Core.{Setup, Core, first_core, Runs}
 use Rattle.core_definitions.specs.Desk.{Phase, free, tagged, waits, done, Desk, first_desk, pieces_with, with_more, MovesBy}

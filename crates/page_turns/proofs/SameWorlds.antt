@@ -1,16 +1,16 @@
 -- Worlds with the same entities, of whose scripts each is to the parse the same as the other's, come to the same.
 use Rattle.std.proofs.Common.{◌≡◌, ℕ, zero, suc, Bool, true, false, List, [], ◌∷◌, Option, Some, None, option_and_then, refl, sym, ◌∙◌, ap}
 use Rattle.html_types.specs.declared.operation.NodeId.{NodeId}
-use Rattle.html_types.specs.declared.script.Ending.{Ending}
-use Rattle.html_types.specs.declared.script.Statement.{Statement}
-use Rattle.html_types.specs.declared.script.Statement.TheVariants as statement
+use Rattle.html_types.specs.declared.ending.Ending.{Ending}
+use Rattle.serial.specs.declared.script.Statement.{Statement}
+use Rattle.serial.specs.declared.script.Statement.TheVariants as statement
 use Rattle.html_types.specs.declared.instruction.Stop.TheVariants as stop
 use Rattle.standard.specs.Tree.{Nodes, appended, find_id, first_element}
-use Rattle.standard.specs.Page.{Page}
+use Rattle.serial.specs.Page.{Page}
 use Rattle.standard.specs.Prepare.{Prepared, still, inline, external}
-use Rattle.standard.specs.Scripts.{Fetched, got, missing, faulted, is_lawful, file_statements}
-use Rattle.standard.specs.Statements.{statements}
-use Rattle.standard.specs.Serial.{World, fetched_if, fetched, Serial, Course, goes, refuses, starved, ◌then◌, Advanced, advanced, advance, before_point, moved, insert, tree_of, inside, back_at, with_line_feed, may_write, with_tree, remove, read, one_more_executed, prepared, execute, run_statements, on_element, on_move, write, go_on, stopped, end_of_script, run_prepared, run_text, Outcome, Moment, reading, tag_ended, awaits, over, after_script, after_fetch, outcome_in, moment_after, moments_on, first, serial_with, IsSerial, Passes}
+use Rattle.serial.specs.Scripts.{Fetched, got, missing, faulted, is_lawful, file_statements}
+use Rattle.serial.specs.Statements.{statements}
+use Rattle.serial.specs.Serial.{World, fetched_if, fetched, Serial, Course, goes, refuses, starved, ◌then◌, Advanced, advanced, advance, before_point, moved, insert, tree_of, inside, back_at, with_line_feed, may_write, with_tree, remove, read, one_more_executed, prepared, execute, run_statements, on_element, on_move, write, go_on, stopped, end_of_script, run_prepared, run_text, Outcome, Moment, reading, tag_ended, awaits, over, after_script, after_fetch, outcome_in, moment_after, moments_on, first, serial_with, IsSerial, Passes}
 use Rattle.page_turns.specs.Scripts.{Alike}
 
 pub alike-refl : (f : Fetched) → Alike f f

@@ -1,12 +1,12 @@
 -- What reading on and running on come to.
 use Rattle.std.proofs.Common.{◌≡◌, ℕ, ◌≤◌, ◌<◌, ◌+◌, List, [], ◌∷◌, ◌++◌, length, take, flat_map, Bool, true, Option, Some, None, refl, sym, ap, subst, ◌∙◌, append_assoc, append-nil, length-append, length-take, arith}
 use Rattle.std.proofs.lemmas.List.{take-append-le}
-use Rattle.html_types.specs.declared.script.Ending.{Ending}
-use Rattle.html_types.specs.declared.script.Line.{Line}
+use Rattle.html_types.specs.declared.ending.Ending.{Ending}
+use Rattle.serial.specs.declared.script.Line.{Line}
 use Rattle.outside.specs.Outside.{Seen}
 use Rattle.outside.specs.declared.traits.Port.TheVariants as port
-use Rattle.standard.specs.Output.{line_text}
-use Rattle.standard.specs.Page.{text_of, shown}
+use Rattle.serial.specs.Output.{line_text}
+use Rattle.serial.specs.Page.{text_of, shown}
 use Rattle.utf8_pieces.specs.Decoder.{HasRead}
 use Rattle.core_definitions.specs.declared.event.Event.{Event}
 use Rattle.core_definitions.specs.declared.event.Event.TheVariants as event

@@ -1,11 +1,11 @@
 -- Where the parse stopped at a script whose fetch failed the serial parse stops at it too.
 use Rattle.std.proofs.Common.{◌≡◌, ℕ, true, List, [], Some, refl, sym, ap, subst, ◌∙◌}
 use Rattle.html_types.specs.declared.operation.NodeId.{NodeId}
-use Rattle.html_types.specs.declared.script.Why.TheVariants as why
+use Rattle.html_types.specs.declared.ending.Why.TheVariants as why
 use Rattle.standard.specs.Entities.{Entities}
-use Rattle.standard.specs.Page.{Page}
-use Rattle.standard.specs.Scripts.{Fetched, got, missing, faulted, is_lawful}
-use Rattle.standard.specs.Serial.{World, fetched_if, fetched, Serial, first, Moment, reading, tag_ended, awaits, over, Outcome, refusal, after_fetch, moment_after, IsSerial, Passes}
+use Rattle.serial.specs.Page.{Page}
+use Rattle.serial.specs.Scripts.{Fetched, got, missing, faulted, is_lawful}
+use Rattle.serial.specs.Serial.{World, fetched_if, fetched, Serial, first, Moment, reading, tag_ended, awaits, over, Outcome, refusal, after_fetch, moment_after, IsSerial, Passes}
 use Rattle.standard_laws.proofs.Fuel.{one_outcome}
 use Rattle.standard_laws.proofs.Passing.{leads-next, passes-over}
 use Rattle.core_definitions.specs.Core.{whole_page}

@@ -4,7 +4,7 @@ use Rattle.std.specs.Prelude.{◌≢◌, ◌||◌, cond}
 use Rattle.std.specs.List.{AllByRecursion}
 use Rattle.std.proofs.lemmas.Bool.Decides.{nat_tests}
 use Rattle.html_types.specs.Text.{same_text}
-use Rattle.standard.specs.Scripts.{Fetched, is_lawful}
+use Rattle.serial.specs.Scripts.{Fetched, is_lawful}
 use Rattle.core_definitions.specs.Desk.{is_among}
 use Rattle.core_steps.specs.Fetches.{names_of}
 use Rattle.core_steps.specs.Journals.{found}

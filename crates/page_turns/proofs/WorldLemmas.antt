@@ -3,7 +3,7 @@ use Rattle.std.proofs.Common.{◌≡◌, ℕ, Bool, List, [], Option, Some, None
 use Rattle.std.specs.Prelude.{◌⊎◌}
 use Rattle.outside.specs.Outside.{Seen}
 use Rattle.outside.specs.declared.traits.Port.TheVariants as port
-use Rattle.standard.specs.Scripts.{Fetched, got, missing}
+use Rattle.serial.specs.Scripts.{Fetched, got, missing}
 use Rattle.core_steps.specs.Journals.{found}
 use Rattle.page_turns.specs.Given.{AbsencesRose, file_at}
 use Rattle.page_turns.specs.Scripts.{Met, Alike, path_of, IsAbsent, MayFetch, AreScriptsOf, MayMeet, Fetches}

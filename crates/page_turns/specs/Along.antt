@@ -1,7 +1,7 @@
 -- What is known of a journal's events while the page is read.
 use Rattle.std.specs.Prelude.{◌≡◌, ◌⊎◌, ℕ, nat_lt, false, List, [], ◌++◌, length, map, Option, None, IfSome, IsSome}
-use Rattle.html_types.specs.declared.script.Ending.{Ending}
-use Rattle.standard.specs.Serial.{World}
+use Rattle.html_types.specs.declared.ending.Ending.{Ending}
+use Rattle.serial.specs.Serial.{World}
 use Rattle.core_definitions.specs.declared.event.Event.{Event}
 use Rattle.core_definitions.specs.declared.event.Event.TheVariants.{Do, Arrive}
 use Rattle.core_definitions.specs.Batches.{Piece}

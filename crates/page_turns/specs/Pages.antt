@@ -1,15 +1,15 @@
 -- A page as it is read, and what its parse comes to.
 use Rattle.std.specs.Prelude.{◌≡◌, ◌≤◌, ◌+◌, ◌⊎◌, ℕ, Bool, true, false, List, [], ◌++◌, length, flat_map, Option, Some, None, IfSome}
-use Rattle.html_types.specs.declared.script.Ending.{Ending}
-use Rattle.html_types.specs.declared.script.Why.TheVariants as why
+use Rattle.html_types.specs.declared.ending.Ending.{Ending}
+use Rattle.html_types.specs.declared.ending.Why.TheVariants as why
 use Rattle.outside.specs.Outside.{Seen}
 use Rattle.outside.specs.declared.traits.Port.TheVariants as port
 use Rattle.standard.specs.Entities.{Entities}
-use Rattle.standard.specs.Page.{Page, page_of, text_of, ending_of, shown}
-use Rattle.standard.specs.Scripts.{Fetched, faulted}
+use Rattle.serial.specs.Page.{Page, page_of, text_of, ending_of, shown}
+use Rattle.serial.specs.Scripts.{Fetched, faulted}
 use Rattle.standard.specs.Act.{Doc}
-use Rattle.standard.specs.Serial.{World, fetched, Serial, Outcome, refusal, awaits, IsSerial, Passes}
-use Rattle.standard.specs.Output.{line_text, output_with}
+use Rattle.serial.specs.Serial.{World, fetched, Serial, Outcome, refusal, awaits, IsSerial, Passes}
+use Rattle.serial.specs.Output.{line_text, output_with}
 use Rattle.utf8_pieces.specs.Decoder.{HasRead}
 use Rattle.core_definitions.specs.Core.{joined}
 use Rattle.page_turns.specs.declared.page.TheConstants.{PAGE_LIMIT}

@@ -4,8 +4,8 @@ use Rattle.std.specs.List.{AllByRecursion}
 use Rattle.outside.specs.Outside.{Files, Paths, Begun, Seen}
 use Rattle.outside.specs.declared.traits.Port.TheVariants.{Script as script_port}
 use Rattle.standard.specs.Entities.{Entities}
-use Rattle.standard.specs.Scripts.{Fetched, got, missing, faulted, is_lawful, file_statements}
-use Rattle.standard.specs.Serial.{World}
+use Rattle.serial.specs.Scripts.{Fetched, got, missing, faulted, is_lawful, file_statements}
+use Rattle.serial.specs.Serial.{World}
 use Rattle.core_steps.specs.Journals.{found}
 use Rattle.core_steps.specs.Fetches.{names_of}
 use Rattle.page_turns.specs.declared.scripts.TheConstants.{SCRIPT_LIMIT}

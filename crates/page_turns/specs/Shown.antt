@@ -1,5 +1,5 @@
 -- What a parse comes to.
-use Rattle.standard.specs.Serial.{Result, finished, refused}
+use Rattle.serial.specs.Serial.{Result, finished, refused}
 use Rattle.page_turns.specs.declared.outcome.Outcome.{Outcome}
 use Rattle.page_turns.specs.declared.outcome.Outcome.TheVariants.{Finished, Refused}
 

@@ -1,13 +1,13 @@
 -- The run of a page on one thread: what is under way, and what holds between two turns.
 use Rattle.std.specs.Prelude.{◌≡◌, ◌≤◌, ◌<◌, ◌+◌, ◌-◌, ◌*◌, ◌⊎◌, ℕ, suc, Bool, true, false, List, [], ◌++◌, length, flat_map, Option, Some, None}
-use Rattle.html_types.specs.declared.script.Ending.{Ending}
-use Rattle.html_types.specs.declared.script.Line.{Line}
+use Rattle.html_types.specs.declared.ending.Ending.{Ending}
+use Rattle.serial.specs.declared.script.Line.{Line}
 use Rattle.outside.specs.Outside.{Seen}
 use Rattle.outside.specs.declared.traits.Port.TheVariants as port
 use Rattle.standard.specs.Entities.{Entities}
-use Rattle.standard.specs.Output.{line_text}
+use Rattle.serial.specs.Output.{line_text}
 use Rattle.standard.specs.Parser.{Parser}
-use Rattle.standard.specs.Scripts.{Fetched, faulted}
+use Rattle.serial.specs.Scripts.{Fetched, faulted}
 use Rattle.core_definitions.specs.declared.event.Event.{Event}
 use Rattle.core_definitions.specs.declared.event.Event.TheVariants as event
 use Rattle.core_definitions.specs.Batches.{Piece}

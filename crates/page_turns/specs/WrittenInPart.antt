@@ -1,9 +1,9 @@
 -- What was written where memory ran out or the sink failed: all lines of the events before the refused one, and a front of what that one was to
 -- write.
 use Rattle.std.specs.Prelude.{◌≡◌, ℕ, List, [], ◌∷◌, ◌++◌, flat_map, Option}
-use Rattle.html_types.specs.declared.script.Line.{Line}
+use Rattle.serial.specs.declared.script.Line.{Line}
 use Rattle.standard.specs.Entities.{Entities}
-use Rattle.standard.specs.Output.{line_text}
+use Rattle.serial.specs.Output.{line_text}
 use Rattle.core_definitions.specs.declared.event.Event.TheVariants.{Do}
 use Rattle.core_steps.specs.Sides.{Shown}
 use Rattle.page_turns.specs.Taken.{TookWithFront}

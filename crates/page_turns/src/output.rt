@@ -1,7 +1,7 @@
 // The lines that a run writes.
 ghost use Rattle.std.specs.Prelude.{◌≡◌, ◌≤◌, ◌++◌, codes, IfOk, OnOk, OnErr, IsErrOf, flat_map, string_bytes};
 ghost use Rattle.std.specs.Str.{chars};
-ghost use Rattle.standard.specs.Output.{line_text, tree_text, tree_lines, refusal_text, result_with, json_string};
+ghost use Rattle.serial.specs.Output.{line_text, tree_text, tree_lines, refusal_text, result_with, json_string};
 ghost use Rattle.outside.specs.Outside.{Rose};
 ghost use Rattle.page_turns.specs.Taken.{Took, TookFront};
 ghost use Rattle.page_turns.specs.Shown.{result_of};
@@ -9,9 +9,10 @@ ghost use Rattle.page_turns.specs.Shown.{result_of};
 use crate::outcome::Outcome;
 use crate::page::Failure;
 use crate::write::write_all;
-use html_types::{Line, NoMemory, Why};
+use html_types::{NoMemory, Why};
 use op_exec::Doc;
 use outside::Sink;
+use serial::Line;
 use serialiser::with_json;
 use std::alloc::Global;
 

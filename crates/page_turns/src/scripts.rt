@@ -2,7 +2,7 @@
 ghost use Rattle.std.specs.Prelude.{◌≡◌, true, IfOk};
 ghost use Rattle.std.specs.Str.{chars};
 ghost use Rattle.outside.specs.Outside.{KeepsOthers};
-ghost use Rattle.standard.specs.Scripts.{is_lawful};
+ghost use Rattle.serial.specs.Scripts.{is_lawful};
 ghost use Rattle.page_turns.specs.Given.{MayGive, given_of};
 ghost use Rattle.page_turns.specs.Scripts.{path_of, BeginsFile};
 

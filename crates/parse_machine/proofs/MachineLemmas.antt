@@ -30,9 +30,9 @@ use Rattle.standard.specs.Parser.{Parser, parser, read_as, Took, took, after_ops
 use Rattle.standard_laws.specs.Laws.{joined, unless_stopped}
 use Rattle.rule_laws.proofs.Framing.{construct-framed}
 use Rattle.standard_laws.proofs.Parse.{parse-append}
-use Rattle.html_types.specs.declared.script.Ending.{Ending}
-use Rattle.html_types.specs.declared.script.Ending.TheVariants as ending
-use Rattle.html_types.specs.declared.script.Why.{Why}
+use Rattle.html_types.specs.declared.ending.Ending.{Ending}
+use Rattle.html_types.specs.declared.ending.Ending.TheVariants as ending
+use Rattle.html_types.specs.declared.ending.Why.{Why}
 use Rattle.core_definitions.specs.Batches.{Batch, finishing, refusal_batch, end_batch}
 use Rattle.parse_machine.specs.declared.machine.PageEnd.{PageEnd}
 use Rattle.parse_machine.specs.declared.machine.PageEnd.TheVariants as page_end

@@ -1,7 +1,7 @@
 -- What holds along the events of a journal.
 use Rattle.std.specs.Prelude.{◌≡◌, ◌≤◌, ◌<◌, ◌⊎◌, ℕ, suc, nat_lt, false, List, [], ◌∷◌, Some, slice_get}
 use Rattle.standard.specs.Entities.{Entities}
-use Rattle.standard.specs.Serial.{World, Moment}
+use Rattle.serial.specs.Serial.{World, Moment}
 use Rattle.core_definitions.specs.declared.event.Event.{Event}
 use Rattle.core_definitions.specs.declared.event.Event.TheVariants.{Send, Take, Do, Arrive}
 use Rattle.core_definitions.specs.Batches.{Piece}

@@ -1,7 +1,7 @@
 -- Where a string ends, by bytes and by characters.
 use Rattle.std.proofs.Common.{◌≡◌, ℕ, ◌+◌, ◌<◌, ◌≤◌, ◌==◌, Bool, true, false, List, [], ◌∷◌, ◌++◌, get_or, take, drop, length, Option, Some, None, option_map, refl, sym, ap, ◌∙◌, eq-eqb}
 use Rattle.std.proofs.lemmas.List.{drop_more, drop_all, take_more, append_assoc}
-use Rattle.standard.specs.Statements.{string_end, in_front}
+use Rattle.serial.specs.Statements.{string_end, in_front}
 use Rattle.script_lang.specs.Parts.{cut}
 
 -- a text in two parts, with more in front

@@ -7,7 +7,7 @@ use Rattle.json.specs.Json as json
 use Rattle.json.specs.Json.{items, members, value}
 use Rattle.serde_json.specs.Find.{as_str}
 use Rattle.serde_json.specs.Read.{read, of_json}
-use Rattle.standard.specs.Statements.{string_end, in_front}
+use Rattle.serial.specs.Statements.{string_end, in_front}
 use Rattle.script_lang.proofs.Ends.{a_quote, no_quote}
 
 abbrev Parts : Type 0

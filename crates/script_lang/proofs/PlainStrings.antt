@@ -4,7 +4,7 @@ use Rattle.std.specs.Prelude.{nat_lt}
 use Rattle.std.proofs.lemmas.Bool.Decides.{nat_tests}
 use Rattle.std.proofs.lemmas.List.{take_more, length-take-le, get_or-take}
 use Rattle.json.specs.Text.{content, plain, prepend}
-use Rattle.standard.specs.Statements.{string_end}
+use Rattle.serial.specs.Statements.{string_end}
 use Rattle.script_lang.specs.Parts.{IsPlainTo, is_special}
 use Rattle.script_lang.proofs.Ends.{with_front, end_from, end_from-other, end_from-quote}
 

@@ -5,8 +5,8 @@ use Rattle.std.proofs.Math.Utf8.{encodes}
 use Rattle.std.proofs.lemmas.Bool.{eqb-true, true≢false}
 use Rattle.std.proofs.lemmas.List.{append_assoc, append-nil}
 use Rattle.std.proofs.lemmas.Str.{chars-nil, encodes-chars}
-use Rattle.html_types.specs.declared.script.Statement.{Statement}
-use Rattle.standard.specs.Statements.{is_white, skip_white, statement, statements_within, statements}
+use Rattle.serial.specs.declared.script.Statement.{Statement}
+use Rattle.serial.specs.Statements.{is_white, skip_white, statement, statements_within, statements}
 use Rattle.script_lang.proofs.White.{skipped, kept}
 use Rattle.script_lang.proofs.Shorter.{statement-shorter}
 

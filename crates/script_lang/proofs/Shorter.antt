@@ -1,12 +1,12 @@
 -- What stands behind a statement is shorter than the text.
 use Rattle.std.proofs.Common.{◌≡◌, ℕ, ◌+◌, ◌<◌, ◌≤◌, ◌==◌, Bool, true, false, List, [], ◌∷◌, length, Option, Some, None, option_map, option_and_then, refl, sym, ap, ◌∙◌, arith, codes}
 use Rattle.std.proofs.lemmas.List.{length-append}
-use Rattle.html_types.specs.declared.script.Statement.{Statement}
-use Rattle.html_types.specs.declared.script.Statement.TheVariants.{Write, WriteLine, Remove, Append, LogById}
+use Rattle.serial.specs.declared.script.Statement.{Statement}
+use Rattle.serial.specs.declared.script.Statement.TheVariants.{Write, WriteLine, Remove, Append, LogById}
 use Rattle.json.specs.Text.{content, plain}
 use Rattle.std.specs.Prelude.{encode_utf8_all}
 use Rattle.std.specs.Str.{chars}
-use Rattle.standard.specs.Statements.{behind, in_front, string_end, string_value, string_between, or_else, statement}
+use Rattle.serial.specs.Statements.{behind, in_front, string_end, string_value, string_between, or_else, statement}
 use Rattle.script_lang.proofs.Words.{behind-some}
 use Rattle.script_lang.proofs.Ends.{a_quote, no_quote}
 

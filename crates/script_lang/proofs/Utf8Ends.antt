@@ -6,7 +6,7 @@ use Rattle.std.proofs.Math.Utf8.{encodes}
 use Rattle.std.proofs.lemmas.Bool.{cases_lt, ne_eqb, eqb-true}
 use Rattle.std.proofs.lemmas.List.{append-nil}
 use Rattle.std.proofs.lemmas.Str.{inside_one, encode_ascii, length-encode, len_utf8_bounds, encodes-chars}
-use Rattle.standard.specs.Statements.{string_end, in_front}
+use Rattle.serial.specs.Statements.{string_end, in_front}
 use Rattle.script_lang.proofs.Ends.{with_front, no_quote, a_quote}
 
 abbrev Parts : Type 0

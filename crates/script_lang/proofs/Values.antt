@@ -9,7 +9,7 @@ use Rattle.std.proofs.lemmas.Str.Pattern.{strip_prefix_char}
 use Rattle.json.specs.Text.{content, plain}
 use Rattle.serde_json.specs.Find.{as_str}
 use Rattle.serde_json.specs.Read.{read}
-use Rattle.standard.specs.Statements.{behind, string_end, string_value}
+use Rattle.serial.specs.Statements.{behind, string_end, string_value}
 use Rattle.script_lang.specs.Parts.{cut}
 use Rattle.script_lang.proofs.Words.{behind-some}
 use Rattle.script_lang.proofs.Utf8Ends.{spelled, string_end-chars}

@@ -6,7 +6,7 @@ use Rattle.std.specs.Str.Pattern.{HasPassingCharAt, FindsPrefixBy, CutsPrefixes,
 use Rattle.std.proofs.Math.Utf8.{scalar, scalars, encodes}
 use Rattle.std.proofs.lemmas.Str.{chars_past_char, IsUtf8-past_char, encodes-chars, scalars-chars, len_utf8_bounds}
 use Rattle.std.proofs.lemmas.Bool.Decides.{nat_tests}
-use Rattle.standard.specs.Statements.{is_white, skip_white}
+use Rattle.serial.specs.Statements.{is_white, skip_white}
 
 -- the four characters of white space
 abbrev pub whites : List ℕ

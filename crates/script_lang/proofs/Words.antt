@@ -6,7 +6,7 @@ use Rattle.std.proofs.Math.Utf8.{encodes}
 use Rattle.std.proofs.lemmas.Bool.{eqb-true}
 use Rattle.std.proofs.lemmas.Str.{chars-append, encodes-chars, encodes-append}
 use denote.Ref.{Bor}
-use Rattle.standard.specs.Statements.{behind}
+use Rattle.serial.specs.Statements.{behind}
 
 pub behind-append : (ws t : List ℕ) → behind ws (ws ++ t) ≡ Some t
 behind-append [] t = refl

@@ -3,8 +3,8 @@ use Rattle.std.proofs.Common.{◌≡◌, [], ◌∷◌, Some, None, refl, codes}
 use Rattle.std.specs.Str.{chars}
 use Rattle.std.specs.Char.{encode_utf8}
 use Rattle.json.proofs.OnLiterals.{json_on_literals}
-use Rattle.html_types.specs.declared.script.Statement.TheVariants.{Write, WriteLine, Remove, Append, LogById, LogRoot}
-use Rattle.standard.specs.Statements.{statements}
+use Rattle.serial.specs.declared.script.Statement.TheVariants.{Write, WriteLine, Remove, Append, LogById, LogRoot}
+use Rattle.serial.specs.Statements.{statements}
 
 empty : statements [] ≡ Some []
 unfolding statements

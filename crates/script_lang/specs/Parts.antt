@@ -3,9 +3,9 @@ use Rattle.std.specs.Prelude.{◌≡◌, ℕ, ◌+◌, ◌==◌, ◌||◌, nat_l
 use Rattle.std.specs.Borrow.{Bor}
 use Rattle.std.specs.Str.{chars}
 use Rattle.json.specs.Text.{content, plain}
-use Rattle.html_types.specs.declared.script.Statement.{Statement}
-use Rattle.html_types.specs.declared.script.Statement.TheVariants.{Append}
-use Rattle.standard.specs.Statements.{string_end, with_strings}
+use Rattle.serial.specs.declared.script.Statement.{Statement}
+use Rattle.serial.specs.declared.script.Statement.TheVariants.{Append}
+use Rattle.serial.specs.Statements.{string_end, with_strings}
 
 -- the bytes up to a place, and those from there on
 abbrev pub cut : List ℕ → ℕ → List ℕ × List ℕ

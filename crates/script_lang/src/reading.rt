@@ -2,12 +2,13 @@
 
 ghost use Rattle.std.specs.Prelude.{◌≡◌, option_map, IfOk};
 ghost use Rattle.std.specs.Str.{chars};
-ghost use Rattle.standard.specs.Statements.{skip_white, statement, statements, string_between};
+ghost use Rattle.serial.specs.Statements.{skip_white, statement, statements, string_between};
 ghost use Rattle.script_lang.specs.Parts.{parted, append};
 
 use crate::script::Script;
 use crate::string::string_value;
-use html_types::{NoMemory, Statement, Text};
+use html_types::{NoMemory, Text};
+use serial::Statement;
 use std::alloc::Global;
 
 /// Reads a script's text: its statements in order, none where the text isn't a list of these six, with space, TAB, LF

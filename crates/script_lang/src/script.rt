@@ -2,7 +2,8 @@
 
 ghost use Rattle.std.specs.Prelude.{◌≡◌, ◌∷◌, ◌++◌, [], OnOk, OnErr};
 
-use html_types::{NoMemory, Statement};
+use html_types::NoMemory;
+use serial::Statement;
 use std::alloc::Global;
 use std::marker::Model;
 
@@ -14,7 +15,7 @@ pub struct Script {
 
 impl Model for Script {
     ghost use Rattle.std.specs.Prelude.{List};
-    ghost use Rattle.html_types.specs.declared.script.Statement.{Statement};
+    ghost use Rattle.serial.specs.declared.script.Statement.{Statement};
 
     ghost Value = { List Statement };
 

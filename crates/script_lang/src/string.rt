@@ -4,7 +4,7 @@ ghost use Rattle.std.specs.Prelude.{◌≡◌, ◌+◌, ◌∷◌, option_map, o
 ghost use Rattle.std.specs.Str.{chars, IsCharBoundary, IsUtf8};
 ghost use Rattle.serde_json.specs.Find.{as_str};
 ghost use Rattle.serde_json.specs.Read.{read};
-ghost use Rattle.standard.specs.Statements.{string_end, string_value};
+ghost use Rattle.serial.specs.Statements.{string_end, string_value};
 ghost use Rattle.script_lang.specs.Parts.{IsPlainTo, cut, is_special, parted};
 
 use html_types::{NoMemory, Text};

@@ -2,7 +2,7 @@
 
 ghost use Rattle.std.specs.Prelude.{◌≡◌, ◌++◌, IfOk};
 ghost use Rattle.std.specs.Str.{chars};
-ghost use Rattle.standard.specs.Dump.{json_string};
+ghost use Rattle.serial.specs.Dump.{json_string};
 
 use html_types::NoMemory;
 use json::Writer;

@@ -30,11 +30,5 @@ pub mod Rules
 pub mod Tree
 pub mod Act
 pub mod Outer
-pub mod Dump
-pub mod Statements
 pub mod Prepare
-pub mod Page
-pub mod Scripts
 pub mod Parser
-pub mod Serial
-pub mod Output

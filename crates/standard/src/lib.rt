@@ -4,6 +4,6 @@
 //! Reading order of `specs/`: Class, Step, TextStates, EscapeStates, TagStates, CommentStates, DoctypeStates,
 //! CdataStates, MarkStates, Entities, ReferenceStates, Tokenizer (13.2.5); WhiteSpace, Groups, ForeignNames, Elements,
 //! Stack, Reset, Formatting, Foreign, Instructions (13.2.4); Rows, RulesHead, RulesBody, RulesTable, RulesRest,
-//! RulesForeign, Adoption, Rules (13.2.6); Tree, Act, Outer, Dump (the tree and its texts); Page, Statements, Prepare,
-//! Scripts (scripts and their files); Parser, Serial (the serial parse); Output.
+//! RulesForeign, Adoption, Rules (13.2.6); Tree, Act, Outer (the tree and its text); Prepare (which
+//! scripts run); Parser. The serial parse over a page is in `serial`.
 #![tactic(auto)]

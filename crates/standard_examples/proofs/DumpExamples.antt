@@ -4,7 +4,7 @@ use Rattle.std.specs.Prelude.{encode_utf8_all}
 use Rattle.std.specs.Char.{encode_utf8}
 use Rattle.std.specs.Fmt.{digits}
 use Rattle.json.proofs.OnLiterals.{json_on_literals}
-use Rattle.html_types.specs.declared.script.Ending.TheVariants as ending
+use Rattle.html_types.specs.declared.ending.Ending.TheVariants as ending
 use Rattle.html_types.specs.declared.tree.Node.{Node}
 use Rattle.html_types.specs.declared.tree.Kind.{Kind}
 use Rattle.html_types.specs.declared.tree.Kind.TheVariants as kind
@@ -12,9 +12,9 @@ use Rattle.html_types.specs.declared.name.Name.TheVariants.{Known}
 use Rattle.html_types.specs.declared.word.Word.{Word}
 use Rattle.html_types.specs.declared.word.Word.TheVariants.{Html, Head, Body, Br, Script, Template}
 use Rattle.standard.specs.Tree.{lone}
-use Rattle.standard.specs.Serial.{serial_with}
-use Rattle.standard.specs.Dump.{dump_lines, dump_text}
-use Rattle.standard.specs.Output.{output_with}
+use Rattle.serial.specs.Serial.{serial_with}
+use Rattle.serial.specs.Dump.{dump_lines, dump_text}
+use Rattle.serial.specs.Output.{output_with}
 use Rattle.standard_examples.proofs.OnLiterals.{serial_on_literals}
 use Rattle.standard_examples.proofs.Rows.{without_files}
 

@@ -3,9 +3,9 @@ use Rattle.std.proofs.Common.{◌≡◌, ℕ, true, false, List, [], ◌∷◌, 
 use Prim.Native.String.{String}
 use Rattle.std.specs.Prelude.{encode_utf8_all}
 use Rattle.html_types.specs.Text.{same_text}
-use Rattle.html_types.specs.declared.script.Ending.{Ending}
-use Rattle.html_types.specs.declared.script.Ending.TheVariants as ending
-use Rattle.standard.specs.Scripts.{Fetched, got, missing, faulted, is_lawful}
+use Rattle.html_types.specs.declared.ending.Ending.{Ending}
+use Rattle.html_types.specs.declared.ending.Ending.TheVariants as ending
+use Rattle.serial.specs.Scripts.{Fetched, got, missing, faulted, is_lawful}
 use Rattle.standard_examples.proofs.OnLiterals.{serial_on_literals}
 use Rattle.standard_examples.proofs.Rows.{written_in, wants, times}
 

@@ -3,8 +3,8 @@ use Rattle.std.proofs.Common.{◌≡◌, [], ◌∷◌, true, false, codes, refl
 use Rattle.std.specs.Str.{chars, is_utf8}
 use Rattle.std.specs.Str.Lossy.{utf8_valid_len, utf8_error_len}
 use lib.Utf8.{encode}
-use Rattle.html_types.specs.declared.script.Ending.TheVariants.{End, Bad, Long, Fault}
-use Rattle.standard.specs.Page.{page_of}
+use Rattle.html_types.specs.declared.ending.Ending.TheVariants.{End, Bad, Long, Fault}
+use Rattle.serial.specs.Page.{page_of}
 
 whole : page_of 4 (codes "abcd") false ≡ record { text = codes "abcd"; ending = End }
 unfolding utf8_valid_len utf8_error_len chars is_utf8 encode

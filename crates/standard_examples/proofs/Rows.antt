@@ -2,13 +2,13 @@
 use Rattle.std.proofs.Common.{◌≡◌, ℕ, zero, suc, ◌++◌, true, false, List, [], ◌∷◌, Option, Some, option_map, refl, codes}
 use Prim.Native.String.{String}
 use Rattle.std.specs.Prelude.{encode_utf8_all}
-use Rattle.html_types.specs.declared.script.Ending.{Ending}
-use Rattle.html_types.specs.declared.script.Ending.TheVariants as ending
+use Rattle.html_types.specs.declared.ending.Ending.{Ending}
+use Rattle.html_types.specs.declared.ending.Ending.TheVariants as ending
 use Rattle.standard.specs.Entities.{Entities}
 use Rattle.standard.specs.Instructions.{is_hidden}
-use Rattle.standard.specs.Scripts.{missing}
-use Rattle.standard.specs.Serial.{World, serial_with}
-use Rattle.standard.specs.Output.{output}
+use Rattle.serial.specs.Scripts.{missing}
+use Rattle.serial.specs.Serial.{World, serial_with}
+use Rattle.serial.specs.Output.{output}
 use Rattle.standard_examples.proofs.OnLiterals.{serial_on_literals}
 use Rattle.standard_examples.proofs.TokenizerRows.{some_names}
 

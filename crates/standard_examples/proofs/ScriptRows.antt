@@ -1,11 +1,11 @@
 -- Worked pages whose scripts write scripts, remove and move elements and read them, by computation.
 use Rattle.std.proofs.Common.{◌≡◌, ℕ, true, [], ◌∷◌, option_map, refl, codes}
-use Rattle.html_types.specs.declared.script.Ending.TheVariants as ending
-use Rattle.html_types.specs.declared.script.Statement.TheVariants as statement
-use Rattle.html_types.specs.declared.script.Why.TheVariants as why
-use Rattle.standard.specs.Serial.{Serial, first, Course, goes, refuses, starved, execute, run_statements, serial_with}
-use Rattle.standard.specs.Dump.{dump_lines}
-use Rattle.standard.specs.Output.{output_with}
+use Rattle.html_types.specs.declared.ending.Ending.TheVariants as ending
+use Rattle.serial.specs.declared.script.Statement.TheVariants as statement
+use Rattle.html_types.specs.declared.ending.Why.TheVariants as why
+use Rattle.serial.specs.Serial.{Serial, first, Course, goes, refuses, starved, execute, run_statements, serial_with}
+use Rattle.serial.specs.Dump.{dump_lines}
+use Rattle.serial.specs.Output.{output_with}
 use Rattle.standard_examples.proofs.OnLiterals.{serial_on_literals}
 use Rattle.standard_examples.proofs.Rows.{without_files, written, wants}
 

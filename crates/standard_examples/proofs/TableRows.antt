@@ -1,12 +1,12 @@
 -- Worked pages with tables, templates, select and framesets: what is written for each, by computation.
 use Rattle.std.proofs.Common.{◌≡◌, true, ◌∷◌, ◌++◌, [], Some, option_map, refl, codes}
-use Rattle.html_types.specs.declared.script.Ending.TheVariants as ending
+use Rattle.html_types.specs.declared.ending.Ending.TheVariants as ending
 use Rattle.standard.specs.Adoption.{adopt}
 use Rattle.standard.specs.Rules.{adopting}
-use Rattle.standard.specs.Scripts.{missing}
-use Rattle.standard.specs.Serial.{serial_with}
-use Rattle.standard.specs.Dump.{dump_lines}
-use Rattle.standard.specs.Output.{output_with}
+use Rattle.serial.specs.Scripts.{missing}
+use Rattle.serial.specs.Serial.{serial_with}
+use Rattle.serial.specs.Dump.{dump_lines}
+use Rattle.serial.specs.Output.{output_with}
 use Rattle.standard_examples.proofs.OnLiterals.{serial_on_literals}
 use Rattle.standard_examples.proofs.Rows.{written_for, wants, times}
 

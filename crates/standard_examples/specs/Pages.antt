@@ -1,10 +1,10 @@
 -- Worked pages: each with what is written for it.
 use Rattle.std.specs.Prelude.{◌≡◌, ℕ, List, [], ◌∷◌, Option, Some, option_map, map, codes, encode_utf8_all}
 use Prim.Native.String.{String}
-use Rattle.html_types.specs.declared.script.Ending.TheVariants as ending
-use Rattle.standard.specs.Scripts.{missing}
-use Rattle.standard.specs.Serial.{serial_with}
-use Rattle.standard.specs.Output.{output}
+use Rattle.html_types.specs.declared.ending.Ending.TheVariants as ending
+use Rattle.serial.specs.Scripts.{missing}
+use Rattle.serial.specs.Serial.{serial_with}
+use Rattle.serial.specs.Output.{output}
 
 -- a page that ends where its text does, with no entities and no script's file
 pub record Example : Type 0 where

@@ -1,12 +1,12 @@
 -- A batch: what `parse` makes of a text is where the moments at level 0 come to over it.
 use Rattle.std.proofs.Common.{◌≡◌, ℕ, List, [], ◌∷◌, ◌++◌, drop, Some, refl, sym, ◌∙◌, ap}
 use Rattle.html_types.specs.declared.operation.Op.{Op}
-use Rattle.html_types.specs.declared.script.Ending.{Ending}
+use Rattle.html_types.specs.declared.ending.Ending.{Ending}
 use Rattle.html_types.specs.declared.instruction.Stop.TheVariants as stop
 use Rattle.standard.specs.Act.{Doc, acts}
 use Rattle.standard.specs.Parser.{Parser, Took, took, take_character, Parsed, and_rest, parse}
-use Rattle.standard.specs.Serial.{World, Serial, Moment, reading, taken, moment_after, moments_on}
-use Rattle.standard.specs.Serial as serial
+use Rattle.serial.specs.Serial.{World, Serial, Moment, reading, taken, moment_after, moments_on}
+use Rattle.serial.specs.Serial as serial
 use Rattle.standard_laws.specs.Laws.{moment_at}
 use Rattle.standard_laws.proofs.Parse.{acts-append}
 

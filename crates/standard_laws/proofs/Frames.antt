@@ -3,20 +3,20 @@ use Rattle.std.proofs.Common.{◌≡◌, ℕ, zero, suc, ◌+◌, ◌-◌, List,
 use Rattle.std.proofs.Math.Seq.{take-append_seam, drop-append_seam}
 use Rattle.std.proofs.lemmas.Bool.{le-leb, lt-leb}
 use Rattle.html_types.specs.declared.operation.NodeId.{NodeId}
-use Rattle.html_types.specs.declared.script.Why.TheVariants as why
-use Rattle.html_types.specs.declared.script.Statement.{Statement}
-use Rattle.html_types.specs.declared.script.Statement.TheVariants as statement
+use Rattle.html_types.specs.declared.ending.Why.TheVariants as why
+use Rattle.serial.specs.declared.script.Statement.{Statement}
+use Rattle.serial.specs.declared.script.Statement.TheVariants as statement
 use Rattle.html_types.specs.declared.instruction.Stop.{Stop}
 use Rattle.html_types.specs.declared.instruction.Stop.TheVariants as stop
-use Rattle.html_types.specs.declared.script.Line.{Line}
-use Rattle.html_types.specs.declared.script.Line.TheVariants as line
+use Rattle.serial.specs.declared.script.Line.{Line}
+use Rattle.serial.specs.declared.script.Line.TheVariants as line
 use Rattle.standard.specs.Tree.{Nodes, detached, appended, find_id, first_element}
 use Rattle.standard.specs.Act.{Doc}
 use Rattle.standard.specs.Outer.{outer_text}
-use Rattle.standard.specs.Scripts.{file_statements}
-use Rattle.standard.specs.Statements.{statements}
+use Rattle.serial.specs.Scripts.{file_statements}
+use Rattle.serial.specs.Statements.{statements}
 use Rattle.standard.specs.Parser.{Parser}
-use Rattle.standard.specs.Serial.{World, Serial, Course, goes, refuses, starved, ◌then◌, advanced, advance, before_point, after_point, moved, inside, back_at, with_line_feed, insert, with_tree, remove, with_line, read, execute, run_statements, on_element, on_move, write, go_on, stopped, end_of_script, run_prepared}
+use Rattle.serial.specs.Serial.{World, Serial, Course, goes, refuses, starved, ◌then◌, advanced, advance, before_point, after_point, moved, inside, back_at, with_line_feed, insert, with_tree, remove, with_line, read, execute, run_statements, on_element, on_move, write, go_on, stopped, end_of_script, run_prepared}
 use Rattle.standard_laws.specs.Laws.{HasParsed, HasEnded, EndsIn}
 use Rattle.standard_laws.specs.Frames.{Frame, Nest, rests, state_of, back_in, resume_in, resume, NestComesTo, TagComesTo, FramesEnd, ScriptsEnter, FilesEnter, StillTags, ExternalTags, InlineTags, outside_language, OutsideTexts, TextsBegin, begun, parsed_to, RestsEnd, RestsStop, RestsRefuse, Waits, frame_ended, FrameEnds, wrote, WritesFit, WritesRefuse, LinesFit, LinesRefuse, Removes, Appends, ReadsById, ReadsRoot, LacksElement, thrown, Throws}
 use Rattle.standard_laws.proofs.Fuel.{Refines, Refines_refl, Refines_trans, Refines_then, run_statements-more, go_on-more}

@@ -3,16 +3,16 @@ use Rattle.std.proofs.Common.{◌≡◌, ℕ, zero, suc, ◌+◌, Bool, true, fa
 use Rattle.std.proofs.lemmas.Option.{none-some, same_Some}
 use Rattle.std.specs.Prelude.{⊤}
 use Rattle.html_types.specs.declared.operation.NodeId.{NodeId}
-use Rattle.html_types.specs.declared.script.Ending.{Ending}
-use Rattle.html_types.specs.declared.script.Statement.{Statement}
-use Rattle.html_types.specs.declared.script.Statement.TheVariants as statement
+use Rattle.html_types.specs.declared.ending.Ending.{Ending}
+use Rattle.serial.specs.declared.script.Statement.{Statement}
+use Rattle.serial.specs.declared.script.Statement.TheVariants as statement
 use Rattle.html_types.specs.declared.instruction.Stop.TheVariants as stop
-use Rattle.standard.specs.Statements.{statements}
+use Rattle.serial.specs.Statements.{statements}
 use Rattle.standard.specs.Tree.{Nodes, appended, find_id, first_element}
 use Rattle.standard.specs.Prepare.{Prepared, still, inline, external}
-use Rattle.standard.specs.Scripts.{Fetched, got, missing, faulted, file_statements}
-use Rattle.standard.specs.Page.{Page}
-use Rattle.standard.specs.Serial.{World, fetched, Outcome, Serial, Course, goes, refuses, starved, ◌then◌, Advanced, advanced, advance, before_point, moved, tree_of, inside, back_at, with_line_feed, insert, with_tree, remove, read, one_more_executed, prepared, execute, run_statements, on_element, on_move, write, go_on, stopped, end_of_script, run_prepared, run_text, first, Moment, reading, tag_ended, awaits, over, after_script, after_fetch, moment_after, moments_on, outcome_in, serial_with, IsSerial}
+use Rattle.serial.specs.Scripts.{Fetched, got, missing, faulted, file_statements}
+use Rattle.serial.specs.Page.{Page}
+use Rattle.serial.specs.Serial.{World, fetched, Outcome, Serial, Course, goes, refuses, starved, ◌then◌, Advanced, advanced, advance, before_point, moved, tree_of, inside, back_at, with_line_feed, insert, with_tree, remove, read, one_more_executed, prepared, execute, run_statements, on_element, on_move, write, go_on, stopped, end_of_script, run_prepared, run_text, first, Moment, reading, tag_ended, awaits, over, after_script, after_fetch, moment_after, moments_on, outcome_in, serial_with, IsSerial}
 
 -- g is f, unless f ran out of fuel
 abbrev pub Refines : Course → Course → Type 0

@@ -3,18 +3,18 @@ use Rattle.std.proofs.Common.{◌≡◌, ℕ, zero, suc, ◌+◌, ◌≤◌, Boo
 use Rattle.std.specs.Prelude.{⊤}
 use Rattle.std.proofs.lemmas.Bool.{leb-true}
 use Rattle.html_types.specs.declared.operation.NodeId.{NodeId}
-use Rattle.html_types.specs.declared.script.Statement.{Statement}
-use Rattle.html_types.specs.declared.script.Statement.TheVariants as statement
-use Rattle.html_types.specs.declared.script.Line.{Line}
+use Rattle.serial.specs.declared.script.Statement.{Statement}
+use Rattle.serial.specs.declared.script.Statement.TheVariants as statement
+use Rattle.serial.specs.declared.script.Line.{Line}
 use Rattle.html_types.specs.declared.instruction.Stop.{Stop}
 use Rattle.html_types.specs.declared.instruction.Stop.TheVariants as stop
 use Rattle.standard.specs.Entities.{Entities}
 use Rattle.standard.specs.Tree.{Nodes, detached, appended, find_id, first_element}
 use Rattle.standard.specs.Act.{Doc}
-use Rattle.standard.specs.Statements.{statements}
+use Rattle.serial.specs.Statements.{statements}
 use Rattle.standard.specs.Prepare.{Prepared, still, inline, external}
 use Rattle.standard.specs.Parser.{Parser}
-use Rattle.standard.specs.Serial.{World, Serial, Course, goes, refuses, starved, ◌then◌, Advanced, advanced, advance, before_point, moved, tree_of, inside, back_at, with_line_feed, insert, awaiting, with_tree, remove, with_line, read, one_more_executed, prepared, write_limit, execute, run_statements, on_element, on_move, write, go_on, stopped, end_of_script, run_prepared, run_text}
+use Rattle.serial.specs.Serial.{World, Serial, Course, goes, refuses, starved, ◌then◌, Advanced, advanced, advance, before_point, moved, tree_of, inside, back_at, with_line_feed, insert, awaiting, with_tree, remove, with_line, read, one_more_executed, prepared, write_limit, execute, run_statements, on_element, on_move, write, go_on, stopped, end_of_script, run_prepared, run_text}
 
 pub record Steps (R : Serial → Serial → Type 0) : Type 0 where
   pub same : (s : Serial) → R s s

@@ -1,19 +1,19 @@
 -- The lines of every moment that a parse passes through begin those of its outcome.
 use Rattle.std.proofs.Common.{◌≡◌, ℕ, zero, suc, ◌+◌, List, [], ◌∷◌, ◌++◌, Option, Some, None, option_and_then, refl, sym, ◌∙◌, ap, arith, append_assoc, append-nil, flat_map}
 use Rattle.std.proofs.lemmas.Grind.{flat_map-append}
-use Rattle.html_types.specs.declared.script.Ending.{Ending}
-use Rattle.html_types.specs.declared.script.Ending.TheVariants as ending
-use Rattle.html_types.specs.declared.script.Line.{Line}
-use Rattle.html_types.specs.declared.script.Line.TheVariants as line
+use Rattle.html_types.specs.declared.ending.Ending.{Ending}
+use Rattle.html_types.specs.declared.ending.Ending.TheVariants as ending
+use Rattle.serial.specs.declared.script.Line.{Line}
+use Rattle.serial.specs.declared.script.Line.TheVariants as line
 use Rattle.html_types.specs.declared.instruction.Stop.TheVariants as stop
 use Rattle.html_types.specs.declared.instruction.Finish.{Finish}
 use Rattle.html_types.specs.declared.instruction.Finish.TheVariants as finale
-use Rattle.standard.specs.Page.{Page}
-use Rattle.standard.specs.Scripts.{Fetched, got, missing, faulted, file_statements}
+use Rattle.serial.specs.Page.{Page}
+use Rattle.serial.specs.Scripts.{Fetched, got, missing, faulted, file_statements}
 use Rattle.standard.specs.Act.{Doc, acts}
 use Rattle.standard.specs.Parser.{Parser, Took, took, take_character, Finished, finish}
-use Rattle.standard.specs.Serial.{World, fetched, Outcome, Serial, Course, goes, refuses, starved, Moment, reading, tag_ended, awaits, over, at_end, after_character, unless_pending, after_script, after_fetch, read_next, moment_after, moments_on, first, Passes, IsSerial}
-use Rattle.standard.specs.Output.{line_text, result_with, output_with}
+use Rattle.serial.specs.Serial.{World, fetched, Outcome, Serial, Course, goes, refuses, starved, Moment, reading, tag_ended, awaits, over, at_end, after_character, unless_pending, after_script, after_fetch, read_next, moment_after, moments_on, first, Passes, IsSerial}
+use Rattle.serial.specs.Output.{line_text, result_with, output_with}
 use Rattle.standard_laws.specs.Laws.{outcome_at, lines_of, GoesOnFrom, LinesBegin, OutputBegins}
 use Rattle.standard_laws.proofs.Kept.{Kept, Grows, Grows-steps, end_of_script-kept, run_text-kept}
 use Rattle.standard_laws.proofs.Fuel.{moments_on-by, over-by, serial-over}

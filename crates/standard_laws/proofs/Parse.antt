@@ -6,7 +6,7 @@ use Rattle.html_types.specs.declared.instruction.Stop.{Stop}
 use Rattle.html_types.specs.declared.instruction.Stop.TheVariants as stop
 use Rattle.standard.specs.Act.{Doc, act, acts}
 use Rattle.standard.specs.Parser.{Parser, Took, took, take_character, Parsed, after_character, and_rest, parse}
-use Rattle.standard.specs.Serial.{Advanced, advanced, done_then, advance}
+use Rattle.serial.specs.Serial.{Advanced, advanced, done_then, advance}
 use Rattle.standard_laws.specs.Laws.{unless_stopped, and_then, executed, ParsesInPieces, AdvancesByParse}
 
 pub acts-append : (xs ys : List Op) (d : Doc) → acts d (xs ++ ys) ≡ acts (acts d xs) ys

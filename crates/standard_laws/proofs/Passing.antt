@@ -3,9 +3,9 @@ use Rattle.std.proofs.Common.{◌≡◌, ℕ, zero, suc, ◌+◌, List, [], ◌�
 use Rattle.std.proofs.Math.Seq.{drop-length}
 use Rattle.std.proofs.lemmas.Option.{none-some, same_Some}
 use Rattle.std.specs.Prelude.{⊤}
-use Rattle.html_types.specs.declared.script.Ending.{Ending}
-use Rattle.html_types.specs.declared.script.Ending.TheVariants as ending
-use Rattle.html_types.specs.declared.script.Why.TheVariants as why
+use Rattle.html_types.specs.declared.ending.Ending.{Ending}
+use Rattle.html_types.specs.declared.ending.Ending.TheVariants as ending
+use Rattle.html_types.specs.declared.ending.Why.TheVariants as why
 use Rattle.html_types.specs.declared.instruction.Stop.{Stop}
 use Rattle.html_types.specs.declared.instruction.Stop.TheVariants as stop
 use Rattle.html_types.specs.declared.instruction.Finish.{Finish}
@@ -13,8 +13,8 @@ use Rattle.html_types.specs.declared.instruction.Finish.TheVariants as finale
 use Rattle.standard.specs.Entities.{Entities}
 use Rattle.standard.specs.Act.{acts}
 use Rattle.standard.specs.Parser.{Parser, Took, took, take_character, Parsed, and_rest, parse, Finished, finish}
-use Rattle.standard.specs.Page.{Page}
-use Rattle.standard.specs.Serial.{World, Outcome, Serial, Moment, reading, over, refusal, first, finished, taken, at_end, read_next, moment_after, moments_on, Leads, Passes}
+use Rattle.serial.specs.Page.{Page}
+use Rattle.serial.specs.Serial.{World, Outcome, Serial, Moment, reading, over, refusal, first, finished, taken, at_end, read_next, moment_after, moments_on, Leads, Passes}
 use Rattle.standard_laws.specs.Laws.{LeavesNothing, BatchesLead, WholeBatchesLead, EndLeads, outcome_at, FinishLeads, OverIsSerial}
 use Rattle.standard_laws.proofs.Fuel.{moments_on-by, over-by, over-serial}
 use Rattle.standard_laws.proofs.Batch.{moment_behind, reading-batch}

@@ -1,6 +1,6 @@
 -- The moment behind a script at level 0, and behind one that was awaited.
 use Rattle.std.proofs.Common.{◌∙◌, ap}
-use Rattle.standard.specs.Serial.{inside, back_at, goes, ◌then◌, execute, run_prepared, run_text, tag_ended, awaits, after_script, after_fetch, moment_after}
+use Rattle.serial.specs.Serial.{inside, back_at, goes, ◌then◌, execute, run_prepared, run_text, tag_ended, awaits, after_script, after_fetch, moment_after}
 use Rattle.standard_laws.specs.Laws.{ScriptLeads, ScriptRefuses, StillScripts, ExternalScripts, SyntaxErrors, AwaitsMissing, AwaitsFault, AwaitsGot, AwaitsRefuses, FileSyntaxErrors}
 use Rattle.standard_laws.proofs.Passing.{leads-next}
 

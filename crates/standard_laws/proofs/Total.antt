@@ -5,20 +5,20 @@ use Rattle.std.specs.Prelude.{⊤}
 use Rattle.std.proofs.lemmas.Option.{none-some}
 use Rattle.std.proofs.lemmas.Bool.{leb-true}
 use Rattle.html_types.specs.declared.operation.NodeId.{NodeId}
-use Rattle.html_types.specs.declared.script.Ending.{Ending}
-use Rattle.html_types.specs.declared.script.Why.{Why}
-use Rattle.html_types.specs.declared.script.Statement.{Statement}
-use Rattle.html_types.specs.declared.script.Statement.TheVariants as statement
+use Rattle.html_types.specs.declared.ending.Ending.{Ending}
+use Rattle.html_types.specs.declared.ending.Why.{Why}
+use Rattle.serial.specs.declared.script.Statement.{Statement}
+use Rattle.serial.specs.declared.script.Statement.TheVariants as statement
 use Rattle.html_types.specs.declared.instruction.Stop.TheVariants as stop
 use Rattle.standard.specs.Entities.{Entities}
 use Rattle.standard.specs.Tree.{Nodes, appended, find_id, first_element}
 use Rattle.standard.specs.Act.{Doc, acts}
-use Rattle.standard.specs.Statements.{statements}
+use Rattle.serial.specs.Statements.{statements}
 use Rattle.standard.specs.Prepare.{Prepared, still, inline, external}
-use Rattle.standard.specs.Scripts.{Fetched, got, missing, faulted, file_statements}
+use Rattle.serial.specs.Scripts.{Fetched, got, missing, faulted, file_statements}
 use Rattle.standard.specs.Parser.{Parser, Took, took, take_character}
-use Rattle.standard.specs.Page.{Page}
-use Rattle.standard.specs.Serial.{World, fetched, Outcome, Serial, Course, goes, refuses, starved, ◌then◌, Advanced, advanced, advance, done_then, before_point, after_point, moved, tree_of, inside, back_at, with_line_feed, may_write, insert, with_tree, remove, read, one_more_executed, prepared, write_limit, execute, run_statements, on_element, on_move, write, go_on, stopped, end_of_script, run_prepared, run_text, first, Moment, reading, tag_ended, awaits, over, after_character, unless_pending, after_script, after_fetch, read_next, moment_after, moments_on, IsSerial}
+use Rattle.serial.specs.Page.{Page}
+use Rattle.serial.specs.Serial.{World, fetched, Outcome, Serial, Course, goes, refuses, starved, ◌then◌, Advanced, advanced, advance, done_then, before_point, after_point, moved, tree_of, inside, back_at, with_line_feed, may_write, insert, with_tree, remove, read, one_more_executed, prepared, write_limit, execute, run_statements, on_element, on_move, write, go_on, stopped, end_of_script, run_prepared, run_text, first, Moment, reading, tag_ended, awaits, over, after_character, unless_pending, after_script, after_fetch, read_next, moment_after, moments_on, IsSerial}
 use Rattle.standard_laws.proofs.Fuel.{Refines, Refines-by, run_statements-more, write-more, go_on-more, end_of_script-more, run_prepared-more, moment_after-by, moments_on-by, over-by, over-serial}
 
 -- ---- the parser takes characters

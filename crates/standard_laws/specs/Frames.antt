@@ -26,20 +26,20 @@
 -- (Laws.antt) ask for; the moment is then `behind_script (state_of x)`.
 use Rattle.std.specs.Prelude.{◌≡◌, ℕ, suc, ◌+◌, ◌≤◌, ◌<◌, ⊤, List, [], ◌∷◌, ◌++◌, length, Option, Some, None}
 use Rattle.html_types.specs.declared.operation.NodeId.{NodeId}
-use Rattle.html_types.specs.declared.script.Why.TheVariants as why
-use Rattle.html_types.specs.declared.script.Statement.{Statement}
-use Rattle.html_types.specs.declared.script.Statement.TheVariants as statement
-use Rattle.html_types.specs.declared.script.Line.{Line}
-use Rattle.html_types.specs.declared.script.Line.TheVariants as line
+use Rattle.html_types.specs.declared.ending.Why.TheVariants as why
+use Rattle.serial.specs.declared.script.Statement.{Statement}
+use Rattle.serial.specs.declared.script.Statement.TheVariants as statement
+use Rattle.serial.specs.declared.script.Line.{Line}
+use Rattle.serial.specs.declared.script.Line.TheVariants as line
 use Rattle.html_types.specs.declared.instruction.Stop.TheVariants as stop
 use Rattle.standard.specs.Tree.{Nodes, detached, appended, find_id, first_element}
 use Rattle.standard.specs.Act.{Doc, node_of}
 use Rattle.standard.specs.Outer.{outer_text}
 use Rattle.standard.specs.Prepare.{Prepared, still, inline, external, prepare}
-use Rattle.standard.specs.Scripts.{file_statements}
-use Rattle.standard.specs.Statements.{statements}
+use Rattle.serial.specs.Scripts.{file_statements}
+use Rattle.serial.specs.Statements.{statements}
 use Rattle.standard.specs.Parser.{Parser}
-use Rattle.standard.specs.Serial.{World, Serial, Course, goes, refuses, ◌then◌, at_level, at_point, back_at, inside, write_limit, with_line_feed, execute, run_statements, go_on, end_of_script}
+use Rattle.serial.specs.Serial.{World, Serial, Course, goes, refuses, ◌then◌, at_level, at_point, back_at, inside, write_limit, with_line_feed, execute, run_statements, go_on, end_of_script}
 use Rattle.standard_laws.specs.Laws.{HasParsed, EndsIn, ScriptComesTo, FileComesTo}
 
 -- ---- the state

@@ -1,25 +1,25 @@
 -- What is proved of the serial parse itself.
 use Rattle.std.specs.Prelude.{◌≡◌, ℕ, suc, ◌+◌, ⊤, Bool, List, [], ◌++◌, drop, flat_map, Some, None}
 use Rattle.html_types.specs.declared.operation.NodeId.{NodeId}
-use Rattle.html_types.specs.declared.script.Ending.{Ending}
-use Rattle.html_types.specs.declared.script.Ending.TheVariants as ending
-use Rattle.html_types.specs.declared.script.Why.{Why}
-use Rattle.html_types.specs.declared.script.Why.TheVariants as why
-use Rattle.html_types.specs.declared.script.Line.{Line}
-use Rattle.html_types.specs.declared.script.Line.TheVariants as line
+use Rattle.html_types.specs.declared.ending.Ending.{Ending}
+use Rattle.html_types.specs.declared.ending.Ending.TheVariants as ending
+use Rattle.html_types.specs.declared.ending.Why.{Why}
+use Rattle.html_types.specs.declared.ending.Why.TheVariants as why
+use Rattle.serial.specs.declared.script.Line.{Line}
+use Rattle.serial.specs.declared.script.Line.TheVariants as line
 use Rattle.html_types.specs.declared.instruction.Stop.{Stop}
 use Rattle.html_types.specs.declared.instruction.Stop.TheVariants as stop
 use Rattle.html_types.specs.declared.instruction.Finish.{Finish}
 use Rattle.html_types.specs.declared.instruction.Finish.TheVariants as finale
 use Rattle.standard.specs.Entities.{Entities}
 use Rattle.standard.specs.Act.{Doc, acts}
-use Rattle.standard.specs.Statements.{statements}
+use Rattle.serial.specs.Statements.{statements}
 use Rattle.standard.specs.Prepare.{still, inline, external}
-use Rattle.standard.specs.Scripts.{got, missing, faulted, file_statements}
+use Rattle.serial.specs.Scripts.{got, missing, faulted, file_statements}
 use Rattle.standard.specs.Parser.{Parser, Parsed, parse, finish}
-use Rattle.standard.specs.Page.{Page}
-use Rattle.standard.specs.Serial.{World, fetched, Outcome, IsSerial, Advanced, advanced, advance, Serial, Course, goes, refuses, starved, with_line, awaiting, one_more_executed, end_of_script, prepared, run_text, Moment, reading, tag_ended, awaits, over, behind_script, finished, refusal, taken, ended, Leads, Passes}
-use Rattle.standard.specs.Output.{line_text, output_with}
+use Rattle.serial.specs.Page.{Page}
+use Rattle.serial.specs.Serial.{World, fetched, Outcome, IsSerial, Advanced, advanced, advance, Serial, Course, goes, refuses, starved, with_line, awaiting, one_more_executed, end_of_script, prepared, run_text, Moment, reading, tag_ended, awaits, over, behind_script, finished, refusal, taken, ended, Leads, Passes}
+use Rattle.serial.specs.Output.{line_text, output_with}
 
 -- ---- outcomes
 

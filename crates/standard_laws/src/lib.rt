@@ -1,4 +1,5 @@
-//! Laws of the serial parse, proved of the definitions in `standard`: on functions that do nothing, so that a contract names each.
+//! Laws of the serial parse, proved of the definitions in `serial`: on functions that do nothing,
+//! so that a contract names each.
 //!
 //! `specs/Laws` has what they say; `specs/Frames` has nested scripts as a list of frames.
 #![tactic(auto)]

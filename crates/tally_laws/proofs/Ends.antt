@@ -2,11 +2,11 @@
 use Rattle.std.proofs.Common.{◌≡◌, true≢false, ℕ, true, false, List, [], ◌∷◌, Option, Some, None, refl, subst, sym, ◌∙◌}
 use Rattle.std.proofs.lemmas.Option.{same_Some}
 use Rattle.html_types.specs.declared.instruction.Stop.TheVariants as stop
-use Rattle.html_types.specs.declared.script.Ending.{Ending}
-use Rattle.html_types.specs.declared.script.Ending.TheVariants as ending
+use Rattle.html_types.specs.declared.ending.Ending.{Ending}
+use Rattle.html_types.specs.declared.ending.Ending.TheVariants as ending
 use Rattle.standard.specs.Parser.{Took, took, take_character}
-use Rattle.standard.specs.Scripts.{Fetched, got, missing, faulted, file_statements}
-use Rattle.standard.specs.Serial.{World, fetched, Serial, Course, goes, refuses, starved, finished, refused, end_of_script, run_text, Moment, reading, tag_ended, awaits, over, after_character, unless_pending, behind_script, after_script, after_fetch, moment_after}
+use Rattle.serial.specs.Scripts.{Fetched, got, missing, faulted, file_statements}
+use Rattle.serial.specs.Serial.{World, fetched, Serial, Course, goes, refuses, starved, finished, refused, end_of_script, run_text, Moment, reading, tag_ended, awaits, over, after_character, unless_pending, behind_script, after_script, after_fetch, moment_after}
 use Rattle.core_definitions.specs.Settling.{is_settled, Through, here, onward, Settles}
 
 -- the parse hasn't finished

@@ -2,9 +2,9 @@
 use Rattle.std.proofs.Common.{◌≡◌, ◌≤◌, ◌<◌, ◌⊎◌, inl, inr, ℕ, nat_le, nat_lt, Bool, true, false, length, Option, Some, None, refl, subst, sym, ◌∙◌, ap, arith}
 use Rattle.std.proofs.lemmas.Option.{same_Some}
 use Rattle.std.proofs.lemmas.Bool.{leb-true, ltb-true}
-use Rattle.html_types.specs.declared.script.Ending.{Ending}
+use Rattle.html_types.specs.declared.ending.Ending.{Ending}
 use Rattle.standard.specs.Parser.{Parser}
-use Rattle.standard.specs.Serial.{World, Moment, reading, tag_ended, awaits, over, Outcome, prepared, moment_after}
+use Rattle.serial.specs.Serial.{World, Moment, reading, tag_ended, awaits, over, Outcome, prepared, moment_after}
 use Rattle.core_definitions.specs.declared.verdict.Verdict.{Verdict}
 use Rattle.core_definitions.specs.declared.verdict.Verdict.TheVariants.{Keep, Rewind}
 use Rattle.core_definitions.specs.Verdict.{Watch, runs, at_tag, judged, Reads, Watched, Watches, stays, goes_on}

@@ -8,13 +8,13 @@ use Rattle.html_types.specs.declared.instruction.Stop.{Stop}
 use Rattle.html_types.specs.declared.instruction.Stop.TheVariants as stop
 use Rattle.html_types.specs.declared.instruction.Finish.{Finish}
 use Rattle.html_types.specs.declared.instruction.Finish.TheVariants as finale
-use Rattle.html_types.specs.declared.script.Ending.{Ending}
-use Rattle.html_types.specs.declared.script.Ending.TheVariants as ending
+use Rattle.html_types.specs.declared.ending.Ending.{Ending}
+use Rattle.html_types.specs.declared.ending.Ending.TheVariants as ending
 use Rattle.standard.specs.Act.{Doc, acts, node_of}
 use Rattle.standard.specs.Entities.{Entities}
 use Rattle.standard.specs.Parser.{Parser, Parsed, parse, Finished, finish}
 use Rattle.standard.specs.Prepare.{prepare}
-use Rattle.standard.specs.Serial.{World, Serial, Side, prepared, first, Moment, reading, tag_ended, awaits, over, Result, finished, refused, Outcome, taken, ended, at_end, moment_after, Passes}
+use Rattle.serial.specs.Serial.{World, Serial, Side, prepared, first, Moment, reading, tag_ended, awaits, over, Result, finished, refused, Outcome, taken, ended, at_end, moment_after, Passes}
 use Rattle.standard_laws.specs.Laws.{moment_at}
 use Rattle.standard_laws.proofs.Batch.{moment_behind}
 use Rattle.standard_laws.proofs.Passing.{passes-over}

@@ -1,6 +1,6 @@
 -- What is claimed of the numbers of a desk at which the parse finished.
 use Rattle.std.specs.Prelude.{◌≡◌, ◌+◌, ◌*◌, List}
-use Rattle.standard.specs.Serial.{finished, Outcome, IsSerial}
+use Rattle.serial.specs.Serial.{finished, Outcome, IsSerial}
 use Rattle.core_definitions.specs.declared.event.Event.{Event}
 use Rattle.core_definitions.specs.Verdict.{Watch, AreVerdicts}
 use Rattle.core_definitions.specs.Desk.{done, Desk}

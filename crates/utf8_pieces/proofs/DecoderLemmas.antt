@@ -9,9 +9,9 @@ use Rattle.std.proofs.lemmas.List.{take_all}
 use Rattle.std.proofs.lemmas.Bool.{ltb-false, eqb-true, eqb-false}
 use Rattle.std.proofs.lemmas.Str.{IsUtf8-nil, utf8_valid_len-IsUtf8, utf8_valid_len_le, chars-append, chars-nil, chars_past_char, encodes-chars}
 use Rattle.utf8_pieces.specs.declared.decoder.Decoder.{Decoder}
-use Rattle.html_types.specs.declared.script.Ending.{Ending}
-use Rattle.html_types.specs.declared.script.Ending.TheVariants.{End, Bad, Long}
-use Rattle.standard.specs.Page.{front, without_mark, text_of, is_text_so_far, shown, ending_of}
+use Rattle.html_types.specs.declared.ending.Ending.{Ending}
+use Rattle.html_types.specs.declared.ending.Ending.TheVariants.{End, Bad, Long}
+use Rattle.serial.specs.Page.{front, without_mark, text_of, is_text_so_far, shown, ending_of}
 use Rattle.utf8_pieces.specs.Decoder.{HasRead, IsOpen, Looked}
 use Rattle.utf8_pieces.proofs.PageLaws.{error_is, front-after, front-text, rest-after, so_far-after, valid_len-after, shown-stays, split}
 

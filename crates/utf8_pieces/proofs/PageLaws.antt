@@ -14,9 +14,9 @@ use Rattle.bstr.proofs.lemmas.PieceLemmas.{by-shape}
 use Rattle.bstr.proofs.lemmas.EncodeLemmas.{decoded-encode}
 use Rattle.bstr.proofs.lemmas.UnicodeLemmas.{none_after_valid}
 use Rattle.bstr.proofs.lemmas.LossyLemmas.{utf8_valid_len-cases}
-use Rattle.standard.specs.Page.{front, without_mark, text_of, is_text_so_far, shown}
-use Rattle.html_types.specs.declared.script.Ending.{Ending}
-use Rattle.html_types.specs.declared.script.Ending.TheVariants.{Bad, Long}
+use Rattle.serial.specs.Page.{front, without_mark, text_of, is_text_so_far, shown}
+use Rattle.html_types.specs.declared.ending.Ending.{Ending}
+use Rattle.html_types.specs.declared.ending.Ending.TheVariants.{Bad, Long}
 use Rattle.std.proofs.lemmas.Bool.{and_parts, ltb-true, lt-ltb}
 use lib.Utf8.{scalars}
 

@@ -2,9 +2,9 @@
 use Rattle.std.specs.Prelude.{◌≡◌, ℕ, ◌+◌, List, ◌==◌, ◌&&◌, Option, Some, None, length, drop, nat_lt, if◌then◌else◌}
 use Rattle.std.specs.Str.{chars}
 use Rattle.std.specs.Str.Lossy.{utf8_valid_len}
-use Rattle.standard.specs.Page.{front, without_mark, is_text_so_far, shown}
-use Rattle.html_types.specs.declared.script.Ending.{Ending}
-use Rattle.html_types.specs.declared.script.Ending.TheVariants.{Bad, Long}
+use Rattle.serial.specs.Page.{front, without_mark, is_text_so_far, shown}
+use Rattle.html_types.specs.declared.ending.Ending.{Ending}
+use Rattle.html_types.specs.declared.ending.Ending.TheVariants.{Bad, Long}
 use Rattle.utf8_pieces.specs.declared.decoder.Decoder.{Decoder}
 
 -- what it keeps of the bytes, as long as they show no ending

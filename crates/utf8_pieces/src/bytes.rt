@@ -1,8 +1,8 @@
 // The text at the front of some bytes.
 ghost use Rattle.std.specs.Prelude.{◌≡◌, ◌≤◌, ◌++◌, IfOk, if◌then◌else◌, length, take, nat_lt, Some, None};
 ghost use Rattle.std.specs.Str.{chars};
-ghost use Rattle.standard.specs.Page.{front, without_mark, is_text_so_far};
-ghost use Rattle.html_types.specs.declared.script.Ending.TheVariants.{Bad, Long};
+ghost use Rattle.serial.specs.Page.{front, without_mark, is_text_so_far};
+ghost use Rattle.html_types.specs.declared.ending.Ending.TheVariants.{Bad, Long};
 
 use html_types::{Ending, NoMemory};
 use simdutf8::compat::from_utf8;

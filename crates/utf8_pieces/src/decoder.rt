@@ -24,7 +24,7 @@ pub struct Decoder {
 
 impl Decoder {
     ghost use Rattle.std.specs.Prelude.{◌≡◌, ◌+◌, ◌-◌, ◌^◌, ◌≤◌, ◌++◌, [], List, ℕ, IfOk, OnErr, Bool, None, if◌then◌else◌, is_some, length, take, min};
-    ghost use Rattle.standard.specs.Page.{text_of, shown, ending_of};
+    ghost use Rattle.serial.specs.Page.{text_of, shown, ending_of};
     ghost use Rattle.utf8_pieces.specs.Decoder.{HasRead, Looked};
 
     /// A decoder of a page of at most `limit` bytes, which has read none. It takes no memory.

@@ -1,14 +1,14 @@
 -- How a script begins: at its end tag, and by its text.
 use Rattle.std.proofs.Common.{◌≡◌, ℕ, suc, Bool, true, false, ◌||◌, if◌then◌else◌, codes, List, [], ◌∷◌, ◌++◌, Option, Some, None, refl, sym, ap, ◌∙◌, subst, append_assoc}
 use Rattle.html_types.specs.declared.operation.NodeId.{NodeId}
-use Rattle.html_types.specs.declared.script.Line.{Line}
-use Rattle.html_types.specs.declared.script.Line.TheVariants as line
+use Rattle.serial.specs.declared.script.Line.{Line}
+use Rattle.serial.specs.declared.script.Line.TheVariants as line
 use Rattle.html_types.specs.declared.attributes.Attribute.{Attribute}
 use Rattle.standard.specs.Act.{node_of}
 use Rattle.standard.specs.Tree.{Nodes, kind_of, attributes_of, attribute, is_connected, script_text}
 use Rattle.standard.specs.Prepare.{Prepared, still, inline, external, has, may_run, prepared_by, prepared_with, prepare}
-use Rattle.standard.specs.Statements.{statements}
-use Rattle.standard.specs.Serial.{World, Course}
+use Rattle.serial.specs.Statements.{statements}
+use Rattle.serial.specs.Serial.{World, Course}
 use Rattle.standard_laws.specs.Frames.{Frame, NestComesTo, TextComesTo}
 use Rattle.op_exec.specs.Scripts.{script_kind}
 use Rattle.op_exec.specs.declared.script.ScriptKind.TheVariants.{Still, Inline, External}

@@ -1,17 +1,17 @@
 -- Scripts and written text at level 0, against the moments of the serial parse.
 use Rattle.std.proofs.Common.{◌≡◌, ◌<◌, ◌≤◌, ℕ, suc, Bool, false, List, [], ◌∷◌, ◌++◌, length, Option, Some, None, refl, sym, ap, ◌∙◌, subst, arith}
 use Rattle.html_types.specs.declared.operation.NodeId.{NodeId}
-use Rattle.html_types.specs.declared.script.Ending.{Ending}
-use Rattle.html_types.specs.declared.script.Line.{Line}
-use Rattle.html_types.specs.declared.script.Why.TheVariants as why
+use Rattle.html_types.specs.declared.ending.Ending.{Ending}
+use Rattle.serial.specs.declared.script.Line.{Line}
+use Rattle.html_types.specs.declared.ending.Why.TheVariants as why
 use Rattle.html_types.specs.declared.instruction.Stop.{Stop}
 use Rattle.html_types.specs.declared.instruction.Stop.TheVariants as stop
 use Rattle.standard.specs.Entities.{Entities}
 use Rattle.standard.specs.Act.{Doc}
 use Rattle.standard.specs.Parser.{Parser}
-use Rattle.standard.specs.Statements.{statements}
+use Rattle.serial.specs.Statements.{statements}
 use Rattle.standard_laws.specs.Laws.{HasParsed, EndsIn, ScriptComesTo, moment_at}
-use Rattle.standard.specs.Serial.{World, Serial, Course, goes, refuses, awaiting, run_text, Moment, reading, tag_ended, over, refusal, taken, unless_pending, behind_script, after_script, moment_after}
+use Rattle.serial.specs.Serial.{World, Serial, Course, goes, refuses, awaiting, run_text, Moment, reading, tag_ended, over, refusal, taken, unless_pending, behind_script, after_script, moment_after}
 use Rattle.standard_laws.specs.Frames.{rests, state_of, NestComesTo, TagComesTo, TextComesTo}
 use Rattle.write_parser.specs.declared.left.Overrun.{Overrun}
 use Rattle.write_parser.specs.declared.left.Overrun.TheVariants as limit

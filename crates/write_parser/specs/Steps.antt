@@ -2,15 +2,15 @@
 -- call does to them.
 use Rattle.std.specs.Prelude.{◌≡◌, ◌≢◌, ◌<◌, ◌≤◌, ◌+◌, ◌*◌, ◌-◌, ⊤, ℕ, suc, Bool, false, List, [], ◌∷◌, ◌++◌, length, map, reverse, drop, Option, Some, None}
 use Rattle.html_types.specs.declared.operation.NodeId.{NodeId}
-use Rattle.html_types.specs.declared.script.Statement.{Statement}
-use Rattle.html_types.specs.declared.script.Why.{Why}
-use Rattle.html_types.specs.declared.script.Line.{Line}
-use Rattle.html_types.specs.declared.script.Line.TheVariants as line
+use Rattle.serial.specs.declared.script.Statement.{Statement}
+use Rattle.html_types.specs.declared.ending.Why.{Why}
+use Rattle.serial.specs.declared.script.Line.{Line}
+use Rattle.serial.specs.declared.script.Line.TheVariants as line
 use Rattle.standard.specs.Entities.{Entities}
 use Rattle.standard.specs.Tree.{Nodes, detached}
 use Rattle.standard.specs.Outer.{outer_text}
-use Rattle.standard.specs.Statements.{statements}
-use Rattle.standard.specs.Serial.{World, Course, write_limit}
+use Rattle.serial.specs.Statements.{statements}
+use Rattle.serial.specs.Serial.{World, Course, write_limit}
 use Rattle.standard_laws.specs.Frames.{Frame, Nest, rests, NestComesTo, TagComesTo, TextComesTo, Waits, LacksElement}
 use Rattle.write_parser.specs.declared.left.Overrun.{Overrun}
 use Rattle.write_parser.specs.declared.left.Overrun.TheVariants as limit

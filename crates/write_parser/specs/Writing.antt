@@ -2,18 +2,18 @@
 use Rattle.std.specs.Prelude.{◌≡◌, ◌≢◌, ◌<◌, ◌+◌, ◌*◌, ◌-◌, ⊤, ℕ, Bool, false, List, [], ◌∷◌, ◌++◌, length, drop, Option, Some, None}
 use Rattle.std.specs.Str.{chars, IsCharBoundary}
 use Rattle.html_types.specs.declared.operation.NodeId.{NodeId}
-use Rattle.html_types.specs.declared.script.Ending.{Ending}
-use Rattle.html_types.specs.declared.script.Statement.{Statement}
-use Rattle.html_types.specs.declared.script.Why.{Why}
-use Rattle.html_types.specs.declared.script.Why.TheVariants as why
-use Rattle.html_types.specs.declared.script.Line.{Line}
-use Rattle.html_types.specs.declared.script.Line.TheVariants as line
+use Rattle.html_types.specs.declared.ending.Ending.{Ending}
+use Rattle.serial.specs.declared.script.Statement.{Statement}
+use Rattle.html_types.specs.declared.ending.Why.{Why}
+use Rattle.html_types.specs.declared.ending.Why.TheVariants as why
+use Rattle.serial.specs.declared.script.Line.{Line}
+use Rattle.serial.specs.declared.script.Line.TheVariants as line
 use Rattle.html_types.specs.declared.instruction.Stop.TheVariants as stop
 use Rattle.standard.specs.Entities.{Entities}
 use Rattle.standard.specs.Act.{Doc, new_doc, is_bound}
 use Rattle.standard.specs.Parser.{Parser, new_parser}
 use Rattle.rule_laws.specs.Naming.{IsStopBound}
-use Rattle.standard.specs.Serial.{World, Serial, Course, goes, refuses, awaiting, run_text, write_limit, Moment, reading, tag_ended, awaits, over, refusal}
+use Rattle.serial.specs.Serial.{World, Serial, Course, goes, refuses, awaiting, run_text, write_limit, Moment, reading, tag_ended, awaits, over, refusal}
 use Rattle.core_definitions.specs.Settling.{Through}
 use Rattle.standard_laws.specs.Laws.{HasParsed, EndsIn}
 use Rattle.parse_machine.specs.declared.machine.PageEnd.{PageEnd}

@@ -3,7 +3,7 @@
 ghost use Rattle.std.specs.Prelude.{◌≡◌, ◌≢◌, ◌<◌, ◌≤◌, ◌+◌, true, false, [], None, IfOk, OnOk, OnErr, IsErr, IsTrue};
 ghost use Rattle.std.specs.Str.{chars};
 ghost use Rattle.standard.specs.Act.{acts, is_bound, AreOpsBound};
-ghost use Rattle.standard.specs.Statements.{statements};
+ghost use Rattle.serial.specs.Statements.{statements};
 ghost use Rattle.core_definitions.specs.Desk.{renewed};
 ghost use Rattle.moment_laws.specs.Served.{AreBelow};
 ghost use Rattle.write_parser.specs.Parsing.{IsServed};
@@ -12,9 +12,10 @@ ghost use Rattle.write_parser.specs.Writing.{first_view, Parses, Finishes, AtTag
 use crate::left::Left;
 use crate::live::Live;
 use entity_table::Table;
-use html_types::{Ending, Line, Lines, NoMemory, NodeId, Ops};
+use html_types::{Ending, NoMemory, NodeId, Ops};
 use op_exec::Doc;
 use parse_machine::{Machine, PageEnd, Ran};
+use serial::{Line, Lines};
 use std::alloc::Global;
 use std::marker::Model;
 use std::mem;

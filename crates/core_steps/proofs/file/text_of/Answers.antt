@@ -1,7 +1,7 @@
 use Rattle.std.proofs.Common.{◌≤◌, ◌∙◌, sym, ap, length, arith}
 use Rattle.std.specs.Str.{chars}
-use Rattle.standard.specs.Scripts.{script_limit}
-use Rattle.standard.specs.Statements.{statements}
+use Rattle.serial.specs.Scripts.{script_limit}
+use Rattle.serial.specs.Statements.{statements}
 use Rattle.core_steps.proofs.FileLemmas.{outside_language, long-statements, text-runs, no-text-runs}
 use Rattle.core_steps.proofs.file.text_of.Goals as goal
 use Rattle.core_steps.proofs.file.text_of.Goals.{in-Ok, in-Err}

@@ -1,7 +1,7 @@
 use Rattle.std.proofs.Common.{◌∙◌, ap, subst, IsTrue, Err}
 use Rattle.std.specs.String.{string_bytes}
 use Rattle.outside.specs.Outside.{Rose}
-use Rattle.standard.specs.Output.{result_with}
+use Rattle.serial.specs.Output.{result_with}
 use Rattle.page_turns.specs.Shown.{result_of}
 use Rattle.page_runner.specs.Shown.{status_of}
 use Rattle.page_runner.specs.Answers.{is_finished, Gives}

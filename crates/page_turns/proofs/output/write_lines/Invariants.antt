@@ -1,5 +1,5 @@
 use Rattle.std.proofs.Common.{◌≤◌, flat_map, take}
-use Rattle.standard.specs.Output.{line_text}
+use Rattle.serial.specs.Output.{line_text}
 use Rattle.page_turns.specs.Taken.{Took}
 use Rattle.page_turns.proofs.output.write_lines.Given as goal
 

@@ -1,5 +1,5 @@
 use Rattle.std.proofs.Common.{◌∙◌, subst, flat_map}
-use Rattle.standard.specs.Output.{line_text}
+use Rattle.serial.specs.Output.{line_text}
 use Rattle.core_definitions.specs.declared.event.Event.TheVariants as event
 use Rattle.page_turns.specs.Taken.{Took, TookFront}
 use Rattle.page_turns.proofs.LineLemmas.{on_err, ok_weaker, err_weaker}

@@ -1,7 +1,7 @@
 use Rattle.std.proofs.Common.{◌∙◌, sym, ap, subst, refl, arith}
 use Rattle.core_definitions.specs.declared.event.Event.TheVariants as event
 use Rattle.core_definitions.specs.Desk.{sends}
-use Rattle.standard.specs.Serial.{Serial}
+use Rattle.serial.specs.Serial.{Serial}
 use Rattle.core_steps.specs.Sides.{Shown}
 use Rattle.page_turns.specs.Turns.{Arrives, BeginsAwaited}
 use Rattle.page_turns.proofs.LineLemmas.{on_err}

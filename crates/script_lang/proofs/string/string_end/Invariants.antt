@@ -1,5 +1,5 @@
 use Rattle.std.proofs.Common.{◌≡◌, false}
-use Rattle.standard.specs.Statements.{string_end}
+use Rattle.serial.specs.Statements.{string_end}
 use Rattle.script_lang.proofs.Ends.{end_from}
 use Rattle.script_lang.proofs.string.string_end.Given as goal
 

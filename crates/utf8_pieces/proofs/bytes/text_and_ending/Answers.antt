@@ -1,7 +1,7 @@
 use Rattle.std.proofs.Common.{◌≡◌, sym, ap, ◌∙◌, take, length, false, refl, arith}
 use Rattle.std.specs.Prelude.{nat_lt}
 use Rattle.std.proofs.lemmas.List.{take_all}
-use Rattle.standard.specs.Page.{front}
+use Rattle.serial.specs.Page.{front}
 use Rattle.utf8_pieces.proofs.DecoderLemmas.{front_is, text_is_so_far, not_lt}
 use Rattle.utf8_pieces.proofs.bytes.text_and_ending.Goals as goal
 

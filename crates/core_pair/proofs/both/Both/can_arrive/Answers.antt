@@ -1,5 +1,5 @@
 use Rattle.std.proofs.Common.{sym, ◌∙◌, ap}
-use Rattle.standard.specs.Scripts.{is_lawful}
+use Rattle.serial.specs.Scripts.{is_lawful}
 use Rattle.core_definitions.specs.Journal.{Journal}
 use Rattle.core_pair.specs.Pairs.{Paired}
 use Rattle.core_pair.proofs.Applying.{may-arrive}

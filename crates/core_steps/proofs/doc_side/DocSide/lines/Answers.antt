@@ -1,5 +1,5 @@
 use Rattle.std.proofs.Common.{List, ◌++◌, ◌∙◌, sym, ap}
-use Rattle.html_types.specs.declared.script.Line.{Line}
+use Rattle.serial.specs.declared.script.Line.{Line}
 use Rattle.core_steps.specs.Sides.{Shown, lines_given}
 use Rattle.core_steps.proofs.DocSides.{told-now}
 use Rattle.core_steps.proofs.doc_side.DocSide.lines.Goals as goal

@@ -1,7 +1,7 @@
 use Rattle.std.proofs.Common.{List, ℕ, ap, ◌∙◌}
 use Rattle.std.specs.Prelude.{is_some}
 use Rattle.std.specs.Str.{chars}
-use Rattle.standard.specs.Scripts.{is_lawful}
+use Rattle.serial.specs.Scripts.{is_lawful}
 use Rattle.core_steps.specs.Journals.{found}
 use Rattle.core_steps.proofs.Events.{found-arrived}
 use Rattle.core_steps.proofs.Indexes.{is-found}

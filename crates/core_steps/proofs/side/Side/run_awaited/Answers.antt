@@ -1,6 +1,6 @@
 use Rattle.std.proofs.Common.{◌∙◌, ap}
 use Rattle.std.specs.Str.{chars}
-use Rattle.standard.specs.Statements.{statements}
+use Rattle.serial.specs.Statements.{statements}
 use Rattle.core_steps.proofs.Scripts.{ran-holding}
 use Rattle.core_steps.proofs.side.Side.run_awaited.Goals as goal
 

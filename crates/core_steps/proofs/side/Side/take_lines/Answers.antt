@@ -1,6 +1,6 @@
 use Rattle.std.proofs.Common.{false, List, ◌++◌, ◌∷◌, [], sym, ap, ◌∙◌}
 use Rattle.std.specs.declared.snapshot.Snapshot.{Snapshot}
-use Rattle.html_types.specs.declared.script.Line.{Line}
+use Rattle.serial.specs.declared.script.Line.{Line}
 use Rattle.write_parser.specs.Writing.{View}
 use Rattle.core_steps.specs.declared.side.Side.{Side}
 use Rattle.core_steps.specs.Sides.{lines_given, shown_of}

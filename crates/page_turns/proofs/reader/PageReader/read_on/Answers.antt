@@ -1,6 +1,6 @@
 use Rattle.std.proofs.Common.{◌≡◌, ◌≤◌, ◌+◌, ◌-◌, ◌∙◌, ◌++◌, length, take, drop, true, length-take, sym, ap, refl, arith}
 use Rattle.std.specs.Str.{chars}
-use Rattle.standard.specs.Page.{text_of}
+use Rattle.serial.specs.Page.{text_of}
 use Rattle.core_steps.specs.Sides.{Shown, with_ending}
 use Rattle.page_turns.proofs.LineLemmas.{on_err, ok_weaker, err_weaker}
 use Rattle.page_turns.proofs.ReadLemmas.{has_room}

@@ -1,5 +1,5 @@
 use Rattle.std.proofs.Common.{ap}
-use Rattle.html_types.specs.declared.script.Why.TheVariants as why
+use Rattle.html_types.specs.declared.ending.Why.TheVariants as why
 use Rattle.core_definitions.specs.Batches.{end_batch}
 use Rattle.parse_machine.proofs.MachineLemmas.{ends-well, ends-refused}
 use Rattle.parse_machine.proofs.machine.Machine.finish.Goals as goal

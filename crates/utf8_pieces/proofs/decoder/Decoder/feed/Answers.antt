@@ -3,7 +3,7 @@ use Rattle.std.proofs.lemmas.List.{take-take}
 use Rattle.std.specs.Prelude.{min}
 use Rattle.utf8_pieces.specs.declared.decoder.Decoder.{Decoder}
 use Rattle.utf8_pieces.specs.Decoder.{HasRead, Looked}
-use Rattle.standard.specs.Page.{text_of}
+use Rattle.serial.specs.Page.{text_of}
 use Rattle.utf8_pieces.proofs.DecoderLemmas.{ended, grows, Grown, none_is}
 use Rattle.utf8_pieces.proofs.decoder.Decoder.feed.Goals as goal
 

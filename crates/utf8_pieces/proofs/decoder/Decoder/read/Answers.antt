@@ -2,8 +2,8 @@ use Rattle.std.proofs.Common.{◌≡◌, ℕ, List, sym, ap, refl, ◌∙◌, le
 use Rattle.std.specs.Prelude.{nat_lt, ◌&&◌, ◌==◌}
 use Rattle.std.specs.Str.{chars}
 use Rattle.std.specs.Str.Lossy.{utf8_valid_len}
-use Rattle.standard.specs.Page.{without_mark, is_text_so_far}
-use Rattle.html_types.specs.declared.script.Ending.TheVariants.{Bad, Long}
+use Rattle.serial.specs.Page.{without_mark, is_text_so_far}
+use Rattle.html_types.specs.declared.ending.Ending.TheVariants.{Bad, Long}
 use Rattle.utf8_pieces.proofs.DecoderLemmas.{front_len, take-rest}
 use Rattle.utf8_pieces.proofs.decoder.Decoder.read.Goals as goal
 use Rattle.utf8_pieces.proofs.decoder.Decoder.read.Goals.{then-self, else-self}

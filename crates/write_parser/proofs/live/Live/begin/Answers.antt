@@ -1,6 +1,6 @@
 use Rattle.std.proofs.Common.{◌≡◌, ◌++◌, ◌∷◌, [], suc, refl, sym, ap, ◌∙◌}
 use Rattle.std.specs.Str.{chars}
-use Rattle.html_types.specs.declared.script.Line.TheVariants as line
+use Rattle.serial.specs.declared.script.Line.TheVariants as line
 use Rattle.write_parser.specs.declared.live.Live.{Live}
 use Rattle.write_parser.proofs.BeginLemmas.{begins-outside, begins-inside}
 use Rattle.write_parser.proofs.live.Live.begin.Goals as goal

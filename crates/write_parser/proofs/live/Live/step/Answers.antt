@@ -1,7 +1,7 @@
 use Rattle.std.proofs.Common.{◌≡◌, ◌+◌, ℕ, List, ◌∷◌, [], None, true, length, drop, get_or, ap, ◌∙◌, sym, subst, ltb, arith}
 use Rattle.std.proofs.lemmas.Bool.{ltb-true}
 use Rattle.std.proofs.lemmas.List.{drop_all}
-use Rattle.html_types.specs.declared.script.Statement.{Statement}
+use Rattle.serial.specs.declared.script.Statement.{Statement}
 use Rattle.write_parser.specs.Steps.{left_by}
 use Rattle.write_parser.proofs.StatementLemmas.{next-is, halted-some, halted-none}
 use Rattle.write_parser.proofs.NestingLemmas.{NextIs, step-refused, step-on}

@@ -1,6 +1,6 @@
 use Rattle.std.proofs.Common.{◌≡◌, false, None, sym, subst, ◌∙◌}
 use Rattle.std.specs.Str.{chars}
-use Rattle.standard.specs.Statements.{statements}
+use Rattle.serial.specs.Statements.{statements}
 use Rattle.write_parser.specs.Writing.{HasRun}
 use Rattle.write_parser.specs.Steps.{halted_of, view_of}
 use Rattle.write_parser.proofs.StatementLemmas.{halted-none}

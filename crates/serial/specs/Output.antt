@@ -1,14 +1,14 @@
 -- What the program writes, in bytes.
 use Rattle.std.specs.Prelude.{ℕ, Bool, true, false, List, [], ◌++◌, flat_map, decimal, codes}
-use Rattle.html_types.specs.declared.script.Why.{Why}
-use Rattle.html_types.specs.declared.script.Why.TheVariants as why
-use Rattle.html_types.specs.declared.script.Line.{Line}
-use Rattle.html_types.specs.declared.script.Line.TheVariants.{Log, Throw, Syntax, Miss}
+use Rattle.html_types.specs.declared.ending.Why.{Why}
+use Rattle.html_types.specs.declared.ending.Why.TheVariants as why
+use Rattle.serial.specs.declared.script.Line.{Line}
+use Rattle.serial.specs.declared.script.Line.TheVariants.{Log, Throw, Syntax, Miss}
 use Rattle.standard.specs.Tree.{Nodes}
 use Rattle.standard.specs.Outer.{document_text}
-use Rattle.standard.specs.Dump.{dump_text}
-pub use Rattle.standard.specs.Dump.{json_string}
-use Rattle.standard.specs.Serial.{Result, finished, refused, Outcome}
+use Rattle.serial.specs.Dump.{dump_text}
+pub use Rattle.serial.specs.Dump.{json_string}
+use Rattle.serial.specs.Serial.{Result, finished, refused, Outcome}
 
 abbrev pub line_text : Line → List ℕ
 line_text (Log n t) = codes "log " ++ decimal n ++ codes " " ++ json_string t ++ codes "\n"

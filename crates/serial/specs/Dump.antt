@@ -1,4 +1,5 @@
--- The dump of a tree, in bytes: a line for each node under the Document, in tree order (DOM 1.1), and a last line.
+-- The dump of a tree, in bytes: a line for each node under the Document, in tree order (DOM 1.1),
+-- and a last line.
 use Rattle.std.specs.Prelude.{ℕ, ◌+◌, List, [], ◌++◌, flat_map, length, decimal, encode_utf8_all, codes, option_to_list}
 use Rattle.json.specs.Print.{quoted}
 use Rattle.html_types.specs.Names.{name_text, space_of}
@@ -46,7 +47,8 @@ node_line depth k = codes "node " ++ decimal depth ++ kind_words k ++ codes "\n"
 abbrev pub under_of : Nodes → ℕ → List ℕ
 under_of t n = option_to_list (contents_of t n) ++ children_of t n
 
--- the lines of a node and of all under it at a depth, from those of the nodes right under it, which are one deeper
+-- the lines of a node and of all under it at a depth, from those of the nodes right under it,
+-- which are one deeper
 abbrev pub lines_around : Nodes → ℕ → List (ℕ → List ℕ) → ℕ → List ℕ
 lines_around t n inner depth = node_line depth (kind_of t n) ++ flat_map (λ lines. lines (depth + 1)) inner
 

@@ -5,8 +5,8 @@ use Rattle.std.specs.Prelude.{ℕ, zero, suc, ◌==◌, ◌||◌, Bool, true, fa
 use Rattle.std.specs.Str.{chars}
 use Prim.Native.String.{String}
 use Rattle.json.specs.Text.{content, plain}
-use Rattle.html_types.specs.declared.script.Statement.{Statement}
-use Rattle.html_types.specs.declared.script.Statement.TheVariants.{Write, WriteLine, Remove, Append, LogById, LogRoot}
+use Rattle.serial.specs.declared.script.Statement.{Statement}
+use Rattle.serial.specs.declared.script.Statement.TheVariants.{Write, WriteLine, Remove, Append, LogById, LogRoot}
 
 -- space, TAB, LF and CR
 abbrev pub is_white : ℕ → Bool

@@ -1,38 +1,10 @@
-//! How a page ends, the statements of scripts, and what a parse has to say.
+//! The statements of scripts, and the lines that a parse gives.
 
 ghost use Rattle.std.specs.Prelude.{◌≡◌, ◌∷◌, ◌++◌, [], OnOk, OnErr};
 
-use crate::memory::NoMemory;
-use crate::text::Text;
+use html_types::{NoMemory, Text};
 use std::alloc::Global;
 use std::marker::Model;
-
-/// How the bytes of a page end.
-#[derive(Clone, Copy, PartialEq, Eq)]
-pub enum Ending {
-    /// At the end of the file.
-    End,
-    /// At bytes that aren't UTF-8.
-    Bad,
-    /// At the limit of a page, behind which there are more bytes.
-    Long,
-    /// At a read that failed.
-    Fault,
-}
-
-/// Why a parse is refused.
-#[derive(Clone, Copy, PartialEq, Eq)]
-pub enum Why {
-    BadUtf8,
-    /// More than 512 open elements.
-    Depth,
-    /// More than 1,048,576 characters written by scripts.
-    Writes,
-    /// A page of more than 1,073,741,824 bytes.
-    Page,
-    /// A read that failed.
-    Fault,
-}
 
 /// A statement of a script. A text in it is the value of its JSON string.
 #[derive(Drop)]
@@ -68,7 +40,7 @@ pub struct Lines {
 
 impl Model for Lines {
     ghost use Rattle.std.specs.Prelude.{List};
-    ghost use Rattle.html_types.specs.declared.script.Line.{Line};
+    ghost use Rattle.serial.specs.declared.script.Line.{Line};
 
     ghost Value = { List Line };
 

@@ -3,9 +3,9 @@ use Rattle.std.specs.Prelude.{ℕ, nat_le, Bool, true, false, not, ◌==◌, ◌
 use Rattle.std.specs.Char.{is_ascii_alphanumeric}
 use Rattle.std.specs.List.{list_all}
 use Rattle.std.specs.Str.{chars, is_utf8}
-use Rattle.html_types.specs.declared.script.Statement.{Statement}
-use Rattle.standard.specs.Page.{without_mark}
-use Rattle.standard.specs.Statements.{statements}
+use Rattle.serial.specs.declared.script.Statement.{Statement}
+use Rattle.serial.specs.Page.{without_mark}
+use Rattle.serial.specs.Statements.{statements}
 
 -- what fetching a script gives
 pub data Fetched : Type 0 where

@@ -2,25 +2,25 @@
 -- (13.2.6.4.8, the document.write() steps).
 use Rattle.std.specs.Prelude.{◌≡◌, ℕ, zero, suc, ◌+◌, ◌-◌, nat_le, Bool, true, false, List, [], ◌∷◌, ◌++◌, length, take, drop, Option, Some, None, option_and_then}
 use Rattle.html_types.specs.declared.operation.NodeId.{NodeId}
-use Rattle.html_types.specs.declared.script.Ending.{Ending}
-use Rattle.html_types.specs.declared.script.Ending.TheVariants as ending
-use Rattle.html_types.specs.declared.script.Why.{Why}
-use Rattle.html_types.specs.declared.script.Why.TheVariants as why
-use Rattle.html_types.specs.declared.script.Statement.{Statement}
-use Rattle.html_types.specs.declared.script.Statement.TheVariants as statement
-use Rattle.html_types.specs.declared.script.Line.{Line}
-use Rattle.html_types.specs.declared.script.Line.TheVariants as line
+use Rattle.html_types.specs.declared.ending.Ending.{Ending}
+use Rattle.html_types.specs.declared.ending.Ending.TheVariants as ending
+use Rattle.html_types.specs.declared.ending.Why.{Why}
+use Rattle.html_types.specs.declared.ending.Why.TheVariants as why
+use Rattle.serial.specs.declared.script.Statement.{Statement}
+use Rattle.serial.specs.declared.script.Statement.TheVariants as statement
+use Rattle.serial.specs.declared.script.Line.{Line}
+use Rattle.serial.specs.declared.script.Line.TheVariants as line
 use Rattle.html_types.specs.declared.instruction.Stop.{Stop}
 use Rattle.html_types.specs.declared.instruction.Stop.TheVariants as stop
 use Rattle.html_types.specs.declared.instruction.Finish.TheVariants as finale
-use Rattle.standard.specs.Page.{Page}
+use Rattle.serial.specs.Page.{Page}
 use Rattle.standard.specs.Entities.{Entities}
 use Rattle.standard.specs.Tree.{Nodes, detached, appended, find_id, first_element}
 use Rattle.standard.specs.Act.{Doc, new_doc, acts, node_of}
 use Rattle.standard.specs.Outer.{outer_text}
 use Rattle.standard.specs.Prepare.{Prepared, still, inline, external, prepare}
-use Rattle.standard.specs.Scripts.{Fetched, got, missing, faulted, is_lawful, file_statements}
-use Rattle.standard.specs.Statements.{statements}
+use Rattle.serial.specs.Scripts.{Fetched, got, missing, faulted, is_lawful, file_statements}
+use Rattle.serial.specs.Statements.{statements}
 use Rattle.standard.specs.Parser.{Parser, new_parser, Took, took, take_character, Finished, finish}
 
 -- ---- what a parse is given
