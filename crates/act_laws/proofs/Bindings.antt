@@ -7,7 +7,7 @@ use Rattle.html_types.specs.declared.attributes.Attribute.{Attribute}
 use Rattle.html_types.specs.declared.name.Name.{Name}
 use Rattle.html_types.specs.declared.operation.NodeId.{NodeId}
 use Rattle.html_types.specs.declared.operation.Op.{Op}
-use Rattle.html_types.specs.declared.operation.Op.TheVariants.{Make, Put, Text, Note, Doctype, Detach, MoveChildren, AddAttributes}
+use Rattle.html_types.specs.declared.operation.Op.TheVariants.{Make, Put, Text, Comment, Doctype, Detach, MoveChildren, AddAttributes}
 use Rattle.html_types.specs.declared.tree.Kind.TheVariants as kind
 use Rattle.standard.specs.Tree.{Nodes, is_element_at, detached, appended}
 use Rattle.standard.specs.Act.{Bound, Doc, new_doc, id_cmp, bound_to, node_of, is_bound, element_made, spot_of, end_of, act, acts, IsOpBound, AreOpsBound}
@@ -116,7 +116,7 @@ unfolding act
 NamesElements-act d names (Make id name attributes) bound = NamesElements-made d id name attributes names bound
 NamesElements-act d names (Put id place) bound = NamesElements-alike d _ names (Alike-put_at d.tree (node_of d.bound id) (spot_of d place))
 NamesElements-act d names (Text place text) bound = NamesElements-alike d _ names (Alike-text_at d.tree text (spot_of d place))
-NamesElements-act d names (Note place text) bound = NamesElements-alike d _ names (Alike-new_at d.tree (kind.Comment text) (spot_of d place) refl)
+NamesElements-act d names (Comment place text) bound = NamesElements-alike d _ names (Alike-new_at d.tree (kind.Comment text) (spot_of d place) refl)
 NamesElements-act d names (Doctype name) bound = NamesElements-alike d _ names (Alike-new_at d.tree (kind.Doctype name) (end_of d.tree 0) refl)
 NamesElements-act d names (Detach id) bound = NamesElements-alike d _ names (Alike-detached d.tree (node_of d.bound id))
 NamesElements-act d names (MoveChildren from to) bound = NamesElements-alike d _ names (Alike-children_moved d.tree (node_of d.bound from) (end_of d.tree (node_of d.bound to)).parent)

@@ -6,7 +6,7 @@ use Rattle.std.proofs.lemmas.Bool.{and_from, eq-eqb, false_from_ne_true, and_par
 use Rattle.html_types.specs.Operations.{same_id}
 use Rattle.html_types.specs.declared.operation.NodeId.{NodeId}
 use Rattle.html_types.specs.declared.operation.Op.{Op}
-use Rattle.html_types.specs.declared.operation.Op.TheVariants.{Make, Put, Text, Note, Doctype, Detach, MoveChildren, AddAttributes}
+use Rattle.html_types.specs.declared.operation.Op.TheVariants.{Make, Put, Text, Comment, Doctype, Detach, MoveChildren, AddAttributes}
 use Rattle.standard.specs.Act.{Doc, id_cmp, bound_to, act, is_bound, known_after, AreOpsBound}
 use Rattle.act_laws.proofs.Renamed.{tells, bound_to-insert}
 
@@ -30,7 +30,7 @@ known_after-is d (Make id name attributes) q =
     some_of false o = refl
 known_after-is d (Put id place) q = refl
 known_after-is d (Text place text) q = refl
-known_after-is d (Note place text) q = refl
+known_after-is d (Comment place text) q = refl
 known_after-is d (Doctype name) q = refl
 known_after-is d (Detach id) q = refl
 known_after-is d (MoveChildren from to) q = refl

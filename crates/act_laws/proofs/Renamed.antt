@@ -10,7 +10,7 @@ use Rattle.html_types.specs.declared.operation.NodeId.{NodeId}
 use Rattle.html_types.specs.declared.operation.Place.{Place}
 use Rattle.html_types.specs.declared.operation.Place.TheVariants.{Page, Inside, Contents, Foster}
 use Rattle.html_types.specs.declared.operation.Op.{Op}
-use Rattle.html_types.specs.declared.operation.Op.TheVariants.{Make, Put, Text, Note, Doctype, Detach, MoveChildren, AddAttributes}
+use Rattle.html_types.specs.declared.operation.Op.TheVariants.{Make, Put, Text, Comment, Doctype, Detach, MoveChildren, AddAttributes}
 use Rattle.standard.specs.Tree.{Nodes, appended, find_id}
 use Rattle.standard.specs.Act.{Bound, id_cmp, bound_to, node_of}
 use Rattle.standard.specs.Act.{Doc, act, acts, spot_of, rename_place, rename_op, SameUpTo}
@@ -81,7 +81,7 @@ module _ (r : NodeId → NodeId) (one : (a b : NodeId) → r a ≡ r b → a ≡
     tree = rw (spot_of-renamed d d' same place, same.tree) refl;
     bound = same.bound;
   }
-  act-renamed d d' same (Note place text) = record {
+  act-renamed d d' same (Comment place text) = record {
     tree = rw (spot_of-renamed d d' same place, same.tree) refl;
     bound = same.bound;
   }

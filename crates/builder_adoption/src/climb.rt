@@ -7,7 +7,7 @@ ghost use Rattle.standard.specs.Adoption.{climb_at, climb_one, climb};
 
 use crate::entries::{renew_entry, tag_of};
 use builder_state::{opened, take_entry_off, take_id};
-use html_types::{Formats, NoMemory, NodeId, Op, OpenElement, Ops, Place};
+use html_types::{ActiveFormatting, NoMemory, NodeId, Op, OpenElement, Ops, Place};
 use std::alloc::Global;
 
 /// How many elements may keep their entries.
@@ -29,7 +29,7 @@ fn climb_one(
     alloc: Global,
     left: u8,
     id: NodeId,
-    formats: &mut Formats,
+    formats: &mut ActiveFormatting,
     next: &mut NodeId,
     reached: &mut Climb,
     ops: &mut Ops,
@@ -66,7 +66,7 @@ fn climb_one(
 pub fn climb_all(
     alloc: Global,
     elements: &[OpenElement],
-    formats: &mut Formats,
+    formats: &mut ActiveFormatting,
     next: &mut NodeId,
     reached: &mut Climb,
     ops: &mut Ops,

@@ -3,17 +3,17 @@
 ghost use Rattle.std.specs.Prelude.{◌≡◌, ◌++◌, IfOk};
 ghost use Rattle.standard.specs.Formatting.{has_entry, tag_of_entry, later_than, entry_on, with_id, with_behind};
 
-use html_types::{Format, Formats, NoMemory, NodeId, Tag};
+use html_types::{ActiveFormatting, FormattingEntry, NoMemory, NodeId, Tag};
 use std::alloc::Global;
 
 /// Whether an element has an entry.
-pub fn has_entry(formats: &Formats, id: NodeId) -> bool
+pub fn has_entry(formats: &ActiveFormatting, id: NodeId) -> bool
     ensures { result ≡ has_entry id formats.now }
 {
     for entry in formats.walk() {
         match entry {
-            Format::Marker => {}
-            Format::Element { id: other, tag: _ } => {
+            FormattingEntry::Marker => {}
+            FormattingEntry::Element { id: other, tag: _ } => {
                 if other.same(id) {
                     return true;
                 }
@@ -24,13 +24,17 @@ pub fn has_entry(formats: &Formats, id: NodeId) -> bool
 }
 
 /// A copy of the tag for which an element with an entry was made.
-pub fn tag_of(alloc: Global, formats: &Formats, id: NodeId) -> Result<Option<Tag>, NoMemory>
+pub fn tag_of(
+    alloc: Global,
+    formats: &ActiveFormatting,
+    id: NodeId,
+) -> Result<Option<Tag>, NoMemory>
     ensures { IfOk result (λ tag. tag ≡ tag_of_entry id formats.now) }
 {
     for entry in formats.walk() {
         match entry {
-            Format::Marker => {}
-            Format::Element { id: other, tag } => {
+            FormattingEntry::Marker => {}
+            FormattingEntry::Element { id: other, tag } => {
                 if other.same(id) {
                     let tag = tag.copy(alloc)?;
                     return Ok(Some(tag));
@@ -42,20 +46,24 @@ pub fn tag_of(alloc: Global, formats: &Formats, id: NodeId) -> Result<Option<Tag
 }
 
 /// Takes the entries behind that of an element off, the latest first.
-fn take_later(alloc: Global, formats: &mut Formats, id: NodeId) -> Result<Vec<Format>, NoMemory>
+fn take_later(
+    alloc: Global,
+    formats: &mut ActiveFormatting,
+    id: NodeId,
+) -> Result<Vec<FormattingEntry>, NoMemory>
     ensures taken { IfOk result (λ taken. taken.items ≡ later_than id formats.old) }
     ensures left { IfOk result (λ _. formats.new ≡ entry_on id formats.old) }
 {
     let mut taken = Vec::new(alloc);
     while let Some(last) = formats.take()? {
         match last {
-            Format::Marker => taken.push(Format::Marker)?,
-            Format::Element { id: other, tag } => {
+            FormattingEntry::Marker => taken.push(FormattingEntry::Marker)?,
+            FormattingEntry::Element { id: other, tag } => {
                 if other.same(id) {
-                    formats.push(Format::Element { id: other, tag })?;
+                    formats.push(FormattingEntry::Element { id: other, tag })?;
                     return Ok(taken);
                 }
-                taken.push(Format::Element { id: other, tag })?;
+                taken.push(FormattingEntry::Element { id: other, tag })?;
             }
         }
     }
@@ -63,7 +71,7 @@ fn take_later(alloc: Global, formats: &mut Formats, id: NodeId) -> Result<Vec<Fo
 }
 
 /// Puts entries on that were taken off.
-fn put_back(formats: &mut Formats, mut taken: Vec<Format>) -> Result<(), NoMemory>
+fn put_back(formats: &mut ActiveFormatting, mut taken: Vec<FormattingEntry>) -> Result<(), NoMemory>
     ensures { IfOk result (λ _. formats.new ≡ taken.items ++ formats.old) }
 {
     while let Some(entry) = taken.pop() {
@@ -75,7 +83,7 @@ fn put_back(formats: &mut Formats, mut taken: Vec<Format>) -> Result<(), NoMemor
 /// The entry of an element becomes that of another.
 pub fn renew_entry(
     alloc: Global,
-    formats: &mut Formats,
+    formats: &mut ActiveFormatting,
     id: NodeId,
     new: NodeId,
 ) -> Result<(), NoMemory>
@@ -84,8 +92,11 @@ pub fn renew_entry(
     let later = take_later(alloc, formats, id)?;
     match formats.take()? {
         None => {}
-        Some(Format::Marker) => formats.push(Format::Marker)?,
-        Some(Format::Element { id: _, tag }) => formats.push(Format::Element { id: new, tag })?,
+        Some(FormattingEntry::Marker) => formats.push(FormattingEntry::Marker)?,
+        Some(FormattingEntry::Element { id: _, tag }) => formats.push(FormattingEntry::Element {
+            id: new,
+            tag,
+        })?,
     }
     put_back(formats, later)
 }
@@ -93,9 +104,9 @@ pub fn renew_entry(
 /// Puts an entry just behind that of an element.
 pub fn insert_behind(
     alloc: Global,
-    formats: &mut Formats,
+    formats: &mut ActiveFormatting,
     id: NodeId,
-    entry: Format,
+    entry: FormattingEntry,
 ) -> Result<(), NoMemory>
     ensures { IfOk result (λ _. formats.new ≡ with_behind id entry formats.old) }
 {

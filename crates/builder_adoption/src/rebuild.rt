@@ -11,7 +11,9 @@ use crate::climb::{Climb, climb_all};
 use crate::entries::{insert_behind, renew_entry};
 use crate::stack::{insert_below, place_above, put_back, take_below, take_through};
 use builder_state::{opened, take_entry_off, take_id, take_off};
-use html_types::{Format, Formats, NoMemory, NodeId, Op, Open, Ops, Place, Tag, Turn};
+use html_types::{
+    ActiveFormatting, FormattingEntry, NoMemory, NodeId, Op, Open, Ops, Place, Tag, Turn,
+};
 use std::alloc::Global;
 
 /// Climbs over the elements between the furthest block and the formatting element, and leaves on the stack what is left of
@@ -82,7 +84,7 @@ fn make_clone(
 /// The formatting element's entry is dropped, and the clone's is put at the bookmark.
 fn mark_entry(
     alloc: Global,
-    formats: &mut Formats,
+    formats: &mut ActiveFormatting,
     element: NodeId,
     clone: NodeId,
     tag: Tag,
@@ -93,7 +95,12 @@ fn mark_entry(
     match bookmark {
         None => renew_entry(alloc, formats, element, clone),
         Some(bookmark) => {
-            insert_behind(alloc, formats, bookmark, Format::Element { id: clone, tag })?;
+            insert_behind(
+                alloc,
+                formats,
+                bookmark,
+                FormattingEntry::Element { id: clone, tag },
+            )?;
             take_entry_off(formats, element)
         }
     }

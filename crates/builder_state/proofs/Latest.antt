@@ -8,8 +8,8 @@ use Rattle.html_types.specs.declared.token.Tag.{Tag}
 use Rattle.html_types.specs.declared.operation.NodeId.{NodeId}
 use Rattle.html_types.specs.declared.operation.Op.{Op}
 use Rattle.html_types.specs.declared.open.OpenElement.{OpenElement}
-use Rattle.html_types.specs.declared.open.Format.{Format}
-use Rattle.html_types.specs.declared.open.Format.TheVariants.{Marker, Element}
+use Rattle.html_types.specs.declared.open.FormattingEntry.{FormattingEntry}
+use Rattle.html_types.specs.declared.open.FormattingEntry.TheVariants.{Marker, Element}
 use Rattle.html_types.specs.declared.open.Open.{Open}
 use Rattle.html_types.specs.declared.instruction.Turn.TheVariants.{More, Over}
 use Rattle.html_types.specs.declared.instruction.Scope.TheVariants as scope
@@ -32,7 +32,7 @@ and-right : (x y : Bool) → (x && y) ≡ true → y ≡ true
 and-right true y e = e
 and-right false y e = absurd (cc)
 
-at_turn : (is : Name → Bool) (b : Open) (o : List Op) (e : OpenElement) (es : List OpenElement) (tag : Tag) (fs : List Format) → same_id e.id e.id ≡ true → is tag.name ≡ true
+at_turn : (is : Name → Bool) (b : Open) (o : List Op) (e : OpenElement) (es : List OpenElement) (tag : Tag) (fs : List FormattingEntry) → same_id e.id e.id ≡ true → is tag.name ≡ true
     → turn is (record b { stack = e ∷ es; formats = Element e.id tag ∷ fs }) o ≡ turned (record b { stack = es; formats = fs }) o Over
 at_turn is b o e es tag fs own named =
     let c : Open = record b { stack = e ∷ es; formats = Element e.id tag ∷ fs } in
@@ -54,13 +54,13 @@ at_turn is b o e es tag fs own named =
     ∙ ap (λ (t : Option Tag). turn_with e.id t (block_below e.id None c.stack) c o) tagged
     ∙ ap (λ (k : Option NodeId). turn_with e.id (Some tag) k c o) no_block
     ∙ ap (λ (st : List OpenElement). closing (record c { stack = st; formats = without_entry e.id c.formats })) popped
-    ∙ ap (λ (l : List Format). closing (record c { stack = es; formats = l })) taken
+    ∙ ap (λ (l : List FormattingEntry). closing (record c { stack = es; formats = l })) taken
 
-not_plain : (is : Name → Bool) (b : Open) (e : OpenElement) (es : List OpenElement) (tag : Tag) (fs : List Format) → same_id e.id e.id ≡ true
+not_plain : (is : Name → Bool) (b : Open) (e : OpenElement) (es : List OpenElement) (tag : Tag) (fs : List FormattingEntry) → same_id e.id e.id ≡ true
     → is_plain is (Some e.id) (record b { stack = e ∷ es; formats = Element e.id tag ∷ fs }) ≡ false
 not_plain is b e es tag fs own = ap (λ (v : Bool). is e.name && not (v || has_entry e.id fs)) own ∙ and-false (is e.name)
 
-by_is : (is : Name → Bool) (b : Open) (o : List Op) (e : OpenElement) (es : List OpenElement) (tag : Tag) (fs : List Format) → same_id e.id e.id ≡ true → is tag.name ≡ true
+by_is : (is : Name → Bool) (b : Open) (o : List Op) (e : OpenElement) (es : List OpenElement) (tag : Tag) (fs : List FormattingEntry) → same_id e.id e.id ≡ true → is tag.name ≡ true
     → adopt_with is (record b { stack = e ∷ es; formats = Element e.id tag ∷ fs }) o ≡ adopted (record b { stack = es; formats = fs }) o false
 by_is is b o e es tag fs own named =
     let c : Open = record b { stack = e ∷ es; formats = Element e.id tag ∷ fs } in
@@ -76,26 +76,26 @@ same a b h = same_parts a b (grind (arith, h)) (grind (arith, h))
 itself : (a : NodeId) → same_id a a ≡ true
 itself a = grind arith
 
-of_entry : (w : Word) (b : Open) (o : List Op) (e : OpenElement) (es : List OpenElement) (id : NodeId) (tag : Tag) (fs : List Format) → e.id ≡ id → is_word w tag.name ≡ true
+of_entry : (w : Word) (b : Open) (o : List Op) (e : OpenElement) (es : List OpenElement) (id : NodeId) (tag : Tag) (fs : List FormattingEntry) → e.id ≡ id → is_word w tag.name ≡ true
     → adopt w (record b { stack = e ∷ es; formats = Element id tag ∷ fs }) o ≡ adopted (record b { stack = es; formats = fs }) o false
 unfolding adopt
 of_entry w b o e es id tag fs is named =
     ap (λ (i : NodeId). adopt_with (is_word w) (record b { stack = e ∷ es; formats = Element i tag ∷ fs }) o) (sym is)
     ∙ by_is (is_word w) b o e es tag fs (itself e.id) named
 
-of_lists : (w : Word) (b : Open) (o : List Op) (e : OpenElement) (es : List OpenElement) (f : Format) (fs : List Format) → is_latest w e (f ∷ fs) ≡ true
+of_lists : (w : Word) (b : Open) (o : List Op) (e : OpenElement) (es : List OpenElement) (f : FormattingEntry) (fs : List FormattingEntry) → is_latest w e (f ∷ fs) ≡ true
     → adopt w (record b { stack = e ∷ es; formats = f ∷ fs }) o ≡ adopted (record b { stack = es; formats = fs }) o false
 of_lists w b o e es Marker fs h = absurd (cc)
 of_lists w b o e es (Element id tag) fs h =
     of_entry w b o e es id tag fs (same e.id id (and-left (same_id e.id id) (is_word w tag.name) h)) (and-right (same_id e.id id) (is_word w tag.name) h)
 
-closed : (w : Word) (b : Open) (o : List Op) (e : OpenElement) (es : List OpenElement) (f : Format) (fs : List Format) → b.stack ≡ e ∷ es → b.formats ≡ f ∷ fs
+closed : (w : Word) (b : Open) (o : List Op) (e : OpenElement) (es : List OpenElement) (f : FormattingEntry) (fs : List FormattingEntry) → b.stack ≡ e ∷ es → b.formats ≡ f ∷ fs
     → current_is_latest w b.stack b.formats ≡ true → adopted (record b { stack = es; formats = fs }) o false ≡ adopt w b o
 closed w b o e es f fs s t h =
     let h' : is_latest w e (f ∷ fs) ≡ true = sym (ap (λ st. current_is_latest w st b.formats) s ∙ ap (λ l. is_latest w e l) t) ∙ h in
-    sym (ap (λ (st : List OpenElement). adopt w (record b { stack = st }) o) s ∙ ap (λ (l : List Format). adopt w (record b { stack = e ∷ es; formats = l }) o) t ∙ of_lists w b o e es f fs h')
+    sym (ap (λ (st : List OpenElement). adopt w (record b { stack = st }) o) s ∙ ap (λ (l : List FormattingEntry). adopt w (record b { stack = e ∷ es; formats = l }) o) t ∙ of_lists w b o e es f fs h')
 
-of_both : (w : Word) (b : Open) (o : List Op) (es : List OpenElement) (fs : List Format) → b.stack ≡ es → b.formats ≡ fs
+of_both : (w : Word) (b : Open) (o : List Op) (es : List OpenElement) (fs : List FormattingEntry) → b.stack ≡ es → b.formats ≡ fs
     → current_is_latest w es fs ≡ true → adopted (record b { stack = drop 1 es; formats = drop 1 fs }) o false ≡ adopt w b o
 of_both w b o [] fs s t h = absurd (cc)
 of_both w b o (e ∷ es) [] s t h = absurd (cc)

@@ -13,7 +13,7 @@ use crate::machine::{list_current, run_row};
 use crate::walks::{
     close_found_item, close_in_scope, close_other_end, pop_back_to, pop_implied, pop_until,
 };
-use html_types::{Flow, Format, Instr, Next, NoMemory, Open, Ops, Token, Who};
+use html_types::{Flow, FormattingEntry, Instr, Next, NoMemory, Open, Ops, Token, Who};
 use std::alloc::Global;
 
 /// What became of an instruction.
@@ -24,7 +24,7 @@ pub(crate) enum AtOnce {
     /// It was done, and the next instruction is left out.
     Skip,
     /// The token is to be processed once more.
-    Again,
+    Reprocess,
     /// Nothing was done.
     Not,
 }
@@ -89,22 +89,22 @@ fn do_at_once(
         Instr::Need(test) => return Ok(on_if(test_holds(state, test, token))),
         Instr::Reconstruct => return Ok(on_if(none_lost(&state.formats, &state.stack))),
         Instr::Insert => return insert_one(alloc, state, token, ops),
-        Instr::Again => return Ok(AtOnce::Again),
+        Instr::Reprocess => return Ok(AtOnce::Reprocess),
         Instr::InsertComment => insert_note(alloc, state, place_now(state), token, ops)?,
-        Instr::List => list_current(alloc, state, token, ops)?,
-        Instr::Marker => state.formats.push(Format::Marker)?,
+        Instr::PushFormatting => list_current(alloc, state, token, ops)?,
+        Instr::PushMarker => state.formats.push(FormattingEntry::Marker)?,
         Instr::Pop => {
             state.stack.pop();
         }
-        Instr::Until(who) => pop_until(&mut state.stack, who, token),
-        Instr::PopTo(group) => pop_back_to(&mut state.stack, group),
-        Instr::Implied => pop_implied(&mut state.stack, Who::Nobody, token),
+        Instr::PopUntil(who) => pop_until(&mut state.stack, who, token),
+        Instr::ClearBackTo(group) => pop_back_to(&mut state.stack, group),
+        Instr::GenerateImplied => pop_implied(&mut state.stack, Who::Nobody, token),
         Instr::Close(scope, who) => close_in_scope(&mut state.stack, scope, who, token),
         Instr::CloseItem(who) => close_found_item(&mut state.stack, who, token),
         Instr::AnyOtherEnd => close_other_end(&mut state.stack, token),
         Instr::ClearToMarker => clear_back(&mut state.formats),
-        Instr::NotOk => state.frameset_ok = false,
-        Instr::Enter(mode) => state.mode = mode,
+        Instr::FramesetNotOk => state.frameset_ok = false,
+        Instr::SwitchMode(mode) => state.mode = mode,
         _ => return Ok(AtOnce::Not),
     }
     Ok(AtOnce::On)
@@ -159,7 +159,7 @@ pub fn answer_row(
             match do_at_once(alloc, state, *instr, token, ops)? {
                 AtOnce::On => {}
                 AtOnce::Skip => skips = true,
-                AtOnce::Again => return Ok(Next::Again),
+                AtOnce::Reprocess => return Ok(Next::Reprocess),
                 AtOnce::Not => return answer_rest(alloc, state, left, token, ops),
             }
         }

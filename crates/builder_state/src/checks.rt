@@ -68,7 +68,7 @@ pub fn test_holds(state: &Open, test: Test, token: &Token) -> bool
         Test::InScope(scope, who) => is_in_scope(&state.stack, scope, who, token),
         Test::Current(who) => is_current(&state.stack, who, token),
         Test::OnStack(who) => is_on_stack(&state.stack, who, token),
-        Test::Listed(who) => is_listed(&state.formats, who, token),
+        Test::InFormatting(who) => is_listed(&state.formats, who, token),
         Test::Quirks => state.quirks,
         Test::SecondIsBody => second_is_body(&state.stack),
         Test::FramesetOk => state.frameset_ok,

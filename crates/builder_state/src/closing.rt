@@ -5,17 +5,18 @@ ghost use Rattle.html_types.specs.declared.operation.Op.{Op};
 ghost use Rattle.standard.specs.Adoption.{adopted, adopt};
 ghost use Rattle.builder_state.specs.Latest.{is_latest, current_is_latest};
 
-use html_types::{Format, Formats, Open, OpenElement, Word};
+use html_types::{ActiveFormatting, FormattingEntry, Open, OpenElement, Word};
 use tag_sets::is_the;
 
 /// Whether the element is that of the latest entry, which has the name.
-fn has_latest(formats: &Formats, element: &OpenElement, word: Word) -> bool
+fn has_latest(formats: &ActiveFormatting, element: &OpenElement, word: Word) -> bool
     ensures { result ≡ is_latest word element.now formats.now }
 {
     match formats.latest() {
         None => false,
-        Some(Format::Marker) => false,
-        Some(Format::Element { id, tag }) => element.id.same(*id) && is_the(word, &tag.name),
+        Some(FormattingEntry::Marker) => false,
+        Some(FormattingEntry::Element { id, tag }) => element.id.same(*id)
+            && is_the(word, &tag.name),
     }
 }
 

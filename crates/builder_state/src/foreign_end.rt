@@ -29,7 +29,7 @@ pub fn break_out(state: &mut Open, ops: &Ops) -> Flow
     ensures shorter { length state.new.stack ≤ length state.old.stack }
 {
     pop_foreign(&mut state.stack);
-    Flow::Leave(Next::Using(state.mode))
+    Flow::Leave(Next::UsingRules(state.mode))
 }
 
 /// What the search for an end tag's element meets first, from the current node up.
@@ -88,7 +88,7 @@ fn end_named(state: &mut Open, name: &Name, ops: &Ops) -> Flow
             pop_through(&mut state.stack, name.as_str());
             Flow::On
         }
-        End::ByMode => Flow::Leave(Next::Using(state.mode)),
+        End::ByMode => Flow::Leave(Next::UsingRules(state.mode)),
     }
 }
 

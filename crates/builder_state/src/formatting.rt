@@ -5,18 +5,20 @@ ghost use Rattle.standard.specs.Elements.{is_meant, is_word};
 ghost use Rattle.standard.specs.Formatting.{listed, clear_to_marker, lost, kept, entry_named, without_entry};
 
 use crate::walks::has_open;
-use html_types::{Format, Formats, NoMemory, NodeId, Stack, Tag, Token, Who, Word};
+use html_types::{
+    ActiveFormatting, FormattingEntry, NoMemory, NodeId, Stack, Tag, Token, Who, Word,
+};
 use std::alloc::Global;
 use tag_sets::{is_the, meant};
 
 /// Whether one that is meant stands behind the last marker.
-pub fn is_listed(formats: &Formats, who: Who, token: &Token) -> bool
+pub fn is_listed(formats: &ActiveFormatting, who: Who, token: &Token) -> bool
     ensures { result ≡ listed (is_meant who token.now) formats.now }
 {
     for entry in formats.walk() {
         match entry {
-            Format::Marker => return false,
-            Format::Element { id: _, tag } => {
+            FormattingEntry::Marker => return false,
+            FormattingEntry::Element { id: _, tag } => {
                 if meant(who, token, &tag.name) {
                     return true;
                 }
@@ -27,13 +29,13 @@ pub fn is_listed(formats: &Formats, who: Who, token: &Token) -> bool
 }
 
 /// The element of the latest entry of that name behind the last marker.
-pub fn entry_of(formats: &Formats, word: Word) -> Option<NodeId>
+pub fn entry_of(formats: &ActiveFormatting, word: Word) -> Option<NodeId>
     ensures { result ≡ entry_named (is_word word) formats.now }
 {
     for entry in formats.walk() {
         match entry {
-            Format::Marker => return None,
-            Format::Element { id, tag } => {
+            FormattingEntry::Marker => return None,
+            FormattingEntry::Element { id, tag } => {
                 if is_the(word, &tag.name) {
                     return Some(*id);
                 }
@@ -44,7 +46,7 @@ pub fn entry_of(formats: &Formats, word: Word) -> Option<NodeId>
 }
 
 /// Where the entry of an element stands, counted from the first entry.
-fn place_of_entry(formats: &Formats, id: NodeId) -> Option<usize>
+fn place_of_entry(formats: &ActiveFormatting, id: NodeId) -> Option<usize>
     ensures { MatchOption result
         (without_entry id formats.now ≡ formats.now)
         (λ i. (i < length formats.now) × (without_entry id formats.now ≡ reverse (remove (reverse formats.now) i))) }
@@ -52,8 +54,8 @@ fn place_of_entry(formats: &Formats, id: NodeId) -> Option<usize>
     let mut walk = formats.walk();
     while let Some(entry) = walk.next() {
         match entry {
-            Format::Marker => {}
-            Format::Element { id: other, tag: _ } => {
+            FormattingEntry::Marker => {}
+            FormattingEntry::Element { id: other, tag: _ } => {
                 if other.same(id) {
                     return Some(walk.len());
                 }
@@ -64,7 +66,7 @@ fn place_of_entry(formats: &Formats, id: NodeId) -> Option<usize>
 }
 
 /// Takes the entry of an element off the list, wherever it stands there.
-pub fn take_entry_off(formats: &mut Formats, id: NodeId) -> Result<(), NoMemory>
+pub fn take_entry_off(formats: &mut ActiveFormatting, id: NodeId) -> Result<(), NoMemory>
     ensures { IfOk result (λ _. formats.new ≡ without_entry id formats.old) }
 {
     if let Some(place) = place_of_entry(formats, id) {
@@ -74,11 +76,11 @@ pub fn take_entry_off(formats: &mut Formats, id: NodeId) -> Result<(), NoMemory>
 }
 
 /// Clears the list up to the last marker, which goes too.
-pub fn clear_back(formats: &mut Formats)
+pub fn clear_back(formats: &mut ActiveFormatting)
     ensures { formats.new ≡ clear_to_marker formats.old }
 {
     while let Some(last) = formats.latest() {
-        let found = matches!(last, Format::Marker);
+        let found = matches!(last, FormattingEntry::Marker);
         formats.pop();
         if found {
             return;
@@ -87,24 +89,28 @@ pub fn clear_back(formats: &mut Formats)
 }
 
 /// Whether no entry stands behind the last marker or open entry, as at nearly each character of a page.
-pub fn none_lost(formats: &Formats, stack: &Stack) -> bool
+pub fn none_lost(formats: &ActiveFormatting, stack: &Stack) -> bool
     ensures lost { IsTrue result → lost stack.now formats.now ≡ [] }
     ensures kept { IsTrue result → kept stack.now formats.now ≡ formats.now }
 {
     match formats.latest() {
         None => true,
-        Some(Format::Marker) => true,
-        Some(Format::Element { id, tag: _ }) => has_open(stack, *id),
+        Some(FormattingEntry::Marker) => true,
+        Some(FormattingEntry::Element { id, tag: _ }) => has_open(stack, *id),
     }
 }
 
 /// Takes the entries behind the last marker or open entry off the list: their tags, the latest first.
-pub fn take_lost(alloc: Global, formats: &mut Formats, stack: &Stack) -> Result<Vec<Tag>, NoMemory>
+pub fn take_lost(
+    alloc: Global,
+    formats: &mut ActiveFormatting,
+    stack: &Stack,
+) -> Result<Vec<Tag>, NoMemory>
     ensures tags { IfOk result (λ tags. tags.items ≡ lost stack.now formats.old) }
     ensures kept { IfOk result (λ _. formats.new ≡ kept stack.now formats.old) }
 {
     let mut tags = Vec::new(alloc);
-    while let Some(Format::Element { id, tag }) = formats.latest() {
+    while let Some(FormattingEntry::Element { id, tag }) = formats.latest() {
         if has_open(stack, *id) {
             return Ok(tags);
         }

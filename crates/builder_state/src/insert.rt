@@ -13,8 +13,8 @@ use crate::formatting::take_lost;
 use crate::places::appropriate;
 use crate::walks::{first_element, second_element};
 use html_types::{
-    Attributes, Flow, Format, Name, Next, NoMemory, NodeId, Op, Open, OpenElement, Ops, Place,
-    Space, Tag, Token, Word,
+    Attributes, Flow, FormattingEntry, Name, Next, NoMemory, NodeId, Op, Open, OpenElement, Ops,
+    Place, Space, Tag, Token, Word,
 };
 use std::alloc::Global;
 
@@ -323,7 +323,7 @@ fn reopen_entry(alloc: Global, state: &mut Open, tag: Tag, ops: &mut Ops) -> Res
     let place = place_now(state);
     let id = make(alloc, state, place, &tag, ops)?;
     state.stack.push(opened(id, &tag)?)?;
-    state.formats.push(Format::Element { id, tag })?;
+    state.formats.push(FormattingEntry::Element { id, tag })?;
     Ok(Flow::On)
 }
 
@@ -383,7 +383,7 @@ pub fn insert_note(
     match token {
         Token::Comment(text) => {
             let text = text.copy(alloc)?;
-            ops.push(Op::Note { place, text })?;
+            ops.push(Op::Comment { place, text })?;
         }
         _ => {}
     }

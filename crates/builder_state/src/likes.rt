@@ -4,7 +4,9 @@ ghost use Rattle.std.specs.Prelude.{◌≡◌, ◌<◌, length, reverse, remove,
 ghost use Rattle.builder_state.specs.Pairs.{pair_text, pairs_of, all_found};
 ghost use Rattle.standard.specs.Formatting.{same_attribute, has_attribute, are_among, same_attributes, is_like, likes, without_earliest, list_element};
 
-use html_types::{Attribute, Attributes, Format, Formats, NoMemory, NodeId, Tag, Text};
+use html_types::{
+    ActiveFormatting, Attribute, Attributes, FormattingEntry, NoMemory, NodeId, Tag, Text,
+};
 use std::alloc::Global;
 
 /// How many entries behind the last marker may be alike.
@@ -116,14 +118,14 @@ fn are_alike(alloc: Global, a: &Tag, b: &Tag) -> Result<bool, NoMemory>
 }
 
 /// How many entries behind the last marker are like the tag.
-fn count_alike(alloc: Global, formats: &Formats, tag: &Tag) -> Result<usize, NoMemory>
+fn count_alike(alloc: Global, formats: &ActiveFormatting, tag: &Tag) -> Result<usize, NoMemory>
     ensures { IfOk result (λ count. count ≡ likes tag.now formats.now) }
 {
     let mut count = 0;
     for entry in formats.walk() {
         match entry {
-            Format::Marker => return Ok(count),
-            Format::Element { id: _, tag: other } => {
+            FormattingEntry::Marker => return Ok(count),
+            FormattingEntry::Element { id: _, tag: other } => {
                 if are_alike(alloc, tag, other)? {
                     count += 1;
                 }
@@ -136,7 +138,7 @@ fn count_alike(alloc: Global, formats: &Formats, tag: &Tag) -> Result<usize, NoM
 /// Where the earliest of so many entries stands that are like the tag, counted from the first entry.
 fn place_of_earliest(
     alloc: Global,
-    formats: &Formats,
+    formats: &ActiveFormatting,
     tag: &Tag,
     count: usize,
 ) -> Result<Option<usize>, NoMemory>
@@ -149,8 +151,8 @@ fn place_of_earliest(
     let mut walk = formats.walk();
     while let Some(entry) = walk.next() {
         match entry {
-            Format::Marker => return Ok(None),
-            Format::Element { id: _, tag: other } => {
+            FormattingEntry::Marker => return Ok(None),
+            FormattingEntry::Element { id: _, tag: other } => {
                 if are_alike(alloc, tag, other)? {
                     left -= 1;
                     if left == 0 {
@@ -164,7 +166,12 @@ fn place_of_earliest(
 }
 
 /// Makes an element the latest entry. Where three entries behind the last marker are like it, the earliest of them goes.
-pub fn enter(alloc: Global, formats: &mut Formats, id: NodeId, tag: Tag) -> Result<(), NoMemory>
+pub fn enter(
+    alloc: Global,
+    formats: &mut ActiveFormatting,
+    id: NodeId,
+    tag: Tag,
+) -> Result<(), NoMemory>
     ensures { IfOk result (λ _. formats.new ≡ list_element id tag formats.old) }
 {
     let count = count_alike(alloc, formats, &tag)?;
@@ -173,6 +180,6 @@ pub fn enter(alloc: Global, formats: &mut Formats, id: NodeId, tag: Tag) -> Resu
             formats.take_out(place)?;
         }
     }
-    formats.push(Format::Element { id, tag })?;
+    formats.push(FormattingEntry::Element { id, tag })?;
     Ok(())
 }

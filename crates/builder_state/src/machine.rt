@@ -29,8 +29,8 @@ use crate::walks::{
     pop_implied_thoroughly, pop_to_first, pop_until, take_off,
 };
 use html_types::{
-    Flow, Format, Instr, Mode, Name, Next, NoMemory, NodeId, Open, Ops, Place, Then, Token, Who,
-    Word,
+    Flow, FormattingEntry, Instr, Mode, Name, Next, NoMemory, NodeId, Open, Ops, Place, Then,
+    Token, Who, Word,
 };
 use std::alloc::Global;
 
@@ -64,10 +64,10 @@ fn reset(state: &mut Open)
 /// The token goes by the rules of "in body", with foster parenting on.
 fn foster(state: &mut Open) -> Flow
     ensures flag { state.new ≡ record state.old { foster = true } }
-    ensures left { result ≡ Leave next.Foster }
+    ensures left { result ≡ Leave next.InBodyFostering }
 {
     state.foster = true;
-    Flow::Leave(Next::Foster)
+    Flow::Leave(Next::InBodyFostering)
 }
 
 /// Pops the current node, a script, at which the parser stops.
@@ -187,28 +187,28 @@ fn change(state: &mut Open, instr: Instr, token: &Token, ops: &Ops)
         Instr::Pop => {
             state.stack.pop();
         }
-        Instr::Until(who) => pop_until(&mut state.stack, who, token),
-        Instr::PopTo(group) => pop_back_to(&mut state.stack, group),
+        Instr::PopUntil(who) => pop_until(&mut state.stack, who, token),
+        Instr::ClearBackTo(group) => pop_back_to(&mut state.stack, group),
         Instr::PopToRoot => pop_to_first(&mut state.stack),
-        Instr::Implied => pop_implied(&mut state.stack, Who::Nobody, token),
-        Instr::ImpliedThoroughly => pop_implied_thoroughly(&mut state.stack),
-        Instr::ImpliedBut(who) => pop_implied(&mut state.stack, who, token),
+        Instr::GenerateImplied => pop_implied(&mut state.stack, Who::Nobody, token),
+        Instr::GenerateImpliedThoroughly => pop_implied_thoroughly(&mut state.stack),
+        Instr::GenerateImpliedBut(who) => pop_implied(&mut state.stack, who, token),
         Instr::Close(scope, who) => close_in_scope(&mut state.stack, scope, who, token),
         Instr::CloseItem(who) => close_found_item(&mut state.stack, who, token),
         Instr::AnyOtherEnd => close_other_end(&mut state.stack, token),
         Instr::ClearToMarker => clear_back(&mut state.formats),
-        Instr::NotOk => state.frameset_ok = false,
+        Instr::FramesetNotOk => state.frameset_ok = false,
         Instr::BecomeQuirky => state.quirks = true,
         Instr::SkipLineFeed => state.skip_line_feed = true,
-        Instr::PointHead => state.head = current_node(&state.stack),
-        Instr::PointForm => state.form = current_node(&state.stack),
-        Instr::Enter(mode) => state.mode = mode,
-        Instr::KeepMode => state.original = Some(state.mode),
-        Instr::Restore => restore(state),
+        Instr::SetHeadPointer => state.head = current_node(&state.stack),
+        Instr::SetFormPointer => state.form = current_node(&state.stack),
+        Instr::SwitchMode(mode) => state.mode = mode,
+        Instr::SaveMode => state.original = Some(state.mode),
+        Instr::RestoreMode => restore(state),
         Instr::PopTemplateMode => {
             let _ = state.template_modes.pop();
         }
-        Instr::Reset => reset(state),
+        Instr::ResetMode => reset(state),
         _ => {}
     }
 }
@@ -235,8 +235,8 @@ fn exec_on(
         Instr::AddToFirst => add_to_first(alloc, state, token, ops)?,
         Instr::AddToSecond => add_to_second(alloc, state, token, ops)?,
         Instr::DetachSecond => take_second_out(state, ops)?,
-        Instr::List => list_current(alloc, state, token, ops)?,
-        Instr::Marker => state.formats.push(Format::Marker)?,
+        Instr::PushFormatting => list_current(alloc, state, token, ops)?,
+        Instr::PushMarker => state.formats.push(FormattingEntry::Marker)?,
         Instr::PushTemplateMode(mode) => state.template_modes.push(mode)?,
         Instr::AppendPending => keep_character(state, token, ops)?,
         Instr::TakeOff(id) => take_element_off(state, id)?,
@@ -267,9 +267,9 @@ fn exec(
         Instr::InsertA(word) => insert_bare(alloc, state, word, ops),
         Instr::InsertRoot => insert_root_for(alloc, state, token, ops),
         Instr::InsertRootA => insert_bare_root(alloc, state, ops),
-        Instr::Void => insert_void(alloc, state, token, ops),
-        Instr::VoidA(word) => insert_bare_void(alloc, state, word, ops),
-        Instr::VoidAs(word) => insert_void_as(alloc, state, word, token, ops),
+        Instr::InsertAndPop => insert_void(alloc, state, token, ops),
+        Instr::InsertAndPopA(word) => insert_bare_void(alloc, state, word, ops),
+        Instr::InsertAndPopAs(word) => insert_void_as(alloc, state, word, token, ops),
         Instr::InsertForeign => insert_foreign(alloc, state, token, ops),
         Instr::InsertIn(space) => insert_in(alloc, state, space, token, ops),
         Instr::Reconstruct => reopen_lost(alloc, state, ops),
@@ -280,10 +280,10 @@ fn exec(
         Instr::Adopt => Ok(ask_adoption(state, token, ops)),
         Instr::AdoptAnchor => Ok(ask_anchor_adoption(state, ops)),
         Instr::AdoptNobr => Ok(adoption(Word::Nobr, Then::Nobr)),
-        Instr::Switch(reading) => Ok(Flow::Leave(Next::Switch(reading))),
-        Instr::Using(mode) => Ok(Flow::Leave(Next::Using(mode))),
-        Instr::Foster => Ok(foster(state)),
-        Instr::Again => Ok(Flow::Leave(Next::Again)),
+        Instr::SwitchTokenizer(reading) => Ok(Flow::Leave(Next::SwitchTokenizer(reading))),
+        Instr::UsingRules(mode) => Ok(Flow::Leave(Next::UsingRules(mode))),
+        Instr::InBodyFostering => Ok(foster(state)),
+        Instr::Reprocess => Ok(Flow::Leave(Next::Reprocess)),
         Instr::StopAtScript => Ok(stop_at(state, ops)),
         Instr::Finish => Ok(Flow::Leave(Next::Finished)),
         _ => {

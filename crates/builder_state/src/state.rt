@@ -21,8 +21,8 @@ use crate::machine::run_row;
 use crate::pending::{insert_body_character, insert_body_one, insert_body_text};
 use crate::weight::is_light;
 use html_types::{
-    Flow, Formats, Instr, Mode, Modes, Next, NoMemory, NodeId, Open, OpenElement, Ops, Place,
-    Stack, Text, Token, Word,
+    ActiveFormatting, Flow, Instr, Mode, Modes, Next, NoMemory, NodeId, Open, OpenElement, Ops,
+    Place, Stack, Text, Token, Word,
 };
 use std::alloc::Global;
 use std::marker::Model;
@@ -309,7 +309,7 @@ fn first_state(alloc: Global, realm: u32) -> Open
 {
     Open {
         stack: Stack::new(alloc),
-        formats: Formats::new(alloc),
+        formats: ActiveFormatting::new(alloc),
         head: None,
         form: None,
         mode: Mode::Initial,

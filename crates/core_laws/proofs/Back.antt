@@ -5,8 +5,8 @@ use Rattle.std.specs.Prelude.{option_map}
 use Rattle.html_types.specs.declared.operation.NodeId.{NodeId}
 use Rattle.html_types.specs.declared.token.Tag.{Tag}
 use Rattle.html_types.specs.declared.open.OpenElement.{OpenElement}
-use Rattle.html_types.specs.declared.open.Format.{Format}
-use Rattle.html_types.specs.declared.open.Format.TheVariants.{Marker, Element}
+use Rattle.html_types.specs.declared.open.FormattingEntry.{FormattingEntry}
+use Rattle.html_types.specs.declared.open.FormattingEntry.TheVariants.{Marker, Element}
 use Rattle.standard.specs.Parser.{Parser}
 use Rattle.rule_laws.specs.Naming.{rename_element, rename_format, rename_parser}
 use Rattle.core_definitions.specs.declared.verdict.Verdict.{Verdict}
@@ -23,18 +23,18 @@ abbrev rest_of : {A : Type 0} → List A → List A
 rest_of [] = []
 rest_of (x ∷ xs) = xs
 
-abbrev with_ids : List OpenElement → List Format → Option NodeId → Option NodeId → NodeId → Parser → Parser
+abbrev with_ids : List OpenElement → List FormattingEntry → Option NodeId → Option NodeId → NodeId → Parser → Parser
 with_ids es fs h f n p = record p { open_state = record p.open_state { stack = es; formats = fs; head = h; form = f; next = n } }
 
-abbrev is_marker : Format → Bool
+abbrev is_marker : FormattingEntry → Bool
 is_marker Marker = true
 is_marker (Element id tag) = false
 
-abbrev id_or : NodeId → Format → NodeId
+abbrev id_or : NodeId → FormattingEntry → NodeId
 id_or i Marker = i
 id_or i (Element id tag) = id
 
-abbrev tag_or : Tag → Format → Tag
+abbrev tag_or : Tag → FormattingEntry → Tag
 tag_or t Marker = t
 tag_or t (Element id tag) = tag
 
@@ -49,13 +49,13 @@ module _ (r : NodeId → NodeId) (one : (a b : NodeId) → r a ≡ r b → a ≡
   stack-back (x ∷ xs) (y ∷ ys) e =
       ap (λ z. z ∷ xs) (element-back x y (ap (first_or (rename_element r x)) e)) ∙ ap (λ zs. y ∷ zs) (stack-back xs ys (ap rest_of e))
 
-  format-back : (x y : Format) → rename_format r x ≡ rename_format r y → x ≡ y
+  format-back : (x y : FormattingEntry) → rename_format r x ≡ rename_format r y → x ≡ y
   format-back Marker Marker e = refl
   format-back Marker (Element id tag) e = absurd (true≢false (ap is_marker e))
   format-back (Element id tag) Marker e = absurd (true≢false (sym (ap is_marker e)))
   format-back (Element i t) (Element j u) e = ap (λ k. Element k t) (one i j (ap (id_or (r i)) e)) ∙ ap (Element j) (ap (tag_or t) e)
 
-  formats-back : (xs ys : List Format) → map (rename_format r) xs ≡ map (rename_format r) ys → xs ≡ ys
+  formats-back : (xs ys : List FormattingEntry) → map (rename_format r) xs ≡ map (rename_format r) ys → xs ≡ ys
   formats-back [] [] e = refl
   formats-back [] (y ∷ ys) e = absurd (true≢false (ap is_empty e))
   formats-back (x ∷ xs) [] e = absurd (true≢false (sym (ap is_empty e)))

@@ -36,7 +36,7 @@ act-named r own (op.Make id name attributes) h j b = elim (tells j (r id)) [
 ]
 act-named r own (op.Put i place) h j b = h j b
 act-named r own (op.Text place text) h j b = h j b
-act-named r own (op.Note place text) h j b = h j b
+act-named r own (op.Comment place text) h j b = h j b
 act-named r own (op.Doctype name) h j b = h j b
 act-named r own (op.Detach i) h j b = h j b
 act-named r own (op.MoveChildren from to) h j b = h j b

@@ -4,8 +4,8 @@ use Rattle.std.specs.Prelude.{IsTrue, option_map, is_some}
 use Rattle.html_types.specs.Operations.{same_id, later}
 use Rattle.html_types.specs.declared.operation.NodeId.{NodeId}
 use Rattle.html_types.specs.declared.open.OpenElement.{OpenElement}
-use Rattle.html_types.specs.declared.open.Format.{Format}
-use Rattle.html_types.specs.declared.open.Format.TheVariants.{Marker, Element}
+use Rattle.html_types.specs.declared.open.FormattingEntry.{FormattingEntry}
+use Rattle.html_types.specs.declared.open.FormattingEntry.TheVariants.{Marker, Element}
 use Rattle.standard.specs.Act.{Doc, bound_to, is_bound, SameUpTo}
 use Rattle.standard.specs.Parser.{Parser}
 use Rattle.rule_laws.specs.Naming.{Serves, AreOpenBound, AreFormatsBound, IsBoundIfAny, CameBefore, rename_element, rename_format, rename_parser}
@@ -23,7 +23,7 @@ module _ (r g : NodeId → NodeId) (known : NodeId → Bool) (agree : (i : NodeI
   stack-agrees [] h = refl
   stack-agrees (e ∷ es) h = rw (agree e.id h.0, stack-agrees es h.1) refl
 
-  formats-agree : (fs : List Format) → AreFormatsBound known fs → map (rename_format r) fs ≡ map (rename_format g) fs
+  formats-agree : (fs : List FormattingEntry) → AreFormatsBound known fs → map (rename_format r) fs ≡ map (rename_format g) fs
   formats-agree [] h = refl
   formats-agree (Marker ∷ fs) h = ap (λ xs. Marker ∷ xs) (formats-agree fs h)
   formats-agree (Element id tag ∷ fs) h = rw (agree id h.0, formats-agree fs h.1) refl

@@ -84,7 +84,7 @@ fn no_doctype(rt: HostRuntime) -> Result<(), Fail> {
     let mut ops = Ops::new(alloc);
     let token = Token::Character('a');
     let next = builder.answer_row(alloc, row(Mode::Initial, &token), &token, &mut ops)?;
-    assert!(rt; matches!(next, Next::Again));
+    assert!(rt; matches!(next, Next::Reprocess));
     assert!(rt; builder.mode() == Mode::BeforeHtml);
     assert_eq!(rt; ops.as_slice().len(), 0);
     Ok(())

@@ -101,7 +101,7 @@ pub enum Test {
     Current(Who),
     OnStack(Who),
     /// An entry of the list of active formatting elements behind the last marker.
-    Listed(Who),
+    InFormatting(Who),
     Quirks,
     /// The second element of the stack is a body.
     SecondIsBody,
@@ -145,11 +145,11 @@ pub enum Instr {
     /// The same for a start tag `html` without attributes.
     InsertRootA,
     /// An element for the token, which is not left on the stack.
-    Void,
+    InsertAndPop,
     /// The same for a start tag of that name without attributes.
-    VoidA(Word),
+    InsertAndPopA(Word),
     /// The same for a start tag of that name with the token's attributes.
-    VoidAs(Word),
+    InsertAndPopAs(Word),
     /// A foreign element for the token (13.2.6.1) in the namespace of the adjusted current node, pushed; the names of tag and
     /// attributes are adjusted as that namespace has it.
     InsertForeign,
@@ -170,16 +170,16 @@ pub enum Instr {
 
     Pop,
     /// Popped until one of these is popped.
-    Until(Who),
+    PopUntil(Who),
     /// Popped while the current node is none of these.
-    PopTo(Group),
+    ClearBackTo(Group),
     /// Popped but for the first element.
     PopToRoot,
     /// Implied end tags.
-    Implied,
+    GenerateImplied,
     /// All implied end tags, thoroughly (13.2.6.3).
-    ImpliedThoroughly,
-    ImpliedBut(Who),
+    GenerateImpliedThoroughly,
+    GenerateImpliedBut(Who),
     /// Where one of these is in scope: implied end tags but it, then until it.
     Close(Scope, Who),
     /// From the current node up to one of these, or to a special element that is no address, div or p.
@@ -196,26 +196,26 @@ pub enum Instr {
     Reconstruct,
     /// The current node, with the token's tag, becomes an entry of the list of active formatting elements. Where three
     /// entries behind the last marker have its name and its attributes, the earliest of them is dropped before.
-    List,
-    Marker,
+    PushFormatting,
+    PushMarker,
     ClearToMarker,
     /// That element is taken off the list of active formatting elements and off the stack.
     TakeOff(NodeId),
 
     /// The frameset-ok flag is "not ok".
-    NotOk,
+    FramesetNotOk,
     /// The document is in quirks mode.
     BecomeQuirky,
     /// The next token is left out where it is a line feed.
     SkipLineFeed,
     /// The head element pointer is the current node.
-    PointHead,
+    SetHeadPointer,
     /// The node that the head element pointer names is pushed.
     PushHead,
     /// It is taken off the stack, wherever it stands there.
     TakeHeadOff,
     /// The form element pointer is the current node.
-    PointForm,
+    SetFormPointer,
     /// The end tag `form` (13.2.6.4.7).
     EndForm,
     /// The token's attributes that the first element of the stack lacks are added to it.
@@ -224,16 +224,16 @@ pub enum Instr {
     AddToSecond,
     /// The second element of the stack is taken out of its parent.
     DetachSecond,
-    Enter(Mode),
+    SwitchMode(Mode),
     /// The original mode is the mode as it is now.
-    KeepMode,
+    SaveMode,
     /// The mode is the original mode again.
-    Restore,
+    RestoreMode,
     /// The mode becomes the current template insertion mode.
     PushTemplateMode(Mode),
     PopTemplateMode,
     /// Reset the insertion mode appropriately (13.2.4.1).
-    Reset,
+    ResetMode,
 
     /// The character is added to the pending table character tokens.
     AppendPending,
@@ -248,13 +248,13 @@ pub enum Instr {
     /// The same for `nobr`, which is then made.
     AdoptNobr,
     /// The tokenizer reads on in another way.
-    Switch(TokenizerSwitch),
+    SwitchTokenizer(TokenizerSwitch),
     /// The token is processed by the rules of another mode.
-    Using(Mode),
+    UsingRules(Mode),
     /// The token is processed by the rules of "in body", with foster parenting on.
-    Foster,
+    InBodyFostering,
     /// The token is processed once more, by the mode as it is now.
-    Again,
+    Reprocess,
     /// The current node, a script, is popped, and the parser stops at it.
     StopAtScript,
     /// Parsing stops (13.2.7).
@@ -288,13 +288,13 @@ pub enum Next {
     /// The adoption agency algorithm (13.2.6.4.7), and what comes behind it.
     Adopt { name: Word, then: Then },
     /// Once more, by the mode as it is now.
-    Again,
+    Reprocess,
     /// By the rules of that mode.
-    Using(Mode),
+    UsingRules(Mode),
     /// By the rules of "in body", with foster parenting on.
-    Foster,
+    InBodyFostering,
     /// The tokenizer reads on in that way.
-    Switch(TokenizerSwitch),
+    SwitchTokenizer(TokenizerSwitch),
     /// The end tag of that script element was met.
     Script(NodeId),
     /// An element more than 512 would be open; it isn't made.

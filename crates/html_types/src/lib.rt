@@ -35,7 +35,7 @@ pub use mark_state::{CdataState, CommentState, DoctypeState, MarkState};
 pub use memory::NoMemory;
 pub use name::{Name, Space};
 pub use name_text::NameText;
-pub use open::{Elements, Format, Formats, Modes, Open, OpenElement, Stack};
+pub use open::{ActiveFormatting, Elements, FormattingEntry, Modes, Open, OpenElement, Stack};
 pub use operation::{NodeId, Op, Ops, Place};
 pub use reference_state::{ReferenceState, ReturnState};
 pub use state::{RawText, TagState, TextState, TokState, eq_state};

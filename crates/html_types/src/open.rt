@@ -44,35 +44,36 @@ pub type Elements<'a> = Walk<'a, OpenElement>;
 
 /// An entry of the list of active formatting elements: a marker, or an element with the tag that it was made for.
 #[derive(Drop)]
-pub enum Format {
+pub enum FormattingEntry {
     Marker,
     Element { id: NodeId, tag: Tag },
 }
 
-impl Entry for Format {
-    fn copy(&self, alloc: Global) -> Result<Format, AllocError> {
+impl Entry for FormattingEntry {
+    fn copy(&self, alloc: Global) -> Result<FormattingEntry, AllocError> {
         match self {
-            Format::Marker => Ok(Format::Marker),
-            Format::Element { id, tag } => {
+            FormattingEntry::Marker => Ok(FormattingEntry::Marker),
+            FormattingEntry::Element { id, tag } => {
                 let tag = tag.copy(alloc)?;
-                Ok(Format::Element { id: *id, tag })
+                Ok(FormattingEntry::Element { id: *id, tag })
             }
         }
     }
 
-    fn same(&self, other: &Format) -> bool {
+    fn same(&self, other: &FormattingEntry) -> bool {
         match (self, other) {
-            (Format::Marker, Format::Marker) => true,
-            (Format::Element { id: i, tag: s }, Format::Element { id: j, tag: t }) => {
-                *i == *j && s.same(t)
-            }
+            (FormattingEntry::Marker, FormattingEntry::Marker) => true,
+            (
+                FormattingEntry::Element { id: i, tag: s },
+                FormattingEntry::Element { id: j, tag: t },
+            ) => { *i == *j && s.same(t) }
             _ => false,
         }
     }
 }
 
 /// The list of active formatting elements (13.2.4.3). Contracts see the list that begins with the latest entry.
-pub type Formats = SharedStack<Format>;
+pub type ActiveFormatting = SharedStack<FormattingEntry>;
 
 /// The stack of template insertion modes (13.2.4.1). Contracts see the list that begins with the current one.
 #[derive(Drop)]
@@ -161,7 +162,7 @@ fn same_modes(a: &[Mode], b: &[Mode]) -> bool
 #[derive(Drop)]
 pub struct Open {
     pub stack: Stack,
-    pub formats: Formats,
+    pub formats: ActiveFormatting,
     /// The head element pointer.
     pub head: Option<NodeId>,
     /// The form element pointer.

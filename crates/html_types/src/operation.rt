@@ -91,7 +91,7 @@ pub enum Op {
         text: Text,
     },
     /// Inserts a comment.
-    Note {
+    Comment {
         place: Place,
         text: Text,
     },

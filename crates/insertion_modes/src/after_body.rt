@@ -7,7 +7,7 @@ use char_class::is_space;
 use html_types::instruction::Instr::*;
 use html_types::{Instr, Mode, Name, Token, Word};
 
-const BODY_AGAIN: &[Instr] = &[Enter(Mode::InBody), Again];
+const BODY_AGAIN: &[Instr] = &[SwitchMode(Mode::InBody), Reprocess];
 
 /// "after body"
 #[tactic(auto, unfolding(standard::specs::Rules::row))]
@@ -17,7 +17,7 @@ pub fn after_body(token: &Token) -> &'static [Instr]
     match token {
         Token::Character(c) => {
             if is_space(*c) {
-                &[Using(Mode::InBody)]
+                &[UsingRules(Mode::InBody)]
             } else {
                 BODY_AGAIN
             }
@@ -43,7 +43,7 @@ fn after_body_start(word: Word) -> &'static [Instr]
     ensures { result.now ≡ start_row Mode.AfterBody (Name.Known word) }
 {
     match word {
-        Word::Html => &[Using(Mode::InBody)],
+        Word::Html => &[UsingRules(Mode::InBody)],
         _ => BODY_AGAIN,
     }
 }
@@ -52,7 +52,7 @@ fn after_body_end(word: Word) -> &'static [Instr]
     ensures { result.now ≡ end_row Mode.AfterBody (Name.Known word) }
 {
     match word {
-        Word::Html => &[Enter(Mode::AfterAfterBody)],
+        Word::Html => &[SwitchMode(Mode::AfterAfterBody)],
         _ => BODY_AGAIN,
     }
 }
@@ -65,7 +65,7 @@ pub fn after_after_body(token: &Token) -> &'static [Instr]
     match token {
         Token::Character(c) => {
             if is_space(*c) {
-                &[Using(Mode::InBody)]
+                &[UsingRules(Mode::InBody)]
             } else {
                 BODY_AGAIN
             }
@@ -88,7 +88,7 @@ fn after_after_body_start(word: Word) -> &'static [Instr]
     ensures { result.now ≡ start_row Mode.AfterAfterBody (Name.Known word) }
 {
     match word {
-        Word::Html => &[Using(Mode::InBody)],
+        Word::Html => &[UsingRules(Mode::InBody)],
         _ => BODY_AGAIN,
     }
 }

@@ -11,7 +11,7 @@ use html_types::word::Word::{
 };
 use html_types::{Instr, Mode, Name, Token, TokenizerSwitch, Word};
 
-const OTHERWISE: &[Instr] = &[InsertA(Body), Enter(Mode::InBody), Again];
+const OTHERWISE: &[Instr] = &[InsertA(Body), SwitchMode(Mode::InBody), Reprocess];
 
 /// "after head"
 #[tactic(auto, unfolding(standard::specs::Rules::row))]
@@ -48,41 +48,41 @@ fn start(word: Word) -> &'static [Instr]
     ensures { result.now ≡ start_row Mode.AfterHead (Name.Known word) }
 {
     match word {
-        Html => &[Using(Mode::InBody)],
-        Body => &[Insert, NotOk, Enter(Mode::InBody)],
-        Frameset => &[Insert, Enter(Mode::InFrameset)],
-        Base | Basefont | Bgsound | Link | Meta => &[PushHead, Void, TakeHeadOff],
+        Html => &[UsingRules(Mode::InBody)],
+        Body => &[Insert, FramesetNotOk, SwitchMode(Mode::InBody)],
+        Frameset => &[Insert, SwitchMode(Mode::InFrameset)],
+        Base | Basefont | Bgsound | Link | Meta => &[PushHead, InsertAndPop, TakeHeadOff],
         Title => &[
             PushHead,
             Insert,
             TakeHeadOff,
-            KeepMode,
-            Enter(Mode::InText),
-            Switch(TokenizerSwitch::Rcdata),
+            SaveMode,
+            SwitchMode(Mode::InText),
+            SwitchTokenizer(TokenizerSwitch::Rcdata),
         ],
         Noframes | Style => &[
             PushHead,
             Insert,
             TakeHeadOff,
-            KeepMode,
-            Enter(Mode::InText),
-            Switch(TokenizerSwitch::Rawtext),
+            SaveMode,
+            SwitchMode(Mode::InText),
+            SwitchTokenizer(TokenizerSwitch::Rawtext),
         ],
         Script => &[
             PushHead,
             Insert,
             TakeHeadOff,
-            KeepMode,
-            Enter(Mode::InText),
-            Switch(TokenizerSwitch::ScriptData),
+            SaveMode,
+            SwitchMode(Mode::InText),
+            SwitchTokenizer(TokenizerSwitch::ScriptData),
         ],
         Template => &[
             PushHead,
             Insert,
             TakeHeadOff,
-            Marker,
-            NotOk,
-            Enter(Mode::InTemplate),
+            PushMarker,
+            FramesetNotOk,
+            SwitchMode(Mode::InTemplate),
             PushTemplateMode(Mode::InTemplate),
         ],
         Head => &[],
@@ -94,7 +94,7 @@ fn end(word: Word) -> &'static [Instr]
     ensures { result.now ≡ end_row Mode.AfterHead (Name.Known word) }
 {
     match word {
-        Template => &[Using(Mode::InHead)],
+        Template => &[UsingRules(Mode::InHead)],
         Body | Html | Br => OTHERWISE,
         _ => &[],
     }

@@ -8,11 +8,16 @@ use html_types::instruction::Instr::*;
 use html_types::word::Word::{Body, Br, Head, Html};
 use html_types::{Instr, Mode, Name, Test, Token, Word};
 
-const NO_DOCTYPE: &[Instr] = &[BecomeQuirky, Enter(Mode::BeforeHtml), Again];
+const NO_DOCTYPE: &[Instr] = &[BecomeQuirky, SwitchMode(Mode::BeforeHtml), Reprocess];
 
-const NO_HTML: &[Instr] = &[InsertRootA, Enter(Mode::BeforeHead), Again];
+const NO_HTML: &[Instr] = &[InsertRootA, SwitchMode(Mode::BeforeHead), Reprocess];
 
-const NO_HEAD: &[Instr] = &[InsertA(Head), PointHead, Enter(Mode::InHead), Again];
+const NO_HEAD: &[Instr] = &[
+    InsertA(Head),
+    SetHeadPointer,
+    SwitchMode(Mode::InHead),
+    Reprocess,
+];
 
 /// "initial"
 #[tactic(auto, unfolding(standard::specs::Rules::row))]
@@ -29,7 +34,7 @@ pub fn initial(token: &Token) -> &'static [Instr]
             AppendDoctype,
             When(Test::QuirkyDoctype),
             BecomeQuirky,
-            Enter(Mode::BeforeHtml),
+            SwitchMode(Mode::BeforeHtml),
         ],
         Token::StartTag(_) | Token::EndTag(_) | Token::EndOfFile => NO_DOCTYPE,
     }
@@ -63,7 +68,7 @@ fn before_html_start(word: Word) -> &'static [Instr]
     ensures { result.now ≡ start_row Mode.BeforeHtml (Name.Known word) }
 {
     match word {
-        Html => &[InsertRoot, Enter(Mode::BeforeHead)],
+        Html => &[InsertRoot, SwitchMode(Mode::BeforeHead)],
         _ => NO_HTML,
     }
 }
@@ -105,8 +110,8 @@ fn before_head_start(word: Word) -> &'static [Instr]
     ensures { result.now ≡ start_row Mode.BeforeHead (Name.Known word) }
 {
     match word {
-        Html => &[Using(Mode::InBody)],
-        Head => &[Insert, PointHead, Enter(Mode::InHead)],
+        Html => &[UsingRules(Mode::InBody)],
+        Head => &[Insert, SetHeadPointer, SwitchMode(Mode::InHead)],
         _ => NO_HEAD,
     }
 }

@@ -31,7 +31,7 @@ pub fn in_body(token: &Token) -> &'static [Instr]
             name: _,
             force_quirks: _,
         } => &[],
-        Token::EndOfFile => &[When(InTemplates), Using(Mode::InTemplate), Finish],
+        Token::EndOfFile => &[When(InTemplates), UsingRules(Mode::InTemplate), Finish],
     }
 }
 
@@ -43,6 +43,6 @@ fn character(c: char) -> &'static [Instr]
     } else if is_space(c) {
         &[Reconstruct, InsertText]
     } else {
-        &[Reconstruct, InsertText, NotOk]
+        &[Reconstruct, InsertText, FramesetNotOk]
     }
 }

@@ -14,15 +14,15 @@ pub fn end(word: Word) -> &'static [Instr]
     ensures { result.now ≡ end_row Mode.InBody (Known word) }
 {
     match word {
-        Template => &[Using(Mode::InHead)],
+        Template => &[UsingRules(Mode::InHead)],
         Body => &[
             Need(InScope(Scope::Default, The(Body))),
-            Enter(Mode::AfterBody),
+            SwitchMode(Mode::AfterBody),
         ],
         Html => &[
             Need(InScope(Scope::Default, The(Body))),
-            Enter(Mode::AfterBody),
-            Again,
+            SwitchMode(Mode::AfterBody),
+            Reprocess,
         ],
         Address
         | Article
@@ -50,7 +50,13 @@ pub fn end(word: Word) -> &'static [Instr]
         | Search
         | Section
         | Summary
-        | Ul => { &[Need(InScope(Scope::Default, Own)), Implied, Until(Own)] }
+        | Ul => {
+            &[
+                Need(InScope(Scope::Default, Own)),
+                GenerateImplied,
+                PopUntil(Own),
+            ]
+        }
         P => &[
             Unless(InScope(Scope::Button, The(P))),
             InsertA(P),
@@ -58,30 +64,30 @@ pub fn end(word: Word) -> &'static [Instr]
         ],
         Li => &[
             Need(InScope(Scope::ListItem, The(Li))),
-            ImpliedBut(The(Li)),
-            Until(The(Li)),
+            GenerateImpliedBut(The(Li)),
+            PopUntil(The(Li)),
         ],
         Dd | Dt => &[
             Need(InScope(Scope::Default, Own)),
-            ImpliedBut(Own),
-            Until(Own),
+            GenerateImpliedBut(Own),
+            PopUntil(Own),
         ],
         H1 | H2 | H3 | H4 | H5 | H6 => &[
             Need(InScope(Scope::Default, Any(Group::Headings))),
-            Implied,
-            Until(Any(Group::Headings)),
+            GenerateImplied,
+            PopUntil(Any(Group::Headings)),
         ],
         Applet | Marquee | Object => &[
             Need(InScope(Scope::Default, Own)),
-            Implied,
-            Until(Own),
+            GenerateImplied,
+            PopUntil(Own),
             ClearToMarker,
         ],
         A | B | Big | Code | Em | Font | I | Nobr | S | Small | Strike | Strong | Tt | U => &[
             Adopt,
         ],
         Form => &[EndForm],
-        Br => &[Reconstruct, VoidA(Br), NotOk],
+        Br => &[Reconstruct, InsertAndPopA(Br), FramesetNotOk],
         _ => &[AnyOtherEnd],
     }
 }

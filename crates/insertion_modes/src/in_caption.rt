@@ -14,11 +14,11 @@ use html_types::{Instr, Mode, Name, Scope, Token, Word};
 /// The caption is closed, and the token goes by "in table".
 const CLOSE_AGAIN: &[Instr] = &[
     Need(InScope(Scope::Table, The(Caption))),
-    Implied,
-    Until(The(Caption)),
+    GenerateImplied,
+    PopUntil(The(Caption)),
     ClearToMarker,
-    Enter(Mode::InTable),
-    Again,
+    SwitchMode(Mode::InTable),
+    Reprocess,
 ];
 
 /// "in caption"
@@ -27,21 +27,21 @@ pub fn in_caption(token: &Token) -> &'static [Instr]
     ensures { result.now ≡ row Mode.InCaption token.now }
 {
     match token {
-        Token::Character(_) => &[Using(Mode::InBody)],
+        Token::Character(_) => &[UsingRules(Mode::InBody)],
         Token::StartTag(tag) => match &tag.name {
             Name::Known(word) => start(*word),
-            Name::Other(_, _) => &[Using(Mode::InBody)],
+            Name::Other(_, _) => &[UsingRules(Mode::InBody)],
         },
         Token::EndTag(tag) => match &tag.name {
             Name::Known(word) => end(*word),
-            Name::Other(_, _) => &[Using(Mode::InBody)],
+            Name::Other(_, _) => &[UsingRules(Mode::InBody)],
         },
         Token::Comment(_) => &[InsertComment],
         Token::Doctype {
             name: _,
             force_quirks: _,
         } => &[],
-        Token::EndOfFile => &[Using(Mode::InBody)],
+        Token::EndOfFile => &[UsingRules(Mode::InBody)],
     }
 }
 
@@ -50,7 +50,7 @@ fn start(word: Word) -> &'static [Instr]
 {
     match word {
         Caption | Col | Colgroup | Tbody | Td | Tfoot | Th | Thead | Tr => CLOSE_AGAIN,
-        _ => &[Using(Mode::InBody)],
+        _ => &[UsingRules(Mode::InBody)],
     }
 }
 
@@ -60,13 +60,13 @@ fn end(word: Word) -> &'static [Instr]
     match word {
         Caption => &[
             Need(InScope(Scope::Table, The(Caption))),
-            Implied,
-            Until(The(Caption)),
+            GenerateImplied,
+            PopUntil(The(Caption)),
             ClearToMarker,
-            Enter(Mode::InTable),
+            SwitchMode(Mode::InTable),
         ],
         Table => CLOSE_AGAIN,
         Body | Col | Colgroup | Html | Tbody | Td | Tfoot | Th | Thead | Tr => &[],
-        _ => &[Using(Mode::InBody)],
+        _ => &[UsingRules(Mode::InBody)],
     }
 }

@@ -17,21 +17,21 @@ pub fn in_cell(token: &Token) -> &'static [Instr]
     ensures { result.now ≡ row Mode.InCell token.now }
 {
     match token {
-        Token::Character(_) => &[Using(Mode::InBody)],
+        Token::Character(_) => &[UsingRules(Mode::InBody)],
         Token::StartTag(tag) => match &tag.name {
             Name::Known(word) => start(*word),
-            Name::Other(_, _) => &[Using(Mode::InBody)],
+            Name::Other(_, _) => &[UsingRules(Mode::InBody)],
         },
         Token::EndTag(tag) => match &tag.name {
             Name::Known(word) => end(*word),
-            Name::Other(_, _) => &[Using(Mode::InBody)],
+            Name::Other(_, _) => &[UsingRules(Mode::InBody)],
         },
         Token::Comment(_) => &[InsertComment],
         Token::Doctype {
             name: _,
             force_quirks: _,
         } => &[],
-        Token::EndOfFile => &[Using(Mode::InBody)],
+        Token::EndOfFile => &[UsingRules(Mode::InBody)],
     }
 }
 
@@ -41,13 +41,13 @@ fn start(word: Word) -> &'static [Instr]
 {
     match word {
         Caption | Col | Colgroup | Tbody | Td | Tfoot | Th | Thead | Tr => &[
-            Implied,
-            Until(Any(Group::Cells)),
+            GenerateImplied,
+            PopUntil(Any(Group::Cells)),
             ClearToMarker,
-            Enter(Mode::InRow),
-            Again,
+            SwitchMode(Mode::InRow),
+            Reprocess,
         ],
-        _ => &[Using(Mode::InBody)],
+        _ => &[UsingRules(Mode::InBody)],
     }
 }
 
@@ -57,20 +57,20 @@ fn end(word: Word) -> &'static [Instr]
     match word {
         Td | Th => &[
             Need(InScope(Scope::Table, Own)),
-            Implied,
-            Until(Own),
+            GenerateImplied,
+            PopUntil(Own),
             ClearToMarker,
-            Enter(Mode::InRow),
+            SwitchMode(Mode::InRow),
         ],
         Body | Caption | Col | Colgroup | Html => &[],
         Table | Tbody | Tfoot | Thead | Tr => &[
             Need(InScope(Scope::Table, Own)),
-            Implied,
-            Until(Any(Group::Cells)),
+            GenerateImplied,
+            PopUntil(Any(Group::Cells)),
             ClearToMarker,
-            Enter(Mode::InRow),
-            Again,
+            SwitchMode(Mode::InRow),
+            Reprocess,
         ],
-        _ => &[Using(Mode::InBody)],
+        _ => &[UsingRules(Mode::InBody)],
     }
 }

@@ -13,8 +13,8 @@ use html_types::{Instr, Mode, Name, Token, Word};
 const OTHERWISE: &[Instr] = &[
     Need(Current(The(Colgroup))),
     Pop,
-    Enter(Mode::InTable),
-    Again,
+    SwitchMode(Mode::InTable),
+    Reprocess,
 ];
 
 /// "in column group"
@@ -43,7 +43,7 @@ pub fn in_column_group(token: &Token) -> &'static [Instr]
             name: _,
             force_quirks: _,
         } => &[],
-        Token::EndOfFile => &[Using(Mode::InBody)],
+        Token::EndOfFile => &[UsingRules(Mode::InBody)],
     }
 }
 
@@ -51,9 +51,9 @@ fn start(word: Word) -> &'static [Instr]
     ensures { result.now ≡ start_row Mode.InColumnGroup (Name.Known word) }
 {
     match word {
-        Html => &[Using(Mode::InBody)],
-        Col => &[Void],
-        Template => &[Using(Mode::InHead)],
+        Html => &[UsingRules(Mode::InBody)],
+        Col => &[InsertAndPop],
+        Template => &[UsingRules(Mode::InHead)],
         _ => OTHERWISE,
     }
 }
@@ -62,9 +62,9 @@ fn end(word: Word) -> &'static [Instr]
     ensures { result.now ≡ end_row Mode.InColumnGroup (Name.Known word) }
 {
     match word {
-        Colgroup => &[Need(Current(The(Colgroup))), Pop, Enter(Mode::InTable)],
+        Colgroup => &[Need(Current(The(Colgroup))), Pop, SwitchMode(Mode::InTable)],
         Col => &[],
-        Template => &[Using(Mode::InHead)],
+        Template => &[UsingRules(Mode::InHead)],
         _ => OTHERWISE,
     }
 }

@@ -44,7 +44,7 @@ fn character(c: char) -> &'static [Instr]
     } else if is_space(c) {
         &[InsertText]
     } else {
-        &[InsertText, NotOk]
+        &[InsertText, FramesetNotOk]
     }
 }
 

@@ -38,10 +38,10 @@ fn in_frameset_start(word: Word) -> &'static [Instr]
     ensures { result.now ≡ start_row Mode.InFrameset (Name.Known word) }
 {
     match word {
-        Html => &[Using(Mode::InBody)],
+        Html => &[UsingRules(Mode::InBody)],
         Frameset => &[Insert],
-        Frame => &[Void],
-        Noframes => &[Using(Mode::InHead)],
+        Frame => &[InsertAndPop],
+        Noframes => &[UsingRules(Mode::InHead)],
         _ => &[],
     }
 }
@@ -54,7 +54,7 @@ fn in_frameset_end(word: Word) -> &'static [Instr]
             Forbid(Current(The(Html))),
             Pop,
             Unless(Current(The(Frameset))),
-            Enter(Mode::AfterFrameset),
+            SwitchMode(Mode::AfterFrameset),
         ],
         _ => &[],
     }
@@ -88,8 +88,8 @@ fn after_frameset_start(word: Word) -> &'static [Instr]
     ensures { result.now ≡ start_row Mode.AfterFrameset (Name.Known word) }
 {
     match word {
-        Html => &[Using(Mode::InBody)],
-        Noframes => &[Using(Mode::InHead)],
+        Html => &[UsingRules(Mode::InBody)],
+        Noframes => &[UsingRules(Mode::InHead)],
         _ => &[],
     }
 }
@@ -98,7 +98,7 @@ fn after_frameset_end(word: Word) -> &'static [Instr]
     ensures { result.now ≡ end_row Mode.AfterFrameset (Name.Known word) }
 {
     match word {
-        Html => &[Enter(Mode::AfterAfterFrameset)],
+        Html => &[SwitchMode(Mode::AfterAfterFrameset)],
         _ => &[],
     }
 }
@@ -111,7 +111,7 @@ pub fn after_after_frameset(token: &Token) -> &'static [Instr]
     match token {
         Token::Character(c) => {
             if is_space(*c) {
-                &[Using(Mode::InBody)]
+                &[UsingRules(Mode::InBody)]
             } else {
                 &[]
             }
@@ -134,8 +134,8 @@ fn after_after_frameset_start(word: Word) -> &'static [Instr]
     ensures { result.now ≡ start_row Mode.AfterAfterFrameset (Name.Known word) }
 {
     match word {
-        Html => &[Using(Mode::InBody)],
-        Noframes => &[Using(Mode::InHead)],
+        Html => &[UsingRules(Mode::InBody)],
+        Noframes => &[UsingRules(Mode::InHead)],
         _ => &[],
     }
 }

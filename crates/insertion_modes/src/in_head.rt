@@ -13,7 +13,7 @@ use html_types::word::Word::{
 };
 use html_types::{Instr, Mode, Name, Token, TokenizerSwitch, Word};
 
-const OTHERWISE: &[Instr] = &[Pop, Enter(Mode::AfterHead), Again];
+const OTHERWISE: &[Instr] = &[Pop, SwitchMode(Mode::AfterHead), Reprocess];
 
 /// "in head"
 #[tactic(auto, unfolding(standard::specs::Rules::row))]
@@ -49,31 +49,31 @@ fn start(word: Word) -> &'static [Instr]
     ensures { result.now ≡ start_row Mode.InHead (Name.Known word) }
 {
     match word {
-        Html => &[Using(Mode::InBody)],
-        Base | Basefont | Bgsound | Link | Meta => &[Void],
+        Html => &[UsingRules(Mode::InBody)],
+        Base | Basefont | Bgsound | Link | Meta => &[InsertAndPop],
         Title => &[
             Insert,
-            KeepMode,
-            Enter(Mode::InText),
-            Switch(TokenizerSwitch::Rcdata),
+            SaveMode,
+            SwitchMode(Mode::InText),
+            SwitchTokenizer(TokenizerSwitch::Rcdata),
         ],
         Noscript | Noframes | Style => &[
             Insert,
-            KeepMode,
-            Enter(Mode::InText),
-            Switch(TokenizerSwitch::Rawtext),
+            SaveMode,
+            SwitchMode(Mode::InText),
+            SwitchTokenizer(TokenizerSwitch::Rawtext),
         ],
         Script => &[
             Insert,
-            KeepMode,
-            Enter(Mode::InText),
-            Switch(TokenizerSwitch::ScriptData),
+            SaveMode,
+            SwitchMode(Mode::InText),
+            SwitchTokenizer(TokenizerSwitch::ScriptData),
         ],
         Template => &[
             Insert,
-            Marker,
-            NotOk,
-            Enter(Mode::InTemplate),
+            PushMarker,
+            FramesetNotOk,
+            SwitchMode(Mode::InTemplate),
             PushTemplateMode(Mode::InTemplate),
         ],
         Head => &[],
@@ -85,14 +85,14 @@ fn end(word: Word) -> &'static [Instr]
     ensures { result.now ≡ end_row Mode.InHead (Name.Known word) }
 {
     match word {
-        Head => &[Pop, Enter(Mode::AfterHead)],
+        Head => &[Pop, SwitchMode(Mode::AfterHead)],
         Template => &[
             Need(OnStack(The(Template))),
-            ImpliedThoroughly,
-            Until(The(Template)),
+            GenerateImpliedThoroughly,
+            PopUntil(The(Template)),
             ClearToMarker,
             PopTemplateMode,
-            Reset,
+            ResetMode,
         ],
         Body | Html | Br => OTHERWISE,
         _ => &[],

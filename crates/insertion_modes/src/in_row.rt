@@ -12,15 +12,15 @@ use html_types::word::Word::{
 use html_types::{Group, Instr, Mode, Name, Scope, Token, Word};
 
 /// "Clear the stack back to a table row context."
-const CLEAR: Instr = PopTo(Group::RowContext);
+const CLEAR: Instr = ClearBackTo(Group::RowContext);
 
 /// The row is closed, and the token goes by "in table body".
 const CLOSE_AGAIN: &[Instr] = &[
     Need(InScope(Scope::Table, The(Tr))),
     CLEAR,
     Pop,
-    Enter(Mode::InTableBody),
-    Again,
+    SwitchMode(Mode::InTableBody),
+    Reprocess,
 ];
 
 /// "in row"
@@ -29,21 +29,21 @@ pub fn in_row(token: &Token) -> &'static [Instr]
     ensures { result.now ≡ row Mode.InRow token.now }
 {
     match token {
-        Token::Character(_) => &[Using(Mode::InTable)],
+        Token::Character(_) => &[UsingRules(Mode::InTable)],
         Token::StartTag(tag) => match &tag.name {
             Name::Known(word) => start(*word),
-            Name::Other(_, _) => &[Using(Mode::InTable)],
+            Name::Other(_, _) => &[UsingRules(Mode::InTable)],
         },
         Token::EndTag(tag) => match &tag.name {
             Name::Known(word) => end(*word),
-            Name::Other(_, _) => &[Using(Mode::InTable)],
+            Name::Other(_, _) => &[UsingRules(Mode::InTable)],
         },
         Token::Comment(_) => &[InsertComment],
         Token::Doctype {
             name: _,
             force_quirks: _,
         } => &[],
-        Token::EndOfFile => &[Using(Mode::InTable)],
+        Token::EndOfFile => &[UsingRules(Mode::InTable)],
     }
 }
 
@@ -51,9 +51,9 @@ fn start(word: Word) -> &'static [Instr]
     ensures { result.now ≡ start_row Mode.InRow (Name.Known word) }
 {
     match word {
-        Th | Td => &[CLEAR, Insert, Enter(Mode::InCell), Marker],
+        Th | Td => &[CLEAR, Insert, SwitchMode(Mode::InCell), PushMarker],
         Caption | Col | Colgroup | Tbody | Tfoot | Thead | Tr => CLOSE_AGAIN,
-        _ => &[Using(Mode::InTable)],
+        _ => &[UsingRules(Mode::InTable)],
     }
 }
 
@@ -65,7 +65,7 @@ fn end(word: Word) -> &'static [Instr]
             Need(InScope(Scope::Table, The(Tr))),
             CLEAR,
             Pop,
-            Enter(Mode::InTableBody),
+            SwitchMode(Mode::InTableBody),
         ],
         Table => CLOSE_AGAIN,
         Tbody | Tfoot | Thead => &[
@@ -73,10 +73,10 @@ fn end(word: Word) -> &'static [Instr]
             Need(InScope(Scope::Table, The(Tr))),
             CLEAR,
             Pop,
-            Enter(Mode::InTableBody),
-            Again,
+            SwitchMode(Mode::InTableBody),
+            Reprocess,
         ],
         Body | Caption | Col | Colgroup | Html | Td | Th => &[],
-        _ => &[Using(Mode::InTable)],
+        _ => &[UsingRules(Mode::InTable)],
     }
 }

@@ -15,8 +15,8 @@ use html_types::{Instr, Mode, Name, Scope, Token, Word};
 /// The select element is closed.
 const CLOSE: &[Instr] = &[
     Need(InScope(Scope::Select, The(Select))),
-    Until(The(Select)),
-    Reset,
+    PopUntil(The(Select)),
+    ResetMode,
 ];
 
 /// "in select"
@@ -39,7 +39,7 @@ pub fn in_select(token: &Token) -> &'static [Instr]
             name: _,
             force_quirks: _,
         } => &[],
-        Token::EndOfFile => &[Using(Mode::InBody)],
+        Token::EndOfFile => &[UsingRules(Mode::InBody)],
     }
 }
 
@@ -47,7 +47,7 @@ fn in_select_start(word: Word) -> &'static [Instr]
     ensures { result.now ≡ start_row Mode.InSelect (Name.Known word) }
 {
     match word {
-        Html => &[Using(Mode::InBody)],
+        Html => &[UsingRules(Mode::InBody)],
         Word::Option => &[When(Current(The(Word::Option))), Pop, Insert],
         Optgroup => &[
             When(Current(The(Word::Option))),
@@ -61,16 +61,16 @@ fn in_select_start(word: Word) -> &'static [Instr]
             Pop,
             When(Current(The(Optgroup))),
             Pop,
-            Void,
+            InsertAndPop,
         ],
         Select => CLOSE,
         Input | Keygen | Textarea => &[
             Need(InScope(Scope::Select, The(Select))),
-            Until(The(Select)),
-            Reset,
-            Again,
+            PopUntil(The(Select)),
+            ResetMode,
+            Reprocess,
         ],
-        Script | Template => &[Using(Mode::InHead)],
+        Script | Template => &[UsingRules(Mode::InHead)],
         _ => &[],
     }
 }
@@ -87,7 +87,7 @@ fn in_select_end(word: Word) -> &'static [Instr]
         ],
         Word::Option => &[Need(Current(The(Word::Option))), Pop],
         Select => CLOSE,
-        Template => &[Using(Mode::InHead)],
+        Template => &[UsingRules(Mode::InHead)],
         _ => &[],
     }
 }
@@ -98,21 +98,21 @@ pub fn in_select_in_table(token: &Token) -> &'static [Instr]
     ensures { result.now ≡ row Mode.InSelectInTable token.now }
 {
     match token {
-        Token::Character(_) => &[Using(Mode::InSelect)],
+        Token::Character(_) => &[UsingRules(Mode::InSelect)],
         Token::StartTag(tag) => match &tag.name {
             Name::Known(word) => in_select_in_table_start(*word),
-            Name::Other(_, _) => &[Using(Mode::InSelect)],
+            Name::Other(_, _) => &[UsingRules(Mode::InSelect)],
         },
         Token::EndTag(tag) => match &tag.name {
             Name::Known(word) => in_select_in_table_end(*word),
-            Name::Other(_, _) => &[Using(Mode::InSelect)],
+            Name::Other(_, _) => &[UsingRules(Mode::InSelect)],
         },
         Token::Comment(_) => &[InsertComment],
         Token::Doctype {
             name: _,
             force_quirks: _,
         } => &[],
-        Token::EndOfFile => &[Using(Mode::InSelect)],
+        Token::EndOfFile => &[UsingRules(Mode::InSelect)],
     }
 }
 
@@ -121,9 +121,9 @@ fn in_select_in_table_start(word: Word) -> &'static [Instr]
 {
     match word {
         Caption | Table | Tbody | Tfoot | Thead | Tr | Td | Th => {
-            &[Until(The(Select)), Reset, Again]
+            &[PopUntil(The(Select)), ResetMode, Reprocess]
         }
-        _ => &[Using(Mode::InSelect)],
+        _ => &[UsingRules(Mode::InSelect)],
     }
 }
 
@@ -133,10 +133,10 @@ fn in_select_in_table_end(word: Word) -> &'static [Instr]
     match word {
         Caption | Table | Tbody | Tfoot | Thead | Tr | Td | Th => &[
             Need(InScope(Scope::Table, Own)),
-            Until(The(Select)),
-            Reset,
-            Again,
+            PopUntil(The(Select)),
+            ResetMode,
+            Reprocess,
         ],
-        _ => &[Using(Mode::InSelect)],
+        _ => &[UsingRules(Mode::InSelect)],
     }
 }

@@ -13,7 +13,7 @@ use html_types::word::Word::{
 use html_types::{Group, Instr, Mode, Name, Scope, Token, Word};
 
 /// "Clear the stack back to a table context."
-const CLEAR: Instr = PopTo(Group::TableContext);
+const CLEAR: Instr = ClearBackTo(Group::TableContext);
 
 /// "in table"
 #[tactic(auto, unfolding(standard::specs::Rules::row))]
@@ -23,25 +23,25 @@ pub fn in_table(token: &Token) -> &'static [Instr]
     match token {
         Token::Character(_) => &[
             Unless(Current(Any(Group::TextTargets))),
-            Foster,
-            KeepMode,
-            Enter(Mode::InTableText),
-            Again,
+            InBodyFostering,
+            SaveMode,
+            SwitchMode(Mode::InTableText),
+            Reprocess,
         ],
         Token::StartTag(tag) => match &tag.name {
             Name::Known(word) => start(*word),
-            Name::Other(_, _) => &[Foster],
+            Name::Other(_, _) => &[InBodyFostering],
         },
         Token::EndTag(tag) => match &tag.name {
             Name::Known(word) => end(*word),
-            Name::Other(_, _) => &[Foster],
+            Name::Other(_, _) => &[InBodyFostering],
         },
         Token::Comment(_) => &[InsertComment],
         Token::Doctype {
             name: _,
             force_quirks: _,
         } => &[],
-        Token::EndOfFile => &[Using(Mode::InBody)],
+        Token::EndOfFile => &[UsingRules(Mode::InBody)],
     }
 }
 
@@ -49,27 +49,37 @@ fn start(word: Word) -> &'static [Instr]
     ensures { result.now ≡ start_row Mode.InTable (Name.Known word) }
 {
     match word {
-        Caption => &[CLEAR, Marker, Insert, Enter(Mode::InCaption)],
-        Colgroup => &[CLEAR, Insert, Enter(Mode::InColumnGroup)],
-        Col => &[CLEAR, InsertA(Colgroup), Enter(Mode::InColumnGroup), Again],
-        Tbody | Tfoot | Thead => &[CLEAR, Insert, Enter(Mode::InTableBody)],
-        Td | Th | Tr => &[CLEAR, InsertA(Tbody), Enter(Mode::InTableBody), Again],
+        Caption => &[CLEAR, PushMarker, Insert, SwitchMode(Mode::InCaption)],
+        Colgroup => &[CLEAR, Insert, SwitchMode(Mode::InColumnGroup)],
+        Col => &[
+            CLEAR,
+            InsertA(Colgroup),
+            SwitchMode(Mode::InColumnGroup),
+            Reprocess,
+        ],
+        Tbody | Tfoot | Thead => &[CLEAR, Insert, SwitchMode(Mode::InTableBody)],
+        Td | Th | Tr => &[
+            CLEAR,
+            InsertA(Tbody),
+            SwitchMode(Mode::InTableBody),
+            Reprocess,
+        ],
         Table => &[
             Need(InScope(Scope::Table, The(Table))),
-            Until(The(Table)),
-            Reset,
-            Again,
+            PopUntil(The(Table)),
+            ResetMode,
+            Reprocess,
         ],
-        Style | Script | Template => &[Using(Mode::InHead)],
-        Input => &[Unless(HiddenInput), Foster, Void],
+        Style | Script | Template => &[UsingRules(Mode::InHead)],
+        Input => &[Unless(HiddenInput), InBodyFostering, InsertAndPop],
         Form => &[
             Forbid(OnStack(The(Template))),
             Forbid(InForm),
             Insert,
-            PointForm,
+            SetFormPointer,
             Pop,
         ],
-        _ => &[Foster],
+        _ => &[InBodyFostering],
     }
 }
 
@@ -79,11 +89,11 @@ fn end(word: Word) -> &'static [Instr]
     match word {
         Table => &[
             Need(InScope(Scope::Table, The(Table))),
-            Until(The(Table)),
-            Reset,
+            PopUntil(The(Table)),
+            ResetMode,
         ],
         Body | Caption | Col | Colgroup | Html | Tbody | Td | Tfoot | Th | Thead | Tr => &[],
-        Template => &[Using(Mode::InHead)],
-        _ => &[Foster],
+        Template => &[UsingRules(Mode::InHead)],
+        _ => &[InBodyFostering],
     }
 }

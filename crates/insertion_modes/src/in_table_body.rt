@@ -12,15 +12,15 @@ use html_types::word::Word::{
 use html_types::{Group, Instr, Mode, Name, Scope, Token, Word};
 
 /// "Clear the stack back to a table body context."
-const CLEAR: Instr = PopTo(Group::TableBodyContext);
+const CLEAR: Instr = ClearBackTo(Group::TableBodyContext);
 
 /// The section is closed, and the token goes by "in table".
 const CLOSE_AGAIN: &[Instr] = &[
     Need(InScope(Scope::Table, Any(Group::TableSections))),
     CLEAR,
     Pop,
-    Enter(Mode::InTable),
-    Again,
+    SwitchMode(Mode::InTable),
+    Reprocess,
 ];
 
 /// "in table body"
@@ -29,21 +29,21 @@ pub fn in_table_body(token: &Token) -> &'static [Instr]
     ensures { result.now ≡ row Mode.InTableBody token.now }
 {
     match token {
-        Token::Character(_) => &[Using(Mode::InTable)],
+        Token::Character(_) => &[UsingRules(Mode::InTable)],
         Token::StartTag(tag) => match &tag.name {
             Name::Known(word) => start(*word),
-            Name::Other(_, _) => &[Using(Mode::InTable)],
+            Name::Other(_, _) => &[UsingRules(Mode::InTable)],
         },
         Token::EndTag(tag) => match &tag.name {
             Name::Known(word) => end(*word),
-            Name::Other(_, _) => &[Using(Mode::InTable)],
+            Name::Other(_, _) => &[UsingRules(Mode::InTable)],
         },
         Token::Comment(_) => &[InsertComment],
         Token::Doctype {
             name: _,
             force_quirks: _,
         } => &[],
-        Token::EndOfFile => &[Using(Mode::InTable)],
+        Token::EndOfFile => &[UsingRules(Mode::InTable)],
     }
 }
 
@@ -51,10 +51,10 @@ fn start(word: Word) -> &'static [Instr]
     ensures { result.now ≡ start_row Mode.InTableBody (Name.Known word) }
 {
     match word {
-        Tr => &[CLEAR, Insert, Enter(Mode::InRow)],
-        Th | Td => &[CLEAR, InsertA(Tr), Enter(Mode::InRow), Again],
+        Tr => &[CLEAR, Insert, SwitchMode(Mode::InRow)],
+        Th | Td => &[CLEAR, InsertA(Tr), SwitchMode(Mode::InRow), Reprocess],
         Caption | Col | Colgroup | Tbody | Tfoot | Thead => CLOSE_AGAIN,
-        _ => &[Using(Mode::InTable)],
+        _ => &[UsingRules(Mode::InTable)],
     }
 }
 
@@ -66,10 +66,10 @@ fn end(word: Word) -> &'static [Instr]
             Need(InScope(Scope::Table, Own)),
             CLEAR,
             Pop,
-            Enter(Mode::InTable),
+            SwitchMode(Mode::InTable),
         ],
         Table => CLOSE_AGAIN,
         Body | Caption | Col | Colgroup | Html | Td | Th | Tr => &[],
-        _ => &[Using(Mode::InTable)],
+        _ => &[UsingRules(Mode::InTable)],
     }
 }

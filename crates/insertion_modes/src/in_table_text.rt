@@ -14,6 +14,6 @@ pub fn in_table_text(token: &Token) -> &'static [Instr]
 {
     match token {
         Token::Character(c) => { if *c == '\0' { &[] } else { &[AppendPending] } }
-        _ => &[InsertPending, Restore, Again],
+        _ => &[InsertPending, RestoreMode, Reprocess],
     }
 }

@@ -18,8 +18,8 @@ use html_types::{Instr, Mode, Name, Token, Word};
 const AS_BODY: &[Instr] = &[
     PopTemplateMode,
     PushTemplateMode(Mode::InBody),
-    Enter(Mode::InBody),
-    Again,
+    SwitchMode(Mode::InBody),
+    Reprocess,
 ];
 
 /// "in template"
@@ -28,7 +28,7 @@ pub fn in_template(token: &Token) -> &'static [Instr]
     ensures { result.now ≡ row Mode.InTemplate token.now }
 {
     match token {
-        Token::Character(_) => &[Using(Mode::InBody)],
+        Token::Character(_) => &[UsingRules(Mode::InBody)],
         Token::StartTag(tag) => match &tag.name {
             Name::Known(word) => start(*word),
             Name::Other(_, _) => AS_BODY,
@@ -37,19 +37,19 @@ pub fn in_template(token: &Token) -> &'static [Instr]
             Name::Known(word) => end(*word),
             Name::Other(_, _) => &[],
         },
-        Token::Comment(_) => &[Using(Mode::InBody)],
+        Token::Comment(_) => &[UsingRules(Mode::InBody)],
         Token::Doctype {
             name: _,
             force_quirks: _,
-        } => &[Using(Mode::InBody)],
+        } => &[UsingRules(Mode::InBody)],
         Token::EndOfFile => &[
             Unless(OnStack(The(Template))),
             Finish,
-            Until(The(Template)),
+            PopUntil(The(Template)),
             ClearToMarker,
             PopTemplateMode,
-            Reset,
-            Again,
+            ResetMode,
+            Reprocess,
         ],
     }
 }
@@ -60,7 +60,7 @@ fn start(word: Word) -> &'static [Instr]
 {
     match word {
         Base | Basefont | Bgsound | Link | Meta | Noframes | Script | Style | Template | Title => {
-            &[Using(Mode::InHead)]
+            &[UsingRules(Mode::InHead)]
         }
         _ => start_of_content(word),
     }
@@ -74,26 +74,26 @@ fn start_of_content(word: Word) -> &'static [Instr]
         Caption | Colgroup | Tbody | Tfoot | Thead => &[
             PopTemplateMode,
             PushTemplateMode(Mode::InTable),
-            Enter(Mode::InTable),
-            Again,
+            SwitchMode(Mode::InTable),
+            Reprocess,
         ],
         Col => &[
             PopTemplateMode,
             PushTemplateMode(Mode::InColumnGroup),
-            Enter(Mode::InColumnGroup),
-            Again,
+            SwitchMode(Mode::InColumnGroup),
+            Reprocess,
         ],
         Tr => &[
             PopTemplateMode,
             PushTemplateMode(Mode::InTableBody),
-            Enter(Mode::InTableBody),
-            Again,
+            SwitchMode(Mode::InTableBody),
+            Reprocess,
         ],
         Td | Th => &[
             PopTemplateMode,
             PushTemplateMode(Mode::InRow),
-            Enter(Mode::InRow),
-            Again,
+            SwitchMode(Mode::InRow),
+            Reprocess,
         ],
         _ => AS_BODY,
     }
@@ -103,7 +103,7 @@ fn end(word: Word) -> &'static [Instr]
     ensures { result.now ≡ end_row Mode.InTemplate (Name.Known word) }
 {
     match word {
-        Template => &[Using(Mode::InHead)],
+        Template => &[UsingRules(Mode::InHead)],
         _ => &[],
     }
 }

@@ -16,9 +16,9 @@ pub fn in_text(token: &Token) -> &'static [Instr]
         Token::Character(_) => &[InsertText],
         Token::EndTag(tag) => match &tag.name {
             Name::Known(word) => end(*word),
-            Name::Other(_, _) => &[Pop, Restore],
+            Name::Other(_, _) => &[Pop, RestoreMode],
         },
-        Token::EndOfFile => &[Pop, Restore, Again],
+        Token::EndOfFile => &[Pop, RestoreMode, Reprocess],
         Token::StartTag(_) => &[],
         Token::Comment(_) => &[InsertComment],
         Token::Doctype {
@@ -32,7 +32,7 @@ fn end(word: Word) -> &'static [Instr]
     ensures { result.now ≡ end_row mode.InText (Name.Known word) }
 {
     match word {
-        Word::Script => &[Restore, StopAtScript],
-        _ => &[Pop, Restore],
+        Word::Script => &[RestoreMode, StopAtScript],
+        _ => &[Pop, RestoreMode],
     }
 }

@@ -4,7 +4,7 @@ use Rattle.html_types.specs.Operations.{spelled, spelled_one}
 use Rattle.html_types.specs.declared.operation.NodeId.{NodeId}
 use Rattle.html_types.specs.declared.operation.Place.{Place}
 use Rattle.html_types.specs.declared.operation.Op.{Op}
-use Rattle.html_types.specs.declared.operation.Op.TheVariants.{Make, Put, Text, Note, Doctype, Detach, MoveChildren, AddAttributes}
+use Rattle.html_types.specs.declared.operation.Op.TheVariants.{Make, Put, Text, Comment, Doctype, Detach, MoveChildren, AddAttributes}
 use Rattle.standard.specs.Act.{Doc, act, acts, is_bound, IsPlaceBound, IsOpBound, known_after, AreOpsBound}
 use Rattle.op_exec.specs.Docs.{inserts_nothing, IsDoneInPart}
 use Rattle.act_laws.proofs.Known.{AreOpsBound-act}
@@ -43,7 +43,7 @@ IsOpBound-from_spelled known (Make id name attributes) some bound = bound.0
 IsOpBound-from_spelled known (Put id place) some bound = bound.0
 IsOpBound-from_spelled known (Text place []) some bound = absurd (cc)
 IsOpBound-from_spelled known (Text place (c ∷ cs)) some bound = bound.0
-IsOpBound-from_spelled known (Note place text) some bound = bound.0
+IsOpBound-from_spelled known (Comment place text) some bound = bound.0
 IsOpBound-from_spelled known (Doctype name) some bound = bound.0
 IsOpBound-from_spelled known (Detach id) some bound = bound.0
 IsOpBound-from_spelled known (MoveChildren from to) some bound = bound.0
@@ -60,7 +60,7 @@ unfolding AreOpsBound
 AreOpsBound-spelled known (Make id name attributes) bound = (bound, tt)
 AreOpsBound-spelled known (Put id place) bound = (bound, tt)
 AreOpsBound-spelled known (Text place text) bound = AreOpsBound-run known place text bound
-AreOpsBound-spelled known (Note place text) bound = (bound, tt)
+AreOpsBound-spelled known (Comment place text) bound = (bound, tt)
 AreOpsBound-spelled known (Doctype name) bound = (bound, tt)
 AreOpsBound-spelled known (Detach id) bound = (bound, tt)
 AreOpsBound-spelled known (MoveChildren from to) bound = (bound, tt)
@@ -72,7 +72,7 @@ acts-nothing d (Text place []) none = refl
 acts-nothing d (Text place (c ∷ cs)) none = absurd (cc)
 acts-nothing d (Make id name attributes) none = absurd (cc)
 acts-nothing d (Put id place) none = absurd (cc)
-acts-nothing d (Note place text) none = absurd (cc)
+acts-nothing d (Comment place text) none = absurd (cc)
 acts-nothing d (Doctype name) none = absurd (cc)
 acts-nothing d (Detach id) none = absurd (cc)
 acts-nothing d (MoveChildren from to) none = absurd (cc)

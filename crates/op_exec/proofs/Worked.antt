@@ -24,7 +24,7 @@ abbrev page : List Op
 page =
     op.Make (id 0) (Known Html) [] ∷ op.Put (id 0) Page ∷ op.Make (id 1) (Known Body) [] ∷ op.Put (id 1) (Inside (id 0)) ∷ op.Make (id 2) (Known Table) [] ∷ op.Put (id 2) (Inside (id 1))
     ∷ op.Text (Foster (id 2) (id 1)) (codes "x") ∷ op.Text (Foster (id 2) (id 1)) (codes "y") ∷ op.Text Page (codes "z")
-    ∷ op.AddAttributes (id 2) named ∷ op.Note (Inside (id 1)) (codes "c") ∷ []
+    ∷ op.AddAttributes (id 2) named ∷ op.Comment (Inside (id 1)) (codes "c") ∷ []
 
 abbrev doc : Doc
 doc = acts new_doc page
@@ -68,7 +68,7 @@ is-json = refl
 abbrev foster_page : List Op → List Op
 foster_page before =
     op.Make (id 0) (Known Html) [] ∷ op.Put (id 0) Page ∷ op.Make (id 1) (Known Body) [] ∷ op.Put (id 1) (Inside (id 0))
-    ∷ op.Make (id 2) (Known Table) [] ∷ op.Put (id 2) (Inside (id 1)) ∷ op.Make (id 3) (Known B) [] ∷ op.Note (Inside (id 1)) (codes "c") ∷ []
+    ∷ op.Make (id 2) (Known Table) [] ∷ op.Put (id 2) (Inside (id 1)) ∷ op.Make (id 3) (Known B) [] ∷ op.Comment (Inside (id 1)) (codes "c") ∷ []
     ++ before ++ op.Put (id 3) (Foster (id 2) (id 1)) ∷ op.Text (Inside (id 3)) (codes "x") ∷ []
 
 before-a_table : outer_text (acts new_doc (foster_page [])).tree 0 ≡ codes "<html><body><b>x</b><table></table><!--c--></body></html>"

@@ -197,7 +197,7 @@ impl Doc {
     #[tactic(auto, unfolding(standard::specs::Act::act))]
     fn note(&mut self, place: Place, text: Text) -> Result<(), NoMemory>
         requires { IsPlaceBound (is_bound self.old.bound) place }
-        ensures ok { OnOk result (self.new ≡ act self.old (op.Note place text)) }
+        ensures ok { OnOk result (self.new ≡ act self.old (op.Comment place text)) }
         ensures err { OnErr result (self.new ≡ self.old) }
     {
         let spot = self.spot(place);
@@ -259,7 +259,7 @@ impl Doc {
             } => self.make(id, name, attributes),
             Op::Put { node, place } => self.put(node, place),
             Op::Text { place, text } => self.text(place, text),
-            Op::Note { place, text } => self.note(place, text),
+            Op::Comment { place, text } => self.note(place, text),
             Op::Doctype { name } => self.doctype(name),
             Op::Detach { node } => {
                 self.detach(node);

@@ -9,7 +9,7 @@ use Rattle.html_types.specs.declared.open.Open.{Open}
 use Rattle.html_types.specs.declared.instruction.Flow.{Flow}
 use Rattle.html_types.specs.declared.instruction.Flow.TheVariants.{On, Skip, Leave}
 use Rattle.html_types.specs.declared.instruction.Instr.{Instr}
-use Rattle.html_types.specs.declared.instruction.Instr.TheVariants.{Reconstruct, InsertText, NotOk}
+use Rattle.html_types.specs.declared.instruction.Instr.TheVariants.{Reconstruct, InsertText, FramesetNotOk}
 use Rattle.html_types.specs.declared.instruction.Mode.{Mode}
 use Rattle.html_types.specs.declared.instruction.Mode.TheVariants.{InBody, InText, InCaption, InCell, InSelect, InSelectInTable, InTemplate, InForeign}
 use Rattle.html_types.specs.declared.instruction.Next.TheVariants as next
@@ -47,7 +47,7 @@ rebuilt-ends b o = reopen_all-ends (reverse (lost b.stack b.formats)) (record b 
 -- the rest of the row, behind the reconstruction
 rest_of : Bool → List Instr
 rest_of true = InsertText ∷ []
-rest_of false = InsertText ∷ NotOk ∷ []
+rest_of false = InsertText ∷ FramesetNotOk ∷ []
 
 rest-comes : (c : ℕ) (b : Open) (o : List Op) (f : Flow) (space : Bool) → ends f ≡ true → is_space c ≡ space
     → run (Character c) (config b o f) (rest_of space) ≡ body_text c (config b o f)

@@ -71,19 +71,19 @@ build_end_token t ts s cr b o b' o' n e =
 
 -- the same, by what comes next: mostly the next token
 abbrev pub goes_on : Next → Bool
-goes_on (next.Switch r) = false
+goes_on (next.SwitchTokenizer r) = false
 goes_on (next.Script i) = false
 goes_on next.Deep = false
 goes_on _ = true
 
 rests : (s : TokState) (cr : Bool) (t : Token) (b : Open) (rest : TokState → Took) (x : Next) → goes_on x ≡ true → rest s ≡ build_on s cr t b rest x
-rests s cr t b rest (next.Switch r) e = cc
+rests s cr t b rest (next.SwitchTokenizer r) e = cc
 rests s cr t b rest (next.Script i) e = cc
 rests s cr t b rest next.Deep e = cc
 rests s cr t b rest _ e = refl
 
-pub goes_on_else : (n : Next) → ((r : TokenizerSwitch) → n ≡ next.Switch r → ⊥) → ((i : NodeId) → n ≡ next.Script i → ⊥) → (n ≡ next.Deep → ⊥) → goes_on n ≡ true
-goes_on_else (next.Switch r) a b c = absurd (a r refl)
+pub goes_on_else : (n : Next) → ((r : TokenizerSwitch) → n ≡ next.SwitchTokenizer r → ⊥) → ((i : NodeId) → n ≡ next.Script i → ⊥) → (n ≡ next.Deep → ⊥) → goes_on n ≡ true
+goes_on_else (next.SwitchTokenizer r) a b c = absurd (a r refl)
 goes_on_else (next.Script i) a b c = absurd (b i refl)
 goes_on_else next.Deep a b c = absurd (c refl)
 goes_on_else _ a b c = refl
@@ -95,7 +95,7 @@ went_on t cr m m' b b' o o' n e is same =
     ∙ ap (λ k. after_ops o' k) (rests m.state cr t b' (λ s'. build s' cr m.tokens b') n is)
     ∙ build_token t m.tokens m.state cr b o b' o' n e
 
-pub went_switched : (t : Token) (cr : Bool) (m m' : Reached) (b b' : Open) (o o' : List Op) (n : Next) (r : TokenizerSwitch) (s' : TokState) → answer b' o' n ≡ construct t b o → n ≡ next.Switch r
+pub went_switched : (t : Token) (cr : Bool) (m m' : Reached) (b b' : Open) (o o' : List Op) (n : Next) (r : TokenizerSwitch) (s' : TokState) → answer b' o' n ≡ construct t b o → n ≡ next.SwitchTokenizer r
     → s' ≡ read_as r t → m'.tokens ≡ m.tokens → m'.state ≡ s' → WentTo cr m' b' o' went.On ≡ after_ops o (build m.state cr (t ∷ m.tokens) b)
 went_switched t cr m m' b b' o o' n r s' e is read tokens state =
     ap (λ ts. after_ops o' (build m'.state cr ts b')) tokens

@@ -5,16 +5,16 @@ use Rattle.html_types.specs.declared.token.Token.{Token}
 use Rattle.html_types.specs.declared.open.Open.{Open}
 use Rattle.html_types.specs.declared.instruction.Mode.{Mode}
 use Rattle.html_types.specs.declared.instruction.Next.{Next}
-use Rattle.html_types.specs.declared.instruction.Next.TheVariants.{Again, Using, Foster}
+use Rattle.html_types.specs.declared.instruction.Next.TheVariants.{Reprocess, UsingRules, InBodyFostering}
 use Rattle.standard.specs.Rules.{Answer, answer, by_rules, go_round, round_after, process}
 use Rattle.parse_machine.specs.declared.token.Round.{Round}
 use Rattle.parse_machine.specs.declared.token.Round.TheVariants.{Once}
 use Rattle.parse_machine.specs.Rounds.{rounded, asked, round_of, rounds_left}
 
 by_next : (n : ℕ) (t : Token) (b : Open) (o : List Op) (x : Next) → go_round (λ m'. process n m' t b o) b o (round_after t b x) ≡ rounds_left n t (rounded b o (asked t b x))
-by_next n t b o Again = refl
-by_next n t b o (Using m) = refl
-by_next n t b o Foster = refl
+by_next n t b o Reprocess = refl
+by_next n t b o (UsingRules m) = refl
+by_next n t b o InBodyFostering = refl
 by_next n t b o _ = refl
 
 turn : (n : ℕ) (m : Mode) (t : Token) (b : Open) (o : List Op) → process (suc n) m t b o ≡ rounds_left n t (round_of m t b o)
@@ -30,7 +30,7 @@ rounds_turn (suc n) m t b b' o o' r h e =
 
 -- no round is left
 pub rounds_end : (n : ℕ) (m : Mode) (t : Token) (b : Open) (o : List Op) (r : Round) (x : Answer) → n ≤ 0 → r ≡ Once m
-    → rounds_left n t (rounded b o r) ≡ x → answer b o Again ≡ x
+    → rounds_left n t (rounded b o r) ≡ x → answer b o Reprocess ≡ x
 unfolding process
 rounds_end zero m t b o r x h e is = sym (ap (λ v. rounds_left 0 t (rounded b o v)) e) ∙ is
 rounds_end (suc n) m t b o r x h e is = absurd (omega (arith, h))

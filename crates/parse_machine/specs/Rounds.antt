@@ -6,7 +6,7 @@ use Rattle.html_types.specs.declared.open.Open.{Open}
 use Rattle.html_types.specs.declared.instruction.Mode.{Mode}
 use Rattle.html_types.specs.declared.instruction.Mode.TheVariants.{InBody}
 use Rattle.html_types.specs.declared.instruction.Next.{Next}
-use Rattle.html_types.specs.declared.instruction.Next.TheVariants.{Again, Using, Foster}
+use Rattle.html_types.specs.declared.instruction.Next.TheVariants.{Reprocess, UsingRules, InBodyFostering}
 use Rattle.standard.specs.Rules.{Answer, answer, by_rules, rules_for, process}
 use Rattle.parse_machine.specs.declared.token.Round.{Round}
 use Rattle.parse_machine.specs.declared.token.Round.TheVariants.{Once, Over}
@@ -20,9 +20,9 @@ abbrev pub rounded : Open → List Op → Round → Rounded
 rounded b o r = record { open_state = b; ops = o; round = r }
 
 abbrev pub asked : Token → Open → Next → Round
-asked t b Again = Once (rules_for t b)
-asked t b (Using m) = Once m
-asked t b Foster = Once InBody
+asked t b Reprocess = Once (rules_for t b)
+asked t b (UsingRules m) = Once m
+asked t b InBodyFostering = Once InBody
 asked t b n = Over n
 
 -- what one round comes to

@@ -25,11 +25,11 @@ fn go_on(
         Then::Nothing => builder.answer_row(alloc, &[], token, ops),
         Then::Link(id) => builder.answer_row(
             alloc,
-            &[TakeOff(id), Reconstruct, Insert, List],
+            &[TakeOff(id), Reconstruct, Insert, PushFormatting],
             token,
             ops,
         ),
-        Then::Nobr => builder.answer_row(alloc, &[Reconstruct, Insert, List], token, ops),
+        Then::Nobr => builder.answer_row(alloc, &[Reconstruct, Insert, PushFormatting], token, ops),
     }
 }
 
@@ -47,13 +47,19 @@ fn go_on_as_other(
         Then::Nothing => builder.answer_row(alloc, &[AnyOtherEnd], token, ops),
         Then::Link(id) => builder.answer_row(
             alloc,
-            &[AnyOtherEnd, TakeOff(id), Reconstruct, Insert, List],
+            &[
+                AnyOtherEnd,
+                TakeOff(id),
+                Reconstruct,
+                Insert,
+                PushFormatting,
+            ],
             token,
             ops,
         ),
         Then::Nobr => builder.answer_row(
             alloc,
-            &[AnyOtherEnd, Reconstruct, Insert, List],
+            &[AnyOtherEnd, Reconstruct, Insert, PushFormatting],
             token,
             ops,
         ),

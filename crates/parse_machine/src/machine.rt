@@ -130,7 +130,7 @@ fn process(
     ensures some { IfOk result (λ went. went ≢ Went.AllUsed) }
 {
     match construct(alloc, builder, token, ops)? {
-        Next::Switch(reading) => {
+        Next::SwitchTokenizer(reading) => {
             tokenizer.load(read_as(reading, token));
             Ok(Went::On)
         }

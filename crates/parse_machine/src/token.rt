@@ -87,9 +87,9 @@ fn one_round(
     ensures { IfOk result (λ round. rounded builder.new ops.new round ≡ round_of mode token.now builder.old ops.old) }
 {
     match by_rules(alloc, builder, mode, token, ops)? {
-        Next::Again => Ok(Round::Once(builder.rules_for(token))),
-        Next::Using(other) => Ok(Round::Once(other)),
-        Next::Foster => Ok(Round::Once(Mode::InBody)),
+        Next::Reprocess => Ok(Round::Once(builder.rules_for(token))),
+        Next::UsingRules(other) => Ok(Round::Once(other)),
+        Next::InBodyFostering => Ok(Round::Once(Mode::InBody)),
         next => Ok(Round::Over(next)),
     }
 }
@@ -115,7 +115,7 @@ fn by_all_rules(
         left -= 1;
     }
     match round {
-        Round::Once(_) => Ok(Next::Again),
+        Round::Once(_) => Ok(Next::Reprocess),
         Round::Over(next) => Ok(next),
     }
 }

@@ -36,11 +36,11 @@ pub(crate) enum Parting<E: InForce> {
 
 /// The parting is over the lanes that the closure was given.
 #[derive(Drop)]
-pub(crate) struct OverLanes<E: InForce> {
+pub(crate) struct RunningSeat<E: InForce> {
     lanes: Snapshot<ParserLanes<E>>,
 }
 
-impl<E: InForce> Promise<Parting<E>> for OverLanes<E> {
+impl<E: InForce> Promise<Parting<E>> for RunningSeat<E> {
     ghost use Rattle.parser_thread.specs.Parts.{Kept};
 
     ghost kept_by = { λ p r. Kept E.InForce p.lanes.value r };
@@ -50,7 +50,7 @@ impl<E: InForce> Promise<Parting<E>> for OverLanes<E> {
 #[derive(Drop)]
 pub(crate) enum Seat<E: InForce> {
     /// In a thread of its own.
-    There(PromisedHandle<Parting<E>, OverLanes<E>>),
+    There(PromisedHandle<Parting<E>, RunningSeat<E>>),
     /// In this thread.
     Here(ParserSide<E>),
     /// It has ended.
@@ -126,7 +126,7 @@ pub(crate) fn take_seat<
         refused: told,
     } = outfit;
     let was = Snapshot::of(&lanes);
-    let promise = OverLanes {
+    let promise = RunningSeat {
         lanes: Snapshot::of(&lanes),
     };
     let their_rt = *rt;

@@ -14,8 +14,8 @@ use Rattle.html_types.specs.declared.operation.Place.TheVariants.{Inside}
 use Rattle.html_types.specs.declared.operation.Op.{Op}
 use Rattle.html_types.specs.declared.operation.Op.TheVariants as op
 use Rattle.html_types.specs.declared.open.OpenElement.{OpenElement}
-use Rattle.html_types.specs.declared.open.Format.{Format}
-use Rattle.html_types.specs.declared.open.Format.TheVariants.{Element}
+use Rattle.html_types.specs.declared.open.FormattingEntry.{FormattingEntry}
+use Rattle.html_types.specs.declared.open.FormattingEntry.TheVariants.{Element}
 use Rattle.html_types.specs.declared.open.Open.{Open}
 use Rattle.standard.specs.Elements.{is_word}
 use Rattle.standard.specs.Foreign.{opened}
@@ -103,7 +103,7 @@ module _ (Coming : (NodeId → Bool) → NodeId → Type 0) (law : Follows Comin
         last_bound = there;
       }
 
-  drop-bound : (k : NodeId → Bool) (left : ℕ) (id : NodeId) (fs : List Format) → AreFormatsBound k fs → AreFormatsBound k (climb_drop left id fs)
+  drop-bound : (k : NodeId → Bool) (left : ℕ) (id : NodeId) (fs : List FormattingEntry) → AreFormatsBound k fs → AreFormatsBound k (climb_drop left id fs)
   drop-bound k left id fs a = by (left == 0)
     where
       by : (v : Bool) → AreFormatsBound k (if v then without_entry id fs else fs)
@@ -113,7 +113,7 @@ module _ (Coming : (NodeId → Bool) → NodeId → Type 0) (law : Follows Comin
   climb-fits : (o : List Op) (left : ℕ) (es : List OpenElement) (c : Climb) → ClimbFits o c → ClimbFits o (climb left es c)
   climb-fits o left [] c f = f
   climb-fits o left (e ∷ es) c f =
-      let fs : List Format = climb_drop left e.id c.formats in
+      let fs : List FormattingEntry = climb_drop left e.id c.formats in
       climb-fits o (left - 1) es (climb_one left e.id c) (clone-fits o e.id (tag_of_entry e.id fs) (climb_at fs c.next c.ops c.kept c.last c.bookmark) (record {
         bound = f.bound;
         more = f.more;
@@ -127,7 +127,7 @@ module _ (Coming : (NodeId → Bool) → NodeId → Type 0) (law : Follows Comin
   abbrev TurnFits : Turned → Type 0
   TurnFits c = AreOpsBound known c.ops × Serves Coming (after c.ops) c.open_state
 
-  bookmark-bound : (k : NodeId → Bool) (f clone : NodeId) (tag : Tag) (m : Option NodeId) (fs : List Format) → IsTrue (k clone) → AreFormatsBound k fs → AreFormatsBound k (put_at_bookmark f clone tag m fs)
+  bookmark-bound : (k : NodeId → Bool) (f clone : NodeId) (tag : Tag) (m : Option NodeId) (fs : List FormattingEntry) → IsTrue (k clone) → AreFormatsBound k fs → AreFormatsBound k (put_at_bookmark f clone tag m fs)
   bookmark-bound k f clone tag None fs i a = with_id-bound k f clone fs i a
   bookmark-bound k f clone tag (Some m) fs i a = without_entry-bound k f (with_behind m (Element clone tag) fs) (with_behind-bound k m clone tag fs i a)
 

@@ -14,8 +14,8 @@ use Rattle.html_types.specs.declared.operation.Place.TheVariants.{Inside}
 use Rattle.html_types.specs.declared.operation.Op.{Op}
 use Rattle.html_types.specs.declared.operation.Op.TheVariants as op
 use Rattle.html_types.specs.declared.open.OpenElement.{OpenElement}
-use Rattle.html_types.specs.declared.open.Format.{Format}
-use Rattle.html_types.specs.declared.open.Format.TheVariants.{Element}
+use Rattle.html_types.specs.declared.open.FormattingEntry.{FormattingEntry}
+use Rattle.html_types.specs.declared.open.FormattingEntry.TheVariants.{Element}
 use Rattle.html_types.specs.declared.open.Open.{Open}
 use Rattle.standard.specs.Elements.{is_word}
 use Rattle.standard.specs.Foreign.{opened}
@@ -30,7 +30,7 @@ module _ (r : NodeId → NodeId) where
   abbrev stack_of : List OpenElement → List OpenElement
   stack_of es = map (rename_element r) es
 
-  abbrev list_of : List Format → List Format
+  abbrev list_of : List FormattingEntry → List FormattingEntry
   list_of fs = map (rename_format r) fs
 
   abbrev rename_climb : Climb → Climb
@@ -46,11 +46,11 @@ module _ (r : NodeId → NodeId) where
   bookmark_or-renamed None id = refl
   bookmark_or-renamed (Some m) id = refl
 
-  same_climb : {x x' : List Format} {n n' : NodeId} {o o' : List Op} {k k' : List OpenElement} {l l' : NodeId} {m m' : Option NodeId}
+  same_climb : {x x' : List FormattingEntry} {n n' : NodeId} {o o' : List Op} {k k' : List OpenElement} {l l' : NodeId} {m m' : Option NodeId}
       → x ≡ x' → n ≡ n' → o ≡ o' → k ≡ k' → l ≡ l' → m ≡ m' → climb_at x n o k l m ≡ climb_at x' n' o' k' l' m'
   same_climb a b c d e g = cc
 
-  same_turned : (b : Open) {es es' : List OpenElement} {fs fs' : List Format} {n n' : NodeId} {o o' : List Op}
+  same_turned : (b : Open) {es es' : List OpenElement} {fs fs' : List FormattingEntry} {n n' : NodeId} {o o' : List Op}
       → es ≡ es' → fs ≡ fs' → n ≡ n' → o ≡ o' → turned (record b { stack = es; formats = fs; next = n }) o More ≡ turned (record b { stack = es'; formats = fs'; next = n' }) o' More
   same_turned b p q s t = cc
 
@@ -60,12 +60,12 @@ module _ (r : NodeId → NodeId) where
     climb_clone-renamed id (Some tag) c n =
         same_climb (with_id-renamed r n.apart id c.next c.formats) (sym (n.in_order 1)) (simp map-append) (sym (map-append (rename_element r) c.kept _)) refl (bookmark_or-renamed c.bookmark c.next)
 
-    climb_drop-renamed : ((a b : NodeId) → same_id (r a) (r b) ≡ same_id a b) → (left : ℕ) (id : NodeId) (fs : List Format) → climb_drop left (r id) (list_of fs) ≡ list_of (climb_drop left id fs)
+    climb_drop-renamed : ((a b : NodeId) → same_id (r a) (r b) ≡ same_id a b) → (left : ℕ) (id : NodeId) (fs : List FormattingEntry) → climb_drop left (r id) (list_of fs) ≡ list_of (climb_drop left id fs)
     climb_drop-renamed apart left id fs = of_two list_of (left == 0) (left == 0) (without_entry id fs) fs _ _ refl (without_entry-renamed r apart id fs) refl
 
     climb_one-renamed : (left : ℕ) (id : NodeId) (c : Climb) → Renames r c.next → climb_one left (r id) (rename_climb c) ≡ rename_climb (climb_one left id c)
     climb_one-renamed left id c n =
-        let fs : List Format = climb_drop left id c.formats in
+        let fs : List FormattingEntry = climb_drop left id c.formats in
         ap (λ l. climb_clone (r id) (tag_of_entry (r id) l) (climb_at l (r c.next) (rename_ops r c.ops) (stack_of c.kept) (r c.last) (option_map r c.bookmark))) (climb_drop-renamed n.apart left id c.formats)
         ∙ (ap (λ t. climb_clone (r id) t (climb_at (list_of fs) (r c.next) (rename_ops r c.ops) (stack_of c.kept) (r c.last) (option_map r c.bookmark))) (tag_of_entry-renamed r n.apart id fs)
         ∙ climb_clone-renamed id (tag_of_entry id fs) (climb_at fs c.next c.ops c.kept c.last c.bookmark) n)
@@ -76,7 +76,7 @@ module _ (r : NodeId → NodeId) where
         ap (climb (left - 1) (stack_of es)) (climb_one-renamed left e.id c n)
         ∙ climb-renamed (left - 1) es (climb_one left e.id c) (climb_one-grows (Renames r) one left e.id c n)
 
-    put_at_bookmark-renamed : ((a b : NodeId) → same_id (r a) (r b) ≡ same_id a b) → (f clone : NodeId) (tag : Tag) (m : Option NodeId) (fs : List Format)
+    put_at_bookmark-renamed : ((a b : NodeId) → same_id (r a) (r b) ≡ same_id a b) → (f clone : NodeId) (tag : Tag) (m : Option NodeId) (fs : List FormattingEntry)
         → put_at_bookmark (r f) (r clone) tag (option_map r m) (list_of fs) ≡ list_of (put_at_bookmark f clone tag m fs)
     put_at_bookmark-renamed apart f clone tag None fs = with_id-renamed r apart f clone fs
     put_at_bookmark-renamed apart f clone tag (Some m) fs =

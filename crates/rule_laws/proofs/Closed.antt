@@ -27,8 +27,8 @@ use Rattle.html_types.specs.declared.operation.Place.TheVariants.{Page}
 use Rattle.html_types.specs.declared.operation.Op.{Op}
 use Rattle.html_types.specs.declared.open.Open.{Open}
 use Rattle.html_types.specs.declared.open.OpenElement.{OpenElement}
-use Rattle.html_types.specs.declared.open.Format.{Format}
-use Rattle.html_types.specs.declared.open.Format.TheVariants.{Element}
+use Rattle.html_types.specs.declared.open.FormattingEntry.{FormattingEntry}
+use Rattle.html_types.specs.declared.open.FormattingEntry.TheVariants.{Element}
 use Rattle.standard.specs.WhiteSpace.{is_space}
 use Rattle.standard.specs.Elements.{is_word, is_meant, is_one_of}
 use Rattle.standard.specs.Foreign.{opened, adjusted, tag_in, foreign_tag}
@@ -49,7 +49,7 @@ pub record IsClosed (R : Open → Open → Type 0) : Type 0 where
   pub thins : (b : Open) (es : List OpenElement) → Thinned b.stack es → R b (record b { stack = es })
   -- an id is given
   pub gives : (b : Open) → R b (record b { next = later 1 b.next })
-  pub lists : (b : Open) (fs : List Format) → R b (record b { formats = fs })
+  pub lists : (b : Open) (fs : List FormattingEntry) → R b (record b { formats = fs })
   pub points : (b : Open) (head form : Option NodeId) → R b (record b { head = head; form = form })
   pub marks : (b : Open) (ok quirks skip foster : Bool) → R b (record b { frameset_ok = ok; quirks = quirks; skip_line_feed = skip; foster = foster })
 
@@ -68,21 +68,21 @@ is_plain (ins.Need c) = false
 is_plain (ins.Forbid c) = false
 is_plain (ins.When c) = false
 is_plain (ins.Unless c) = false
-is_plain (ins.Enter m) = false
-is_plain ins.KeepMode = false
-is_plain ins.Restore = false
+is_plain (ins.SwitchMode m) = false
+is_plain ins.SaveMode = false
+is_plain ins.RestoreMode = false
 is_plain (ins.PushTemplateMode m) = false
 is_plain ins.PopTemplateMode = false
-is_plain ins.Reset = false
+is_plain ins.ResetMode = false
 is_plain ins.AppendPending = false
 is_plain ins.InsertPending = false
 is_plain ins.Adopt = false
 is_plain ins.AdoptAnchor = false
 is_plain ins.AdoptNobr = false
-is_plain (ins.Switch r) = false
-is_plain (ins.Using m) = false
-is_plain ins.Foster = false
-is_plain ins.Again = false
+is_plain (ins.SwitchTokenizer r) = false
+is_plain (ins.UsingRules m) = false
+is_plain ins.InBodyFostering = false
+is_plain ins.Reprocess = false
 is_plain ins.StopAtScript = false
 is_plain ins.Finish = false
 is_plain ins.BreakOut = false
@@ -205,9 +205,9 @@ module _ (R : Open → Open → Type 0) (c : IsClosed R) where
   step-went (ins.InsertA w) t b o p = insert-went (tag_of w) b o
   step-went ins.InsertRoot t b o p = for_tag-went insert_root (insert_at-went Page) t b o
   step-went ins.InsertRootA t b o p = insert_at-went Page (tag_of word.Html) b o
-  step-went ins.Void t b o p = for_tag-went void void-went t b o
-  step-went (ins.VoidA w) t b o p = void-went (tag_of w) b o
-  step-went (ins.VoidAs w) t b o p = for_tag-went (void_as w) (λ tag. void-went (named w tag)) t b o
+  step-went ins.InsertAndPop t b o p = for_tag-went void void-went t b o
+  step-went (ins.InsertAndPopA w) t b o p = void-went (tag_of w) b o
+  step-went (ins.InsertAndPopAs w) t b o p = for_tag-went (void_as w) (λ tag. void-went (named w tag)) t b o
   step-went ins.InsertForeign t b o p = for_tag-went insert_foreign (λ tag b' o'. insert-went (foreign_tag (space_or_html (adjusted b')) tag) b' o') t b o
   step-went (ins.InsertIn s) t b o p = for_tag-went (insert_in s) (λ tag. insert-went (tag_in s tag)) t b o
   step-went ins.InsertReplacement t b o p = (c.same b, refl)
@@ -217,29 +217,29 @@ module _ (R : Open → Open → Type 0) (c : IsClosed R) where
   step-went ins.CommentToRoot t b o p = insert_comment-went (end_of (first_open b.stack)) t b o
   step-went ins.AppendDoctype t b o p = append_doctype-went t b o
   step-went ins.Pop t b o p = thinned b o (pop b.stack) (thin-pop b.stack)
-  step-went (ins.Until w) t b o p = thinned b o (until (is_meant w t) b.stack) (thin-until (is_meant w t) b.stack)
-  step-went (ins.PopTo g) t b o p = thinned b o (pop_to (is_one_of g) b.stack) (thin-pop_to (is_one_of g) b.stack)
+  step-went (ins.PopUntil w) t b o p = thinned b o (until (is_meant w t) b.stack) (thin-until (is_meant w t) b.stack)
+  step-went (ins.ClearBackTo g) t b o p = thinned b o (pop_to (is_one_of g) b.stack) (thin-pop_to (is_one_of g) b.stack)
   step-went ins.PopToRoot t b o p = thinned b o (pop_to_root b.stack) (thin-pop_to_root b.stack)
-  step-went ins.Implied t b o p = thinned b o (implied (is_meant who.Nobody t) b.stack) (thin-implied (is_meant who.Nobody t) b.stack)
-  step-went ins.ImpliedThoroughly t b o p = thinned b o (implied_thoroughly b.stack) (thin-implied_thoroughly b.stack)
-  step-went (ins.ImpliedBut w) t b o p = thinned b o (implied (is_meant w t) b.stack) (thin-implied (is_meant w t) b.stack)
+  step-went ins.GenerateImplied t b o p = thinned b o (implied (is_meant who.Nobody t) b.stack) (thin-implied (is_meant who.Nobody t) b.stack)
+  step-went ins.GenerateImpliedThoroughly t b o p = thinned b o (implied_thoroughly b.stack) (thin-implied_thoroughly b.stack)
+  step-went (ins.GenerateImpliedBut w) t b o p = thinned b o (implied (is_meant w t) b.stack) (thin-implied (is_meant w t) b.stack)
   step-went (ins.Close s w) t b o p = thinned b o (close s (is_meant w t) b.stack) (thin-close s (is_meant w t) b.stack)
   step-went (ins.CloseItem w) t b o p = thinned b o (close_item (is_meant w t) b.stack) (thin-close_item (is_meant w t) b.stack)
   step-went ins.AnyOtherEnd t b o p = thinned b o (other_end (is_meant who.Own t) b.stack) (thin-other_end (is_meant who.Own t) b.stack)
   step-went ins.Reconstruct t b o p = reconstruct-went b o
-  step-went ins.List t b o p = for_tag-went enlist (λ tag b' o'. (c.lists b' _, refl)) t b o
-  step-went ins.Marker t b o p = (c.lists b _, refl)
+  step-went ins.PushFormatting t b o p = for_tag-went enlist (λ tag b' o'. (c.lists b' _, refl)) t b o
+  step-went ins.PushMarker t b o p = (c.lists b _, refl)
   step-went ins.ClearToMarker t b o p = (c.lists b _, refl)
   step-went (ins.TakeOff i) t b o p =
       let b' : Open = record b { stack = without_open (Some i) b.stack } in
       (c.onward b b' _ (c.thins b (without_open (Some i) b.stack) (thin-without_open (Some i) b.stack)) (c.lists b' _), refl)
-  step-went ins.NotOk t b o p = marked b o false b.quirks b.skip_line_feed
+  step-went ins.FramesetNotOk t b o p = marked b o false b.quirks b.skip_line_feed
   step-went ins.BecomeQuirky t b o p = marked b o b.frameset_ok true b.skip_line_feed
   step-went ins.SkipLineFeed t b o p = marked b o b.frameset_ok b.quirks true
-  step-went ins.PointHead t b o p = pointed b o _ b.form
+  step-went ins.SetHeadPointer t b o p = pointed b o _ b.form
   step-went ins.PushHead t b o p = push_head-went b.head b o
   step-went ins.TakeHeadOff t b o p = thinned b o (without_open b.head b.stack) (thin-without_open b.head b.stack)
-  step-went ins.PointForm t b o p = pointed b o b.head _
+  step-went ins.SetFormPointer t b o p = pointed b o b.head _
   step-went ins.EndForm t b o p = end_form-went (is_meant who.Nobody t) b o
   step-went ins.AddToFirst t b o p = for_tag-went (add_attributes (first_open b.stack)) (add_attributes-went (first_open b.stack)) t b o
   step-went ins.AddToSecond t b o p = for_tag-went (add_attributes (second_open b.stack)) (add_attributes-went (second_open b.stack)) t b o
@@ -315,21 +315,21 @@ module _ (R : Open → Open → Type 0) (c : IsClosedWhole R) where
   step-in (ins.Forbid x) t b o = same b
   step-in (ins.When x) t b o = same b
   step-in (ins.Unless x) t b o = same b
-  step-in (ins.Enter m) t b o = entered b m b.original
-  step-in ins.KeepMode t b o = entered b b.mode (Some b.mode)
-  step-in ins.Restore t b o = entered b _ None
+  step-in (ins.SwitchMode m) t b o = entered b m b.original
+  step-in ins.SaveMode t b o = entered b b.mode (Some b.mode)
+  step-in ins.RestoreMode t b o = entered b _ None
   step-in (ins.PushTemplateMode m) t b o = templates-in b (m ∷ b.template_modes)
   step-in ins.PopTemplateMode t b o = templates-in b (pop_mode b.template_modes)
-  step-in ins.Reset t b o = entered b _ b.original
+  step-in ins.ResetMode t b o = entered b _ b.original
   step-in ins.AppendPending t b o = append_pending-in t b o
   step-in ins.InsertPending t b o = insert_pending-in b o
   step-in ins.Adopt t b o = adopt-in t b o
   step-in ins.AdoptAnchor t b o = anchor-in (entry_named (is_word word.A) b.formats) b o
   step-in ins.AdoptNobr t b o = same b
-  step-in (ins.Switch x) t b o = same b
-  step-in (ins.Using m) t b o = same b
-  step-in ins.Foster t b o = c.parts.marks b b.frameset_ok b.quirks b.skip_line_feed true
-  step-in ins.Again t b o = same b
+  step-in (ins.SwitchTokenizer x) t b o = same b
+  step-in (ins.UsingRules m) t b o = same b
+  step-in ins.InBodyFostering t b o = c.parts.marks b b.frameset_ok b.quirks b.skip_line_feed true
+  step-in ins.Reprocess t b o = same b
   step-in ins.StopAtScript t b o = script-in b.stack b o (thin-same b.stack)
   step-in ins.Finish t b o = same b
   step-in ins.BreakOut t b o = c.parts.thins b (pop_foreign b.stack) (thin-pop_foreign b.stack)
@@ -372,9 +372,9 @@ module _ (R : Open → Open → Type 0) (c : IsClosedWhole R) where
       c.parts.onward b a.open_state (with_adoption t a.open_state a.ops a.next).open_state (by_mode-in m t b o) (with_adoption-in t a.open_state a.ops a.next)
 
   round-in : (t : Token) (more : Mode → Answer) (b : Open) (o : List Op) (n : Next) → ((m : Mode) → R b (more m).open_state) → R b (go_round more b o (round_after t b n)).open_state
-  round-in t more b o next.Again each = each (rules_for t b)
-  round-in t more b o (next.Using m) each = each m
-  round-in t more b o next.Foster each = each InBody
+  round-in t more b o next.Reprocess each = each (rules_for t b)
+  round-in t more b o (next.UsingRules m) each = each m
+  round-in t more b o next.InBodyFostering each = each InBody
   round-in t more b o _ each = same b
 
   pub process-in : (n : ℕ) (m : Mode) (t : Token) (b : Open) (o : List Op) → R b (process n m t b o).open_state

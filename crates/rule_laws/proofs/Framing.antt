@@ -25,7 +25,7 @@ use Rattle.html_types.specs.declared.operation.Place.{Place}
 use Rattle.html_types.specs.declared.operation.Place.TheVariants.{Page}
 use Rattle.html_types.specs.declared.operation.Op.{Op}
 use Rattle.html_types.specs.declared.open.OpenElement.{OpenElement}
-use Rattle.html_types.specs.declared.open.Format.TheVariants.{Element}
+use Rattle.html_types.specs.declared.open.FormattingEntry.TheVariants.{Element}
 use Rattle.html_types.specs.declared.open.Open.{Open}
 use Rattle.standard.specs.Elements.{is_word, is_meant}
 use Rattle.standard.specs.Foreign.{adjusted, tag_in, foreign_tag}
@@ -179,9 +179,9 @@ step-framed p ins.Insert t b o = by_tag p insert t b o (λ tag. insert-framed p 
 step-framed p (ins.InsertA w) t b o = insert-framed p (here b) (tag_of w) b o
 step-framed p ins.InsertRoot t b o = by_tag p insert_root t b o (λ tag. insert-framed p Page tag b o)
 step-framed p ins.InsertRootA t b o = insert-framed p Page (tag_of word.Html) b o
-step-framed p ins.Void t b o = by_tag p void t b o (λ tag. void-framed p tag b o)
-step-framed p (ins.VoidA w) t b o = void-framed p (tag_of w) b o
-step-framed p (ins.VoidAs w) t b o = by_tag p (void_as w) t b o (λ tag. void-framed p (named w tag) b o)
+step-framed p ins.InsertAndPop t b o = by_tag p void t b o (λ tag. void-framed p tag b o)
+step-framed p (ins.InsertAndPopA w) t b o = void-framed p (tag_of w) b o
+step-framed p (ins.InsertAndPopAs w) t b o = by_tag p (void_as w) t b o (λ tag. void-framed p (named w tag) b o)
 step-framed p ins.InsertForeign t b o = by_tag p insert_foreign t b o (λ tag. insert-framed p (here b) (foreign_tag (space_or_html (adjusted b)) tag) b o)
 step-framed p (ins.InsertIn s) t b o = by_tag p (insert_in s) t b o (λ tag. insert-framed p (here b) (tag_in s tag) b o)
 step-framed p ins.InsertReplacement t b o = one_more p b o _
@@ -192,7 +192,7 @@ step-framed p ins.CommentToPage t b o = comment-framed p Page t b o
 step-framed p ins.CommentToRoot t b o = comment-framed p (end_of (first_open b.stack)) t b o
 step-framed p ins.AppendDoctype t b o = doctype-framed p t b o
 step-framed p ins.Reconstruct t b o = reconstruct-framed p b o
-step-framed p ins.List t b o = by_tag p enlist t b o (λ tag. refl)
+step-framed p ins.PushFormatting t b o = by_tag p enlist t b o (λ tag. refl)
 step-framed p ins.PushHead t b o = head-framed p b.head b o
 step-framed p ins.EndForm t b o = form-framed p (is_meant who.Nobody t) b o
 step-framed p ins.AddToFirst t b o = by_tag p (add_attributes (first_open b.stack)) t b o (λ tag. attributes-framed p (first_open b.stack) tag b o)
@@ -231,10 +231,10 @@ adopting-behind p w h t b o =
 adoption-behind : (p : List Op) (t : Token) (b : Open) (o : List Op) (n : Next) → with_adoption t b (p ++ o) n ≡ answer_behind p (with_adoption t b o n)
 adoption-behind p t b o (next.Adopt w h) = adopting-behind p w h t b o
 adoption-behind p t b o next.Done = refl
-adoption-behind p t b o next.Again = refl
-adoption-behind p t b o (next.Using m) = refl
-adoption-behind p t b o next.Foster = refl
-adoption-behind p t b o (next.Switch r) = refl
+adoption-behind p t b o next.Reprocess = refl
+adoption-behind p t b o (next.UsingRules m) = refl
+adoption-behind p t b o next.InBodyFostering = refl
+adoption-behind p t b o (next.SwitchTokenizer r) = refl
 adoption-behind p t b o (next.Script i) = refl
 adoption-behind p t b o next.Deep = refl
 adoption-behind p t b o next.Finished = refl

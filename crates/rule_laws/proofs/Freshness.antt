@@ -27,7 +27,7 @@ use Rattle.html_types.specs.declared.operation.Place.TheVariants.{Page}
 use Rattle.html_types.specs.declared.operation.Op.{Op}
 use Rattle.html_types.specs.declared.operation.Op.TheVariants as op
 use Rattle.html_types.specs.declared.open.OpenElement.{OpenElement}
-use Rattle.html_types.specs.declared.open.Format.TheVariants.{Element}
+use Rattle.html_types.specs.declared.open.FormattingEntry.TheVariants.{Element}
 use Rattle.html_types.specs.declared.open.Open.{Open}
 use Rattle.standard.specs.Elements.{is_word, is_meant, is_one_of}
 use Rattle.standard.specs.Foreign.{adjusted, tag_in, foreign_tag}
@@ -189,7 +189,7 @@ module _ (Coming : (NodeId → Bool) → NodeId → Type 0) (law : Follows Comin
   text-fits EndOfFile b o f = f
 
   comment-fits : (at : Place) (t : Token) (b : Open) (o : List Op) → Fits b o On → IsPlaceBound (after o) at → ConfigFits (insert_comment at t b o)
-  comment-fits at (Comment text) b o f p = one_more b o (op.Note at text) refl f p
+  comment-fits at (Comment text) b o f p = one_more b o (op.Comment at text) refl f p
   comment-fits at (StartTag tag) b o f p = f
   comment-fits at (EndTag tag) b o f p = f
   comment-fits at (Character c) b o f p = f
@@ -327,13 +327,13 @@ module _ (Coming : (NodeId → Bool) → NodeId → Type 0) (law : Follows Comin
   step-fits (ins.InsertA w) t b o f = insert-fits (here b) (tag_of w) b o f (here-bound b o f)
   step-fits ins.InsertRoot t b o f = by_tag insert_root t b o f (λ tag. insert-fits Page tag b o f tt)
   step-fits ins.InsertRootA t b o f = insert-fits Page (tag_of word.Html) b o f tt
-  step-fits ins.Void t b o f = by_tag void t b o f (λ tag. void-fits tag b o f)
-  step-fits (ins.VoidA w) t b o f = void-fits (tag_of w) b o f
-  step-fits (ins.VoidAs w) t b o f = by_tag (void_as w) t b o f (λ tag. void-fits (named w tag) b o f)
+  step-fits ins.InsertAndPop t b o f = by_tag void t b o f (λ tag. void-fits tag b o f)
+  step-fits (ins.InsertAndPopA w) t b o f = void-fits (tag_of w) b o f
+  step-fits (ins.InsertAndPopAs w) t b o f = by_tag (void_as w) t b o f (λ tag. void-fits (named w tag) b o f)
   step-fits ins.InsertForeign t b o f = by_tag insert_foreign t b o f (λ tag. insert-fits (here b) (foreign_tag (space_or_html (adjusted b)) tag) b o f (here-bound b o f))
   step-fits (ins.InsertIn s) t b o f = by_tag (insert_in s) t b o f (λ tag. insert-fits (here b) (tag_in s tag) b o f (here-bound b o f))
   step-fits ins.InsertReplacement t b o f = one_more b o (op.Text (here b) (0xFFFD ∷ [])) refl f (here-bound b o f)
-  step-fits ins.BreakOut t b o f = with_stack b o _ (Leave (next.Using b.mode)) f (pop_foreign-bound (after o) b.stack f.1.stack_bound) tt
+  step-fits ins.BreakOut t b o f = with_stack b o _ (Leave (next.UsingRules b.mode)) f (pop_foreign-bound (after o) b.stack f.1.stack_bound) tt
   step-fits ins.ForeignEnd t b o f =
       by_tag end_foreign t b o f (λ tag. foreign-fits (foreign_end (name_text tag.name) b.stack b.stack) b o f (foreign_end-bound (after o) (name_text tag.name) b.stack b.stack f.1.stack_bound f.1.stack_bound))
   step-fits ins.InsertText t b o f = text-fits t b o f
@@ -342,27 +342,27 @@ module _ (Coming : (NodeId → Bool) → NodeId → Type 0) (law : Follows Comin
   step-fits ins.CommentToRoot t b o f = comment-fits (end_of (first_open b.stack)) t b o f (end_of-bound o (first_open b.stack) (first_open-bound (after o) b.stack f.1.stack_bound))
   step-fits ins.AppendDoctype t b o f = doctype-fits t b o f
   step-fits ins.Pop t b o f = with_stack b o _ On f (pop-bound (after o) b.stack f.1.stack_bound) tt
-  step-fits (ins.Until w) t b o f = with_stack b o _ On f (until-bound (after o) (is_meant w t) b.stack f.1.stack_bound) tt
-  step-fits (ins.PopTo g) t b o f = with_stack b o _ On f (pop_to-bound (after o) (is_one_of g) b.stack f.1.stack_bound) tt
+  step-fits (ins.PopUntil w) t b o f = with_stack b o _ On f (until-bound (after o) (is_meant w t) b.stack f.1.stack_bound) tt
+  step-fits (ins.ClearBackTo g) t b o f = with_stack b o _ On f (pop_to-bound (after o) (is_one_of g) b.stack f.1.stack_bound) tt
   step-fits ins.PopToRoot t b o f = with_stack b o _ On f (pop_to_root-bound (after o) b.stack f.1.stack_bound) tt
-  step-fits ins.Implied t b o f = with_stack b o _ On f (implied-bound (after o) (is_meant who.Nobody t) b.stack f.1.stack_bound) tt
-  step-fits ins.ImpliedThoroughly t b o f = with_stack b o _ On f (thoroughly-bound (after o) b.stack f.1.stack_bound) tt
-  step-fits (ins.ImpliedBut w) t b o f = with_stack b o _ On f (implied-bound (after o) (is_meant w t) b.stack f.1.stack_bound) tt
+  step-fits ins.GenerateImplied t b o f = with_stack b o _ On f (implied-bound (after o) (is_meant who.Nobody t) b.stack f.1.stack_bound) tt
+  step-fits ins.GenerateImpliedThoroughly t b o f = with_stack b o _ On f (thoroughly-bound (after o) b.stack f.1.stack_bound) tt
+  step-fits (ins.GenerateImpliedBut w) t b o f = with_stack b o _ On f (implied-bound (after o) (is_meant w t) b.stack f.1.stack_bound) tt
   step-fits (ins.Close s w) t b o f = with_stack b o _ On f (close-bound (after o) s (is_meant w t) b.stack f.1.stack_bound) tt
   step-fits (ins.CloseItem w) t b o f = with_stack b o _ On f (close_item-bound (after o) (is_meant w t) b.stack f.1.stack_bound) tt
   step-fits ins.AnyOtherEnd t b o f = with_stack b o _ On f (other_end-bound (after o) (is_meant who.Own t) b.stack f.1.stack_bound) tt
   step-fits ins.Reconstruct t b o f = reconstruct-fits b o f
-  step-fits ins.List t b o f = by_tag enlist t b o f (λ tag. entry-fits tag b o f)
+  step-fits ins.PushFormatting t b o f = by_tag enlist t b o f (λ tag. entry-fits tag b o f)
   step-fits (ins.TakeOff i) t b o f =
       (f.0, record { stack_bound = without_open-bound (after o) (Some i) b.stack f.1.stack_bound; formats_bound = without_entry-bound (after o) i b.formats f.1.formats_bound; head_bound = f.1.head_bound; form_bound = f.1.form_bound; coming = f.1.coming }, tt)
-  step-fits ins.Marker t b o f = (f.0, record { stack_bound = f.1.stack_bound; formats_bound = f.1.formats_bound; head_bound = f.1.head_bound; form_bound = f.1.form_bound; coming = f.1.coming }, tt)
+  step-fits ins.PushMarker t b o f = (f.0, record { stack_bound = f.1.stack_bound; formats_bound = f.1.formats_bound; head_bound = f.1.head_bound; form_bound = f.1.form_bound; coming = f.1.coming }, tt)
   step-fits ins.ClearToMarker t b o f =
       (f.0, record { stack_bound = f.1.stack_bound; formats_bound = clear_to_marker-bound (after o) b.formats f.1.formats_bound; head_bound = f.1.head_bound; form_bound = f.1.form_bound; coming = f.1.coming }, tt)
-  step-fits ins.PointHead t b o f =
+  step-fits ins.SetHeadPointer t b o f =
       (f.0, record { stack_bound = f.1.stack_bound; formats_bound = f.1.formats_bound; head_bound = current_id-bound (after o) b.stack f.1.stack_bound; form_bound = f.1.form_bound; coming = f.1.coming }, tt)
   step-fits ins.PushHead t b o f = head-fits b.head b o f f.1.head_bound
   step-fits ins.TakeHeadOff t b o f = with_stack b o _ On f (without_open-bound (after o) b.head b.stack f.1.stack_bound) tt
-  step-fits ins.PointForm t b o f =
+  step-fits ins.SetFormPointer t b o f =
       (f.0, record { stack_bound = f.1.stack_bound; formats_bound = f.1.formats_bound; head_bound = f.1.head_bound; form_bound = current_id-bound (after o) b.stack f.1.stack_bound; coming = f.1.coming }, tt)
   step-fits ins.EndForm t b o f = form-fits (is_meant who.Nobody t) b o f
   step-fits ins.AddToFirst t b o f = by_tag (add_attributes (first_open b.stack)) t b o f (λ tag. attributes-fit (first_open b.stack) tag b o f (first_open-bound (after o) b.stack f.1.stack_bound))
@@ -419,10 +419,10 @@ module _ (Coming : (NodeId → Bool) → NodeId → Type 0) (law : Follows Comin
   pub adoption-fits : (t : Token) (b : Open) (o : List Op) (n : Next) → AreOpsBound known o × State o b × IsNextBound (after o) n → AnswerFits (with_adoption t b o n)
   adoption-fits t b o (next.Adopt w h) f = adopting-fits w h t b o (f.0, f.1, tt)
   adoption-fits t b o next.Done f = f
-  adoption-fits t b o next.Again f = f
-  adoption-fits t b o (next.Using m) f = f
-  adoption-fits t b o next.Foster f = f
-  adoption-fits t b o (next.Switch r) f = f
+  adoption-fits t b o next.Reprocess f = f
+  adoption-fits t b o (next.UsingRules m) f = f
+  adoption-fits t b o next.InBodyFostering f = f
+  adoption-fits t b o (next.SwitchTokenizer r) f = f
   adoption-fits t b o (next.Script i) f = f
   adoption-fits t b o next.Deep f = f
   adoption-fits t b o next.Finished f = f
@@ -434,12 +434,12 @@ module _ (Coming : (NodeId → Bool) → NodeId → Type 0) (law : Follows Comin
 
   round-fits : (t : Token) (more : Mode → Answer) (b : Open) (o : List Op) (n : Next) → AreOpsBound known o × State o b × IsNextBound (after o) n
       → ((m : Mode) → AnswerFits (more m)) → AnswerFits (go_round more b o (round_after t b n))
-  round-fits t more b o next.Again f h = h (rules_for t b)
-  round-fits t more b o (next.Using m) f h = h m
-  round-fits t more b o next.Foster f h = h InBody
+  round-fits t more b o next.Reprocess f h = h (rules_for t b)
+  round-fits t more b o (next.UsingRules m) f h = h m
+  round-fits t more b o next.InBodyFostering f h = h InBody
   round-fits t more b o (next.Adopt w i) f h = f
   round-fits t more b o next.Done f h = f
-  round-fits t more b o (next.Switch r) f h = f
+  round-fits t more b o (next.SwitchTokenizer r) f h = f
   round-fits t more b o (next.Script i) f h = f
   round-fits t more b o next.Deep f h = f
   round-fits t more b o next.Finished f h = f

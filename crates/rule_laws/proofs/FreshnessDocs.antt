@@ -97,7 +97,7 @@ unfolding act
 act-binds d (op.Make i name attributes) id = inserted id i _ d.bound
 act-binds d (op.Put i place) id = refl
 act-binds d (op.Text place text) id = refl
-act-binds d (op.Note place text) id = refl
+act-binds d (op.Comment place text) id = refl
 act-binds d (op.Doctype name) id = refl
 act-binds d (op.Detach i) id = refl
 act-binds d (op.MoveChildren from to) id = refl

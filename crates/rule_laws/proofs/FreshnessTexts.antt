@@ -48,13 +48,13 @@ module _ (Coming : (NodeId → Bool) → NodeId → Type 0) (law : Follows Comin
   build_on-bound : (known : NodeId → Bool) (s : TokState) (cr : Bool) (t : Token) (b : Open) (rest : TokState → Took) (n : Next) → Serves Coming known b → IsNextBound known n
       → ((s' : TokState) → TookBound Coming known (rest s')) → TookBound Coming known (build_on s cr t b rest n)
   build_on-bound known s cr t b rest next.Done h i each = each s
-  build_on-bound known s cr t b rest (next.Switch r) h i each = each (read_as r t)
+  build_on-bound known s cr t b rest (next.SwitchTokenizer r) h i each = each (read_as r t)
   build_on-bound known s cr t b rest (next.Script id) h i each = (none-bound known b h, none-stop known (stop.Script id) i)
   build_on-bound known s cr t b rest (next.Adopt w x) h i each = each s
   build_on-bound known s cr t b rest next.Deep h i each = (none-bound known b h, tt)
-  build_on-bound known s cr t b rest next.Again h i each = each s
-  build_on-bound known s cr t b rest (next.Using m) h i each = each s
-  build_on-bound known s cr t b rest next.Foster h i each = each s
+  build_on-bound known s cr t b rest next.Reprocess h i each = each s
+  build_on-bound known s cr t b rest (next.UsingRules m) h i each = each s
+  build_on-bound known s cr t b rest next.InBodyFostering h i each = each s
   build_on-bound known s cr t b rest next.Finished h i each = each s
 
   build-bound : (known : NodeId → Bool) (s : TokState) (cr : Bool) (ts : List Token) (b : Open) → Serves Coming known b → TookBound Coming known (build s cr ts b)
@@ -86,13 +86,13 @@ module _ (Coming : (NodeId → Bool) → NodeId → Type 0) (law : Follows Comin
 
   build_end_on-bound : (known : NodeId → Bool) (s : TokState) (cr : Bool) (b : Open) (rest : Finished) (n : Next) → Serves Coming known b → FinishedBound known rest → FinishedBound known (build_end_on s cr b rest n)
   build_end_on-bound known s cr b rest next.Done h f = f
-  build_end_on-bound known s cr b rest (next.Switch r) h f = f
+  build_end_on-bound known s cr b rest (next.SwitchTokenizer r) h f = f
   build_end_on-bound known s cr b rest (next.Script id) h f = f
   build_end_on-bound known s cr b rest (next.Adopt w x) h f = f
   build_end_on-bound known s cr b rest next.Deep h f = none-bound known b h
-  build_end_on-bound known s cr b rest next.Again h f = f
-  build_end_on-bound known s cr b rest (next.Using m) h f = f
-  build_end_on-bound known s cr b rest next.Foster h f = f
+  build_end_on-bound known s cr b rest next.Reprocess h f = f
+  build_end_on-bound known s cr b rest (next.UsingRules m) h f = f
+  build_end_on-bound known s cr b rest next.InBodyFostering h f = f
   build_end_on-bound known s cr b rest next.Finished h f = none-bound known b h
 
   build_end-bound : (known : NodeId → Bool) (s : TokState) (cr : Bool) (ts : List Token) (b : Open) → Serves Coming known b → FinishedBound known (build_end s cr ts b)

@@ -12,8 +12,8 @@ use Rattle.html_types.specs.declared.operation.Place.{Place}
 use Rattle.html_types.specs.declared.operation.Place.TheVariants.{Page, Inside, Contents, Foster}
 use Rattle.html_types.specs.declared.open.OpenElement.{OpenElement}
 use Rattle.html_types.specs.declared.token.Tag.{Tag}
-use Rattle.html_types.specs.declared.open.Format.{Format}
-use Rattle.html_types.specs.declared.open.Format.TheVariants.{Marker, Element}
+use Rattle.html_types.specs.declared.open.FormattingEntry.{FormattingEntry}
+use Rattle.html_types.specs.declared.open.FormattingEntry.TheVariants.{Marker, Element}
 use Rattle.standard.specs.Elements.{is_word, is_one_of}
 use Rattle.standard.specs.Stack.{in_scope, is_open, current_id, is_empty, pop, until, pop_to, pop_to_root, implied, implied_thoroughly, close, item_found, close_item, end_found, other_end, id_or, foster_place, place_in, place, first_open, second_open, without_open, below, from_on, through, above, with_below, block_below, place_for}
 use Rattle.standard.specs.Formatting.{clear_to_marker, kept, is_like, likes, without_earliest, later_than, entry_on, before_first, renewed, without_entry, with_id, with_behind}
@@ -128,29 +128,29 @@ module _ (known : NodeId → Bool) where
       of_places (foster && is_one_of group.FosterTargets e.name) (foster_place (e ∷ es)) (place_in e) (foster_place-bound (e ∷ es) a)
       (of_places (is_word word.Template e.name) (Contents e.id) (Inside e.id) a.0 a.0)
 
-  pub clear_to_marker-bound : (fs : List Format) → AreFormatsBound known fs → AreFormatsBound known (clear_to_marker fs)
+  pub clear_to_marker-bound : (fs : List FormattingEntry) → AreFormatsBound known fs → AreFormatsBound known (clear_to_marker fs)
   clear_to_marker-bound [] a = tt
   clear_to_marker-bound (Marker ∷ fs) a = a
   clear_to_marker-bound (Element id tag ∷ fs) a = clear_to_marker-bound fs a.1
 
-  of_lists : (v : Bool) (x y : List Format) → AreFormatsBound known x → AreFormatsBound known y → AreFormatsBound known (if v then x else y)
+  of_lists : (v : Bool) (x y : List FormattingEntry) → AreFormatsBound known x → AreFormatsBound known y → AreFormatsBound known (if v then x else y)
   of_lists true x y a b = a
   of_lists false x y a b = b
 
-  pub kept-bound : (st : List OpenElement) (fs : List Format) → AreFormatsBound known fs → AreFormatsBound known (kept st fs)
+  pub kept-bound : (st : List OpenElement) (fs : List FormattingEntry) → AreFormatsBound known fs → AreFormatsBound known (kept st fs)
   kept-bound st [] a = tt
   kept-bound st (Marker ∷ fs) a = a
   kept-bound st (Element id tag ∷ fs) a = of_lists (is_open id st) (Element id tag ∷ fs) (kept st fs) a (kept-bound st fs a.1)
 
   -- ---- an entry more
 
-  without_earliest-bound : (tag : Tag) (fs : List Format) → AreFormatsBound known fs → AreFormatsBound known (without_earliest tag fs)
+  without_earliest-bound : (tag : Tag) (fs : List FormattingEntry) → AreFormatsBound known fs → AreFormatsBound known (without_earliest tag fs)
   without_earliest-bound tag [] a = tt
   without_earliest-bound tag (Marker ∷ fs) a = a
   without_earliest-bound tag (Element id t ∷ fs) a =
       of_lists (is_like tag t && (likes tag fs == 0)) fs (Element id t ∷ without_earliest tag fs) a.1 (a.0, without_earliest-bound tag fs a.1)
 
-  pub list_current-bound : (tag : Tag) (es : List OpenElement) (fs : List Format) → AreOpenBound known es → AreFormatsBound known fs → AreFormatsBound known (list_current tag es fs)
+  pub list_current-bound : (tag : Tag) (es : List OpenElement) (fs : List FormattingEntry) → AreOpenBound known es → AreFormatsBound known fs → AreFormatsBound known (list_current tag es fs)
   list_current-bound tag [] fs a b = b
   list_current-bound tag (e ∷ es) fs a b = (a.0, of_lists (nat_le 3 (likes tag fs)) (without_earliest tag fs) fs (without_earliest-bound tag fs b) b)
 
@@ -196,40 +196,40 @@ module _ (known : NodeId → Bool) where
       of_places (foster && is_one_of group.FosterTargets e.name) (foster_place st) (place_in e) (foster_place-bound st b)
       (of_places (is_word word.Template e.name) (Contents e.id) (Inside e.id) a.0 a.0)
 
-  formats-append : (fs gs : List Format) → AreFormatsBound known fs → AreFormatsBound known gs → AreFormatsBound known (fs ++ gs)
+  formats-append : (fs gs : List FormattingEntry) → AreFormatsBound known fs → AreFormatsBound known gs → AreFormatsBound known (fs ++ gs)
   formats-append [] gs a b = b
   formats-append (Marker ∷ fs) gs a b = formats-append fs gs a b
   formats-append (Element id tag ∷ fs) gs a b = (a.0, formats-append fs gs a.1 b)
 
-  later_than-bound : (id : NodeId) (fs : List Format) → AreFormatsBound known fs → AreFormatsBound known (later_than id fs)
+  later_than-bound : (id : NodeId) (fs : List FormattingEntry) → AreFormatsBound known fs → AreFormatsBound known (later_than id fs)
   later_than-bound id [] a = tt
   later_than-bound id (Marker ∷ fs) a = later_than-bound id fs a
   later_than-bound id (Element i tag ∷ fs) a = of_lists (same_id i id) [] (Element i tag ∷ later_than id fs) tt (a.0, later_than-bound id fs a.1)
 
-  entry_on-bound : (id : NodeId) (fs : List Format) → AreFormatsBound known fs → AreFormatsBound known (entry_on id fs)
+  entry_on-bound : (id : NodeId) (fs : List FormattingEntry) → AreFormatsBound known fs → AreFormatsBound known (entry_on id fs)
   entry_on-bound id [] a = tt
   entry_on-bound id (Marker ∷ fs) a = entry_on-bound id fs a
   entry_on-bound id (Element i tag ∷ fs) a = of_lists (same_id i id) (Element i tag ∷ fs) (entry_on id fs) a (entry_on-bound id fs a.1)
 
-  before_first-bound : (fs : List Format) → AreFormatsBound known fs → AreFormatsBound known (before_first fs)
+  before_first-bound : (fs : List FormattingEntry) → AreFormatsBound known fs → AreFormatsBound known (before_first fs)
   before_first-bound [] a = tt
   before_first-bound (Marker ∷ fs) a = a
   before_first-bound (Element id tag ∷ fs) a = a.1
 
-  renewed-bound : (id : NodeId) (fs : List Format) → IsTrue (known id) → AreFormatsBound known fs → AreFormatsBound known (renewed id fs)
+  renewed-bound : (id : NodeId) (fs : List FormattingEntry) → IsTrue (known id) → AreFormatsBound known fs → AreFormatsBound known (renewed id fs)
   renewed-bound id [] i a = tt
   renewed-bound id (Marker ∷ fs) i a = a
   renewed-bound id (Element j tag ∷ fs) i a = (i, a.1)
 
-  pub without_entry-bound : (id : NodeId) (fs : List Format) → AreFormatsBound known fs → AreFormatsBound known (without_entry id fs)
+  pub without_entry-bound : (id : NodeId) (fs : List FormattingEntry) → AreFormatsBound known fs → AreFormatsBound known (without_entry id fs)
   without_entry-bound id fs a =
       formats-append (later_than id fs) (before_first (entry_on id fs)) (later_than-bound id fs a) (before_first-bound (entry_on id fs) (entry_on-bound id fs a))
 
-  pub with_id-bound : (id new : NodeId) (fs : List Format) → IsTrue (known new) → AreFormatsBound known fs → AreFormatsBound known (with_id id new fs)
+  pub with_id-bound : (id new : NodeId) (fs : List FormattingEntry) → IsTrue (known new) → AreFormatsBound known fs → AreFormatsBound known (with_id id new fs)
   with_id-bound id new fs i a =
       formats-append (later_than id fs) (renewed new (entry_on id fs)) (later_than-bound id fs a) (renewed-bound new (entry_on id fs) i (entry_on-bound id fs a))
 
-  pub with_behind-bound : (id new : NodeId) (tag : Tag) (fs : List Format) → IsTrue (known new) → AreFormatsBound known fs → AreFormatsBound known (with_behind id (Element new tag) fs)
+  pub with_behind-bound : (id new : NodeId) (tag : Tag) (fs : List FormattingEntry) → IsTrue (known new) → AreFormatsBound known fs → AreFormatsBound known (with_behind id (Element new tag) fs)
   with_behind-bound id new tag fs i a = formats-append (later_than id fs) (Element new tag ∷ entry_on id fs) (later_than-bound id fs a) (i, entry_on-bound id fs a)
 
 -- what was bound stays bound where more is
@@ -238,7 +238,7 @@ module _ (known known' : NodeId → Bool) (more : (id : NodeId) → IsTrue (know
   open-more [] a = tt
   open-more (e ∷ es) a = (more e.id a.0, open-more es a.1)
 
-  pub formats-more : (fs : List Format) → AreFormatsBound known fs → AreFormatsBound known' fs
+  pub formats-more : (fs : List FormattingEntry) → AreFormatsBound known fs → AreFormatsBound known' fs
   formats-more [] a = tt
   formats-more (Marker ∷ fs) a = formats-more fs a
   formats-more (Element id tag ∷ fs) a = (more id a.0, formats-more fs a.1)

@@ -64,12 +64,12 @@ plain-character InCell c = refl
 plain-character InSelect c = of_two (c == 0) [] (ins.InsertText ∷ []) refl refl
 plain-character InSelectInTable c = refl
 plain-character InTemplate c = refl
-plain-character AfterBody c = of_two (is_space c) (ins.Using InBody ∷ []) after_body_anything refl refl
+plain-character AfterBody c = of_two (is_space c) (ins.UsingRules InBody ∷ []) after_body_anything refl refl
 plain-character InFrameset c = of_two (is_space c) (ins.InsertText ∷ []) in_frameset_anything refl refl
 plain-character AfterFrameset c = of_two (is_space c) (ins.InsertText ∷ []) after_frameset_anything refl refl
-plain-character AfterAfterBody c = of_two (is_space c) (ins.Using InBody ∷ []) after_after_body_anything refl refl
-plain-character InForeign c = of_two (c == 0) (ins.InsertReplacement ∷ []) _ refl (of_two (is_space c) (ins.InsertText ∷ []) (ins.InsertText ∷ ins.NotOk ∷ []) refl refl)
-plain-character AfterAfterFrameset c = of_two (is_space c) (ins.Using InBody ∷ []) after_after_frameset_anything refl refl
+plain-character AfterAfterBody c = of_two (is_space c) (ins.UsingRules InBody ∷ []) after_after_body_anything refl refl
+plain-character InForeign c = of_two (c == 0) (ins.InsertReplacement ∷ []) _ refl (of_two (is_space c) (ins.InsertText ∷ []) (ins.InsertText ∷ ins.FramesetNotOk ∷ []) refl refl)
+plain-character AfterAfterFrameset c = of_two (is_space c) (ins.UsingRules InBody ∷ []) after_after_frameset_anything refl refl
 
 plain-start : (m : Mode) (n : Name) → plain (start_row m n) ≡ true
 unfolding names_none

@@ -105,9 +105,9 @@ entered InTableText = in_table_text
 entered _ = outside
 
 abbrev behind : Instr → Stage → Stage
-behind (ins.Enter m) s = entered m
-behind ins.KeepMode s = keeping
-behind ins.Restore s = outside
+behind (ins.SwitchMode m) s = entered m
+behind ins.SaveMode s = keeping
+behind ins.RestoreMode s = outside
 behind ins.InsertPending s = inserted
 behind _ s = s
 
@@ -119,23 +119,23 @@ may_enter _ s = is_outside s
 
 -- at which stages it may stand
 abbrev allows : Instr → Stage → Bool
-allows (ins.Enter m) s = may_enter m s
-allows ins.KeepMode s = is_outside s
-allows ins.Restore s = is_in_text s
-allows ins.Reset s = is_outside s
+allows (ins.SwitchMode m) s = may_enter m s
+allows ins.SaveMode s = is_outside s
+allows ins.RestoreMode s = is_in_text s
+allows ins.ResetMode s = is_outside s
 allows (ins.PushTemplateMode m) s = is_main_mode m
 allows ins.AppendPending s = is_in_table_text s
 allows ins.InsertPending s = is_in_table_text s
 allows (ins.Need t) s = is_rest s
 allows (ins.Forbid t) s = is_rest s
-allows (ins.Switch r) s = is_rest s
-allows ins.Again s = is_rest s
+allows (ins.SwitchTokenizer r) s = is_rest s
+allows ins.Reprocess s = is_rest s
 allows ins.StopAtScript s = is_rest s
 allows ins.Finish s = is_rest s
-allows (ins.Using m) s = is_outside s && is_main_mode m
+allows (ins.UsingRules m) s = is_outside s && is_main_mode m
 allows ins.BreakOut s = is_rest s
 allows ins.ForeignEnd s = is_rest s
-allows ins.Foster s = is_outside s
+allows ins.InBodyFostering s = is_outside s
 allows ins.Adopt s = is_outside s
 allows ins.AdoptAnchor s = is_outside s
 allows ins.AdoptNobr s = is_outside s
@@ -162,8 +162,8 @@ Begins m b = Reaches (entered m) b
 
 abbrev Fine : Open → Next → Type 0
 Fine b next.Deep = Unit {0}
-Fine b (next.Using m) = Begins m b
-Fine b next.Foster = Reaches outside b
+Fine b (next.UsingRules m) = Begins m b
+Fine b next.InBodyFostering = Reaches outside b
 Fine b (next.Adopt w h) = Reaches outside b
 Fine b _ = IsProper b
 
@@ -365,11 +365,11 @@ stepped (ins.Need c) s t b o a r = need-stepped (holds c t b) s b a r
 stepped (ins.Forbid c) s t b o a r = forbid-stepped (holds c t b) s b a r
 stepped (ins.When c) s t b o a r = when-stepped (holds c t b) s b r
 stepped (ins.Unless c) s t b o a r = unless-stepped (holds c t b) s b r
-stepped (ins.Enter m) s t b o a r = enter-reaches m s b a r
-stepped ins.KeepMode s t b o a r = let q = is_out s b a r in ((q.0.0, refl, q.0.2), q.1)
-stepped ins.Restore s t b o a r = restored s b a r
-stepped ins.Reset outside t b o a r = ((reset-other b.stack b.head b.template_modes r.1, r.0.1, r.0.2), r.1)
-stepped ins.Reset _ t b o a r = absurd (true≢false (sym a))
+stepped (ins.SwitchMode m) s t b o a r = enter-reaches m s b a r
+stepped ins.SaveMode s t b o a r = let q = is_out s b a r in ((q.0.0, refl, q.0.2), q.1)
+stepped ins.RestoreMode s t b o a r = restored s b a r
+stepped ins.ResetMode outside t b o a r = ((reset-other b.stack b.head b.template_modes r.1, r.0.1, r.0.2), r.1)
+stepped ins.ResetMode _ t b o a r = absurd (true≢false (sym a))
 stepped (ins.PushTemplateMode m) s t b o a r = (r.0, both (is_main_mode m) (are_other b.template_modes) a r.1)
 stepped ins.PopTemplateMode s t b o a r = (r.0, popped-hold is_main_mode b.template_modes r.1)
 stepped ins.AppendPending in_table_text t b o a r = append-stepped t b o r
@@ -379,10 +379,10 @@ stepped ins.InsertPending _ t b o a r = absurd (true≢false (sym a))
 stepped ins.Adopt s t b o a r = adopt-stepped t s b o a r
 stepped ins.AdoptAnchor s t b o a r = anchor-stepped (entry_named (is_word word.A) b.formats) s b o a r
 stepped ins.AdoptNobr s t b o a r = is_out s b a r
-stepped (ins.Switch k) s t b o a r = proper s b a r
-stepped (ins.Using m) s t b o a r = let p = split (is_outside s) (is_main_mode m) a in reaches-other m b p.1 (is_out s b p.0 r)
-stepped ins.Foster s t b o a r = is_out s b a r
-stepped ins.Again s t b o a r = proper s b a r
+stepped (ins.SwitchTokenizer k) s t b o a r = proper s b a r
+stepped (ins.UsingRules m) s t b o a r = let p = split (is_outside s) (is_main_mode m) a in reaches-other m b p.1 (is_out s b p.0 r)
+stepped ins.InBodyFostering s t b o a r = is_out s b a r
+stepped ins.Reprocess s t b o a r = proper s b a r
 stepped ins.StopAtScript s t b o a r = script-stepped b.stack s b o a r
 stepped ins.Finish s t b o a r = proper s b a r
 stepped ins.BreakOut s t b o a r = own (record b { stack = pop_foreign b.stack }) (proper s (record b { stack = pop_foreign b.stack }) a r)
@@ -571,17 +571,17 @@ abbrev EndsWell : Rounds → Type 0
 EndsWell f = (b : Open) (o : List Op) (m : Mode) → Begins m b → End (f b o m)
 
 over-fine : (f : Rounds) → EndsWell f → (t : Token) (b : Open) (o : List Op) (n : Next) → Fine b n → End (goes_round f t (answer b o n))
-over-fine f h t b o next.Again r = h b o (rules_for t b) (begins-for t b r)
-over-fine f h t b o (next.Using m) r = h b o m r
-over-fine f h t b o next.Foster r = h b o InBody r
+over-fine f h t b o next.Reprocess r = h b o (rules_for t b) (begins-for t b r)
+over-fine f h t b o (next.UsingRules m) r = h b o m r
+over-fine f h t b o next.InBodyFostering r = h b o InBody r
 over-fine f h t b o (next.Adopt w k) r = proper outside b refl r
 over-fine f h t b o _ r = r
 
 round-fine : (f : Rounds) → EndsWell f → (t : Token) (b : Open) (o : List Op) (n : Next) → Fine b n → End (goes_round f t (with_adoption t b o n))
 round-fine f h t b o (next.Adopt w k) r = let a : Answer = adopting w k t b o in over-fine f h t a.open_state a.ops a.next (adopting-fine w k t b o r)
-round-fine f h t b o next.Again r = over-fine f h t b o next.Again r
-round-fine f h t b o (next.Using m) r = over-fine f h t b o (next.Using m) r
-round-fine f h t b o next.Foster r = over-fine f h t b o next.Foster r
+round-fine f h t b o next.Reprocess r = over-fine f h t b o next.Reprocess r
+round-fine f h t b o (next.UsingRules m) r = over-fine f h t b o (next.UsingRules m) r
+round-fine f h t b o next.InBodyFostering r = over-fine f h t b o next.InBodyFostering r
 round-fine f h t b o _ r = r
 
 ran-by : (m : Mode) (t : Token) (b : Open) (o : List Op) → Begins m b → FineAnswer (answer_of (run t (on b o) (row m t)))

@@ -22,9 +22,9 @@ use Rattle.rule_laws.proofs.Counts.{count, all, is_weighty}
 
 -- `adoption` says whether the adoption agency algorithm may be asked for
 abbrev pub calm_next : Bool → Next → Bool
-calm_next adoption next.Again = false
-calm_next adoption (next.Using m) = false
-calm_next adoption next.Foster = false
+calm_next adoption next.Reprocess = false
+calm_next adoption (next.UsingRules m) = false
+calm_next adoption next.InBodyFostering = false
 calm_next adoption (next.Adopt w h) = adoption
 calm_next adoption _ = true
 
@@ -34,9 +34,9 @@ calm adoption Skip = true
 calm adoption (Leave n) = calm_next adoption n
 
 abbrev pub is_quiet : Bool → Instr → Bool
-is_quiet adoption ins.Again = false
-is_quiet adoption (ins.Using m) = false
-is_quiet adoption ins.Foster = false
+is_quiet adoption ins.Reprocess = false
+is_quiet adoption (ins.UsingRules m) = false
+is_quiet adoption ins.InBodyFostering = false
 is_quiet adoption ins.BreakOut = false
 is_quiet adoption ins.ForeignEnd = false
 is_quiet adoption ins.Adopt = adoption
@@ -148,22 +148,22 @@ kind x (ins.Unless c) = branch
 kind x (ins.InsertA w) = if is_weighty (Known w) then loud else tame lowers
 kind x ins.InsertRootA = tame lowers
 kind x ins.Pop = tame lowers
-kind x (ins.PopTo g) = tame lowers
-kind x ins.Implied = tame lowers
-kind x (ins.Until w) = if x then loud else until_kind w
+kind x (ins.ClearBackTo g) = tame lowers
+kind x ins.GenerateImplied = tame lowers
+kind x (ins.PopUntil w) = if x then loud else until_kind w
 kind x ins.ClearToMarker = tame stays
 kind x ins.BecomeQuirky = tame stays
-kind x ins.PointHead = tame stays
+kind x ins.SetHeadPointer = tame stays
 kind x (ins.PushTemplateMode m) = if is_insertion_mode m then tame stays else loud
 kind x ins.PopTemplateMode = tame stays
-kind x (ins.Enter m) = if is_insertion_mode m then tame (enters m) else loud
-kind x ins.KeepMode = if x then tame lowers else loud
-kind x ins.Restore = if x then loud else tame restores
-kind x ins.Reset = tame resets
+kind x (ins.SwitchMode m) = if is_insertion_mode m then tame (enters m) else loud
+kind x ins.SaveMode = if x then tame lowers else loud
+kind x ins.RestoreMode = if x then loud else tame restores
+kind x ins.ResetMode = tame resets
 kind x ins.InsertPending = if x then loud else tame lowers
-kind x (ins.Using m) = goes m
-kind x ins.Foster = goes InBody
-kind x ins.Again = again
+kind x (ins.UsingRules m) = goes m
+kind x ins.InBodyFostering = goes InBody
+kind x ins.Reprocess = again
 kind x _ = loud
 
 abbrev pub Takes : Move → Bool → Open → Open → Flow → Type 0
@@ -177,8 +177,8 @@ Splits x b b' Skip = Change stays x b b'
 Splits x b b' (Leave n) = ⊥
 
 abbrev pub GoesBy : Mode → Bool → Open → Open → Next → Type 0
-GoesBy m x b b' (next.Using n) = (n ≡ m) × Change stays x b b'
-GoesBy m x b b' next.Foster = (InBody ≡ m) × Change stays x b b'
+GoesBy m x b b' (next.UsingRules n) = (n ≡ m) × Change stays x b b'
+GoesBy m x b b' next.InBodyFostering = (InBody ≡ m) × Change stays x b b'
 GoesBy m x b b' _ = ⊥
 
 abbrev pub GoesTo : Mode → Bool → Open → Open → Flow → Type 0
@@ -187,7 +187,7 @@ GoesTo m x b b' Skip = ⊥
 GoesTo m x b b' (Leave n) = GoesBy m x b b' n
 
 abbrev pub Repeats : Bool → Open → Open → Next → Type 0
-Repeats x b b' next.Again = Change stays x b b'
+Repeats x b b' next.Reprocess = Change stays x b b'
 Repeats x b b' _ = ⊥
 
 abbrev pub GoesAgain : Bool → Open → Open → Flow → Type 0
@@ -241,9 +241,9 @@ abbrev pub Goes : Bool → (Way → Bool) → ℕ → Open → Way → Type 0
 Goes x h v b w = (weight_of x b ≤ v) × (h w ≡ true)
 
 abbrev pub FineNext : Bool → (Way → Bool) → ℕ → Open → Next → Type 0
-FineNext x h v b next.Again = Fit b × (((weight_of x b < v) × (h falls ≡ true)) ⊎ Goes x h v b (anew b.mode))
-FineNext x h v b (next.Using m) = Fit b × Goes x h v b (onto m)
-FineNext x h v b next.Foster = Fit b × Goes x h v b (onto InBody)
+FineNext x h v b next.Reprocess = Fit b × (((weight_of x b < v) × (h falls ≡ true)) ⊎ Goes x h v b (anew b.mode))
+FineNext x h v b (next.UsingRules m) = Fit b × Goes x h v b (onto m)
+FineNext x h v b next.InBodyFostering = Fit b × Goes x h v b (onto InBody)
 FineNext x h v b _ = Unit {0}
 
 abbrev pub FineFlow : Bool → (Way → Bool) → ℕ → Open → Flow → Type 0

@@ -9,7 +9,7 @@ use Rattle.html_types.specs.declared.word.Word.TheVariants as word
 use Rattle.html_types.specs.declared.instruction.Instr.{Instr}
 use Rattle.html_types.specs.declared.instruction.Instr.TheVariants as ins
 use Rattle.html_types.specs.declared.instruction.Test.{Test}
-use Rattle.html_types.specs.declared.instruction.Test.TheVariants.{InScope, Current, OnStack, Listed, Quirks, SecondIsBody, FramesetOk, QuirkyDoctype, InForm, HiddenInput, InTemplates, InTables, OptionInOptgroup, SelfClosing, BreaksOut}
+use Rattle.html_types.specs.declared.instruction.Test.TheVariants.{InScope, Current, OnStack, InFormatting, Quirks, SecondIsBody, FramesetOk, QuirkyDoctype, InForm, HiddenInput, InTemplates, InTables, OptionInOptgroup, SelfClosing, BreaksOut}
 use Rattle.html_types.specs.declared.instruction.Scope.TheVariants as scope
 use Rattle.html_types.specs.declared.instruction.Then.{Then}
 use Rattle.html_types.specs.declared.instruction.Then.TheVariants.{Nothing, Link, Nobr}
@@ -31,8 +31,8 @@ use Rattle.html_types.specs.declared.operation.Place.TheVariants.{Page}
 use Rattle.html_types.specs.declared.operation.Op.{Op}
 use Rattle.html_types.specs.declared.operation.Op.TheVariants as op
 use Rattle.html_types.specs.declared.open.OpenElement.{OpenElement}
-use Rattle.html_types.specs.declared.open.Format.{Format}
-use Rattle.html_types.specs.declared.open.Format.TheVariants.{Element}
+use Rattle.html_types.specs.declared.open.FormattingEntry.{FormattingEntry}
+use Rattle.html_types.specs.declared.open.FormattingEntry.TheVariants.{Element}
 use Rattle.html_types.specs.declared.open.Open.{Open}
 use Rattle.standard.specs.Elements.{is_word, is_meant, is_one_of}
 use Rattle.standard.specs.Foreign.{opened, adjusted, tag_in, foreign_tag}
@@ -75,7 +75,7 @@ module _ (r : NodeId → NodeId) where
   holds-renamed (InScope s w) t b = in_scope-renamed r s (is_meant w t) b.stack
   holds-renamed (Current w) t b = current_is-renamed r (is_meant w t) b.stack
   holds-renamed (OnStack w) t b = on_stack-renamed r (is_meant w t) b.stack
-  holds-renamed (Listed w) t b = listed-renamed r (is_meant w t) b.formats
+  holds-renamed (InFormatting w) t b = listed-renamed r (is_meant w t) b.formats
   holds-renamed Quirks t b = refl
   holds-renamed SecondIsBody t b = ap (is_the word.Body) (second_open-renamed r b.stack) ∙ is_the-renamed r word.Body (second_open b.stack)
   holds-renamed FramesetOk t b = refl
@@ -140,7 +140,7 @@ module _ (r : NodeId → NodeId) where
   reconstruct-renamed : (b : Open) (o : List Op) → Renames r b.next → reconstruct (rename_open r b) (rename_ops r o) ≡ rename_config r (reconstruct b o)
   reconstruct-renamed b o n =
       let es : List OpenElement = map (rename_element r) b.stack in
-      let fs : List Format = map (rename_format r) b.formats in
+      let fs : List FormattingEntry = map (rename_format r) b.formats in
       ap (λ l. reopen_all (reverse l) (on (record (rename_open r b) { formats = kept es fs }) (rename_ops r o))) (lost-renamed r n.apart b.stack b.formats)
       ∙ (ap (λ l. reopen_all (reverse (lost b.stack b.formats)) (on (record (rename_open r b) { formats = l }) (rename_ops r o))) (kept-renamed r n.apart b.stack b.formats)
       ∙ reopen_all-renamed (reverse (lost b.stack b.formats)) (record b { formats = kept b.stack b.formats }) o On n)
@@ -169,7 +169,7 @@ module _ (r : NodeId → NodeId) where
   text-renamed EndOfFile b o = refl
 
   comment-renamed : (at at' : Place) (t : Token) (b : Open) (o : List Op) → at' ≡ rename_place r at → insert_comment at' t (rename_open r b) (rename_ops r o) ≡ rename_config r (insert_comment at t b o)
-  comment-renamed at at' (Comment text) b o e = one_more b o (op.Note at text) (op.Note at' text) (ap (λ p. op.Note p text) e)
+  comment-renamed at at' (Comment text) b o e = one_more b o (op.Comment at text) (op.Comment at' text) (ap (λ p. op.Comment p text) e)
   comment-renamed at at' (StartTag tag) b o e = refl
   comment-renamed at at' (EndTag tag) b o e = refl
   comment-renamed at at' (Character c) b o e = refl
@@ -246,7 +246,7 @@ module _ (r : NodeId → NodeId) where
   head-renamed (Some i) b o =
       of_two (rename_config r) (room b) (room (rename_open r b)) (on (record b { stack = record { id = i; name = Known word.Head; html_point = false } ∷ b.stack }) o) (config b o (Leave next.Deep)) _ _ (room-renamed b) refl refl
 
-  list_current-renamed : (tag : Tag) (es : List OpenElement) (fs : List Format)
+  list_current-renamed : (tag : Tag) (es : List OpenElement) (fs : List FormattingEntry)
       → list_current tag (map (rename_element r) es) (map (rename_format r) fs) ≡ map (rename_format r) (list_current tag es fs)
   list_current-renamed tag [] fs = refl
   list_current-renamed tag (e ∷ es) fs = list_element-renamed r e.id tag fs
@@ -301,7 +301,7 @@ module _ (r : NodeId → NodeId) where
       → on (record (rename_open r b) { stack = es' }) (rename_ops r o) ≡ rename_config r (on (record b { stack = es }) o)
   with_stack b o es es' e = ap (λ x. on (record (rename_open r b) { stack = x }) (rename_ops r o)) e
 
-  with_formats : (b : Open) (o : List Op) (fs fs' : List Format) → fs' ≡ map (rename_format r) fs
+  with_formats : (b : Open) (o : List Op) (fs fs' : List FormattingEntry) → fs' ≡ map (rename_format r) fs
       → on (record (rename_open r b) { formats = fs' }) (rename_ops r o) ≡ rename_config r (on (record b { formats = fs }) o)
   with_formats b o fs fs' e = ap (λ x. on (record (rename_open r b) { formats = x }) (rename_ops r o)) e
 
@@ -314,15 +314,15 @@ module _ (r : NodeId → NodeId) where
   step-renamed (ins.InsertA w) t b o n = insert-here (tag_of w) b o n
   step-renamed ins.InsertRoot t b o n = by_tag insert_root insert_root t b o (λ tag. insert-renamed Page tag b o n)
   step-renamed ins.InsertRootA t b o n = insert-renamed Page (tag_of word.Html) b o n
-  step-renamed ins.Void t b o n = by_tag void void t b o (λ tag. void-renamed tag b o n)
-  step-renamed (ins.VoidA w) t b o n = void-renamed (tag_of w) b o n
-  step-renamed (ins.VoidAs w) t b o n = by_tag (void_as w) (void_as w) t b o (λ tag. void-renamed (named w tag) b o n)
+  step-renamed ins.InsertAndPop t b o n = by_tag void void t b o (λ tag. void-renamed tag b o n)
+  step-renamed (ins.InsertAndPopA w) t b o n = void-renamed (tag_of w) b o n
+  step-renamed (ins.InsertAndPopAs w) t b o n = by_tag (void_as w) (void_as w) t b o (λ tag. void-renamed (named w tag) b o n)
   step-renamed ins.InsertForeign t b o n =
       by_tag insert_foreign insert_foreign t b o
       (λ tag. ap (λ s. insert (foreign_tag s tag) (rename_open r b) (rename_ops r o)) (space-renamed r b.stack) ∙ insert-here (foreign_tag (space_or_html (adjusted b)) tag) b o n)
   step-renamed (ins.InsertIn s) t b o n = by_tag (insert_in s) (insert_in s) t b o (λ tag. insert-here (tag_in s tag) b o n)
   step-renamed ins.InsertReplacement t b o n = one_more b o (op.Text (here b) (0xFFFD ∷ [])) _ (ap (λ at. op.Text at (0xFFFD ∷ [])) (here-renamed b))
-  step-renamed ins.BreakOut t b o n = ap (λ x. config (record (rename_open r b) { stack = x }) (rename_ops r o) (Leave (next.Using b.mode))) (pop_foreign-renamed r b.stack)
+  step-renamed ins.BreakOut t b o n = ap (λ x. config (record (rename_open r b) { stack = x }) (rename_ops r o) (Leave (next.UsingRules b.mode))) (pop_foreign-renamed r b.stack)
   step-renamed ins.ForeignEnd t b o n =
       by_tag end_foreign end_foreign t b o
       (λ tag. ap (λ e. end_foreign_with e (rename_open r b) (rename_ops r o)) (foreign_end-renamed r (name_text tag.name) b.stack b.stack) ∙ foreign-renamed (foreign_end (name_text tag.name) b.stack b.stack) b o)
@@ -332,29 +332,29 @@ module _ (r : NodeId → NodeId) where
   step-renamed ins.CommentToRoot t b o n = comment-renamed (end_of (first_open b.stack)) _ t b o (ap end_of (first_open-renamed r b.stack) ∙ end_of-renamed (first_open b.stack))
   step-renamed ins.AppendDoctype t b o n = doctype-renamed t b o
   step-renamed ins.Pop t b o n = with_stack b o _ _ (pop-renamed r b.stack)
-  step-renamed (ins.Until w) t b o n = with_stack b o _ _ (until-renamed r (is_meant w t) b.stack)
-  step-renamed (ins.PopTo g) t b o n = with_stack b o _ _ (pop_to-renamed r (is_one_of g) b.stack)
+  step-renamed (ins.PopUntil w) t b o n = with_stack b o _ _ (until-renamed r (is_meant w t) b.stack)
+  step-renamed (ins.ClearBackTo g) t b o n = with_stack b o _ _ (pop_to-renamed r (is_one_of g) b.stack)
   step-renamed ins.PopToRoot t b o n = with_stack b o _ _ (pop_to_root-renamed r b.stack)
-  step-renamed ins.Implied t b o n = with_stack b o _ _ (implied-renamed r (is_meant who.Nobody t) b.stack)
-  step-renamed ins.ImpliedThoroughly t b o n = with_stack b o _ _ (thoroughly-renamed r b.stack)
-  step-renamed (ins.ImpliedBut w) t b o n = with_stack b o _ _ (implied-renamed r (is_meant w t) b.stack)
+  step-renamed ins.GenerateImplied t b o n = with_stack b o _ _ (implied-renamed r (is_meant who.Nobody t) b.stack)
+  step-renamed ins.GenerateImpliedThoroughly t b o n = with_stack b o _ _ (thoroughly-renamed r b.stack)
+  step-renamed (ins.GenerateImpliedBut w) t b o n = with_stack b o _ _ (implied-renamed r (is_meant w t) b.stack)
   step-renamed (ins.Close s w) t b o n = with_stack b o _ _ (close-renamed r s (is_meant w t) b.stack)
   step-renamed (ins.CloseItem w) t b o n = with_stack b o _ _ (close_item-renamed r (is_meant w t) b.stack)
   step-renamed ins.AnyOtherEnd t b o n = with_stack b o _ _ (other_end-renamed r (is_meant who.Own t) b.stack)
   step-renamed ins.Reconstruct t b o n = reconstruct-renamed b o n
-  step-renamed ins.List t b o n = by_tag enlist enlist t b o (λ tag. with_formats b o _ _ (list_current-renamed tag b.stack b.formats))
+  step-renamed ins.PushFormatting t b o n = by_tag enlist enlist t b o (λ tag. with_formats b o _ _ (list_current-renamed tag b.stack b.formats))
   step-renamed (ins.TakeOff i) t b o n = off-renamed i b o n
   step-renamed ins.ClearToMarker t b o n = with_formats b o _ _ (clear_to_marker-renamed r b.formats)
-  step-renamed ins.PointHead t b o n = ap (λ h. on (record (rename_open r b) { head = h }) (rename_ops r o)) (current_id-renamed r b.stack)
+  step-renamed ins.SetHeadPointer t b o n = ap (λ h. on (record (rename_open r b) { head = h }) (rename_ops r o)) (current_id-renamed r b.stack)
   step-renamed ins.PushHead t b o n = head-renamed b.head b o
   step-renamed ins.TakeHeadOff t b o n = with_stack b o _ _ (without_open-renamed r n.apart b.head b.stack)
-  step-renamed ins.PointForm t b o n = ap (λ i. on (record (rename_open r b) { form = i }) (rename_ops r o)) (current_id-renamed r b.stack)
+  step-renamed ins.SetFormPointer t b o n = ap (λ i. on (record (rename_open r b) { form = i }) (rename_ops r o)) (current_id-renamed r b.stack)
   step-renamed ins.EndForm t b o n = form-renamed (is_meant who.Nobody t) b o n
   step-renamed ins.AddToFirst t b o n = add-renamed (first_open b.stack) _ t b o (first_open-renamed r b.stack)
   step-renamed ins.AddToSecond t b o n = add-renamed (second_open b.stack) _ t b o (second_open-renamed r b.stack)
   step-renamed ins.DetachSecond t b o n =
       ap (λ e. detach_second e (rename_open r b) (rename_ops r o)) (second_open-renamed r b.stack) ∙ detach-renamed (second_open b.stack) b o
-  step-renamed ins.Reset t b o n = ap (λ m. on (record (rename_open r b) { mode = m }) (rename_ops r o)) (reset_mode-renamed r b.stack b.head b.template_modes)
+  step-renamed ins.ResetMode t b o n = ap (λ m. on (record (rename_open r b) { mode = m }) (rename_ops r o)) (reset_mode-renamed r b.stack b.head b.template_modes)
   step-renamed ins.AppendPending t b o n = pending-renamed t b o
   step-renamed ins.InsertPending t b o n = insert_pending-renamed b o n
   step-renamed ins.Adopt t b o n = by_tag adopt_own adopt_own t b o (λ tag. adopt_name-renamed tag.name b o)
@@ -411,10 +411,10 @@ module _ (r : NodeId → NodeId) where
       → with_adoption t (rename_open r b) (rename_ops r o) (rename_next r x) ≡ rename_answer r (with_adoption t b o x)
   adoption-renamed t b o (next.Adopt w h) n = adopting-renamed w h t b o n
   adoption-renamed t b o next.Done n = refl
-  adoption-renamed t b o next.Again n = refl
-  adoption-renamed t b o (next.Using m) n = refl
-  adoption-renamed t b o next.Foster n = refl
-  adoption-renamed t b o (next.Switch reading) n = refl
+  adoption-renamed t b o next.Reprocess n = refl
+  adoption-renamed t b o (next.UsingRules m) n = refl
+  adoption-renamed t b o next.InBodyFostering n = refl
+  adoption-renamed t b o (next.SwitchTokenizer reading) n = refl
   adoption-renamed t b o (next.Script i) n = refl
   adoption-renamed t b o next.Deep n = refl
   adoption-renamed t b o next.Finished n = refl
@@ -427,12 +427,12 @@ module _ (r : NodeId → NodeId) where
 
   round-renamed : (t : Token) (more more' : Mode → Answer) (b : Open) (o : List Op) (x : Next) → ((m : Mode) → more' m ≡ rename_answer r (more m))
       → go_round more' (rename_open r b) (rename_ops r o) (round_after t (rename_open r b) (rename_next r x)) ≡ rename_answer r (go_round more b o (round_after t b x))
-  round-renamed t more more' b o next.Again h = ap more' (rules_for-renamed r t b) ∙ h (rules_for t b)
-  round-renamed t more more' b o (next.Using m) h = h m
-  round-renamed t more more' b o next.Foster h = h InBody
+  round-renamed t more more' b o next.Reprocess h = ap more' (rules_for-renamed r t b) ∙ h (rules_for t b)
+  round-renamed t more more' b o (next.UsingRules m) h = h m
+  round-renamed t more more' b o next.InBodyFostering h = h InBody
   round-renamed t more more' b o (next.Adopt w x) h = refl
   round-renamed t more more' b o next.Done h = refl
-  round-renamed t more more' b o (next.Switch reading) h = refl
+  round-renamed t more more' b o (next.SwitchTokenizer reading) h = refl
   round-renamed t more more' b o (next.Script i) h = refl
   round-renamed t more more' b o next.Deep h = refl
   round-renamed t more more' b o next.Finished h = refl

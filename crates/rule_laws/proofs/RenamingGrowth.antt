@@ -70,13 +70,13 @@ module _ (P : NodeId → Type 0) (one : (id : NodeId) → P id → P (later 1 id
   build_on-grows : (s : TokState) (cr : Bool) (t : Token) (b : Open) (rest : TokState → Took) (n : Next) → P b.next
       → ((s' : TokState) → P (parser_of (rest s')).open_state.next) → P (parser_of (build_on s cr t b rest n)).open_state.next
   build_on-grows s cr t b rest next.Done h each = each s
-  build_on-grows s cr t b rest (next.Switch r) h each = each (read_as r t)
+  build_on-grows s cr t b rest (next.SwitchTokenizer r) h each = each (read_as r t)
   build_on-grows s cr t b rest (next.Script id) h each = h
   build_on-grows s cr t b rest next.Deep h each = h
   build_on-grows s cr t b rest (next.Adopt w i) h each = each s
-  build_on-grows s cr t b rest next.Again h each = each s
-  build_on-grows s cr t b rest (next.Using m) h each = each s
-  build_on-grows s cr t b rest next.Foster h each = each s
+  build_on-grows s cr t b rest next.Reprocess h each = each s
+  build_on-grows s cr t b rest (next.UsingRules m) h each = each s
+  build_on-grows s cr t b rest next.InBodyFostering h each = each s
   build_on-grows s cr t b rest next.Finished h each = each s
 
   build-grows : (s : TokState) (cr : Bool) (ts : List Token) (b : Open) → P b.next → P (parser_of (build s cr ts b)).open_state.next
@@ -102,13 +102,13 @@ module _ (P : NodeId → Type 0) (one : (id : NodeId) → P id → P (later 1 id
 
   build_end_on-grows : (s : TokState) (cr : Bool) (b : Open) (rest : Finished) (n : Next) → P b.next → P rest.parser.open_state.next → P (build_end_on s cr b rest n).parser.open_state.next
   build_end_on-grows s cr b rest next.Done h g = g
-  build_end_on-grows s cr b rest (next.Switch r) h g = g
+  build_end_on-grows s cr b rest (next.SwitchTokenizer r) h g = g
   build_end_on-grows s cr b rest (next.Script id) h g = g
   build_end_on-grows s cr b rest next.Deep h g = h
   build_end_on-grows s cr b rest (next.Adopt w i) h g = g
-  build_end_on-grows s cr b rest next.Again h g = g
-  build_end_on-grows s cr b rest (next.Using m) h g = g
-  build_end_on-grows s cr b rest next.Foster h g = g
+  build_end_on-grows s cr b rest next.Reprocess h g = g
+  build_end_on-grows s cr b rest (next.UsingRules m) h g = g
+  build_end_on-grows s cr b rest next.InBodyFostering h g = g
   build_end_on-grows s cr b rest next.Finished h g = h
 
   build_end-grows : (s : TokState) (cr : Bool) (ts : List Token) (b : Open) → P b.next → P (build_end s cr ts b).parser.open_state.next

@@ -29,13 +29,13 @@ module _ (r : NodeId → NodeId) where
   build_on-renamed : (s : TokState) (cr : Bool) (t : Token) (b : Open) (rest rest' : TokState → Took) (n : Next) → ((s' : TokState) → rest' s' ≡ rename_took r (rest s'))
       → build_on s cr t (rename_open r b) rest' (rename_next r n) ≡ rename_took r (build_on s cr t b rest n)
   build_on-renamed s cr t b rest rest' next.Done h = h s
-  build_on-renamed s cr t b rest rest' (next.Switch reading) h = h (read_as reading t)
+  build_on-renamed s cr t b rest rest' (next.SwitchTokenizer reading) h = h (read_as reading t)
   build_on-renamed s cr t b rest rest' (next.Script id) h = refl
   build_on-renamed s cr t b rest rest' (next.Adopt w x) h = h s
   build_on-renamed s cr t b rest rest' next.Deep h = refl
-  build_on-renamed s cr t b rest rest' next.Again h = h s
-  build_on-renamed s cr t b rest rest' (next.Using m) h = h s
-  build_on-renamed s cr t b rest rest' next.Foster h = h s
+  build_on-renamed s cr t b rest rest' next.Reprocess h = h s
+  build_on-renamed s cr t b rest rest' (next.UsingRules m) h = h s
+  build_on-renamed s cr t b rest rest' next.InBodyFostering h = h s
   build_on-renamed s cr t b rest rest' next.Finished h = h s
 
   build-renamed : (s : TokState) (cr : Bool) (ts : List Token) (b : Open) → Renames r b.next → build s cr ts (rename_open r b) ≡ rename_took r (build s cr ts b)
@@ -73,13 +73,13 @@ module _ (r : NodeId → NodeId) where
   build_end_on-renamed : (s : TokState) (cr : Bool) (b : Open) (rest rest' : Finished) (x : Next) → rest' ≡ rename_finished r rest
       → build_end_on s cr (rename_open r b) rest' (rename_next r x) ≡ rename_finished r (build_end_on s cr b rest x)
   build_end_on-renamed s cr b rest rest' next.Done h = h
-  build_end_on-renamed s cr b rest rest' (next.Switch reading) h = h
+  build_end_on-renamed s cr b rest rest' (next.SwitchTokenizer reading) h = h
   build_end_on-renamed s cr b rest rest' (next.Script id) h = h
   build_end_on-renamed s cr b rest rest' (next.Adopt w x) h = h
   build_end_on-renamed s cr b rest rest' next.Deep h = refl
-  build_end_on-renamed s cr b rest rest' next.Again h = h
-  build_end_on-renamed s cr b rest rest' (next.Using m) h = h
-  build_end_on-renamed s cr b rest rest' next.Foster h = h
+  build_end_on-renamed s cr b rest rest' next.Reprocess h = h
+  build_end_on-renamed s cr b rest rest' (next.UsingRules m) h = h
+  build_end_on-renamed s cr b rest rest' next.InBodyFostering h = h
   build_end_on-renamed s cr b rest rest' next.Finished h = refl
 
   all-renamed : (ops : List Op) (f : Finished) → after_all (rename_ops r ops) (rename_finished r f) ≡ rename_finished r (after_all ops f)

@@ -15,8 +15,8 @@ use Rattle.html_types.specs.declared.name.Name.{Name}
 use Rattle.html_types.specs.declared.operation.NodeId.{NodeId}
 use Rattle.html_types.specs.declared.operation.Place.TheVariants.{Inside, Contents, Foster}
 use Rattle.html_types.specs.declared.open.OpenElement.{OpenElement}
-use Rattle.html_types.specs.declared.open.Format.{Format}
-use Rattle.html_types.specs.declared.open.Format.TheVariants.{Marker, Element}
+use Rattle.html_types.specs.declared.open.FormattingEntry.{FormattingEntry}
+use Rattle.html_types.specs.declared.open.FormattingEntry.TheVariants.{Marker, Element}
 use Rattle.html_types.specs.declared.open.Open.{Open}
 use Rattle.html_types.specs.declared.token.Tag.{Tag}
 use Rattle.html_types.specs.declared.token.Token.{Token}
@@ -60,7 +60,7 @@ module _ (r : NodeId → NodeId) where
   abbrev stack_of : List OpenElement → List OpenElement
   stack_of es = map (rename_element r) es
 
-  abbrev list_of : List Format → List Format
+  abbrev list_of : List FormattingEntry → List FormattingEntry
   list_of fs = map (rename_format r) fs
 
   -- ---- what is asked of the stack
@@ -245,45 +245,45 @@ module _ (r : NodeId → NodeId) where
 
   -- ---- the list of active formatting elements
 
-  pub listed-renamed : (is : Name → Bool) (fs : List Format) → listed is (map (rename_format r) fs) ≡ listed is fs
+  pub listed-renamed : (is : Name → Bool) (fs : List FormattingEntry) → listed is (map (rename_format r) fs) ≡ listed is fs
   listed-renamed is [] = refl
   listed-renamed is (Marker ∷ fs) = refl
   listed-renamed is (Element id tag ∷ fs) = ap (λ v. is tag.name || v) (listed-renamed is fs)
 
-  pub clear_to_marker-renamed : (fs : List Format) → clear_to_marker (map (rename_format r) fs) ≡ map (rename_format r) (clear_to_marker fs)
+  pub clear_to_marker-renamed : (fs : List FormattingEntry) → clear_to_marker (map (rename_format r) fs) ≡ map (rename_format r) (clear_to_marker fs)
   clear_to_marker-renamed [] = refl
   clear_to_marker-renamed (Marker ∷ fs) = refl
   clear_to_marker-renamed (Element id tag ∷ fs) = clear_to_marker-renamed fs
 
-  likes-renamed : (tag : Tag) (fs : List Format) → likes tag (list_of fs) ≡ likes tag fs
+  likes-renamed : (tag : Tag) (fs : List FormattingEntry) → likes tag (list_of fs) ≡ likes tag fs
   likes-renamed tag [] = refl
   likes-renamed tag (Marker ∷ fs) = refl
   likes-renamed tag (Element id t ∷ fs) = ap (λ n. cond (is_like tag t) 1 0 + n) (likes-renamed tag fs)
 
-  without_earliest-renamed : (tag : Tag) (fs : List Format) → without_earliest tag (list_of fs) ≡ list_of (without_earliest tag fs)
+  without_earliest-renamed : (tag : Tag) (fs : List FormattingEntry) → without_earliest tag (list_of fs) ≡ list_of (without_earliest tag fs)
   without_earliest-renamed tag [] = refl
   without_earliest-renamed tag (Marker ∷ fs) = refl
   without_earliest-renamed tag (Element id t ∷ fs) =
       of_two list_of (is_like tag t && (likes tag fs == 0)) (is_like tag t && (likes tag (list_of fs) == 0)) fs (Element id t ∷ without_earliest tag fs) _ _
       (ap (λ n. is_like tag t && (n == 0)) (likes-renamed tag fs)) refl (ap (λ l. Element (r id) t ∷ l) (without_earliest-renamed tag fs))
 
-  pub list_element-renamed : (id : NodeId) (tag : Tag) (fs : List Format) → list_element (r id) tag (map (rename_format r) fs) ≡ map (rename_format r) (list_element id tag fs)
+  pub list_element-renamed : (id : NodeId) (tag : Tag) (fs : List FormattingEntry) → list_element (r id) tag (map (rename_format r) fs) ≡ map (rename_format r) (list_element id tag fs)
   list_element-renamed id tag fs =
       ap (λ l. Element (r id) tag ∷ l)
       (of_two list_of (nat_le 3 (likes tag fs)) (nat_le 3 (likes tag (list_of fs))) (without_earliest tag fs) fs _ _
       (ap (nat_le 3) (likes-renamed tag fs)) (without_earliest-renamed tag fs) refl)
 
-  pub entry_named-renamed : (is : Name → Bool) (fs : List Format) → entry_named is (map (rename_format r) fs) ≡ option_map r (entry_named is fs)
+  pub entry_named-renamed : (is : Name → Bool) (fs : List FormattingEntry) → entry_named is (map (rename_format r) fs) ≡ option_map r (entry_named is fs)
   entry_named-renamed is [] = refl
   entry_named-renamed is (Marker ∷ fs) = refl
   entry_named-renamed is (Element id tag ∷ fs) =
       of_two (option_map r) (is tag.name) (is tag.name) (Some id) (entry_named is fs) _ _ refl refl (entry_named-renamed is fs)
 
-  before_first-renamed : (fs : List Format) → before_first (list_of fs) ≡ list_of (before_first fs)
+  before_first-renamed : (fs : List FormattingEntry) → before_first (list_of fs) ≡ list_of (before_first fs)
   before_first-renamed [] = refl
   before_first-renamed (f ∷ fs) = refl
 
-  renewed-renamed : (id : NodeId) (fs : List Format) → renewed (r id) (list_of fs) ≡ list_of (renewed id fs)
+  renewed-renamed : (id : NodeId) (fs : List FormattingEntry) → renewed (r id) (list_of fs) ≡ list_of (renewed id fs)
   renewed-renamed id [] = refl
   renewed-renamed id (Marker ∷ fs) = refl
   renewed-renamed id (Element i tag ∷ fs) = refl
@@ -300,13 +300,13 @@ module _ (r : NodeId → NodeId) where
         of_two stack_of (same_id e.id i) (same_id (r e.id) (r i)) es (e ∷ without_open (Some i) es) _ _ (apart e.id i) refl
         (ap (λ l. rename_element r e ∷ l) (without_open-renamed (Some i) es))
 
-    pub kept-renamed : (es : List OpenElement) (fs : List Format) → kept (map (rename_element r) es) (map (rename_format r) fs) ≡ map (rename_format r) (kept es fs)
+    pub kept-renamed : (es : List OpenElement) (fs : List FormattingEntry) → kept (map (rename_element r) es) (map (rename_format r) fs) ≡ map (rename_format r) (kept es fs)
     kept-renamed es [] = refl
     kept-renamed es (Marker ∷ fs) = refl
     kept-renamed es (Element id tag ∷ fs) =
         of_two list_of (is_open id es) (is_open (r id) (stack_of es)) (Element id tag ∷ fs) (kept es fs) _ _ (is_open-renamed id es) refl (kept-renamed es fs)
 
-    pub lost-renamed : (es : List OpenElement) (fs : List Format) → lost (map (rename_element r) es) (map (rename_format r) fs) ≡ lost es fs
+    pub lost-renamed : (es : List OpenElement) (fs : List FormattingEntry) → lost (map (rename_element r) es) (map (rename_format r) fs) ≡ lost es fs
     lost-renamed es [] = refl
     lost-renamed es (Marker ∷ fs) = refl
     lost-renamed es (Element id tag ∷ fs) =
@@ -355,42 +355,42 @@ module _ (r : NodeId → NodeId) where
         (ap (λ x. block_below (r id) x (stack_of es)) (of_two (option_map r) v v (Some e.id) found _ _ refl refl refl)
         ∙ block_below-renamed id (if v then Some e.id else found) es)
 
-    pub has_entry-renamed : (id : NodeId) (fs : List Format) → has_entry (r id) (map (rename_format r) fs) ≡ has_entry id fs
+    pub has_entry-renamed : (id : NodeId) (fs : List FormattingEntry) → has_entry (r id) (map (rename_format r) fs) ≡ has_entry id fs
     has_entry-renamed id [] = refl
     has_entry-renamed id (Marker ∷ fs) = has_entry-renamed id fs
     has_entry-renamed id (Element i tag ∷ fs) = ap (λ v. v || has_entry (r id) (list_of fs)) (apart i id) ∙ ap (λ v. same_id i id || v) (has_entry-renamed id fs)
 
-    pub tag_of_entry-renamed : (id : NodeId) (fs : List Format) → tag_of_entry (r id) (map (rename_format r) fs) ≡ tag_of_entry id fs
+    pub tag_of_entry-renamed : (id : NodeId) (fs : List FormattingEntry) → tag_of_entry (r id) (map (rename_format r) fs) ≡ tag_of_entry id fs
     tag_of_entry-renamed id [] = refl
     tag_of_entry-renamed id (Marker ∷ fs) = tag_of_entry-renamed id fs
     tag_of_entry-renamed id (Element i tag ∷ fs) =
         of_two (λ (t : Option Tag). t) (same_id i id) (same_id (r i) (r id)) (Some tag) (tag_of_entry id fs) _ _ (apart i id) refl (tag_of_entry-renamed id fs)
 
-    later_than-renamed : (id : NodeId) (fs : List Format) → later_than (r id) (list_of fs) ≡ list_of (later_than id fs)
+    later_than-renamed : (id : NodeId) (fs : List FormattingEntry) → later_than (r id) (list_of fs) ≡ list_of (later_than id fs)
     later_than-renamed id [] = refl
     later_than-renamed id (Marker ∷ fs) = ap (λ l. Marker ∷ l) (later_than-renamed id fs)
     later_than-renamed id (Element i tag ∷ fs) =
         of_two list_of (same_id i id) (same_id (r i) (r id)) [] (Element i tag ∷ later_than id fs) _ _ (apart i id) refl (ap (λ l. Element (r i) tag ∷ l) (later_than-renamed id fs))
 
-    entry_on-renamed : (id : NodeId) (fs : List Format) → entry_on (r id) (list_of fs) ≡ list_of (entry_on id fs)
+    entry_on-renamed : (id : NodeId) (fs : List FormattingEntry) → entry_on (r id) (list_of fs) ≡ list_of (entry_on id fs)
     entry_on-renamed id [] = refl
     entry_on-renamed id (Marker ∷ fs) = entry_on-renamed id fs
     entry_on-renamed id (Element i tag ∷ fs) =
         of_two list_of (same_id i id) (same_id (r i) (r id)) (Element i tag ∷ fs) (entry_on id fs) _ _ (apart i id) refl (entry_on-renamed id fs)
 
-    pub without_entry-renamed : (id : NodeId) (fs : List Format) → without_entry (r id) (map (rename_format r) fs) ≡ map (rename_format r) (without_entry id fs)
+    pub without_entry-renamed : (id : NodeId) (fs : List FormattingEntry) → without_entry (r id) (map (rename_format r) fs) ≡ map (rename_format r) (without_entry id fs)
     without_entry-renamed id fs =
         ap (λ l. l ++ before_first (entry_on (r id) (list_of fs))) (later_than-renamed id fs)
         ∙ (ap (λ l. list_of (later_than id fs) ++ l) (ap before_first (entry_on-renamed id fs) ∙ before_first-renamed (entry_on id fs))
         ∙ sym (map-append (rename_format r) (later_than id fs) (before_first (entry_on id fs))))
 
-    pub with_id-renamed : (id new : NodeId) (fs : List Format) → with_id (r id) (r new) (map (rename_format r) fs) ≡ map (rename_format r) (with_id id new fs)
+    pub with_id-renamed : (id new : NodeId) (fs : List FormattingEntry) → with_id (r id) (r new) (map (rename_format r) fs) ≡ map (rename_format r) (with_id id new fs)
     with_id-renamed id new fs =
         ap (λ l. l ++ renewed (r new) (entry_on (r id) (list_of fs))) (later_than-renamed id fs)
         ∙ (ap (λ l. list_of (later_than id fs) ++ l) (ap (renewed (r new)) (entry_on-renamed id fs) ∙ renewed-renamed new (entry_on id fs))
         ∙ sym (map-append (rename_format r) (later_than id fs) (renewed new (entry_on id fs))))
 
-    pub with_behind-renamed : (id : NodeId) (e : Format) (fs : List Format)
+    pub with_behind-renamed : (id : NodeId) (e : FormattingEntry) (fs : List FormattingEntry)
         → with_behind (r id) (rename_format r e) (map (rename_format r) fs) ≡ map (rename_format r) (with_behind id e fs)
     with_behind-renamed id e fs =
         ap (λ l. l ++ rename_format r e ∷ entry_on (r id) (list_of fs)) (later_than-renamed id fs)

@@ -78,20 +78,20 @@ abbrev Agree : Answer → Answer → Type 0
 Agree x y = (x ≡ y) × (calm_next false y.next ≡ true)
 
 over-same : (f g : Rounds) (t : Token) (b : Open) (o : List Op) (n : Next) → calm_next false n ≡ true → Agree (goes_on f t (answer b o n)) (goes_on g t (answer b o n))
-over-same f g t b o next.Again s = absurd (true≢false (sym s))
-over-same f g t b o (next.Using m) s = absurd (true≢false (sym s))
-over-same f g t b o next.Foster s = absurd (true≢false (sym s))
+over-same f g t b o next.Reprocess s = absurd (true≢false (sym s))
+over-same f g t b o (next.UsingRules m) s = absurd (true≢false (sym s))
+over-same f g t b o next.InBodyFostering s = absurd (true≢false (sym s))
 over-same f g t b o n s = (refl, s)
 
 round-same : (x : Bool) (h : Way → Bool) (v : ℕ) (t : Token) (b : Open) (o : List Op) (f g : Rounds) (fl : Flow)
-    → (FineNext x h v b next.Again → Agree (f b o (rules_for t b)) (g b o (rules_for t b)))
-    → ((m : Mode) → FineNext x h v b (next.Using m) → Agree (f b o m) (g b o m))
+    → (FineNext x h v b next.Reprocess → Agree (f b o (rules_for t b)) (g b o (rules_for t b)))
+    → ((m : Mode) → FineNext x h v b (next.UsingRules m) → Agree (f b o m) (g b o m))
     → FineFlow x h v b fl → Agree (round_of f t b o fl) (round_of g t b o fl)
 round-same x h v t b o f g On again onward fine = (refl, refl)
 round-same x h v t b o f g Skip again onward fine = (refl, refl)
-round-same x h v t b o f g (Leave next.Again) again onward fine = again fine
-round-same x h v t b o f g (Leave (next.Using m)) again onward fine = onward m fine
-round-same x h v t b o f g (Leave next.Foster) again onward fine = onward InBody fine
+round-same x h v t b o f g (Leave next.Reprocess) again onward fine = again fine
+round-same x h v t b o f g (Leave (next.UsingRules m)) again onward fine = onward m fine
+round-same x h v t b o f g (Leave next.InBodyFostering) again onward fine = onward InBody fine
 round-same x h v t b o f g (Leave (next.Adopt w after)) again onward fine =
     let a : Answer = adopting w after t b o in over-same f g t a.open_state a.ops a.next (adopting-calm w after t b o)
 round-same x h v t b o f g (Leave _) again onward fine = (refl, refl)
@@ -103,7 +103,7 @@ foreign-end : (x : Bool) (h : Way → Bool) (v : ℕ) (t : Token) (b : Open) (o 
 foreign-end x h v t b o None s w e = (s, (w, e))
 foreign-end x h v t b o (Some es) s w e = tt
 
-broken-out : (x : Bool) (h : Way → Bool) (v : ℕ) (b : Open) → Fit b → weight_of x b ≤ v → h (onto b.mode) ≡ true → FineNext x h v (record b { stack = pop_foreign b.stack }) (next.Using b.mode)
+broken-out : (x : Bool) (h : Way → Bool) (v : ℕ) (b : Open) → Fit b → weight_of x b ≤ v → h (onto b.mode) ≡ true → FineNext x h v (record b { stack = pop_foreign b.stack }) (next.UsingRules b.mode)
 broken-out x h v b s w e =
     let l : weight_of x (record b { stack = pop_foreign b.stack }) ≤ weight_of x b =
     fewer-weight x b.stack (pop_foreign b.stack) b.original b.pending_text (pop_foreign-fewer is_weighty b.stack) in
@@ -128,7 +128,7 @@ foreign-fine x h v (StartTag tag) b o s w e = by (breaks_out tag)
     by : (breaks : Bool) → Fine x h v (run (StartTag tag) (config b o (if breaks then On else Skip)) (ins.BreakOut ∷ is))
     by true =
         let b' : Open = record b { stack = pop_foreign b.stack } in
-        left-fine x h v (StartTag tag) is b' o (next.Using b.mode) (broken-out x h v b s w e)
+        left-fine x h v (StartTag tag) is b' o (next.UsingRules b.mode) (broken-out x h v b s w e)
     by false = quiet-fine x h v (StartTag tag) b o is refl
 foreign-fine x h v (EndTag tag) b o s w e = by (is_among (word.Br ∷ word.P ∷ []) tag.name)
   where
@@ -242,7 +242,7 @@ module _ (k : Tokens) (n : ℕ) where
       by_weight fit (inl w) = fallen-same j v i b o enough less (leb-true (add k.foreign k.limit) (i + span) w.1) fit w.0
       by_weight fit (inr g) = again-same j v i b o enough less g.1 fit g.0
 
-      again : FineNext k.x (ways i) v b next.Again → Same j (rules_for k.t b) b o
+      again : FineNext k.x (ways i) v b next.Reprocess → Same j (rules_for k.t b) b o
       again f = by_weight f.0 f.1
 
   more-enough : (j : ℕ) → Enough j → Enough (suc j)
@@ -316,9 +316,9 @@ rounds-suffice n m t b o l h =
     subst P (more-add rounds n) (token-same t n m b o (fit b l h)).0
 
 answered : (n : Next) → calm_next false n ≡ true → is_answer n ≡ true
-answered next.Again s = s
-answered (next.Using m) s = s
-answered next.Foster s = s
+answered next.Reprocess s = s
+answered (next.UsingRules m) s = s
+answered next.InBodyFostering s = s
 answered (next.Adopt w after) s = s
 answered _ s = refl
 

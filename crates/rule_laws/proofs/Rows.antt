@@ -152,13 +152,13 @@ character_rows nul space InRow = in_row_anything
 character_rows nul space InCell = in_cell_anything
 character_rows nul space InSelect = if nul then [] else ins.InsertText ∷ []
 character_rows nul space InSelectInTable = in_select_in_table_anything
-character_rows nul space InTemplate = ins.Using InBody ∷ []
-character_rows nul space AfterBody = if space then ins.Using InBody ∷ [] else after_body_anything
+character_rows nul space InTemplate = ins.UsingRules InBody ∷ []
+character_rows nul space AfterBody = if space then ins.UsingRules InBody ∷ [] else after_body_anything
 character_rows nul space InFrameset = if space then ins.InsertText ∷ [] else in_frameset_anything
 character_rows nul space AfterFrameset = if space then ins.InsertText ∷ [] else after_frameset_anything
-character_rows nul space AfterAfterBody = if space then ins.Using InBody ∷ [] else after_after_body_anything
-character_rows nul space InForeign = if nul then ins.InsertReplacement ∷ [] else (if space then ins.InsertText ∷ [] else ins.InsertText ∷ ins.NotOk ∷ [])
-character_rows nul space AfterAfterFrameset = if space then ins.Using InBody ∷ [] else after_after_frameset_anything
+character_rows nul space AfterAfterBody = if space then ins.UsingRules InBody ∷ [] else after_after_body_anything
+character_rows nul space InForeign = if nul then ins.InsertReplacement ∷ [] else (if space then ins.InsertText ∷ [] else ins.InsertText ∷ ins.FramesetNotOk ∷ [])
+character_rows nul space AfterAfterFrameset = if space then ins.UsingRules InBody ∷ [] else after_after_frameset_anything
 
 pub character-rows : (c : ℕ) (m : Mode) → row m (Character c) ≡ character_rows (c == 0) (is_space c) m
 unfolding row
@@ -238,7 +238,7 @@ end-settles = each settles_at_end ends
 
 -- behind the test of whether a template is open
 abbrev behind_test : List Instr
-behind_test = ins.Finish ∷ ins.Until (who.The word.Template) ∷ ins.ClearToMarker ∷ ins.PopTemplateMode ∷ ins.Reset ∷ ins.Again ∷ []
+behind_test = ins.Finish ∷ ins.PopUntil (who.The word.Template) ∷ ins.ClearToMarker ∷ ins.PopTemplateMode ∷ ins.ResetMode ∷ ins.Reprocess ∷ []
 
 template-end : (h : Way → Bool) (v : ℕ) (b : Open) (o : List Op) → Fit b → weight_of false b ≤ v → h falls ≡ true → (there : Bool) → on_stack (is_meant (who.The word.Template) EndOfFile) b.stack ≡ there
     → Fine false h v (run EndOfFile (config b o (if there then Skip else On)) behind_test)
@@ -249,7 +249,7 @@ template-end h v b o s w f true e =
     let less = until-falls is_weighty is (weighty-word word.Template refl) b.stack e in
     let fewer = until-fewer all is b.stack in
     let l : count all b.stack ≤ 512 = s.0 in
-    run-walk false h v EndOfFile (ins.ClearToMarker ∷ ins.PopTemplateMode ∷ ins.Reset ∷ ins.Again ∷ []) fallen false b' o (omega (arith, fewer, l), s.1) (omega (arith, less, w)) f
+    run-walk false h v EndOfFile (ins.ClearToMarker ∷ ins.PopTemplateMode ∷ ins.ResetMode ∷ ins.Reprocess ∷ []) fallen false b' o (omega (arith, fewer, l), s.1) (omega (arith, less, w)) f
 template-end h v b o s w f false e = tt
 
 pub end-sound : Sound false EndOfFile at_end

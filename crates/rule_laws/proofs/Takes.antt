@@ -191,9 +191,9 @@ taken b b' Skip s h = absurd (true≢false (sym s))
 taken b b' (Leave n) s h = calmly n s
   where
     calmly : (n : Next) → calm_next false n ≡ true → calm_next true n ≡ true
-    calmly next.Again s = s
-    calmly (next.Using m) s = s
-    calmly next.Foster s = s
+    calmly next.Reprocess s = s
+    calmly (next.UsingRules m) s = s
+    calmly next.InBodyFostering s = s
     calmly _ s = refl
 
 -- as many elements as there is room for weigh no more than pending characters do
@@ -274,24 +274,24 @@ obeys x (ins.Unless c) t b o = unless-splits x (holds c t b) b
 obeys x (ins.InsertA w) t b o = insert_a-obeys x w b o (is_weighty (Known w)) refl
 obeys x ins.InsertRootA t b o = insert-takes x Page (tag_of word.Html) b o refl
 obeys x ins.Pop t b o = popped x b (pop b.stack) (pop-fewer is_weighty b.stack) (pop-fewer all b.stack)
-obeys x (ins.PopTo g) t b o = popped x b (pop_to (is_one_of g) b.stack) (pop_to-fewer is_weighty (is_one_of g) b.stack) (pop_to-fewer all (is_one_of g) b.stack)
-obeys x ins.Implied t b o = popped x b (implied (is_meant who.Nobody t) b.stack) (implied-fewer is_weighty (is_meant who.Nobody t) b.stack) (implied-fewer all (is_meant who.Nobody t) b.stack)
-obeys true (ins.Until w) t b o = tt
-obeys false (ins.Until w) t b o = until-obeys w t b o
+obeys x (ins.ClearBackTo g) t b o = popped x b (pop_to (is_one_of g) b.stack) (pop_to-fewer is_weighty (is_one_of g) b.stack) (pop_to-fewer all (is_one_of g) b.stack)
+obeys x ins.GenerateImplied t b o = popped x b (implied (is_meant who.Nobody t) b.stack) (implied-fewer is_weighty (is_meant who.Nobody t) b.stack) (implied-fewer all (is_meant who.Nobody t) b.stack)
+obeys true (ins.PopUntil w) t b o = tt
+obeys false (ins.PopUntil w) t b o = until-obeys w t b o
 obeys x ins.ClearToMarker t b o = λ k v s h. (s, h)
 obeys x ins.BecomeQuirky t b o = λ k v s h. (s, h)
-obeys x ins.PointHead t b o = λ k v s h. (s, h)
+obeys x ins.SetHeadPointer t b o = λ k v s h. (s, h)
 obeys x (ins.PushTemplateMode m) t b o = push-obeys x m b o (is_insertion_mode m) refl
 obeys x ins.PopTemplateMode t b o = pop-obeys x b
-obeys x (ins.Enter m) t b o = enter-obeys x m b o (is_insertion_mode m) refl
-obeys true ins.KeepMode t b o = lower-change true b (record b { original = Some b.mode }) (omega arith) (λ s. (s.0, record { mode = s.1.mode; original = s.1.mode; templates = s.1.templates }))
-obeys false ins.KeepMode t b o = tt
-obeys true ins.Restore t b o = tt
-obeys false ins.Restore t b o = restore-change b
-obeys x ins.Reset t b o = reset-change x b
+obeys x (ins.SwitchMode m) t b o = enter-obeys x m b o (is_insertion_mode m) refl
+obeys true ins.SaveMode t b o = lower-change true b (record b { original = Some b.mode }) (omega arith) (λ s. (s.0, record { mode = s.1.mode; original = s.1.mode; templates = s.1.templates }))
+obeys false ins.SaveMode t b o = tt
+obeys true ins.RestoreMode t b o = tt
+obeys false ins.RestoreMode t b o = restore-change b
+obeys x ins.ResetMode t b o = reset-change x b
 obeys true ins.InsertPending t b o = tt
 obeys false ins.InsertPending t b o = pending-takes b o
-obeys x (ins.Using m) t b o = (refl, λ k v s h. (s, h))
-obeys x ins.Foster t b o = (refl, λ k v s h. (s, h))
-obeys x ins.Again t b o = λ k v s h. (s, h)
+obeys x (ins.UsingRules m) t b o = (refl, λ k v s h. (s, h))
+obeys x ins.InBodyFostering t b o = (refl, λ k v s h. (s, h))
+obeys x ins.Reprocess t b o = λ k v s h. (s, h)
 obeys x _ t b o = tt

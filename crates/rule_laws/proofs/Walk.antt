@@ -20,9 +20,9 @@ flow_at true = Skip
 flow_at false = On
 
 fine-next : (x : Bool) (h : Way → Bool) (v : ℕ) (b : Open) (n : Next) → calm_next true n ≡ true → FineNext x h v b n
-fine-next x h v b next.Again s = absurd (true≢false (sym s))
-fine-next x h v b (next.Using m) s = absurd (true≢false (sym s))
-fine-next x h v b next.Foster s = absurd (true≢false (sym s))
+fine-next x h v b next.Reprocess s = absurd (true≢false (sym s))
+fine-next x h v b (next.UsingRules m) s = absurd (true≢false (sym s))
+fine-next x h v b next.InBodyFostering s = absurd (true≢false (sym s))
 fine-next x h v b _ s = tt
 
 pub fine-calm : (x : Bool) (h : Way → Bool) (v : ℕ) (b : Open) (f : Flow) → calm true f ≡ true → FineFlow x h v b f
@@ -35,7 +35,7 @@ goes-by : (x : Bool) (h : Way → Bool) (v : ℕ) (b : Open) (m : Mode) (k : Fac
 goes-by x h v b m k s w e = (s, (at-most k v b.stack b.mode (weight_of x b) w, e))
 
 -- or once more
-goes-again : (x : Bool) (h : Way → Bool) (v : ℕ) (b : Open) (k : Fact) → Fit b → KnowsOf x k v b → allows h k ≡ true → FineNext x h v b next.Again
+goes-again : (x : Bool) (h : Way → Bool) (v : ℕ) (b : Open) (k : Fact) → Fit b → KnowsOf x k v b → allows h k ≡ true → FineNext x h v b next.Reprocess
 goes-again x h v b no_more s w e = absurd (true≢false (sym e))
 goes-again x h v b cut_off s w e = absurd (true≢false (sym e))
 goes-again x h v b (at m) s w e = let P : Mode → Type 0 = λ n. h (anew n) ≡ true in (s, inr (w.0, subst P (sym w.1) e))
@@ -66,16 +66,16 @@ branch-fine x h v t is k b b' o (Leave n) splits s w e rest = absurd splits
 goes-fine : (x : Bool) (h : Way → Bool) (v : ℕ) (m : Mode) (k : Fact) (b b' : Open) (f : Flow) → GoesTo m x b b' f → Fit b → KnowsOf x k v b → h (onto m) ≡ true → FineFlow x h v b' f
 goes-fine x h v m k b b' On g s w e = absurd g
 goes-fine x h v m k b b' Skip g s w e = absurd g
-goes-fine x h v m k b b' (Leave (next.Using n)) g s w e =
+goes-fine x h v m k b b' (Leave (next.UsingRules n)) g s w e =
     let c = g.1 k v s w in let P : Mode → Type 0 = λ n'. h (onto n') ≡ true in goes-by x h v b' n k c.0 c.1 (subst P (sym g.0) e)
-goes-fine x h v m k b b' (Leave next.Foster) g s w e =
+goes-fine x h v m k b b' (Leave next.InBodyFostering) g s w e =
     let c = g.1 k v s w in let P : Mode → Type 0 = λ n'. h (onto n') ≡ true in goes-by x h v b' InBody k c.0 c.1 (subst P (sym g.0) e)
 goes-fine x h v m k b b' (Leave _) g s w e = absurd g
 
 again-fine : (x : Bool) (h : Way → Bool) (v : ℕ) (k : Fact) (b b' : Open) (f : Flow) → GoesAgain x b b' f → Fit b → KnowsOf x k v b → allows h k ≡ true → FineFlow x h v b' f
 again-fine x h v k b b' On g s w e = absurd g
 again-fine x h v k b b' Skip g s w e = absurd g
-again-fine x h v k b b' (Leave next.Again) g s w e = let c = g k v s w in goes-again x h v b' k c.0 c.1 e
+again-fine x h v k b b' (Leave next.Reprocess) g s w e = let c = g k v s w in goes-again x h v b' k c.0 c.1 e
 again-fine x h v k b b' (Leave _) g s w e = absurd g
 
 -- a flow that leaves the row; one that doesn't is none of these

@@ -4,8 +4,8 @@ use Rattle.html_types.specs.Operations.{same_id, later}
 use Rattle.html_types.specs.declared.operation.NodeId.{NodeId}
 use Rattle.html_types.specs.declared.operation.Op.{Op}
 use Rattle.html_types.specs.declared.open.OpenElement.{OpenElement}
-use Rattle.html_types.specs.declared.open.Format.{Format}
-use Rattle.html_types.specs.declared.open.Format.TheVariants.{Marker, Element}
+use Rattle.html_types.specs.declared.open.FormattingEntry.{FormattingEntry}
+use Rattle.html_types.specs.declared.open.FormattingEntry.TheVariants.{Marker, Element}
 use Rattle.html_types.specs.declared.open.Open.{Open}
 use Rattle.html_types.specs.declared.instruction.Flow.{Flow}
 use Rattle.html_types.specs.declared.instruction.Flow.TheVariants.{On, Skip, Leave}
@@ -36,7 +36,7 @@ abbrev pub AreOpenBound : (NodeId → Bool) → List OpenElement → Type 0
 AreOpenBound known [] = Unit {0}
 AreOpenBound known (e ∷ es) = IsTrue (known e.id) × AreOpenBound known es
 
-abbrev pub AreFormatsBound : (NodeId → Bool) → List Format → Type 0
+abbrev pub AreFormatsBound : (NodeId → Bool) → List FormattingEntry → Type 0
 AreFormatsBound known [] = Unit {0}
 AreFormatsBound known (Marker ∷ fs) = AreFormatsBound known fs
 AreFormatsBound known (Element id tag ∷ fs) = IsTrue (known id) × AreFormatsBound known fs
@@ -46,7 +46,7 @@ IsBoundIfAny known None = Unit {0}
 IsBoundIfAny known (Some id) = IsTrue (known id)
 
 -- the ids in the parts of an open state are bound; `Coming` is what is asked of the ids that it gives from `next` on
-pub record Holds (Coming : (NodeId → Bool) → NodeId → Type 0) (known : NodeId → Bool) (stack : List OpenElement) (formats : List Format) (head form : Option NodeId) (next : NodeId) : Type 0 where
+pub record Holds (Coming : (NodeId → Bool) → NodeId → Type 0) (known : NodeId → Bool) (stack : List OpenElement) (formats : List FormattingEntry) (head form : Option NodeId) (next : NodeId) : Type 0 where
   pub stack_bound : AreOpenBound known stack
   pub formats_bound : AreFormatsBound known formats
   pub head_bound : IsBoundIfAny known head
@@ -87,7 +87,7 @@ rename_ops r ops = map (rename_op r) ops
 abbrev pub rename_element : (NodeId → NodeId) → OpenElement → OpenElement
 rename_element r e = record e { id = r e.id }
 
-abbrev pub rename_format : (NodeId → NodeId) → Format → Format
+abbrev pub rename_format : (NodeId → NodeId) → FormattingEntry → FormattingEntry
 rename_format r Marker = Marker
 rename_format r (Element id tag) = Element (r id) tag
 

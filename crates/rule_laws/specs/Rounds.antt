@@ -37,9 +37,9 @@ RoundsSuffice =
 -- no more of the rules is asked for, as it would be where the rounds were used up: the token is done, the tokenizer is to
 -- read on in another way, or parsing stops
 abbrev pub is_answer : Next → Bool
-is_answer next.Again = false
-is_answer (next.Using m) = false
-is_answer next.Foster = false
+is_answer next.Reprocess = false
+is_answer (next.UsingRules m) = false
+is_answer next.InBodyFostering = false
 is_answer (next.Adopt w h) = false
 is_answer _ = true
 

@@ -10,8 +10,8 @@ use Rattle.html_types.specs.declared.name.Name.{Name}
 use Rattle.html_types.specs.declared.name.Name.TheVariants.{Known, Other}
 use Rattle.html_types.specs.declared.operation.NodeId.{NodeId}
 use Rattle.html_types.specs.declared.open.OpenElement.{OpenElement}
-use Rattle.html_types.specs.declared.open.Format.{Format}
-use Rattle.html_types.specs.declared.open.Format.TheVariants.{Marker, Element}
+use Rattle.html_types.specs.declared.open.FormattingEntry.{FormattingEntry}
+use Rattle.html_types.specs.declared.open.FormattingEntry.TheVariants.{Marker, Element}
 use Rattle.standard.specs.Elements.{is_word}
 use Rattle.standard.specs.Stack.{is_open}
 use Rattle.stack_laws.specs.Grounded.{is_vital, is_guard, is_formatting, is_known, is_special, with_name, templates_among, has_no, is_placed, is_orderly, reaches, is_rooted, is_loose, is_loose_if_any, is_apart, are_apart, are_listed}
@@ -225,7 +225,7 @@ apart-all-thinned (e ∷ es) ds (inr (rest, is, t)) h =
     subst (λ x. are_apart x ≡ true) (sym is) (both (is_apart e rest) (are_apart rest) (apart-thinned e es rest t p.0) (apart-all-thinned es rest t p.1))
 
 -- entries stay listed where each id that is loose stays so
-pub listed-by : (es ds : List OpenElement) → ((id : NodeId) → is_loose is_special es id ≡ true → is_loose is_special ds id ≡ true) → (fs : List Format) → are_listed es fs ≡ true → are_listed ds fs ≡ true
+pub listed-by : (es ds : List OpenElement) → ((id : NodeId) → is_loose is_special es id ≡ true → is_loose is_special ds id ≡ true) → (fs : List FormattingEntry) → are_listed es fs ≡ true → are_listed ds fs ≡ true
 listed-by es ds h [] l = refl
 listed-by es ds h (Marker ∷ fs) l = listed-by es ds h fs l
 listed-by es ds h (Element id tag ∷ fs) l =

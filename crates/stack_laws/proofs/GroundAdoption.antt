@@ -17,8 +17,8 @@ use Rattle.html_types.specs.declared.instruction.Scope.TheVariants as scope
 use Rattle.html_types.specs.declared.instruction.Turn.{Turn}
 use Rattle.html_types.specs.declared.instruction.Turn.TheVariants.{More, Over, Other as OtherTag}
 use Rattle.html_types.specs.declared.open.OpenElement.{OpenElement}
-use Rattle.html_types.specs.declared.open.Format.{Format}
-use Rattle.html_types.specs.declared.open.Format.TheVariants.{Marker, Element}
+use Rattle.html_types.specs.declared.open.FormattingEntry.{FormattingEntry}
+use Rattle.html_types.specs.declared.open.FormattingEntry.TheVariants.{Marker, Element}
 use Rattle.standard.specs.Elements.{is_word}
 use Rattle.standard.specs.Foreign.{opened}
 use Rattle.standard.specs.Stack.{is_open, current_is, current_id, pop, open_in_scope, without_open, below, from_on, through, above, with_below, block_below}
@@ -413,7 +413,7 @@ rooted-swap e [] bs b h r = absurd (true≢false (sym r ∙ special-word e.name 
 rooted-swap e (d ∷ es) bs b h r = rooted-behind (b ∷ bs) d es ∙ r
 
 -- the stack that the algorithm leaves
-module _ (f block : NodeId) (st kept : List OpenElement) (clone : OpenElement) (p : Parts f block st) (fs : List Format) (form : Option NodeId) (firm : Firm st fs form)
+module _ (f block : NodeId) (st kept : List OpenElement) (clone : OpenElement) (p : Parts f block st) (fs : List FormattingEntry) (form : Option NodeId) (firm : Firm st fs form)
     (f_loose : is_loose is_special st f ≡ true) (fresh : are_new st (clone ∷ kept) ≡ true) where
   rebuilt_stack : List OpenElement
   rebuilt_stack = p.before ++ clone ∷ (p.at_block ∷ (kept ++ p.rest))
@@ -462,7 +462,7 @@ module _ (f block : NodeId) (st kept : List OpenElement) (clone : OpenElement) (
       loose-all-inserted is_special clone.id kept front p.rest st (λ m g. g) new_parts.2 (subst (λ x. is_loose is_special x clone.id ≡ true) back l) in
       apart-inserted clone p.before (p.at_block ∷ (kept ++ p.rest)) new_parts.0 (subst (λ x. is_loose is_special x clone.id ≡ true) on loose) (subst (λ x. are_apart x ≡ true) on all)
 
-  rebuilt-firm : (gs : List Format) → are_listed st gs ≡ true → Firm (p.before ++ clone ∷ (p.at_block ∷ (kept ++ p.rest))) gs form
+  rebuilt-firm : (gs : List FormattingEntry) → are_listed st gs ≡ true → Firm (p.before ++ clone ∷ (p.at_block ∷ (kept ++ p.rest))) gs form
   rebuilt-firm gs listed = record {
     order = subst (λ ws. is_orderly ws ≡ true) (sym rebuilt-core) firm.order;
     root =
@@ -477,55 +477,55 @@ module _ (f block : NodeId) (st kept : List OpenElement) (clone : OpenElement) (
 -- ---- the entries
 
 module _ (es : List OpenElement) where
-  entry-parts : (id : NodeId) (tag : Tag) (fs : List Format) → are_listed es (Element id tag ∷ fs) ≡ true → (is_known is_formatting tag.name ≡ true) × (is_loose is_special es id ≡ true) × (are_listed es fs ≡ true)
+  entry-parts : (id : NodeId) (tag : Tag) (fs : List FormattingEntry) → are_listed es (Element id tag ∷ fs) ≡ true → (is_known is_formatting tag.name ≡ true) × (is_loose is_special es id ≡ true) × (are_listed es fs ≡ true)
   entry-parts id tag fs h =
       let p = split (is_known is_formatting tag.name && is_loose is_special es id) (are_listed es fs) h in
       let r = split (is_known is_formatting tag.name) (is_loose is_special es id) p.0 in
       (r.0, r.1, p.1)
 
-  pub entry-listed : (id : NodeId) (tag : Tag) (fs : List Format) → is_known is_formatting tag.name ≡ true → is_loose is_special es id ≡ true → are_listed es fs ≡ true → are_listed es (Element id tag ∷ fs) ≡ true
+  pub entry-listed : (id : NodeId) (tag : Tag) (fs : List FormattingEntry) → is_known is_formatting tag.name ≡ true → is_loose is_special es id ≡ true → are_listed es fs ≡ true → are_listed es (Element id tag ∷ fs) ≡ true
   entry-listed id tag fs t l h =
       both (is_known is_formatting tag.name && is_loose is_special es id) (are_listed es fs) (both (is_known is_formatting tag.name) (is_loose is_special es id) t l) h
 
-  listed-if : (v : Bool) (fs gs : List Format) → are_listed es fs ≡ true → are_listed es gs ≡ true → are_listed es (if v then fs else gs) ≡ true
+  listed-if : (v : Bool) (fs gs : List FormattingEntry) → are_listed es fs ≡ true → are_listed es gs ≡ true → are_listed es (if v then fs else gs) ≡ true
   listed-if true fs gs h k = h
   listed-if false fs gs h k = k
 
-  listed-append : (fs gs : List Format) → are_listed es fs ≡ true → are_listed es gs ≡ true → are_listed es (fs ++ gs) ≡ true
+  listed-append : (fs gs : List FormattingEntry) → are_listed es fs ≡ true → are_listed es gs ≡ true → are_listed es (fs ++ gs) ≡ true
   listed-append [] gs h k = k
   listed-append (Marker ∷ fs) gs h k = listed-append fs gs h k
   listed-append (Element id tag ∷ fs) gs h k = let p = entry-parts id tag fs h in entry-listed id tag (fs ++ gs) p.0 p.1 (listed-append fs gs p.2 k)
 
-  later-listed : (id : NodeId) (fs : List Format) → are_listed es fs ≡ true → are_listed es (later_than id fs) ≡ true
+  later-listed : (id : NodeId) (fs : List FormattingEntry) → are_listed es fs ≡ true → are_listed es (later_than id fs) ≡ true
   later-listed id [] h = refl
   later-listed id (Marker ∷ fs) h = later-listed id fs h
   later-listed id (Element i tag ∷ fs) h = let p = entry-parts i tag fs h in listed-if (same_id i id) [] (Element i tag ∷ later_than id fs) refl (entry-listed i tag (later_than id fs) p.0 p.1 (later-listed id fs p.2))
 
-  on-listed : (id : NodeId) (fs : List Format) → are_listed es fs ≡ true → are_listed es (entry_on id fs) ≡ true
+  on-listed : (id : NodeId) (fs : List FormattingEntry) → are_listed es fs ≡ true → are_listed es (entry_on id fs) ≡ true
   on-listed id [] h = refl
   on-listed id (Marker ∷ fs) h = on-listed id fs h
   on-listed id (Element i tag ∷ fs) h = listed-if (same_id i id) (Element i tag ∷ fs) (entry_on id fs) h (on-listed id fs (entry-parts i tag fs h).2)
 
-  first-listed : (fs : List Format) → are_listed es fs ≡ true → are_listed es (before_first fs) ≡ true
+  first-listed : (fs : List FormattingEntry) → are_listed es fs ≡ true → are_listed es (before_first fs) ≡ true
   first-listed [] h = refl
   first-listed (Marker ∷ fs) h = h
   first-listed (Element i tag ∷ fs) h = (entry-parts i tag fs h).2
 
-  renewed-listed : (id : NodeId) (fs : List Format) → is_loose is_special es id ≡ true → are_listed es fs ≡ true → are_listed es (renewed id fs) ≡ true
+  renewed-listed : (id : NodeId) (fs : List FormattingEntry) → is_loose is_special es id ≡ true → are_listed es fs ≡ true → are_listed es (renewed id fs) ≡ true
   renewed-listed id [] l h = refl
   renewed-listed id (Marker ∷ fs) l h = h
   renewed-listed id (Element i tag ∷ fs) l h = let p = entry-parts i tag fs h in entry-listed id tag fs p.0 l p.2
 
-  pub without-listed : (id : NodeId) (fs : List Format) → are_listed es fs ≡ true → are_listed es (without_entry id fs) ≡ true
+  pub without-listed : (id : NodeId) (fs : List FormattingEntry) → are_listed es fs ≡ true → are_listed es (without_entry id fs) ≡ true
   without-listed id fs h = listed-append (later_than id fs) (before_first (entry_on id fs)) (later-listed id fs h) (first-listed (entry_on id fs) (on-listed id fs h))
 
-  with_id-listed : (id new : NodeId) (fs : List Format) → is_loose is_special es new ≡ true → are_listed es fs ≡ true → are_listed es (with_id id new fs) ≡ true
+  with_id-listed : (id new : NodeId) (fs : List FormattingEntry) → is_loose is_special es new ≡ true → are_listed es fs ≡ true → are_listed es (with_id id new fs) ≡ true
   with_id-listed id new fs l h = listed-append (later_than id fs) (renewed new (entry_on id fs)) (later-listed id fs h) (renewed-listed new (entry_on id fs) l (on-listed id fs h))
 
-  with_behind-listed : (id new : NodeId) (tag : Tag) (fs : List Format) → is_known is_formatting tag.name ≡ true → is_loose is_special es new ≡ true → are_listed es fs ≡ true → are_listed es (with_behind id (Element new tag) fs) ≡ true
+  with_behind-listed : (id new : NodeId) (tag : Tag) (fs : List FormattingEntry) → is_known is_formatting tag.name ≡ true → is_loose is_special es new ≡ true → are_listed es fs ≡ true → are_listed es (with_behind id (Element new tag) fs) ≡ true
   with_behind-listed id new tag fs t l h = listed-append (later_than id fs) (Element new tag ∷ entry_on id fs) (later-listed id fs h) (entry-listed new tag (entry_on id fs) t l (on-listed id fs h))
 
-  bookmark-listed : (f new : NodeId) (tag : Tag) (m : Option NodeId) (fs : List Format) → is_known is_formatting tag.name ≡ true → is_loose is_special es new ≡ true → are_listed es fs ≡ true → are_listed es (put_at_bookmark f new tag m fs) ≡ true
+  bookmark-listed : (f new : NodeId) (tag : Tag) (m : Option NodeId) (fs : List FormattingEntry) → is_known is_formatting tag.name ≡ true → is_loose is_special es new ≡ true → are_listed es fs ≡ true → are_listed es (put_at_bookmark f new tag m fs) ≡ true
   bookmark-listed f new tag None fs t l h = with_id-listed f new fs l h
   bookmark-listed f new tag (Some m) fs t l h = without-listed f (with_behind m (Element new tag) fs) (with_behind-listed m new tag fs t l h)
 
@@ -533,7 +533,7 @@ module _ (es : List OpenElement) where
   FormattingIfAny None = Unit {0}
   FormattingIfAny (Some tag) = is_known is_formatting tag.name ≡ true
 
-  tag-formatting : (id : NodeId) (fs : List Format) → are_listed es fs ≡ true → FormattingIfAny (tag_of_entry id fs)
+  tag-formatting : (id : NodeId) (fs : List FormattingEntry) → are_listed es fs ≡ true → FormattingIfAny (tag_of_entry id fs)
   tag-formatting id [] h = tt
   tag-formatting id (Marker ∷ fs) h = tag-formatting id fs h
   tag-formatting id (Element i tag ∷ fs) h = let p = entry-parts i tag fs h in by (same_id i id) p.0 (tag-formatting id fs p.2)
@@ -546,7 +546,7 @@ module _ (es : List OpenElement) where
   LooseIfAny None = Unit {0}
   LooseIfAny (Some id) = is_loose is_special es id ≡ true
 
-  pub entry-loose : (is : Name → Bool) (fs : List Format) → are_listed es fs ≡ true → LooseIfAny (entry_named is fs)
+  pub entry-loose : (is : Name → Bool) (fs : List FormattingEntry) → are_listed es fs ≡ true → LooseIfAny (entry_named is fs)
   entry-loose is [] h = tt
   entry-loose is (Marker ∷ fs) h = tt
   entry-loose is (Element i tag ∷ fs) h = let p = entry-parts i tag fs h in by (is tag.name) p.1 (entry-loose is fs p.2)
@@ -603,13 +603,13 @@ module _ (known : NodeId → Bool) (st : List OpenElement) (bound : AreOpenBound
     fresh = fresh-on known c.next h.fresh;
   }
 
-  dropped-listed : (left : ℕ) (id : NodeId) (fs : List Format) → are_listed st fs ≡ true → are_listed st (climb_drop left id fs) ≡ true
+  dropped-listed : (left : ℕ) (id : NodeId) (fs : List FormattingEntry) → are_listed st fs ≡ true → are_listed st (climb_drop left id fs) ≡ true
   dropped-listed left id fs h = listed-if st (left == 0) (without_entry id fs) fs (without-listed st id fs h) h
 
   climb-firm : (left : ℕ) (es : List OpenElement) (c : Climb) → ClimbFirm c → ClimbFirm (climb left es c)
   climb-firm left [] c h = h
   climb-firm left (e ∷ es) c h =
-      let fs : List Format = climb_drop left e.id c.formats in
+      let fs : List FormattingEntry = climb_drop left e.id c.formats in
       let l : are_listed st fs ≡ true = dropped-listed left e.id c.formats h.listed in
       climb-firm (left - 1) es (climb_one left e.id c)
       (clone-firm e.id (tag_of_entry e.id fs) (climb_at fs c.next c.ops c.kept c.last c.bookmark) (tag-formatting st e.id fs l) (record { listed = l; new = h.new; unknown = h.unknown; fresh = h.fresh }))
@@ -623,7 +623,7 @@ Adopts b c = FirmOf c × (core c.stack ≡ core b.stack) × (c.frameset_ok ≡ t
 adopts-on : (a b c : Open) → Adopts a b → Adopts b c → Adopts a c
 adopts-on a b c h k = (k.0, k.1 ∙ h.1, λ e. h.2 (k.2 e), λ i l. k.3 i (h.3 i l))
 
-other-entries : (b : Open) (fs : List Format) → FirmOf b → are_listed b.stack fs ≡ true → Firm b.stack fs b.form
+other-entries : (b : Open) (fs : List FormattingEntry) → FirmOf b → are_listed b.stack fs ≡ true → Firm b.stack fs b.form
 other-entries b fs f l = record { order = f.order; root = f.root; apart = f.apart; entries = l; owner = f.owner }
 
 -- where there is no furthest block, no special element is popped
@@ -683,7 +683,7 @@ module _ (known : NodeId → Bool) where
       let loose : is_loose is_special b.stack c.next ≡ true = next-loose (after o) b.stack s.stack_bound c.next g.fresh in
       let new : are_new b.stack (clone ∷ c.kept) ≡ true =
       both (not (is_special tag.name) && is_loose is_special b.stack c.next) (are_new b.stack c.kept) (both (not (is_special tag.name)) (is_loose is_special b.stack c.next) (not-false (is_special tag.name) (formatting-special tag.name t)) loose) g.new in
-      let gs : List Format = put_at_bookmark f c.next tag c.bookmark c.formats in
+      let gs : List FormattingEntry = put_at_bookmark f c.next tag c.bookmark c.formats in
       let done = rebuilt-firm f block b.stack c.kept clone p b.formats b.form firm l new gs (bookmark-listed b.stack f c.next tag c.bookmark c.formats t loose g.listed) in
       let is = sym (stack-is f block b.stack c.kept clone p away) in
       (subst (λ es. Firm es gs b.form) is done, subst (λ es. core es ≡ core b.stack) is (rebuilt-core f block b.stack c.kept clone p b.formats b.form firm l new), λ x. x, λ j q. subst (λ es. is_loose is_special es j ≡ true) is (loose-rebuilt f block b.stack c.kept clone p b.formats b.form firm l new is_special (λ n z. z) j q))

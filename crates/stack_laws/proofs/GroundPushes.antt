@@ -12,8 +12,8 @@ use Rattle.html_types.specs.declared.instruction.Mode.{Mode}
 use Rattle.html_types.specs.declared.instruction.Mode.TheVariants as mode
 use Rattle.html_types.specs.declared.operation.NodeId.{NodeId}
 use Rattle.html_types.specs.declared.open.OpenElement.{OpenElement}
-use Rattle.html_types.specs.declared.open.Format.{Format}
-use Rattle.html_types.specs.declared.open.Format.TheVariants.{Marker, Element}
+use Rattle.html_types.specs.declared.open.FormattingEntry.{FormattingEntry}
+use Rattle.html_types.specs.declared.open.FormattingEntry.TheVariants.{Marker, Element}
 use Rattle.standard.specs.Rows.{has_word}
 use Rattle.standard.specs.Elements.{is_word}
 use Rattle.standard.specs.Stack.{is_open, is_empty}
@@ -28,7 +28,7 @@ use Rattle.stack_laws.proofs.GroundAdoption.{entry-listed}
 use Rattle.stack_laws.proofs.Grounds.{At, Claim, the, fits, lost, even, owes_ok, Claimed, Owes, Sound}
 
 -- the id is none of those that the open state holds
-pub record Unseen (known : NodeId → Bool) (id : NodeId) (es : List OpenElement) (fs : List Format) (form : Option NodeId) : Type 0 where
+pub record Unseen (known : NodeId → Bool) (id : NodeId) (es : List OpenElement) (fs : List FormattingEntry) (form : Option NodeId) : Type 0 where
   pub open_bound : AreOpenBound known es
   pub listed_bound : AreFormatsBound known fs
   pub form_bound : IsBoundIfAny known form
@@ -50,7 +50,7 @@ module _ (known : NodeId → Bool) (e : OpenElement) (es : List OpenElement) (un
       none true w h = h
       none false w h = refl
 
-  listed-pushed : (fs : List Format) → AreFormatsBound known fs → are_listed es fs ≡ true → are_listed (e ∷ es) fs ≡ true
+  listed-pushed : (fs : List FormattingEntry) → AreFormatsBound known fs → are_listed es fs ≡ true → are_listed (e ∷ es) fs ≡ true
   listed-pushed [] a l = refl
   listed-pushed (Marker ∷ fs) a l = listed-pushed fs a l
   listed-pushed (Element id tag ∷ fs) a l =
@@ -72,7 +72,7 @@ module _ (known : NodeId → Bool) (e : OpenElement) (es : List OpenElement) (un
       by true = not-false (is_open e.id es) shut
       by false = loose-closed is_special e.id es shut
 
-pub firm-pushed : (known : NodeId → Bool) (e : OpenElement) (es : List OpenElement) (fs : List Format) (form : Option NodeId) → Unseen known e.id es fs form
+pub firm-pushed : (known : NodeId → Bool) (e : OpenElement) (es : List OpenElement) (fs : List FormattingEntry) (form : Option NodeId) → Unseen known e.id es fs form
     → is_orderly (with_name e.name (core es)) ≡ true → is_rooted (e ∷ es) ≡ true → Firm es fs form → Firm (e ∷ es) fs form
 firm-pushed known e es fs form u o r f = record {
   order = o;
@@ -150,7 +150,7 @@ claim-pushed e es h f fits now c = stands-pushed e es h f now c
 claim-pushed e es h f lost now c = tt
 
 -- one that isn't vital
-pub sound-pushed : (known : NodeId → Bool) (e : OpenElement) (a : At) (es : List OpenElement) (fs : List Format) (form : Option NodeId) (m : Mode) (m0 : Option Mode) (ms : List Mode) (ok : Bool)
+pub sound-pushed : (known : NodeId → Bool) (e : OpenElement) (a : At) (es : List OpenElement) (fs : List FormattingEntry) (form : Option NodeId) (m : Mode) (m0 : Option Mode) (ms : List Mode) (ok : Bool)
     → Unseen known e.id es fs form → is_known is_vital e.name ≡ false → (is_known is_low e.name ≡ true → a.bare ≡ true) → a.full ≡ true
     → Sound a es fs form m m0 ms ok → Sound a (e ∷ es) fs form m m0 ms ok
 sound-pushed known e a es fs form m m0 ms ok u plain low full s = record {
@@ -182,7 +182,7 @@ template-named P (Other s t) h p = absurd (true≢false (sym h))
 abbrev pub templated : At → At
 templated a = record a { claim = lost; bare = false; debt = owes_ok }
 
-pub sound-templated : (known : NodeId → Bool) (e : OpenElement) (a : At) (es : List OpenElement) (fs : List Format) (form : Option NodeId) (m : Mode) (m0 : Option Mode) (ms : List Mode) (ok : Bool)
+pub sound-templated : (known : NodeId → Bool) (e : OpenElement) (a : At) (es : List OpenElement) (fs : List FormattingEntry) (form : Option NodeId) (m : Mode) (m0 : Option Mode) (ms : List Mode) (ok : Bool)
     → Unseen known e.id es fs form → is_word word.Template e.name ≡ true → a.full ≡ true → Owes even (length ms) (templates_among (core es)) ok (has_no word.Template (core es))
     → Sound a es fs form m m0 ms ok → Sound (templated a) (e ∷ es) fs form m m0 ms ok
 sound-templated known e a es fs form m m0 ms ok u is full owed s = record {
@@ -209,7 +209,7 @@ html-named P (Other s t) h p = absurd (true≢false (sym h))
 abbrev pub rooted : At → At
 rooted a = record a { claim = lost; bare = true; full = true }
 
-pub sound-rooted : (known : NodeId → Bool) (e : OpenElement) (a : At) (fs : List Format) (form : Option NodeId) (m : Mode) (m0 : Option Mode) (ms : List Mode) (ok : Bool)
+pub sound-rooted : (known : NodeId → Bool) (e : OpenElement) (a : At) (fs : List FormattingEntry) (form : Option NodeId) (m : Mode) (m0 : Option Mode) (ms : List Mode) (ok : Bool)
     → Unseen known e.id [] fs form → is_word word.Html e.name ≡ true → Sound a [] fs form m m0 ms ok → Sound (rooted a) (e ∷ []) fs form m m0 ms ok
 sound-rooted known e a fs form m m0 ms ok u is s = record {
   firm = firm-pushed known e [] fs form u (html-named (λ n. is_orderly (with_name n []) ≡ true) e.name is refl) is s.firm;

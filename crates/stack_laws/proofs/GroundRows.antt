@@ -252,39 +252,39 @@ may h ins.InsertRootA o a = is_early_claim a.claim && is_plainly a.know
 may h ins.InsertForeign o a = false
 may h (ins.InsertIn s) o a = (not (same_space s Html) && is_tag o) && (a.full && is_plainly a.know)
 may h ins.Pop o a = may_pop a.know a && spared (pop_words a.know o) vitals
-may h (ins.Until w) o a = is_plainly a.know && may_until (until_by a.know a.claim w) w o a
-may h (ins.PopTo g) o a = is_plainly a.know && spared (λ v. not (in_group g v)) vitals
+may h (ins.PopUntil w) o a = is_plainly a.know && may_until (until_by a.know a.claim w) w o a
+may h (ins.ClearBackTo g) o a = is_plainly a.know && spared (λ v. not (in_group g v)) vitals
 may h ins.PopToRoot o a = is_plainly a.know && (a.bare && a.full)
-may h ins.Implied o a = is_plainly a.know
-may h ins.ImpliedThoroughly o a = is_plainly a.know
-may h (ins.ImpliedBut w) o a = is_plainly a.know
+may h ins.GenerateImplied o a = is_plainly a.know
+may h ins.GenerateImpliedThoroughly o a = is_plainly a.know
+may h (ins.GenerateImpliedBut w) o a = is_plainly a.know
 may h (ins.Close s w) o a = is_plainly a.know && spared (closed_words s w o) vitals
 may h (ins.CloseItem w) o a = is_plainly a.know && spared (item_words w o) vitals
 may h ins.AnyOtherEnd o a = is_plainly a.know && spared (other_words o) vitals
 may h ins.BreakOut o a = false
 may h ins.ForeignEnd o a = false
 may h ins.Reconstruct o a = is_plainly a.know && a.full
-may h ins.List o a = is_topped_own a.know && is_formatting_tag o
+may h ins.PushFormatting o a = is_topped_own a.know && is_formatting_tag o
 may h (ins.TakeOff i) o a = false
-may h ins.PointHead o a = is_plainly a.know
+may h ins.SetHeadPointer o a = is_plainly a.know
 may h ins.PushHead o a = is_plainly a.know
 may h ins.TakeHeadOff o a = is_headed a.know
-may h ins.PointForm o a = tops (λ v. not (is_guard v)) a.know o
+may h ins.SetFormPointer o a = tops (λ v. not (is_guard v)) a.know o
 may h ins.EndForm o a = is_plainly a.know
-may h (ins.Enter m) o a = may_enter m o a
-may h ins.KeepMode o a = not a.keeps && (a.full && is_claimed a.claim)
-may h ins.Restore o a = a.keeps
+may h (ins.SwitchMode m) o a = may_enter m o a
+may h ins.SaveMode o a = not a.keeps && (a.full && is_claimed a.claim)
+may h ins.RestoreMode o a = a.keeps
 may h (ins.PushTemplateMode m) o a = is_template_mode m && is_owes_mode a.debt
 may h ins.PopTemplateMode o a = may_pop_mode a.debt a.claim
-may h ins.Reset o a = (not a.keeps && a.full) && (is_plainly a.know && is_even a.debt)
+may h ins.ResetMode o a = (not a.keeps && a.full) && (is_plainly a.know && is_even a.debt)
 may h ins.InsertPending o a = is_plainly a.know && a.full
 may h ins.Adopt o a = rests a && (is_formatting_tag o && (not a.keeps && a.full))
 may h ins.AdoptAnchor o a = rests a && (is_formatting_tag o && (not a.keeps && a.full))
 may h ins.AdoptNobr o a = rests a && (is_formatting_tag o && (not a.keeps && a.full))
-may h (ins.Switch r) o a = rests a
-may h (ins.Using m) o a = rests a && (not a.keeps && using h a.claim m)
-may h ins.Foster o a = rests a && (not a.keeps && using h a.claim mode.InBody)
-may h ins.Again o a = rests a
+may h (ins.SwitchTokenizer r) o a = rests a
+may h (ins.UsingRules m) o a = rests a && (not a.keeps && using h a.claim m)
+may h ins.InBodyFostering o a = rests a && (not a.keeps && using h a.claim mode.InBody)
+may h ins.Reprocess o a = rests a
 may h ins.StopAtScript o a = is_text_top a.know && rests (dropping (λ v. not (is_guard v)) a)
 may h ins.Finish o a = rests a
 may h _ o a = true
@@ -300,26 +300,26 @@ onward ins.InsertRoot o a = knowing nothing (rooted a)
 onward ins.InsertRootA o a = knowing nothing (rooted a)
 onward (ins.InsertIn s) o a = knowing foreign_top a
 onward ins.Pop o a = dropping (pop_words a.know o) a
-onward (ins.Until w) o a = until_at (until_by a.know a.claim w) w o a
-onward (ins.PopTo g) o a = knowing (context_know a.know g o) (dropping (λ v. not (in_group g v)) a)
+onward (ins.PopUntil w) o a = until_at (until_by a.know a.claim w) w o a
+onward (ins.ClearBackTo g) o a = knowing (context_know a.know g o) (dropping (λ v. not (in_group g v)) a)
 onward ins.PopToRoot o a = dropping (λ v. not (is_vital v)) a
-onward ins.Implied o a = knowing (implied_know a.know who.Nobody o) (dropping (in_group group.ClosedImplicitly) a)
-onward ins.ImpliedThoroughly o a = knowing (thorough_know a.know) (dropping (in_group group.ClosedThoroughly) a)
-onward (ins.ImpliedBut w) o a = knowing (implied_know a.know w o) (dropping (in_group group.ClosedImplicitly) a)
+onward ins.GenerateImplied o a = knowing (implied_know a.know who.Nobody o) (dropping (in_group group.ClosedImplicitly) a)
+onward ins.GenerateImpliedThoroughly o a = knowing (thorough_know a.know) (dropping (in_group group.ClosedThoroughly) a)
+onward (ins.GenerateImpliedBut w) o a = knowing (implied_know a.know w o) (dropping (in_group group.ClosedImplicitly) a)
 onward (ins.Close s w) o a = dropping (closed_words s w o) a
 onward (ins.CloseItem w) o a = dropping (item_words w o) a
 onward ins.AnyOtherEnd o a = dropping (other_words o) a
 onward ins.Reconstruct o a = knowing nothing a
-onward ins.NotOk o a = record a { debt = paid_ok a.debt }
+onward ins.FramesetNotOk o a = record a { debt = paid_ok a.debt }
 onward ins.PushHead o a = knowing headed a
 onward ins.TakeHeadOff o a = knowing (without_head a.know) a
 onward ins.EndForm o a = dropping (closed_words scope.Default (who.The word.Form) o) a
-onward (ins.Enter m) o a = entering m a
-onward ins.KeepMode o a = record a { keeps = true; waits = true }
-onward ins.Restore o a = record a { keeps = false; waits = false; text = false }
+onward (ins.SwitchMode m) o a = entering m a
+onward ins.SaveMode o a = record a { keeps = true; waits = true }
+onward ins.RestoreMode o a = record a { keeps = false; waits = false; text = false }
 onward (ins.PushTemplateMode m) o a = record a { debt = even }
 onward ins.PopTemplateMode o a = record a { debt = popped_debt a.debt }
-onward ins.Reset o a = record a { claim = fits; know = nothing; text = false }
+onward ins.ResetMode o a = record a { claim = fits; know = nothing; text = false }
 onward ins.InsertPending o a = knowing nothing a
 onward _ o a = a
 

@@ -34,8 +34,8 @@ use Rattle.html_types.specs.declared.token.Token.TheVariants.{StartTag, EndTag}
 use Rattle.html_types.specs.declared.operation.NodeId.{NodeId}
 use Rattle.html_types.specs.declared.operation.Op.{Op}
 use Rattle.html_types.specs.declared.open.OpenElement.{OpenElement}
-use Rattle.html_types.specs.declared.open.Format.{Format}
-use Rattle.html_types.specs.declared.open.Format.TheVariants.{Marker, Element}
+use Rattle.html_types.specs.declared.open.FormattingEntry.{FormattingEntry}
+use Rattle.html_types.specs.declared.open.FormattingEntry.TheVariants.{Marker, Element}
 use Rattle.html_types.specs.declared.open.Open.{Open}
 use Rattle.standard.specs.Groups.{in_group, stops}
 use Rattle.standard.specs.Rows.{has_word}
@@ -79,7 +79,7 @@ pub plain-knows : (a : At) (t : Token) (b : Open) → is_plainly a.know ≡ true
 plain-knows a t b h k = subst (λ es. Knows a.know t es) (plain-seen a.know b.head b.stack h) k
 
 -- what is known makes no difference to what is claimed
-pub knowing-sound : (k : Know) (a : At) (es : List OpenElement) (fs : List Format) (form : Option NodeId) (m : Mode) (m0 : Option Mode) (ms : List Mode) (ok : Bool) → Sound a es fs form m m0 ms ok → Sound (knowing k a) es fs form m m0 ms ok
+pub knowing-sound : (k : Know) (a : At) (es : List OpenElement) (fs : List FormattingEntry) (form : Option NodeId) (m : Mode) (m0 : Option Mode) (ms : List Mode) (ok : Bool) → Sound a es fs form m m0 ms ok → Sound (knowing k a) es fs form m m0 ms ok
 knowing-sound k a es fs form m m0 ms ok s = record {
   firm = s.firm;
   claimed = s.claimed;
@@ -159,8 +159,8 @@ IsMain b = (b.original ≡ None) × (is_main_mode b.mode ≡ true)
 
 abbrev pub Leaves : (Mode → Mode → Bool) → Own → Open → Next → Type 0
 Leaves h o b next.Deep = Unit {0}
-Leaves h o b (next.Using m) = GroundOf b × (h (main_mode b.mode b.original) m ≡ true) × IsMain b
-Leaves h o b next.Foster = GroundOf b × (h (main_mode b.mode b.original) mode.InBody ≡ true) × IsMain b
+Leaves h o b (next.UsingRules m) = GroundOf b × (h (main_mode b.mode b.original) m ≡ true) × IsMain b
+Leaves h o b next.InBodyFostering = GroundOf b × (h (main_mode b.mode b.original) mode.InBody ≡ true) × IsMain b
 Leaves h o b (next.Adopt w x) = GroundOf b × (is_formatting w ≡ true) × (is_formatting_tag o ≡ true) × IsMain b × (has_no word.Html (core b.stack) ≡ false) × LinkOk b x
 Leaves h o b _ = GroundOf b
 
@@ -396,7 +396,7 @@ to-template is same (e ∷ es) o h = by (is e.name) refl (same e.name) h (to-tem
 untemplated : At → At
 untemplated a = record a { claim = lost; know = nothing; bare = false; debt = owes_pop }
 
-sound-untemplated : (a : At) (e : OpenElement) (es : List OpenElement) (fs : List Format) (form : Option NodeId) (m : Mode) (m0 : Option Mode) (ms : List Mode) (ok : Bool) → is_word word.Template e.name ≡ true → is_even a.debt ≡ true
+sound-untemplated : (a : At) (e : OpenElement) (es : List OpenElement) (fs : List FormattingEntry) (form : Option NodeId) (m : Mode) (m0 : Option Mode) (ms : List Mode) (ok : Bool) → is_word word.Template e.name ≡ true → is_even a.debt ≡ true
     → Sound a (e ∷ es) fs form m m0 ms ok → Sound (record a { claim = lost; know = nothing; bare = false; debt = owes_pop }) es fs form m m0 ms ok
 sound-untemplated a e es fs form m m0 ms ok is ev s =
     let o = even-owes a.debt (length ms) (templates_among (core (e ∷ es))) ok (has_no word.Template (core (e ∷ es))) ev s.owed in
@@ -693,7 +693,7 @@ core-claim fits now es ds c e h = core-stands now es ds c e h
 core-claim lost now es ds c e h = tt
 
 -- another stack of the same words
-pub sound-core : (a : At) (es ds : List OpenElement) (fs gs : List Format) (form form' : Option NodeId) (m : Mode) (m0 : Option Mode) (ms : List Mode) (ok ok' : Bool) → core ds ≡ core es → (is_empty es ≡ true → is_empty ds ≡ true) → (ok' ≡ true → ok ≡ true)
+pub sound-core : (a : At) (es ds : List OpenElement) (fs gs : List FormattingEntry) (form form' : Option NodeId) (m : Mode) (m0 : Option Mode) (ms : List Mode) (ok ok' : Bool) → core ds ≡ core es → (is_empty es ≡ true → is_empty ds ≡ true) → (ok' ≡ true → ok ≡ true)
     → Firm ds gs form' → Sound a es fs form m m0 ms ok → Sound a ds gs form' m m0 ms ok'
 sound-core a es ds fs gs form form' m m0 ms ok ok' c e o f s = record {
   firm = f;
@@ -719,7 +719,7 @@ pub empty-without : (i : NodeId) (es : List OpenElement) → is_empty es ≡ tru
 empty-without i [] h = refl
 empty-without i (e ∷ es) h = absurd (true≢false (sym h))
 
-pub firm-without : (i : NodeId) (es : List OpenElement) (fs : List Format) (form : Option NodeId) → is_loose (is_known is_guard) es i ≡ true → Firm es fs form → Firm (without_open (Some i) es) fs form
+pub firm-without : (i : NodeId) (es : List OpenElement) (fs : List FormattingEntry) (form : Option NodeId) → is_loose (is_known is_guard) es i ≡ true → Firm es fs form → Firm (without_open (Some i) es) fs form
 firm-without i es fs form h f =
     let t : Thinned es (without_open (Some i) es) = thin-without_open (Some i) es in
     record {
@@ -730,7 +730,7 @@ firm-without i es fs form h f =
       owner = owner-by (is_known is_guard) es (without_open (Some i) es) (λ id. loose-thinned (is_known is_guard) id es (without_open (Some i) es) t) form f.owner;
     }
 
-no-owner : (es : List OpenElement) (fs : List Format) (form : Option NodeId) → Firm es fs form → Firm es fs None
+no-owner : (es : List OpenElement) (fs : List FormattingEntry) (form : Option NodeId) → Firm es fs form → Firm es fs None
 no-owner es fs form f = record { order = f.order; root = f.root; apart = f.apart; entries = f.entries; owner = refl }
 
 -- the end tag `form`
@@ -936,7 +936,7 @@ head_off-by foreign_top a t b h s p = absurd (true≢false (sym h))
 
 -- ---- the list and the pointers
 
-pub with-entries : (a : At) (t : Token) (b : Open) (fs : List Format) → are_listed (seen a.know b.head b.stack) fs ≡ true → Stands a t b → Stands a t (record b { formats = fs })
+pub with-entries : (a : At) (t : Token) (b : Open) (fs : List FormattingEntry) → are_listed (seen a.know b.head b.stack) fs ≡ true → Stands a t b → Stands a t (record b { formats = fs })
 with-entries a t b fs l p = (
   record {
     firm = record { order = p.0.firm.order; root = p.0.firm.root; apart = p.0.firm.apart; entries = l; owner = p.0.firm.owner };
@@ -954,12 +954,12 @@ with-entries a t b fs l p = (
   p.1,
 )
 
-pub cleared-listed : (es : List OpenElement) (fs : List Format) → are_listed es fs ≡ true → are_listed es (clear_to_marker fs) ≡ true
+pub cleared-listed : (es : List OpenElement) (fs : List FormattingEntry) → are_listed es fs ≡ true → are_listed es (clear_to_marker fs) ≡ true
 cleared-listed es [] h = refl
 cleared-listed es (Marker ∷ fs) h = h
 cleared-listed es (Element id tag ∷ fs) h = cleared-listed es fs (split (is_known is_formatting tag.name && is_loose is_special es id) (are_listed es fs) h).1
 
-earliest-listed : (es : List OpenElement) (tag : Tag) (fs : List Format) → are_listed es fs ≡ true → are_listed es (without_earliest tag fs) ≡ true
+earliest-listed : (es : List OpenElement) (tag : Tag) (fs : List FormattingEntry) → are_listed es fs ≡ true → are_listed es (without_earliest tag fs) ≡ true
 earliest-listed es tag [] h = refl
 earliest-listed es tag (Marker ∷ fs) h = h
 earliest-listed es tag (Element id x ∷ fs) h =
@@ -970,7 +970,7 @@ earliest-listed es tag (Element id x ∷ fs) h =
     by true g k rest = k
     by false g k rest = both (is_known is_formatting x.name && is_loose is_special es id) (are_listed es (without_earliest tag fs)) g rest
 
-element-listed : (es : List OpenElement) (id : NodeId) (tag : Tag) (fs : List Format) → is_known is_formatting tag.name ≡ true → is_loose is_special es id ≡ true → are_listed es fs ≡ true → are_listed es (list_element id tag fs) ≡ true
+element-listed : (es : List OpenElement) (id : NodeId) (tag : Tag) (fs : List FormattingEntry) → is_known is_formatting tag.name ≡ true → is_loose is_special es id ≡ true → are_listed es fs ≡ true → are_listed es (list_element id tag fs) ≡ true
 element-listed es id tag fs t l h = entry-listed es id tag (if nat_le 3 (likes tag fs) then without_earliest tag fs else fs) t l (by (nat_le 3 (likes tag fs)))
   where
     by : (v : Bool) → are_listed es (if v then without_earliest tag fs else fs) ≡ true
@@ -994,7 +994,7 @@ top-loose e es h a = loose-push is_special e.id e es h (by (is_special e.name) h
     by true g k = absurd (true≢false g)
     by false g k = k
 
-current-listed : (t : Token) (tag : Tag) (es : List OpenElement) (fs : List Format) → is_known is_formatting tag.name ≡ true → TopFormatting es → are_apart es ≡ true → are_listed es fs ≡ true → are_listed es (list_current tag es fs) ≡ true
+current-listed : (t : Token) (tag : Tag) (es : List OpenElement) (fs : List FormattingEntry) → is_known is_formatting tag.name ≡ true → TopFormatting es → are_apart es ≡ true → are_listed es fs ≡ true → are_listed es (list_current tag es fs) ≡ true
 current-listed t tag [] fs f n a l = l
 current-listed t tag (e ∷ es) fs f n a l = element-listed (e ∷ es) e.id tag fs f (top-loose e es (formatting-special e.name n) a) l
 
@@ -1305,7 +1305,7 @@ keep-stands a t b h p =
       p.1,
     )
 
-restore-by : (m0 : Option Mode) (a : At) (es : List OpenElement) (fs : List Format) (form : Option NodeId) (m : Mode) (ms : List Mode) (ok : Bool) → is_some m0 ≡ true → Sound a es fs form m m0 ms ok
+restore-by : (m0 : Option Mode) (a : At) (es : List OpenElement) (fs : List FormattingEntry) (form : Option NodeId) (m : Mode) (ms : List Mode) (ok : Bool) → is_some m0 ≡ true → Sound a es fs form m m0 ms ok
     → Sound (record a { keeps = false; waits = false; text = false }) es fs form (original_or mode.InBody m0) None ms ok
 restore-by None a es fs form m ms ok h s = absurd (true≢false (sym h))
 restore-by (Some x) a es fs form m ms ok h s = record {

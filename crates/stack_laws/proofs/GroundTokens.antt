@@ -25,7 +25,7 @@ use Rattle.html_types.specs.declared.token.Token.TheVariants.{StartTag, EndTag, 
 use Rattle.html_types.specs.declared.operation.NodeId.{NodeId}
 use Rattle.html_types.specs.declared.operation.Op.{Op}
 use Rattle.html_types.specs.declared.open.OpenElement.{OpenElement}
-use Rattle.html_types.specs.declared.open.Format.{Format}
+use Rattle.html_types.specs.declared.open.FormattingEntry.{FormattingEntry}
 use Rattle.html_types.specs.declared.open.Open.{Open}
 use Rattle.standard.specs.WhiteSpace.{is_space}
 use Rattle.standard.specs.Rows.{is_among}
@@ -143,7 +143,7 @@ fitting-stands full k t b g l known has is =
     )
 
 -- another stack of the same words
-ground-core : (b : Open) (es : List OpenElement) (fs : List Format) (form : Option NodeId) (ok : Bool) → core es ≡ core b.stack → (is_empty b.stack ≡ true → is_empty es ≡ true) → (ok ≡ true → b.frameset_ok ≡ true) → Firm es fs form → is_text_mode b.mode ≡ false → GroundOf b
+ground-core : (b : Open) (es : List OpenElement) (fs : List FormattingEntry) (form : Option NodeId) (ok : Bool) → core es ≡ core b.stack → (is_empty b.stack ≡ true → is_empty es ≡ true) → (ok ≡ true → b.frameset_ok ≡ true) → Firm es fs form → is_text_mode b.mode ≡ false → GroundOf b
     → Ground es fs form b.mode b.original b.template_modes ok
 ground-core b es fs form ok c e o f n g =
     record {
@@ -199,8 +199,8 @@ foreign-named Svg tag h = refl
 -- what those rules come to: by the rules of the mode, as it is
 abbrev ForeignNext : Open → Next → Type 0
 ForeignNext b next.Deep = Unit {0}
-ForeignNext b (next.Using m) = GroundOf b × (m ≡ b.mode)
-ForeignNext b next.Foster = ⊥
+ForeignNext b (next.UsingRules m) = GroundOf b × (m ≡ b.mode)
+ForeignNext b next.InBodyFostering = ⊥
 ForeignNext b (next.Adopt w x) = ⊥
 ForeignNext b _ = GroundOf b
 
@@ -218,12 +218,12 @@ module _ (known : NodeId → Bool) where
   to-foreign t b On n x = x
   to-foreign t b Skip n x = x
   to-foreign t b (Leave next.Deep) n x = tt
-  to-foreign t b (Leave (next.Using m)) n x = absurd (true≢false (sym x.1))
-  to-foreign t b (Leave next.Foster) n x = absurd (true≢false (sym x.1))
+  to-foreign t b (Leave (next.UsingRules m)) n x = absurd (true≢false (sym x.1))
+  to-foreign t b (Leave next.InBodyFostering) n x = absurd (true≢false (sym x.1))
   to-foreign t b (Leave (next.Adopt w y)) n x = absurd (true≢false (sym x.2 ∙ n))
   to-foreign t b (Leave next.Done) n x = x
-  to-foreign t b (Leave next.Again) n x = x
-  to-foreign t b (Leave (next.Switch r)) n x = x
+  to-foreign t b (Leave next.Reprocess) n x = x
+  to-foreign t b (Leave (next.SwitchTokenizer r)) n x = x
   to-foreign t b (Leave (next.Script i)) n x = x
   to-foreign t b (Leave next.Finished) n x = x
 
@@ -231,12 +231,12 @@ module _ (known : NodeId → Bool) where
   calm-foreign t b On n x = x
   calm-foreign t b Skip n x = x
   calm-foreign t b (Leave next.Deep) n x = tt
-  calm-foreign t b (Leave (next.Using m)) n x = absurd (true≢false (sym x.1))
-  calm-foreign t b (Leave next.Foster) n x = absurd (true≢false (sym x.1))
+  calm-foreign t b (Leave (next.UsingRules m)) n x = absurd (true≢false (sym x.1))
+  calm-foreign t b (Leave next.InBodyFostering) n x = absurd (true≢false (sym x.1))
   calm-foreign t b (Leave (next.Adopt w y)) n x = absurd (true≢false (sym n))
   calm-foreign t b (Leave next.Done) n x = x
-  calm-foreign t b (Leave next.Again) n x = x
-  calm-foreign t b (Leave (next.Switch r)) n x = x
+  calm-foreign t b (Leave next.Reprocess) n x = x
+  calm-foreign t b (Leave (next.SwitchTokenizer r)) n x = x
   calm-foreign t b (Leave (next.Script i)) n x = x
   calm-foreign t b (Leave next.Finished) n x = x
 
@@ -324,7 +324,7 @@ adopted-ground b c f a m g =
     (subst (λ y. Ground c.stack c.formats c.form b.mode b.original y c.frameset_ok) (sym f.2) x))
 
 -- the rows
-others-ground : (w : Word) → is_formatting w && not (grounds nowhere (own_word w) (fitting false false nothing) false (ins.AnyOtherEnd ∷ []) && (grounds nowhere (own_word w) (fitting true false nothing) false (ins.Reconstruct ∷ ins.Insert ∷ ins.List ∷ []))) ≡ false
+others-ground : (w : Word) → is_formatting w && not (grounds nowhere (own_word w) (fitting false false nothing) false (ins.AnyOtherEnd ∷ []) && (grounds nowhere (own_word w) (fitting true false nothing) false (ins.Reconstruct ∷ ins.Insert ∷ ins.PushFormatting ∷ []))) ≡ false
 others-ground word.A = refl
 others-ground _ = refl
 
@@ -333,7 +333,7 @@ not-and true true e h = refl
 not-and true false e h = absurd (true≢false e)
 not-and false y e h = absurd (true≢false (sym h))
 
-own-grounds : (o : Own) → is_formatting_tag o ≡ true → (grounds nowhere o (fitting false false nothing) false (ins.AnyOtherEnd ∷ []) ≡ true) × (grounds nowhere o (fitting true false nothing) false (ins.Reconstruct ∷ ins.Insert ∷ ins.List ∷ []) ≡ true)
+own-grounds : (o : Own) → is_formatting_tag o ≡ true → (grounds nowhere o (fitting false false nothing) false (ins.AnyOtherEnd ∷ []) ≡ true) × (grounds nowhere o (fitting true false nothing) false (ins.Reconstruct ∷ ins.Insert ∷ ins.PushFormatting ∷ []) ≡ true)
 own-grounds (own_word w) h = split (grounds nowhere (own_word w) (fitting false false nothing) false (ins.AnyOtherEnd ∷ [])) _ (not-and (is_formatting w) _ (others-ground w) h)
 own-grounds no_tag h = absurd (true≢false (sym h))
 own-grounds other_name h = absurd (true≢false (sym h))
@@ -415,8 +415,8 @@ module _ (known : NodeId → Bool) where
   off-fits i t b o fit = turn-fits AreFresh fresh-follows known t (on b o) (ins.TakeOff i) fit
 
   -- an element that is made then
-  made-behind : (t : Token) (b : Open) (o : List Op) → FitOf b o → is_formatting_tag (own_of t) ≡ true → Behind b → (let c : Config = run t (on b o) (ins.Reconstruct ∷ ins.Insert ∷ ins.List ∷ []) in Final known nowhere t c.open_state c.flow)
-  made-behind t b o fit own h = behind-row true (ins.Reconstruct ∷ ins.Insert ∷ ins.List ∷ []) t b o fit h (own-grounds (own_of t) own).1
+  made-behind : (t : Token) (b : Open) (o : List Op) → FitOf b o → is_formatting_tag (own_of t) ≡ true → Behind b → (let c : Config = run t (on b o) (ins.Reconstruct ∷ ins.Insert ∷ ins.PushFormatting ∷ []) in Final known nowhere t c.open_state c.flow)
+  made-behind t b o fit own h = behind-row true (ins.Reconstruct ∷ ins.Insert ∷ ins.PushFormatting ∷ []) t b o fit h (own-grounds (own_of t) own).1
 
   after-row : (h : Then) (other : Bool) (t : Token) (b : Open) (o : List Op) → FitOf b o → is_formatting_tag (own_of t) ≡ true → LinkOk b h → Behind b → (let c : Config = run t (on b o) (after_adopt h other) in Final known nowhere t c.open_state c.flow)
   unfolding run
@@ -442,8 +442,8 @@ module _ (known : NodeId → Bool) where
 
   abbrev AfterNext : Token → Open → Next → Type 0
   AfterNext t b next.Deep = Unit {0}
-  AfterNext t b (next.Using m) = GroundOf b × Checked t m b
-  AfterNext t b next.Foster = GroundOf b × Checked t mode.InBody b
+  AfterNext t b (next.UsingRules m) = GroundOf b × Checked t m b
+  AfterNext t b next.InBodyFostering = GroundOf b × Checked t mode.InBody b
   AfterNext t b (next.Adopt w x) = GroundOf b × (is_formatting w ≡ true) × (is_formatting_tag (own_of t) ≡ true) × IsMain b × (has_no word.Html (core b.stack) ≡ false) × LinkOk b x
   AfterNext t b _ = GroundOf b
 
@@ -459,12 +459,12 @@ module _ (known : NodeId → Bool) where
   main-next k t b On x = x
   main-next k t b Skip x = x
   main-next k t b (Leave next.Deep) x = tt
-  main-next k t b (Leave (next.Using m)) x = (x.0, main-checked k m t b x.1 x.2)
-  main-next k t b (Leave next.Foster) x = (x.0, (x.2, (k, x.1)))
+  main-next k t b (Leave (next.UsingRules m)) x = (x.0, main-checked k m t b x.1 x.2)
+  main-next k t b (Leave next.InBodyFostering) x = (x.0, (x.2, (k, x.1)))
   main-next k t b (Leave (next.Adopt w y)) x = x
   main-next k t b (Leave next.Done) x = x
-  main-next k t b (Leave next.Again) x = x
-  main-next k t b (Leave (next.Switch r)) x = x
+  main-next k t b (Leave next.Reprocess) x = x
+  main-next k t b (Leave (next.SwitchTokenizer r)) x = x
   main-next k t b (Leave (next.Script i)) x = x
   main-next k t b (Leave next.Finished) x = x
 
@@ -472,12 +472,12 @@ module _ (known : NodeId → Bool) where
   text-next t b On x = x
   text-next t b Skip x = x
   text-next t b (Leave next.Deep) x = tt
-  text-next t b (Leave (next.Using m)) x = absurd (true≢false (sym x.1))
-  text-next t b (Leave next.Foster) x = absurd (true≢false (sym x.1))
+  text-next t b (Leave (next.UsingRules m)) x = absurd (true≢false (sym x.1))
+  text-next t b (Leave next.InBodyFostering) x = absurd (true≢false (sym x.1))
   text-next t b (Leave (next.Adopt w y)) x = x
   text-next t b (Leave next.Done) x = x
-  text-next t b (Leave next.Again) x = x
-  text-next t b (Leave (next.Switch r)) x = x
+  text-next t b (Leave next.Reprocess) x = x
+  text-next t b (Leave (next.SwitchTokenizer r)) x = x
   text-next t b (Leave (next.Script i)) x = x
   text-next t b (Leave next.Finished) x = x
 
@@ -524,12 +524,12 @@ module _ (known : NodeId → Bool) where
   foreign-next t b On x = x
   foreign-next t b Skip x = x
   foreign-next t b (Leave next.Deep) x = tt
-  foreign-next t b (Leave (next.Using m)) x = (x.0, subst (λ n. Checked t n b) (sym x.1) (own-checked t b x.0))
-  foreign-next t b (Leave next.Foster) x = absurd x
+  foreign-next t b (Leave (next.UsingRules m)) x = (x.0, subst (λ n. Checked t n b) (sym x.1) (own-checked t b x.0))
+  foreign-next t b (Leave next.InBodyFostering) x = absurd x
   foreign-next t b (Leave (next.Adopt w y)) x = absurd x
   foreign-next t b (Leave next.Done) x = x
-  foreign-next t b (Leave next.Again) x = x
-  foreign-next t b (Leave (next.Switch r)) x = x
+  foreign-next t b (Leave next.Reprocess) x = x
+  foreign-next t b (Leave (next.SwitchTokenizer r)) x = x
   foreign-next t b (Leave (next.Script i)) x = x
   foreign-next t b (Leave next.Finished) x = x
 
@@ -608,13 +608,13 @@ module _ (known : NodeId → Bool) where
   EndsWell t f = (b : Open) (o : List Op) (m : Mode) → FitOf b o → GroundOf b → Checked t m b → EndOf (f b o m)
 
   over-ground : (f : Rounds) (t : Token) → EndsWell t f → (b : Open) (o : List Op) (n : Next) → Bound b o n → AfterNext t b n → EndOf (goes_round f t (answer b o n))
-  over-ground f t h b o next.Again w r = h b o (rules_for t b) (w.0, w.1, tt) r (checked-for t b r)
-  over-ground f t h b o (next.Using m) w r = h b o m (w.0, w.1, tt) r.0 r.1
-  over-ground f t h b o next.Foster w r = h b o mode.InBody (w.0, w.1, tt) r.0 r.1
+  over-ground f t h b o next.Reprocess w r = h b o (rules_for t b) (w.0, w.1, tt) r (checked-for t b r)
+  over-ground f t h b o (next.UsingRules m) w r = h b o m (w.0, w.1, tt) r.0 r.1
+  over-ground f t h b o next.InBodyFostering w r = h b o mode.InBody (w.0, w.1, tt) r.0 r.1
   over-ground f t h b o (next.Adopt v x) w r = r.0
   over-ground f t h b o next.Deep w r = tt
   over-ground f t h b o next.Done w r = r
-  over-ground f t h b o (next.Switch x) w r = r
+  over-ground f t h b o (next.SwitchTokenizer x) w r = r
   over-ground f t h b o (next.Script i) w r = r
   over-ground f t h b o next.Finished w r = r
 
@@ -642,12 +642,12 @@ module _ (known : NodeId → Bool) where
   round-ground f t h b o (next.Adopt w x) k r =
       let a : Answer = adopting w x t b o in
       over-ground f t h a.open_state a.ops a.next (adoption-fits AreFresh fresh-follows known t b o (next.Adopt w x) k) (adopting-after w x t b o (k.0, k.1, tt) r)
-  round-ground f t h b o next.Again k r = over-ground f t h b o next.Again k r
-  round-ground f t h b o (next.Using m) k r = over-ground f t h b o (next.Using m) k r
-  round-ground f t h b o next.Foster k r = over-ground f t h b o next.Foster k r
+  round-ground f t h b o next.Reprocess k r = over-ground f t h b o next.Reprocess k r
+  round-ground f t h b o (next.UsingRules m) k r = over-ground f t h b o (next.UsingRules m) k r
+  round-ground f t h b o next.InBodyFostering k r = over-ground f t h b o next.InBodyFostering k r
   round-ground f t h b o next.Deep k r = tt
   round-ground f t h b o next.Done k r = r
-  round-ground f t h b o (next.Switch x) k r = r
+  round-ground f t h b o (next.SwitchTokenizer x) k r = r
   round-ground f t h b o (next.Script i) k r = r
   round-ground f t h b o next.Finished k r = r
 
@@ -664,11 +664,11 @@ module _ (known : NodeId → Bool) where
   unfostered : (n : Next) (b : Open) → EndsGrounded known n b → EndsGrounded known n (record b { foster = false })
   unfostered next.Deep b g = tt
   unfostered next.Done b g = g
-  unfostered next.Again b g = g
-  unfostered (next.Using m) b g = g
-  unfostered next.Foster b g = g
+  unfostered next.Reprocess b g = g
+  unfostered (next.UsingRules m) b g = g
+  unfostered next.InBodyFostering b g = g
   unfostered (next.Adopt w x) b g = g
-  unfostered (next.Switch r) b g = g
+  unfostered (next.SwitchTokenizer r) b g = g
   unfostered (next.Script i) b g = g
   unfostered next.Finished b g = g
 
@@ -688,11 +688,11 @@ module _ (known : NodeId → Bool) where
   with-ids : (k : NodeId → Bool) (n : Next) (b : Open) → EndsGrounded known n b → Serves AreFresh k b → GroundedUnlessDeep n b
   with-ids k next.Deep b g s = tt
   with-ids k next.Done b g s = record { ground = g; ids = (k, s) }
-  with-ids k next.Again b g s = record { ground = g; ids = (k, s) }
-  with-ids k (next.Using m) b g s = record { ground = g; ids = (k, s) }
-  with-ids k next.Foster b g s = record { ground = g; ids = (k, s) }
+  with-ids k next.Reprocess b g s = record { ground = g; ids = (k, s) }
+  with-ids k (next.UsingRules m) b g s = record { ground = g; ids = (k, s) }
+  with-ids k next.InBodyFostering b g s = record { ground = g; ids = (k, s) }
   with-ids k (next.Adopt w x) b g s = record { ground = g; ids = (k, s) }
-  with-ids k (next.Switch r) b g s = record { ground = g; ids = (k, s) }
+  with-ids k (next.SwitchTokenizer r) b g s = record { ground = g; ids = (k, s) }
   with-ids k (next.Script i) b g s = record { ground = g; ids = (k, s) }
   with-ids k next.Finished b g s = record { ground = g; ids = (k, s) }
 

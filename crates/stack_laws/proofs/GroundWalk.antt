@@ -31,8 +31,8 @@ use Rattle.html_types.specs.declared.operation.Place.{Place}
 use Rattle.html_types.specs.declared.operation.Place.TheVariants.{Page}
 use Rattle.html_types.specs.declared.operation.Op.{Op}
 use Rattle.html_types.specs.declared.open.OpenElement.{OpenElement}
-use Rattle.html_types.specs.declared.open.Format.{Format}
-use Rattle.html_types.specs.declared.open.Format.TheVariants.{Marker, Element}
+use Rattle.html_types.specs.declared.open.FormattingEntry.{FormattingEntry}
+use Rattle.html_types.specs.declared.open.FormattingEntry.TheVariants.{Marker, Element}
 use Rattle.html_types.specs.declared.open.Open.{Open}
 use Rattle.standard.specs.WhiteSpace.{is_space}
 use Rattle.standard.specs.Groups.{in_group}
@@ -62,7 +62,7 @@ use Rattle.stack_laws.proofs.GroundSteps.{plain-seen, plain-sound, plain-knows, 
 abbrev are_formatting : List Tag → Bool
 are_formatting tags = list_all (λ (tag : Tag). is_known is_formatting tag.name) tags
 
-lost-formatting : (es xs : List OpenElement) (fs : List Format) → are_listed xs fs ≡ true → are_formatting (lost_tags es fs) ≡ true
+lost-formatting : (es xs : List OpenElement) (fs : List FormattingEntry) → are_listed xs fs ≡ true → are_formatting (lost_tags es fs) ≡ true
 lost-formatting es xs [] l = refl
 lost-formatting es xs (Marker ∷ fs) l = refl
 lost-formatting es xs (Element id tag ∷ fs) l =
@@ -74,7 +74,7 @@ lost-formatting es xs (Element id tag ∷ fs) l =
     by true h = refl
     by false h = h
 
-kept-listed : (es xs : List OpenElement) (fs : List Format) → are_listed xs fs ≡ true → are_listed xs (kept es fs) ≡ true
+kept-listed : (es xs : List OpenElement) (fs : List FormattingEntry) → are_listed xs fs ≡ true → are_listed xs (kept es fs) ≡ true
 kept-listed es xs [] l = refl
 kept-listed es xs (Marker ∷ fs) l = l
 kept-listed es xs (Element id tag ∷ fs) l = by (is_open id es) (kept-listed es xs fs (split (is_known is_formatting tag.name && is_loose is_special xs id) (are_listed xs fs) l).1)
@@ -100,11 +100,11 @@ well-stepped h a x t b On w = w
 well-stepped h a x t b Skip w = absurd w
 well-stepped h a x t b (Leave next.Deep) w = tt
 well-stepped h a x t b (Leave next.Done) w = absurd w
-well-stepped h a x t b (Leave next.Again) w = absurd w
-well-stepped h a x t b (Leave (next.Using m)) w = absurd w
-well-stepped h a x t b (Leave next.Foster) w = absurd w
+well-stepped h a x t b (Leave next.Reprocess) w = absurd w
+well-stepped h a x t b (Leave (next.UsingRules m)) w = absurd w
+well-stepped h a x t b (Leave next.InBodyFostering) w = absurd w
 well-stepped h a x t b (Leave (next.Adopt v y)) w = absurd w
-well-stepped h a x t b (Leave (next.Switch r)) w = absurd w
+well-stepped h a x t b (Leave (next.SwitchTokenizer r)) w = absurd w
 well-stepped h a x t b (Leave (next.Script i)) w = absurd w
 well-stepped h a x t b (Leave next.Finished) w = absurd w
 
@@ -359,9 +359,9 @@ module _ (known : NodeId → Bool) (h : Mode → Mode → Bool) where
   stepped ins.InsertRoot a t b o f m p = root-stepped h (known_after_all known o) a a t b o f.1 m p
   stepped ins.InsertRootA a t b o f m p =
       roomed h (knowing nothing (rooted a)) a t b (pushed (tag_of word.Html) b) o (made Page (tag_of word.Html) b o) (root-stands (known_after_all known o) a t b (tag_of word.Html) f.1 refl m p)
-  stepped ins.Void a t b o f m p = for_tag-stepped h a a t b o void (λ tag. void-stepped h a a t b o tag p) p
-  stepped (ins.VoidA w) a t b o f m p = void-stepped h a a t b o (tag_of w) p
-  stepped (ins.VoidAs w) a t b o f m p = for_tag-stepped h a a t b o (void_as w) (λ tag. void-stepped h a a t b o (named w tag) p) p
+  stepped ins.InsertAndPop a t b o f m p = for_tag-stepped h a a t b o void (λ tag. void-stepped h a a t b o tag p) p
+  stepped (ins.InsertAndPopA w) a t b o f m p = void-stepped h a a t b o (tag_of w) p
+  stepped (ins.InsertAndPopAs w) a t b o f m p = for_tag-stepped h a a t b o (void_as w) (λ tag. void-stepped h a a t b o (named w tag) p) p
   stepped ins.InsertForeign a t b o f m p = absurd (true≢false (sym m))
   stepped (ins.InsertIn s) a t b o f m p = in-stepped h (known_after_all known o) a a t b o s f.1 m p
   stepped ins.InsertText a t b o f m p = text-stepped h a a t b o p
@@ -371,11 +371,11 @@ module _ (known : NodeId → Bool) (h : Mode → Mode → Bool) where
   stepped ins.CommentToRoot a t b o f m p = comment-stepped h a a (end_of (first_open b.stack)) t b o p
   stepped ins.AppendDoctype a t b o f m p = doctype-stepped h a a t b o p
   stepped ins.Pop a t b o f m p = pop-stepped a t b m p
-  stepped (ins.Until w) a t b o f m p =
+  stepped (ins.PopUntil w) a t b o f m p =
       let g = split (is_plainly a.know) _ m in
       until-stepped (until_by a.know a.claim w) w a t b g.0 g.1
       (until-ok a.know a.claim w t (main_mode b.mode b.original) b.stack (plain-knows a t b g.0 p.1) (plain-sound a b g.0 p.0).claimed) p
-  stepped (ins.PopTo g) a t b o f m p =
+  stepped (ins.ClearBackTo g) a t b o f m p =
       let x = split (is_plainly a.know) _ m in
       popped-knowing (λ v. not (in_group g v)) (λ n. not (is_one_of g n)) (λ v e. e) x.1 (context_know a.know g (own_of t)) a t b (pop_to (is_one_of g) b.stack) x.0 (context-plain a.know g (own_of t))
       (context-knows a.know g t b.stack (plain-knows a t b x.0 p.1)) (pop_to-drops (is_one_of g) b.stack) p
@@ -384,13 +384,13 @@ module _ (known : NodeId → Bool) (h : Mode → Mode → Bool) where
       let y = split a.bare a.full x.1 in
       let s = plain-sound a b x.0 p.0 in
       popped (λ v. not (is_vital v)) (λ n. not (is_known is_vital n)) not-vital refl a t b (pop_to_root b.stack) x.0 (root-drops b.stack s.firm.order s.firm.root (s.is_bare y.0)) p
-  stepped ins.Implied a t b o f m p =
+  stepped ins.GenerateImplied a t b o f m p =
       popped-knowing (in_group group.ClosedImplicitly) (is_one_of group.ClosedImplicitly) (λ v e. e) refl (implied_know a.know who.Nobody (own_of t)) a t b (implied (is_meant who.Nobody t) b.stack) m (implied-plain a.know who.Nobody (own_of t))
       (implied-knows a.know who.Nobody t b.stack (plain-knows a t b m p.1)) (implied-drops (is_meant who.Nobody t) b.stack) p
-  stepped ins.ImpliedThoroughly a t b o f m p =
+  stepped ins.GenerateImpliedThoroughly a t b o f m p =
       popped-knowing (in_group group.ClosedThoroughly) (is_one_of group.ClosedThoroughly) (λ v e. e) refl (thorough_know a.know) a t b (implied_thoroughly b.stack) m (thorough-plain a.know)
       (thorough-knows a.know t b.stack (plain-knows a t b m p.1)) (thoroughly-drops b.stack) p
-  stepped (ins.ImpliedBut w) a t b o f m p =
+  stepped (ins.GenerateImpliedBut w) a t b o f m p =
       popped-knowing (in_group group.ClosedImplicitly) (is_one_of group.ClosedImplicitly) (λ v e. e) refl (implied_know a.know w (own_of t)) a t b (implied (is_meant w t) b.stack) m (implied-plain a.know w (own_of t))
       (implied-knows a.know w t b.stack (plain-knows a t b m p.1)) (implied-drops (is_meant w t) b.stack) p
   stepped (ins.Close s w) a t b o f m p =
@@ -406,26 +406,26 @@ module _ (known : NodeId → Bool) (h : Mode → Mode → Bool) where
       let x = split (is_plainly a.know) a.full m in
       let c : Config = reconstruct b o in
       well-stepped h (knowing nothing a) a t c.open_state c.flow (reconstruct-well known a t b o f x.1 (nothing-known a t b x.0 p))
-  stepped ins.List a t b o f m p = list-stepped h a a t b o m p
-  stepped ins.Marker a t b o f m p = with-entries a t b (Marker ∷ b.formats) p.0.firm.entries p
+  stepped ins.PushFormatting a t b o f m p = list-stepped h a a t b o m p
+  stepped ins.PushMarker a t b o f m p = with-entries a t b (Marker ∷ b.formats) p.0.firm.entries p
   stepped ins.ClearToMarker a t b o f m p = with-entries a t b (clear_to_marker b.formats) (cleared-listed (seen a.know b.head b.stack) b.formats p.0.firm.entries) p
   stepped (ins.TakeOff i) a t b o f m p = absurd (true≢false (sym m))
-  stepped ins.NotOk a t b o f m p =
+  stepped ins.FramesetNotOk a t b o f m p =
       let es : List OpenElement = seen a.know b.head b.stack in
       with-owed (paid_ok a.debt) a t b b.template_modes false p.0.modes (ok-owes a.debt (length b.template_modes) (templates_among (core es)) b.frameset_ok (has_no word.Template (core es)) p.0.owed) p
   stepped ins.BecomeQuirky a t b o f m p = p
   stepped ins.SkipLineFeed a t b o f m p = p
-  stepped ins.PointHead a t b o f m p = headless a t b m p
+  stepped ins.SetHeadPointer a t b o f m p = headless a t b m p
   stepped ins.PushHead a t b o f m p = push_head-stepped h b.head a a t b o refl m p
   stepped ins.TakeHeadOff a t b o f m p = head_off-by a.know a t b m p.0 p.1
-  stepped ins.PointForm a t b o f m p = point-stands a t b m p
+  stepped ins.SetFormPointer a t b o f m p = point-stands a t b m p
   stepped ins.EndForm a t b o f m p = form-stepped h (is_meant who.Nobody t) a a t b o m p
   stepped ins.AddToFirst a t b o f m p = for_tag-stepped h a a t b o (add_attributes (first_open b.stack)) (λ tag. attributes-stepped h a a t b o (first_open b.stack) tag p) p
   stepped ins.AddToSecond a t b o f m p = for_tag-stepped h a a t b o (add_attributes (second_open b.stack)) (λ tag. attributes-stepped h a a t b o (second_open b.stack) tag p) p
   stepped ins.DetachSecond a t b o f m p = detach-stepped h a a t b o (second_open b.stack) p
-  stepped (ins.Enter m') a t b o f m p = enter-stands m' a t b m p
-  stepped ins.KeepMode a t b o f m p = keep-stands a t b m p
-  stepped ins.Restore a t b o f m p = restore-stands a t b m p
+  stepped (ins.SwitchMode m') a t b o f m p = enter-stands m' a t b m p
+  stepped ins.SaveMode a t b o f m p = keep-stands a t b m p
+  stepped ins.RestoreMode a t b o f m p = restore-stands a t b m p
   stepped (ins.PushTemplateMode m') a t b o f m p =
       let g = split (is_template_mode m') _ m in
       let es : List OpenElement = seen a.know b.head b.stack in
@@ -435,7 +435,7 @@ module _ (known : NodeId → Bool) (h : Mode → Mode → Bool) where
       let es : List OpenElement = seen a.know b.head b.stack in
       with-owed (popped_debt a.debt) a t b (pop_mode b.template_modes) b.frameset_ok (popped-hold is_template_mode b.template_modes p.0.modes)
       (popped-owes a.debt a.claim (main_mode b.mode b.original) es b.template_modes b.frameset_ok m p.0.claimed p.0.owed) p
-  stepped ins.Reset a t b o f m p = reset-stands a t b m p
+  stepped ins.ResetMode a t b o f m p = reset-stands a t b m p
   stepped ins.AppendPending a t b o f m p = pending-stepped h a a t b o p
   stepped ins.InsertPending a t b o f m p =
       let x = split (is_plainly a.know) a.full m in
@@ -444,10 +444,10 @@ module _ (known : NodeId → Bool) (h : Mode → Mode → Bool) where
   stepped ins.Adopt a t b o f m p = adopt-stepped h a a t b o m p
   stepped ins.AdoptAnchor a t b o f m p = anchor-stepped h a a t b o (entry_named (is_word word.A) b.formats) refl m p
   stepped ins.AdoptNobr a t b o f m p = let l = adopt-leaves h a t b m p in (l.0, refl, l.1, l.2, l.3, tt)
-  stepped (ins.Switch r) a t b o f m p = rests-ground a t b m p
-  stepped (ins.Using m') a t b o f m p = using-stepped h a t b m' m p
-  stepped ins.Foster a t b o f m p = using-stepped h a t b mode.InBody m p
-  stepped ins.Again a t b o f m p = rests-ground a t b m p
+  stepped (ins.SwitchTokenizer r) a t b o f m p = rests-ground a t b m p
+  stepped (ins.UsingRules m') a t b o f m p = using-stepped h a t b m' m p
+  stepped ins.InBodyFostering a t b o f m p = using-stepped h a t b mode.InBody m p
+  stepped ins.Reprocess a t b o f m p = rests-ground a t b m p
   stepped ins.StopAtScript a t b o f m p = script-stepped h a a t b o m p
   stepped ins.Finish a t b o f m p = rests-ground a t b m p
 

@@ -18,7 +18,7 @@ use Rattle.html_types.specs.declared.token.Token.{Token}
 use Rattle.html_types.specs.declared.token.Token.TheVariants.{StartTag, EndTag}
 use Rattle.html_types.specs.declared.operation.NodeId.{NodeId}
 use Rattle.html_types.specs.declared.open.OpenElement.{OpenElement}
-use Rattle.html_types.specs.declared.open.Format.{Format}
+use Rattle.html_types.specs.declared.open.FormattingEntry.{FormattingEntry}
 use Rattle.html_types.specs.declared.open.Open.{Open}
 use Rattle.standard.specs.Groups.{words_of, in_group}
 use Rattle.standard.specs.Rows.{has_word}
@@ -188,7 +188,7 @@ Owes owes_ok m t ok none = suc m ≡ t
 Owes owes_mode m t ok none = (suc m ≡ t) × (ok ≡ true → none ≡ true)
 Owes owes_pop m t ok none = (m ≡ suc t) × (ok ≡ true → none ≡ true)
 
-pub record Sound (a : At) (es : List OpenElement) (fs : List Format) (form : Option NodeId) (m : Mode) (m0 : Option Mode) (ms : List Mode) (ok : Bool) : Type 0 where
+pub record Sound (a : At) (es : List OpenElement) (fs : List FormattingEntry) (form : Option NodeId) (m : Mode) (m0 : Option Mode) (ms : List Mode) (ok : Bool) : Type 0 where
   pub firm : Firm es fs form
   pub claimed : Claimed a.claim (main_mode m m0) es
   pub is_bare : a.bare ≡ true → has_no word.Template (core es) ≡ true
@@ -319,7 +319,7 @@ owed-same owes_ok m t t' ok none none' e g h = h ∙ sym e
 owed-same owes_mode m t t' ok none none' e g h = (h.0 ∙ sym e, λ o. g ∙ h.1 o)
 owed-same owes_pop m t t' ok none none' e g h = (h.0 ∙ ap suc (sym e), λ o. g ∙ h.1 o)
 
-pub sound-dropped : (f : Word → Bool) (q : Name → Bool) → ((v : Word) → q (Known v) ≡ true → f v ≡ true) → spared f vitals ≡ true → (a : At) (es ds : List OpenElement) (fs : List Format) (form : Option NodeId) (m : Mode) (m0 : Option Mode) (ms : List Mode) (ok : Bool)
+pub sound-dropped : (f : Word → Bool) (q : Name → Bool) → ((v : Word) → q (Known v) ≡ true → f v ≡ true) → spared f vitals ≡ true → (a : At) (es ds : List OpenElement) (fs : List FormattingEntry) (form : Option NodeId) (m : Mode) (m0 : Option Mode) (ms : List Mode) (ok : Bool)
     → Drops q es ds → Sound a es fs form m m0 ms ok → Sound (dropping f a) ds fs form m m0 ms ok
 sound-dropped f q same sp a es ds fs form m m0 ms ok d s =
     let spares : Spares is_vital q = spared-spares vitals f q same sp in

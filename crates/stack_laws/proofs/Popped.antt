@@ -11,7 +11,7 @@ use Rattle.html_types.specs.declared.name.Name.TheVariants.{Known, Other}
 use Rattle.html_types.specs.declared.instruction.Group.TheVariants as group
 use Rattle.html_types.specs.declared.instruction.Scope.{Scope}
 use Rattle.html_types.specs.declared.open.OpenElement.{OpenElement}
-use Rattle.html_types.specs.declared.open.Format.{Format}
+use Rattle.html_types.specs.declared.open.FormattingEntry.{FormattingEntry}
 use Rattle.html_types.specs.declared.operation.NodeId.{NodeId}
 use Rattle.standard.specs.Elements.{is_word, is_one_of, ends_scope}
 use Rattle.standard.specs.ForeignNames.{is_lower_of}
@@ -42,7 +42,7 @@ pub template-vital : (n : Name) → is_known is_vital n ≡ false → is_word wo
 template-vital (Known w) h = to-false (same_word w word.Template) (λ e. true≢false (sym (subst (λ v. is_vital v ≡ true) (sym ((word_decides w word.Template).0 e)) refl) ∙ h))
 template-vital (Other s t) h = refl
 
-pub firm-dropped : (q : Name → Bool) → Spares is_vital q → (es ds : List OpenElement) (fs : List Format) (form : Option NodeId) → Drops q es ds → Firm es fs form → Firm ds fs form
+pub firm-dropped : (q : Name → Bool) → Spares is_vital q → (es ds : List OpenElement) (fs : List FormattingEntry) (form : Option NodeId) → Drops q es ds → Firm es fs form → Firm ds fs form
 firm-dropped q spares es ds fs form d f =
     let t = drops-thinned q es ds d in
     record {

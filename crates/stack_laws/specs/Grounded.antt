@@ -13,8 +13,8 @@ use Rattle.html_types.specs.declared.instruction.Mode.{Mode}
 use Rattle.html_types.specs.declared.instruction.Mode.TheVariants as mode
 use Rattle.html_types.specs.declared.operation.NodeId.{NodeId}
 use Rattle.html_types.specs.declared.open.OpenElement.{OpenElement}
-use Rattle.html_types.specs.declared.open.Format.{Format}
-use Rattle.html_types.specs.declared.open.Format.TheVariants.{Marker, Element}
+use Rattle.html_types.specs.declared.open.FormattingEntry.{FormattingEntry}
+use Rattle.html_types.specs.declared.open.FormattingEntry.TheVariants.{Marker, Element}
 use Rattle.html_types.specs.declared.open.Open.{Open}
 use Rattle.standard.specs.Rows.{has_word}
 use Rattle.standard.specs.Elements.{is_word, is_one_of}
@@ -111,13 +111,13 @@ are_apart [] = true
 are_apart (e ∷ es) = is_apart e es && are_apart es
 
 -- each entry is a formatting element's, and no special element has its id
-abbrev pub are_listed : List OpenElement → List Format → Bool
+abbrev pub are_listed : List OpenElement → List FormattingEntry → Bool
 are_listed es [] = true
 are_listed es (Marker ∷ fs) = are_listed es fs
 are_listed es (Element id tag ∷ fs) = (is_known is_formatting tag.name && is_loose is_special es id) && are_listed es fs
 
 -- what holds of the stack, the list and the form element pointer
-pub record Firm (es : List OpenElement) (fs : List Format) (form : Option NodeId) : Type 0 where
+pub record Firm (es : List OpenElement) (fs : List FormattingEntry) (form : Option NodeId) : Type 0 where
   pub order : is_orderly (core es) ≡ true
   pub root : is_rooted es ≡ true
   pub apart : are_apart es ≡ true
@@ -182,7 +182,7 @@ abbrev pub has_kept : Mode → Option Mode → Bool
 has_kept m None = is_main_mode m
 has_kept m (Some original) = is_text_like m
 
-pub record Ground (es : List OpenElement) (fs : List Format) (form : Option NodeId) (m : Mode) (original : Option Mode) (ms : List Mode) (ok : Bool) : Type 0 where
+pub record Ground (es : List OpenElement) (fs : List FormattingEntry) (form : Option NodeId) (m : Mode) (original : Option Mode) (ms : List Mode) (ok : Bool) : Type 0 where
   pub firm : Firm es fs form
   pub stand : stands (main_mode m original) es ≡ true
   pub bottom : (if is_text_mode m then has_text_at_bottom es else true) ≡ true

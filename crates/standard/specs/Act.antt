@@ -13,7 +13,7 @@ use Rattle.html_types.specs.declared.operation.NodeId.{NodeId}
 use Rattle.html_types.specs.declared.operation.Place.{Place}
 use Rattle.html_types.specs.declared.operation.Place.TheVariants.{Page, Inside, Contents, Foster}
 use Rattle.html_types.specs.declared.operation.Op.{Op}
-use Rattle.html_types.specs.declared.operation.Op.TheVariants.{Make, Put, Text, Note, Doctype, Detach, MoveChildren, AddAttributes}
+use Rattle.html_types.specs.declared.operation.Op.TheVariants.{Make, Put, Text, Comment, Doctype, Detach, MoveChildren, AddAttributes}
 use Rattle.html_types.specs.declared.tree.Kind.{Kind}
 use Rattle.html_types.specs.declared.tree.Kind.TheVariants as kind
 use Rattle.standard.specs.Elements.{is_word}
@@ -95,7 +95,7 @@ unfoldable pub act : Doc → Op → Doc
 act d (Make id name attributes) = record { tree = element_made d.tree name attributes; bound = insert_entry id_cmp d.bound id (length d.tree) }
 act d (Put id place) = record d { tree = put_at d.tree (node_of d.bound id) (spot_of d place) }
 act d (Text place text) = record d { tree = text_at d.tree text (spot_of d place) }
-act d (Note place text) = record d { tree = new_at d.tree (kind.Comment text) (spot_of d place) }
+act d (Comment place text) = record d { tree = new_at d.tree (kind.Comment text) (spot_of d place) }
 act d (Doctype name) = record d { tree = new_at d.tree (kind.Doctype name) (end_of d.tree 0) }
 act d (Detach id) = record d { tree = detached d.tree (node_of d.bound id) }
 act d (MoveChildren from to) = record d { tree = children_moved d.tree (node_of d.bound from) (end_of d.tree (node_of d.bound to)).parent }
@@ -121,7 +121,7 @@ abbrev pub IsOpBound : (NodeId → Bool) → Op → Type 0
 IsOpBound known (Make id name attributes) = known id ≡ false
 IsOpBound known (Put id place) = IsTrue (known id) × IsPlaceBound known place
 IsOpBound known (Text place text) = IsPlaceBound known place
-IsOpBound known (Note place text) = IsPlaceBound known place
+IsOpBound known (Comment place text) = IsPlaceBound known place
 IsOpBound known (Doctype name) = Unit {0}
 IsOpBound known (Detach id) = IsTrue (known id)
 IsOpBound known (MoveChildren from to) = IsTrue (known from) × IsTrue (known to)
@@ -148,7 +148,7 @@ abbrev pub rename_op : (NodeId → NodeId) → Op → Op
 rename_op r (Make id name attributes) = Make (r id) name attributes
 rename_op r (Put id place) = Put (r id) (rename_place r place)
 rename_op r (Text place text) = Text (rename_place r place) text
-rename_op r (Note place text) = Note (rename_place r place) text
+rename_op r (Comment place text) = Comment (rename_place r place) text
 rename_op r (Doctype name) = Doctype name
 rename_op r (Detach id) = Detach (r id)
 rename_op r (MoveChildren from to) = MoveChildren (r from) (r to)

@@ -13,8 +13,8 @@ use Rattle.html_types.specs.declared.operation.Place.TheVariants.{Inside}
 use Rattle.html_types.specs.declared.operation.Op.{Op}
 use Rattle.html_types.specs.declared.operation.Op.TheVariants as op
 use Rattle.html_types.specs.declared.open.OpenElement.{OpenElement}
-use Rattle.html_types.specs.declared.open.Format.{Format}
-use Rattle.html_types.specs.declared.open.Format.TheVariants.{Element}
+use Rattle.html_types.specs.declared.open.FormattingEntry.{FormattingEntry}
+use Rattle.html_types.specs.declared.open.FormattingEntry.TheVariants.{Element}
 use Rattle.html_types.specs.declared.open.Open.{Open}
 use Rattle.html_types.specs.declared.instruction.Scope.TheVariants as scope
 use Rattle.html_types.specs.declared.instruction.Turn.{Turn}
@@ -29,14 +29,14 @@ use Rattle.standard.specs.Formatting.{entry_named, has_entry, tag_of_entry, with
 -- what the list is then, the next id, the operations so far, what is left of the elements between, the node that was put
 -- last, and the entry that the bookmark is just behind; with none it is at the formatting element's
 pub record Climb : Type 0 where
-  pub formats : List Format
+  pub formats : List FormattingEntry
   pub next : NodeId
   pub ops : List Op
   pub kept : List OpenElement
   pub last : NodeId
   pub bookmark : Option NodeId
 
-abbrev pub climb_at : List Format → NodeId → List Op → List OpenElement → NodeId → Option NodeId → Climb
+abbrev pub climb_at : List FormattingEntry → NodeId → List Op → List OpenElement → NodeId → Option NodeId → Climb
 climb_at f n o k l m = record { formats = f; next = n; ops = o; kept = k; last = l; bookmark = m }
 
 -- 4.13.7: the bookmark goes just behind the first clone's entry
@@ -54,7 +54,7 @@ climb_clone id (Some tag) c =
     (c.kept ++ opened c.next tag ∷ []) c.next (bookmark_or c.bookmark c.next)
 
 -- 4.13.4: from the fourth node on (the inner loop counter is above 3) the entries are dropped; `left` is 3 less the counter so far
-abbrev pub climb_drop : ℕ → NodeId → List Format → List Format
+abbrev pub climb_drop : ℕ → NodeId → List FormattingEntry → List FormattingEntry
 climb_drop left id fs = if left == 0 then without_entry id fs else fs
 
 abbrev pub climb_one : ℕ → NodeId → Climb → Climb
@@ -76,7 +76,7 @@ abbrev pub turned : Open → List Op → Turn → Turned
 turned b o t = record { open_state = b; ops = o; turn = t }
 
 -- 4.18: the formatting element's entry is dropped, and the clone's is put at the bookmark
-abbrev pub put_at_bookmark : NodeId → NodeId → Tag → Option NodeId → List Format → List Format
+abbrev pub put_at_bookmark : NodeId → NodeId → Tag → Option NodeId → List FormattingEntry → List FormattingEntry
 put_at_bookmark f clone tag None fs = with_id f clone fs
 put_at_bookmark f clone tag (Some m) fs = without_entry f (with_behind m (Element clone tag) fs)
 

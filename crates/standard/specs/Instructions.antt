@@ -8,7 +8,7 @@ use Rattle.html_types.specs.declared.word.Word.TheVariants as word
 use Rattle.html_types.specs.declared.instruction.Instr.{Instr}
 use Rattle.html_types.specs.declared.instruction.Instr.TheVariants as ins
 use Rattle.html_types.specs.declared.instruction.Test.{Test}
-use Rattle.html_types.specs.declared.instruction.Test.TheVariants.{InScope, Current, OnStack, Listed, Quirks, SecondIsBody, FramesetOk, QuirkyDoctype, InForm, HiddenInput, InTemplates, InTables, OptionInOptgroup, SelfClosing, BreaksOut}
+use Rattle.html_types.specs.declared.instruction.Test.TheVariants.{InScope, Current, OnStack, InFormatting, Quirks, SecondIsBody, FramesetOk, QuirkyDoctype, InForm, HiddenInput, InTemplates, InTables, OptionInOptgroup, SelfClosing, BreaksOut}
 use Rattle.html_types.specs.declared.instruction.Scope.TheVariants as scope
 use Rattle.html_types.specs.declared.instruction.Mode.{Mode}
 use Rattle.html_types.specs.declared.instruction.Mode.TheVariants as mode
@@ -31,8 +31,8 @@ use Rattle.html_types.specs.declared.operation.Place.TheVariants.{Page, Inside}
 use Rattle.html_types.specs.declared.operation.Op.{Op}
 use Rattle.html_types.specs.declared.operation.Op.TheVariants as op
 use Rattle.html_types.specs.declared.open.OpenElement.{OpenElement}
-use Rattle.html_types.specs.declared.open.Format.{Format}
-use Rattle.html_types.specs.declared.open.Format.TheVariants.{Marker, Element}
+use Rattle.html_types.specs.declared.open.FormattingEntry.{FormattingEntry}
+use Rattle.html_types.specs.declared.open.FormattingEntry.TheVariants.{Marker, Element}
 use Rattle.html_types.specs.declared.open.Open.{Open}
 use Rattle.standard.specs.Tree.{attribute}
 use Rattle.standard.specs.WhiteSpace.{is_space}
@@ -99,7 +99,7 @@ abbrev pub holds : Test → Token → Open → Bool
 holds (InScope s w) t b = in_scope s (is_meant w t) b.stack
 holds (Current w) t b = current_is (is_meant w t) b.stack
 holds (OnStack w) t b = on_stack (is_meant w t) b.stack
-holds (Listed w) t b = listed (is_meant w t) b.formats
+holds (InFormatting w) t b = listed (is_meant w t) b.formats
 holds Quirks t b = b.quirks
 holds SecondIsBody t b = is_the word.Body (second_open b.stack)
 holds FramesetOk t b = b.frameset_ok
@@ -175,7 +175,7 @@ for_tag f _ b o = on b o
 -- ---- the list of active formatting elements (13.2.4.3)
 
 -- the current node becomes an entry, with the tag
-abbrev pub list_current : Tag → List OpenElement → List Format → List Format
+abbrev pub list_current : Tag → List OpenElement → List FormattingEntry → List FormattingEntry
 list_current tag [] fs = fs
 list_current tag (e ∷ es) fs = list_element e.id tag fs
 
@@ -211,7 +211,7 @@ abbrev pub insert_replacement : Open → List Op → Config
 insert_replacement b o = on b (o ++ op.Text (here b) (0xFFFD ∷ []) ∷ [])
 
 abbrev pub insert_comment : Place → Token → Open → List Op → Config
-insert_comment p (Comment text) b o = on b (o ++ op.Note p text ∷ [])
+insert_comment p (Comment text) b o = on b (o ++ op.Comment p text ∷ [])
 insert_comment p _ b o = on b o
 
 abbrev pub append_doctype : Token → Open → List Op → Config
@@ -318,7 +318,7 @@ pop_foreign [] = []
 pop_foreign (e ∷ es) = if is_html_or_point e then e ∷ es else pop_foreign es
 
 abbrev pub break_out : Open → List Op → Config
-break_out b o = config (record b { stack = pop_foreign b.stack }) o (Leave (next.Using b.mode))
+break_out b o = config (record b { stack = pop_foreign b.stack }) o (Leave (next.UsingRules b.mode))
 
 -- "Any other end tag", from the current node up: the stack `all` with the element of that name popped, or as it is where the first element is
 -- met; none where an HTML element comes before
@@ -329,7 +329,7 @@ foreign_end name all (e ∷ d ∷ es) =
     if is_lower_of (name_text e.name) name then Some (d ∷ es) else (if is_html d.name then None else foreign_end name all (d ∷ es))
 
 abbrev pub end_foreign_with : Option (List OpenElement) → Open → List Op → Config
-end_foreign_with None b o = config b o (Leave (next.Using b.mode))
+end_foreign_with None b o = config b o (Leave (next.UsingRules b.mode))
 end_foreign_with (Some es) b o = on (record b { stack = es }) o
 
 abbrev pub end_foreign : Tag → Open → List Op → Config
@@ -359,9 +359,9 @@ step ins.Insert t b o = for_tag insert t b o
 step (ins.InsertA w) t b o = insert (tag_of w) b o
 step ins.InsertRoot t b o = for_tag insert_root t b o
 step ins.InsertRootA t b o = insert_root (tag_of word.Html) b o
-step ins.Void t b o = for_tag void t b o
-step (ins.VoidA w) t b o = void (tag_of w) b o
-step (ins.VoidAs w) t b o = for_tag (void_as w) t b o
+step ins.InsertAndPop t b o = for_tag void t b o
+step (ins.InsertAndPopA w) t b o = void (tag_of w) b o
+step (ins.InsertAndPopAs w) t b o = for_tag (void_as w) t b o
 step ins.InsertForeign t b o = for_tag insert_foreign t b o
 step (ins.InsertIn s) t b o = for_tag (insert_in s) t b o
 step ins.InsertText t b o = insert_text t b o
@@ -371,48 +371,48 @@ step ins.CommentToPage t b o = insert_comment Page t b o
 step ins.CommentToRoot t b o = insert_comment (end_of (first_open b.stack)) t b o
 step ins.AppendDoctype t b o = append_doctype t b o
 step ins.Pop t b o = on (record b { stack = pop b.stack }) o
-step (ins.Until w) t b o = on (record b { stack = until (is_meant w t) b.stack }) o
-step (ins.PopTo g) t b o = on (record b { stack = pop_to (is_one_of g) b.stack }) o
+step (ins.PopUntil w) t b o = on (record b { stack = until (is_meant w t) b.stack }) o
+step (ins.ClearBackTo g) t b o = on (record b { stack = pop_to (is_one_of g) b.stack }) o
 step ins.PopToRoot t b o = on (record b { stack = pop_to_root b.stack }) o
-step ins.Implied t b o = on (record b { stack = implied (is_meant who.Nobody t) b.stack }) o
-step ins.ImpliedThoroughly t b o = on (record b { stack = implied_thoroughly b.stack }) o
-step (ins.ImpliedBut w) t b o = on (record b { stack = implied (is_meant w t) b.stack }) o
+step ins.GenerateImplied t b o = on (record b { stack = implied (is_meant who.Nobody t) b.stack }) o
+step ins.GenerateImpliedThoroughly t b o = on (record b { stack = implied_thoroughly b.stack }) o
+step (ins.GenerateImpliedBut w) t b o = on (record b { stack = implied (is_meant w t) b.stack }) o
 step (ins.Close s w) t b o = on (record b { stack = close s (is_meant w t) b.stack }) o
 step (ins.CloseItem w) t b o = on (record b { stack = close_item (is_meant w t) b.stack }) o
 step ins.AnyOtherEnd t b o = on (record b { stack = other_end (is_meant who.Own t) b.stack }) o
 step ins.BreakOut t b o = break_out b o
 step ins.ForeignEnd t b o = for_tag end_foreign t b o
 step ins.Reconstruct t b o = reconstruct b o
-step ins.List t b o = for_tag enlist t b o
-step ins.Marker t b o = on (record b { formats = Marker ∷ b.formats }) o
+step ins.PushFormatting t b o = for_tag enlist t b o
+step ins.PushMarker t b o = on (record b { formats = Marker ∷ b.formats }) o
 step ins.ClearToMarker t b o = on (record b { formats = clear_to_marker b.formats }) o
 step (ins.TakeOff i) t b o = take_off i b o
-step ins.NotOk t b o = on (record b { frameset_ok = false }) o
+step ins.FramesetNotOk t b o = on (record b { frameset_ok = false }) o
 step ins.BecomeQuirky t b o = on (record b { quirks = true }) o
 step ins.SkipLineFeed t b o = on (record b { skip_line_feed = true }) o
-step ins.PointHead t b o = on (record b { head = current_id b.stack }) o
+step ins.SetHeadPointer t b o = on (record b { head = current_id b.stack }) o
 step ins.PushHead t b o = push_head b.head b o
 step ins.TakeHeadOff t b o = on (record b { stack = without_open b.head b.stack }) o
-step ins.PointForm t b o = on (record b { form = current_id b.stack }) o
+step ins.SetFormPointer t b o = on (record b { form = current_id b.stack }) o
 step ins.EndForm t b o = end_form (is_meant who.Nobody t) b o
 step ins.AddToFirst t b o = for_tag (add_attributes (first_open b.stack)) t b o
 step ins.AddToSecond t b o = for_tag (add_attributes (second_open b.stack)) t b o
 step ins.DetachSecond t b o = detach_second (second_open b.stack) b o
-step (ins.Enter m) t b o = on (record b { mode = m }) o
-step ins.KeepMode t b o = on (record b { original = Some b.mode }) o
-step ins.Restore t b o = on (record b { mode = original_or mode.InBody b.original; original = None }) o
+step (ins.SwitchMode m) t b o = on (record b { mode = m }) o
+step ins.SaveMode t b o = on (record b { original = Some b.mode }) o
+step ins.RestoreMode t b o = on (record b { mode = original_or mode.InBody b.original; original = None }) o
 step (ins.PushTemplateMode m) t b o = on (record b { template_modes = m ∷ b.template_modes }) o
 step ins.PopTemplateMode t b o = on (record b { template_modes = pop_mode b.template_modes }) o
-step ins.Reset t b o = on (record b { mode = reset_mode b.stack b.head b.template_modes }) o
+step ins.ResetMode t b o = on (record b { mode = reset_mode b.stack b.head b.template_modes }) o
 step ins.AppendPending t b o = append_pending t b o
 step ins.InsertPending t b o = insert_pending b o
 step ins.Adopt t b o = for_tag adopt_own t b o
 step ins.AdoptAnchor t b o = adopt_anchor (entry_named (is_word word.A) b.formats) b o
 step ins.AdoptNobr t b o = config b o (Leave (next.Adopt word.Nobr Nobr))
-step (ins.Switch r) t b o = config b o (Leave (next.Switch r))
-step (ins.Using m) t b o = config b o (Leave (next.Using m))
-step ins.Foster t b o = config (record b { foster = true }) o (Leave next.Foster)
-step ins.Again t b o = config b o (Leave next.Again)
+step (ins.SwitchTokenizer r) t b o = config b o (Leave (next.SwitchTokenizer r))
+step (ins.UsingRules m) t b o = config b o (Leave (next.UsingRules m))
+step ins.InBodyFostering t b o = config (record b { foster = true }) o (Leave next.InBodyFostering)
+step ins.Reprocess t b o = config b o (Leave next.Reprocess)
 step ins.StopAtScript t b o = stop_at_script b.stack b o
 step ins.Finish t b o = config b o (Leave next.Finished)
 

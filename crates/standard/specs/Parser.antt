@@ -89,7 +89,7 @@ after_ops ops (took more p s) = took (ops ++ more) p s
 
 -- what comes after a token; `rest` reads the tokens behind it. End-of-file is no token of a text
 abbrev pub build_on : TokState → Bool → Token → Open → (TokState → Took) → Next → Took
-build_on s cr t b rest (next.Switch r) = rest (read_as r t)
+build_on s cr t b rest (next.SwitchTokenizer r) = rest (read_as r t)
 build_on s cr t b rest (next.Script i) = took [] (parser s cr b) (stop.Script i)
 build_on s cr t b rest next.Deep = took [] (parser s cr b) stop.Deep
 build_on s cr t b rest _ = rest s

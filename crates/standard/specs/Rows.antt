@@ -1,8 +1,8 @@
 -- The form of a table of rules: each row has the names that it is for, and what is done.
 --
 -- What is done is a list of instructions, in order (specs/Instructions). `Need` and `Forbid` end the row, and so ignore the token, where
--- their test fails or holds; `When` and `Unless` skip the one instruction behind them. An instruction that leaves the row (`Again`, `Using`,
--- `Foster`, `Adopt`, `StopAtScript`, `Finish`, ..) stands last, or behind a `When` or `Unless`: what stands behind it then isn't done. No
+-- their test fails or holds; `When` and `Unless` skip the one instruction behind them. An instruction that leaves the row (`Reprocess`, `UsingRules`,
+-- `InBodyFostering`, `Adopt`, `StopAtScript`, `Finish`, ..) stands last, or behind a `When` or `Unless`: what stands behind it then isn't done. No
 -- instruction: the token is ignored.
 use Rattle.std.specs.Prelude.{Bool, false, ◌||◌, if◌then◌else◌, List, [], ◌∷◌}
 use denote.Enum.Bare.{sameb}

@@ -47,12 +47,12 @@ character_row InRow c = in_row_anything
 character_row InCell c = in_cell_anything
 character_row InSelect c = if c == 0 then [] else ins.InsertText ∷ []
 character_row InSelectInTable c = in_select_in_table_anything
-character_row InTemplate c = ins.Using InBody ∷ []
-character_row AfterBody c = if is_space c then ins.Using InBody ∷ [] else after_body_anything
+character_row InTemplate c = ins.UsingRules InBody ∷ []
+character_row AfterBody c = if is_space c then ins.UsingRules InBody ∷ [] else after_body_anything
 character_row InFrameset c = if is_space c then ins.InsertText ∷ [] else in_frameset_anything
 character_row AfterFrameset c = if is_space c then ins.InsertText ∷ [] else after_frameset_anything
-character_row AfterAfterBody c = if is_space c then ins.Using InBody ∷ [] else after_after_body_anything
-character_row AfterAfterFrameset c = if is_space c then ins.Using InBody ∷ [] else after_after_frameset_anything
+character_row AfterAfterBody c = if is_space c then ins.UsingRules InBody ∷ [] else after_after_body_anything
+character_row AfterAfterFrameset c = if is_space c then ins.UsingRules InBody ∷ [] else after_after_frameset_anything
 character_row InForeign c = in_foreign_character c
 
 -- a start tag
@@ -112,7 +112,7 @@ abbrev pub comment_row : Mode → List Instr
 comment_row Initial = ins.CommentToPage ∷ []
 comment_row BeforeHtml = ins.CommentToPage ∷ []
 comment_row InTableText = in_table_text_anything
-comment_row InTemplate = ins.Using InBody ∷ []
+comment_row InTemplate = ins.UsingRules InBody ∷ []
 comment_row AfterBody = ins.CommentToRoot ∷ []
 comment_row AfterAfterBody = ins.CommentToPage ∷ []
 comment_row AfterAfterFrameset = ins.CommentToPage ∷ []
@@ -122,7 +122,7 @@ comment_row _ = ins.InsertComment ∷ []
 abbrev pub doctype_row : Mode → List Instr
 doctype_row Initial = initial_doctype
 doctype_row InTableText = in_table_text_anything
-doctype_row InTemplate = ins.Using InBody ∷ []
+doctype_row InTemplate = ins.UsingRules InBody ∷ []
 doctype_row _ = []
 
 abbrev pub end_of_file_row : Mode → List Instr
@@ -133,14 +133,14 @@ end_of_file_row InHead = in_head_anything
 end_of_file_row AfterHead = after_head_anything
 end_of_file_row InBody = in_body_end_of_file
 end_of_file_row InText = in_text_end_of_file
-end_of_file_row InTable = ins.Using InBody ∷ []
+end_of_file_row InTable = ins.UsingRules InBody ∷ []
 end_of_file_row InTableText = in_table_text_anything
 end_of_file_row InCaption = in_caption_anything
-end_of_file_row InColumnGroup = ins.Using InBody ∷ []
+end_of_file_row InColumnGroup = ins.UsingRules InBody ∷ []
 end_of_file_row InTableBody = in_table_body_anything
 end_of_file_row InRow = in_row_anything
 end_of_file_row InCell = in_cell_anything
-end_of_file_row InSelect = ins.Using InBody ∷ []
+end_of_file_row InSelect = ins.UsingRules InBody ∷ []
 end_of_file_row InSelectInTable = in_select_in_table_anything
 end_of_file_row InTemplate = in_template_end_of_file
 end_of_file_row AfterBody = ins.Finish ∷ []
@@ -210,9 +210,9 @@ pub data Round : Type 0 where
   stop : Next → Round
 
 abbrev pub round_after : Token → Open → Next → Round
-round_after t b next.Again = once (rules_for t b)
-round_after t b (next.Using m) = once m
-round_after t b next.Foster = once InBody
+round_after t b next.Reprocess = once (rules_for t b)
+round_after t b (next.UsingRules m) = once m
+round_after t b next.InBodyFostering = once InBody
 round_after t b n = stop n
 
 -- what the round comes to; `more` is processing the token by the rules of a mode
@@ -223,7 +223,7 @@ go_round more b o (stop x) = answer b o x
 -- by the rules of a mode, and of those that it is then to go by, at most so many times; where they are used up it still asks
 -- to go on, which no token comes to
 unfoldable pub process : ℕ → Mode → Token → Open → List Op → Answer
-process zero m t b o = answer b o next.Again
+process zero m t b o = answer b o next.Reprocess
 process (suc n) m t b o =
     let a : Answer = by_rules m t b o in
     go_round (λ m'. process n m' t a.open_state a.ops) a.open_state a.ops (round_after t a.open_state a.next)

@@ -5,11 +5,11 @@ use Rattle.html_types.specs.declared.word.Word.{Word}
 use Rattle.html_types.specs.declared.word.Word.TheVariants.{A, Address, Applet, Area, Article, Aside, B, Base, Basefont, Bgsound, Big, Blockquote, Body, Br, Button, Caption, Center, Code, Col, Colgroup, Dd, Details, Dialog, Dir, Div, Dl, Dt, Em, Embed, Fieldset, Figcaption, Figure, Font, Footer, Form, Frame, Frameset, H1, H2, H3, H4, H5, H6, Head, Header, Hgroup, Hr, Html, I, Iframe, Image, Img, Input, Keygen, Li, Link, Listing, Main, Marquee, Math, Menu, Meta, Nav, Nobr, Noembed, Noframes, Noscript, Object, Ol, Optgroup, Option, P, Param, Plaintext, Pre, Rb, Rp, Rt, Rtc, Ruby, S, Script, Search, Section, Select, Small, Source, Strike, Strong, Style, Summary, Svg, Table, Tbody, Td, Template, Textarea, Tfoot, Th, Thead, Title, Tr, Track, Tt, U, Ul, Wbr, Xmp}
 use Rattle.html_types.specs.declared.name.Space.TheVariants as space
 use Rattle.html_types.specs.declared.instruction.Instr.{Instr}
-use Rattle.html_types.specs.declared.instruction.Instr.TheVariants.{Need, Forbid, When, Unless, Insert, InsertA, InsertIn, Void, VoidA, VoidAs, InsertText, Pop, Until, PopToRoot, Implied, ImpliedBut, Close, CloseItem, AnyOtherEnd, Reconstruct, Marker, ClearToMarker, TakeOff, NotOk, SkipLineFeed, PointForm, EndForm, AddToFirst, AddToSecond, DetachSecond, Enter, KeepMode, Restore, Adopt, AdoptAnchor, AdoptNobr, Switch, Using, Again, StopAtScript, Finish}
+use Rattle.html_types.specs.declared.instruction.Instr.TheVariants.{Need, Forbid, When, Unless, Insert, InsertA, InsertIn, InsertAndPop, InsertAndPopA, InsertAndPopAs, InsertText, Pop, PopUntil, PopToRoot, GenerateImplied, GenerateImpliedBut, Close, CloseItem, AnyOtherEnd, Reconstruct, PushMarker, ClearToMarker, TakeOff, FramesetNotOk, SkipLineFeed, SetFormPointer, EndForm, AddToFirst, AddToSecond, DetachSecond, SwitchMode, SaveMode, RestoreMode, Adopt, AdoptAnchor, AdoptNobr, SwitchTokenizer, UsingRules, Reprocess, StopAtScript, Finish}
 use Rattle.html_types.specs.declared.instruction.Instr.TheVariants as ins
 use Rattle.html_types.specs.declared.instruction.Then.{Then}
 use Rattle.html_types.specs.declared.instruction.Then.TheVariants as behind
-use Rattle.html_types.specs.declared.instruction.Test.TheVariants.{InScope, Current, OnStack, Listed, Quirks, SecondIsBody, FramesetOk, InForm, HiddenInput, InTemplates, InTables, SelfClosing}
+use Rattle.html_types.specs.declared.instruction.Test.TheVariants.{InScope, Current, OnStack, InFormatting, Quirks, SecondIsBody, FramesetOk, InForm, HiddenInput, InTemplates, InTables, SelfClosing}
 use Rattle.html_types.specs.declared.instruction.Who.TheVariants.{Own, The, Any}
 use Rattle.html_types.specs.declared.instruction.Group.TheVariants.{Headings, DefinitionItems}
 use Rattle.html_types.specs.declared.instruction.Scope.TheVariants as scope
@@ -22,7 +22,7 @@ abbrev pub in_body_space : List Instr
 in_body_space = Reconstruct ∷ InsertText ∷ []
 
 abbrev pub in_body_character : List Instr
-in_body_character = Reconstruct ∷ InsertText ∷ NotOk ∷ []
+in_body_character = Reconstruct ∷ InsertText ∷ FramesetNotOk ∷ []
 
 abbrev pub in_body_start : List (List Word × List Instr)
 in_body_start = (
@@ -30,13 +30,13 @@ in_body_start = (
   Forbid (OnStack (The Template)) ∷ AddToFirst ∷ [],
 ) ∷ (
   Base ∷ Basefont ∷ Bgsound ∷ Link ∷ Meta ∷ Noframes ∷ Script ∷ Style ∷ Template ∷ Title ∷ [],
-  Using InHead ∷ [],
+  UsingRules InHead ∷ [],
 ) ∷ (
   Body ∷ [],
-  Need SecondIsBody ∷ Forbid (OnStack (The Template)) ∷ NotOk ∷ AddToSecond ∷ [],
+  Need SecondIsBody ∷ Forbid (OnStack (The Template)) ∷ FramesetNotOk ∷ AddToSecond ∷ [],
 ) ∷ (
   Frameset ∷ [],
-  Need SecondIsBody ∷ Need FramesetOk ∷ DetachSecond ∷ PopToRoot ∷ Insert ∷ Enter InFrameset ∷ [],
+  Need SecondIsBody ∷ Need FramesetOk ∷ DetachSecond ∷ PopToRoot ∷ Insert ∷ SwitchMode InFrameset ∷ [],
 ) ∷ (
   Address ∷ Article ∷ Aside ∷ Blockquote ∷ Center ∷ Details ∷ Dialog ∷ Dir ∷ Div ∷ Dl ∷ Fieldset ∷ Figcaption ∷ Figure ∷ Footer ∷ Header ∷ Hgroup ∷ Main ∷ Menu ∷ Nav ∷ Ol ∷ P ∷ Search ∷ Section ∷ Summary ∷ Ul ∷ [],
   Close scope.Button (The P) ∷ Insert ∷ [],
@@ -45,76 +45,76 @@ in_body_start = (
   Close scope.Button (The P) ∷ When (Current (Any Headings)) ∷ Pop ∷ Insert ∷ [],
 ) ∷ (
   Pre ∷ Listing ∷ [],
-  Close scope.Button (The P) ∷ Insert ∷ SkipLineFeed ∷ NotOk ∷ [],
+  Close scope.Button (The P) ∷ Insert ∷ SkipLineFeed ∷ FramesetNotOk ∷ [],
 ) ∷ (
   Form ∷ [],
-  Forbid InForm ∷ Close scope.Button (The P) ∷ Insert ∷ Unless (OnStack (The Template)) ∷ PointForm ∷ [],
+  Forbid InForm ∷ Close scope.Button (The P) ∷ Insert ∷ Unless (OnStack (The Template)) ∷ SetFormPointer ∷ [],
 ) ∷ (
   Li ∷ [],
-  NotOk ∷ CloseItem (The Li) ∷ Close scope.Button (The P) ∷ Insert ∷ [],
+  FramesetNotOk ∷ CloseItem (The Li) ∷ Close scope.Button (The P) ∷ Insert ∷ [],
 ) ∷ (
   Dd ∷ Dt ∷ [],
-  NotOk ∷ CloseItem (Any DefinitionItems) ∷ Close scope.Button (The P) ∷ Insert ∷ [],
+  FramesetNotOk ∷ CloseItem (Any DefinitionItems) ∷ Close scope.Button (The P) ∷ Insert ∷ [],
 ) ∷ (
   Plaintext ∷ [],
-  Close scope.Button (The P) ∷ Insert ∷ Switch reading.Plaintext ∷ [],
+  Close scope.Button (The P) ∷ Insert ∷ SwitchTokenizer reading.Plaintext ∷ [],
 ) ∷ (
   Button ∷ [],
-  Close scope.Default (The Button) ∷ Reconstruct ∷ Insert ∷ NotOk ∷ [],
+  Close scope.Default (The Button) ∷ Reconstruct ∷ Insert ∷ FramesetNotOk ∷ [],
 ) ∷ (
   A ∷ [],
-  When (Listed (The A)) ∷ AdoptAnchor ∷ Reconstruct ∷ Insert ∷ ins.List ∷ [],
+  When (InFormatting (The A)) ∷ AdoptAnchor ∷ Reconstruct ∷ Insert ∷ ins.PushFormatting ∷ [],
 ) ∷ (
   B ∷ Big ∷ Code ∷ Em ∷ Font ∷ I ∷ S ∷ Small ∷ Strike ∷ Strong ∷ Tt ∷ U ∷ [],
-  Reconstruct ∷ Insert ∷ ins.List ∷ [],
+  Reconstruct ∷ Insert ∷ ins.PushFormatting ∷ [],
 ) ∷ (
   Nobr ∷ [],
-  Reconstruct ∷ When (InScope scope.Default (The Nobr)) ∷ AdoptNobr ∷ Insert ∷ ins.List ∷ [],
+  Reconstruct ∷ When (InScope scope.Default (The Nobr)) ∷ AdoptNobr ∷ Insert ∷ ins.PushFormatting ∷ [],
 ) ∷ (
   Applet ∷ Marquee ∷ Object ∷ [],
-  Reconstruct ∷ Insert ∷ Marker ∷ NotOk ∷ [],
+  Reconstruct ∷ Insert ∷ PushMarker ∷ FramesetNotOk ∷ [],
 ) ∷ (
   Table ∷ [],
-  Unless Quirks ∷ Close scope.Button (The P) ∷ Insert ∷ NotOk ∷ Enter InTable ∷ [],
+  Unless Quirks ∷ Close scope.Button (The P) ∷ Insert ∷ FramesetNotOk ∷ SwitchMode InTable ∷ [],
 ) ∷ (
   Area ∷ Br ∷ Embed ∷ Img ∷ Keygen ∷ Wbr ∷ [],
-  Reconstruct ∷ Void ∷ NotOk ∷ [],
+  Reconstruct ∷ InsertAndPop ∷ FramesetNotOk ∷ [],
 ) ∷ (
   Input ∷ [],
-  Reconstruct ∷ Void ∷ Unless HiddenInput ∷ NotOk ∷ [],
+  Reconstruct ∷ InsertAndPop ∷ Unless HiddenInput ∷ FramesetNotOk ∷ [],
 ) ∷ (
   Param ∷ Source ∷ Track ∷ [],
-  Void ∷ [],
+  InsertAndPop ∷ [],
 ) ∷ (
   Hr ∷ [],
-  Close scope.Button (The P) ∷ Void ∷ NotOk ∷ [],
+  Close scope.Button (The P) ∷ InsertAndPop ∷ FramesetNotOk ∷ [],
 ) ∷ (
   Image ∷ [],
-  Reconstruct ∷ VoidAs Img ∷ NotOk ∷ [],
+  Reconstruct ∷ InsertAndPopAs Img ∷ FramesetNotOk ∷ [],
 ) ∷ (
   Textarea ∷ [],
-  Insert ∷ SkipLineFeed ∷ NotOk ∷ KeepMode ∷ Enter InText ∷ Switch Rcdata ∷ [],
+  Insert ∷ SkipLineFeed ∷ FramesetNotOk ∷ SaveMode ∷ SwitchMode InText ∷ SwitchTokenizer Rcdata ∷ [],
 ) ∷ (
   Xmp ∷ [],
-  Close scope.Button (The P) ∷ Reconstruct ∷ NotOk ∷ Insert ∷ KeepMode ∷ Enter InText ∷ Switch Rawtext ∷ [],
+  Close scope.Button (The P) ∷ Reconstruct ∷ FramesetNotOk ∷ Insert ∷ SaveMode ∷ SwitchMode InText ∷ SwitchTokenizer Rawtext ∷ [],
 ) ∷ (
   Iframe ∷ [],
-  NotOk ∷ Insert ∷ KeepMode ∷ Enter InText ∷ Switch Rawtext ∷ [],
+  FramesetNotOk ∷ Insert ∷ SaveMode ∷ SwitchMode InText ∷ SwitchTokenizer Rawtext ∷ [],
 ) ∷ (
   Noembed ∷ Noscript ∷ [],
-  Insert ∷ KeepMode ∷ Enter InText ∷ Switch Rawtext ∷ [],
+  Insert ∷ SaveMode ∷ SwitchMode InText ∷ SwitchTokenizer Rawtext ∷ [],
 ) ∷ (
   Select ∷ [],
-  Reconstruct ∷ Insert ∷ NotOk ∷ Unless InTables ∷ Enter InSelect ∷ When InTables ∷ Enter InSelectInTable ∷ [],
+  Reconstruct ∷ Insert ∷ FramesetNotOk ∷ Unless InTables ∷ SwitchMode InSelect ∷ When InTables ∷ SwitchMode InSelectInTable ∷ [],
 ) ∷ (
   Optgroup ∷ Option ∷ [],
   When (Current (The Option)) ∷ Pop ∷ Reconstruct ∷ Insert ∷ [],
 ) ∷ (
   Rb ∷ Rtc ∷ [],
-  When (InScope scope.Default (The Ruby)) ∷ Implied ∷ Insert ∷ [],
+  When (InScope scope.Default (The Ruby)) ∷ GenerateImplied ∷ Insert ∷ [],
 ) ∷ (
   Rp ∷ Rt ∷ [],
-  When (InScope scope.Default (The Ruby)) ∷ ImpliedBut (The Rtc) ∷ Insert ∷ [],
+  When (InScope scope.Default (The Ruby)) ∷ GenerateImpliedBut (The Rtc) ∷ Insert ∷ [],
 ) ∷ (
   Math ∷ [],
   Reconstruct ∷ InsertIn space.MathMl ∷ When SelfClosing ∷ Pop ∷ [],
@@ -133,16 +133,16 @@ in_body_any_start = Reconstruct ∷ Insert ∷ []
 abbrev pub in_body_end : List (List Word × List Instr)
 in_body_end = (
   Template ∷ [],
-  Using InHead ∷ [],
+  UsingRules InHead ∷ [],
 ) ∷ (
   Body ∷ [],
-  Need (InScope scope.Default (The Body)) ∷ Enter AfterBody ∷ [],
+  Need (InScope scope.Default (The Body)) ∷ SwitchMode AfterBody ∷ [],
 ) ∷ (
   Html ∷ [],
-  Need (InScope scope.Default (The Body)) ∷ Enter AfterBody ∷ Again ∷ [],
+  Need (InScope scope.Default (The Body)) ∷ SwitchMode AfterBody ∷ Reprocess ∷ [],
 ) ∷ (
   Address ∷ Article ∷ Aside ∷ Blockquote ∷ Button ∷ Center ∷ Details ∷ Dialog ∷ Dir ∷ Div ∷ Dl ∷ Fieldset ∷ Figcaption ∷ Figure ∷ Footer ∷ Header ∷ Hgroup ∷ Listing ∷ Main ∷ Menu ∷ Nav ∷ Ol ∷ Pre ∷ Search ∷ Section ∷ Summary ∷ Ul ∷ [],
-  Need (InScope scope.Default Own) ∷ Implied ∷ Until Own ∷ [],
+  Need (InScope scope.Default Own) ∷ GenerateImplied ∷ PopUntil Own ∷ [],
 ) ∷ (
   Form ∷ [],
   EndForm ∷ [],
@@ -151,22 +151,22 @@ in_body_end = (
   Unless (InScope scope.Button (The P)) ∷ InsertA P ∷ Close scope.Button (The P) ∷ [],
 ) ∷ (
   Li ∷ [],
-  Need (InScope scope.ListItem (The Li)) ∷ ImpliedBut (The Li) ∷ Until (The Li) ∷ [],
+  Need (InScope scope.ListItem (The Li)) ∷ GenerateImpliedBut (The Li) ∷ PopUntil (The Li) ∷ [],
 ) ∷ (
   Dd ∷ Dt ∷ [],
-  Need (InScope scope.Default Own) ∷ ImpliedBut Own ∷ Until Own ∷ [],
+  Need (InScope scope.Default Own) ∷ GenerateImpliedBut Own ∷ PopUntil Own ∷ [],
 ) ∷ (
   H1 ∷ H2 ∷ H3 ∷ H4 ∷ H5 ∷ H6 ∷ [],
-  Need (InScope scope.Default (Any Headings)) ∷ Implied ∷ Until (Any Headings) ∷ [],
+  Need (InScope scope.Default (Any Headings)) ∷ GenerateImplied ∷ PopUntil (Any Headings) ∷ [],
 ) ∷ (
   A ∷ B ∷ Big ∷ Code ∷ Em ∷ Font ∷ I ∷ Nobr ∷ S ∷ Small ∷ Strike ∷ Strong ∷ Tt ∷ U ∷ [],
   Adopt ∷ [],
 ) ∷ (
   Applet ∷ Marquee ∷ Object ∷ [],
-  Need (InScope scope.Default Own) ∷ Implied ∷ Until Own ∷ ClearToMarker ∷ [],
+  Need (InScope scope.Default Own) ∷ GenerateImplied ∷ PopUntil Own ∷ ClearToMarker ∷ [],
 ) ∷ (
   Br ∷ [],
-  Reconstruct ∷ VoidA Br ∷ NotOk ∷ [],
+  Reconstruct ∷ InsertAndPopA Br ∷ FramesetNotOk ∷ [],
 ) ∷ []
 
 -- any other end tag
@@ -174,13 +174,13 @@ abbrev pub in_body_any_end : List Instr
 in_body_any_end = AnyOtherEnd ∷ []
 
 abbrev pub in_body_end_of_file : List Instr
-in_body_end_of_file = When InTemplates ∷ Using InTemplate ∷ Finish ∷ []
+in_body_end_of_file = When InTemplates ∷ UsingRules InTemplate ∷ Finish ∷ []
 
 -- the rest of a row behind the adoption agency algorithm
 abbrev pub behind_adoption : Then → List Instr
 behind_adoption behind.Nothing = []
-behind_adoption (behind.Link i) = TakeOff i ∷ Reconstruct ∷ Insert ∷ ins.List ∷ []
-behind_adoption behind.Nobr = Reconstruct ∷ Insert ∷ ins.List ∷ []
+behind_adoption (behind.Link i) = TakeOff i ∷ Reconstruct ∷ Insert ∷ ins.PushFormatting ∷ []
+behind_adoption behind.Nobr = Reconstruct ∷ Insert ∷ ins.PushFormatting ∷ []
 
 -- where no entry had the name, the token goes by "any other end tag" first
 abbrev pub after_adopt : Then → Bool → List Instr
@@ -189,39 +189,39 @@ after_adopt h false = behind_adoption h
 
 -- 13.2.6.4.8 The "text" insertion mode: a character is inserted
 abbrev pub in_text_end_of_file : List Instr
-in_text_end_of_file = Pop ∷ Restore ∷ Again ∷ []
+in_text_end_of_file = Pop ∷ RestoreMode ∷ Reprocess ∷ []
 
 abbrev pub in_text_end : List (List Word × List Instr)
 in_text_end = (
   Script ∷ [],
-  Restore ∷ StopAtScript ∷ [],
+  RestoreMode ∷ StopAtScript ∷ [],
 ) ∷ []
 
 abbrev pub in_text_any_end : List Instr
-in_text_any_end = Pop ∷ Restore ∷ []
+in_text_any_end = Pop ∷ RestoreMode ∷ []
 
 -- 13.2.6.4.19 The "after body" insertion mode: white space goes by "in body", a comment to the html element
 abbrev pub after_body_start : List (List Word × List Instr)
 after_body_start = (
   Html ∷ [],
-  Using InBody ∷ [],
+  UsingRules InBody ∷ [],
 ) ∷ []
 
 abbrev pub after_body_end : List (List Word × List Instr)
 after_body_end = (
   Html ∷ [],
-  Enter AfterAfterBody ∷ [],
+  SwitchMode AfterAfterBody ∷ [],
 ) ∷ []
 
 abbrev pub after_body_anything : List Instr
-after_body_anything = Enter InBody ∷ Again ∷ []
+after_body_anything = SwitchMode InBody ∷ Reprocess ∷ []
 
 -- 13.2.6.4.22 The "after after body" insertion mode: white space goes by "in body", a comment to the Document
 abbrev pub after_after_body_start : List (List Word × List Instr)
 after_after_body_start = (
   Html ∷ [],
-  Using InBody ∷ [],
+  UsingRules InBody ∷ [],
 ) ∷ []
 
 abbrev pub after_after_body_anything : List Instr
-after_after_body_anything = Enter InBody ∷ Again ∷ []
+after_after_body_anything = SwitchMode InBody ∷ Reprocess ∷ []

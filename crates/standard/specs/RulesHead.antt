@@ -3,7 +3,7 @@ use Rattle.std.specs.Prelude.{List, [], ◌∷◌}
 use Rattle.html_types.specs.declared.word.Word.{Word}
 use Rattle.html_types.specs.declared.word.Word.TheVariants.{Base, Basefont, Bgsound, Body, Br, Frameset, Head, Html, Link, Meta, Noframes, Noscript, Script, Style, Template, Title}
 use Rattle.html_types.specs.declared.instruction.Instr.{Instr}
-use Rattle.html_types.specs.declared.instruction.Instr.TheVariants.{Need, When, Insert, InsertA, InsertRoot, InsertRootA, Void, AppendDoctype, Pop, Until, ImpliedThoroughly, Marker, ClearToMarker, NotOk, BecomeQuirky, PointHead, PushHead, TakeHeadOff, Enter, KeepMode, PushTemplateMode, PopTemplateMode, Reset, Switch, Using, Again}
+use Rattle.html_types.specs.declared.instruction.Instr.TheVariants.{Need, When, Insert, InsertA, InsertRoot, InsertRootA, InsertAndPop, AppendDoctype, Pop, PopUntil, GenerateImpliedThoroughly, PushMarker, ClearToMarker, FramesetNotOk, BecomeQuirky, SetHeadPointer, PushHead, TakeHeadOff, SwitchMode, SaveMode, PushTemplateMode, PopTemplateMode, ResetMode, SwitchTokenizer, UsingRules, Reprocess}
 use Rattle.html_types.specs.declared.instruction.Test.TheVariants.{OnStack, QuirkyDoctype}
 use Rattle.html_types.specs.declared.instruction.Who.TheVariants.{The}
 use Rattle.html_types.specs.declared.instruction.Mode.TheVariants.{BeforeHtml, BeforeHead, InHead, AfterHead, InBody, InText, InTemplate, InFrameset}
@@ -11,66 +11,66 @@ use Rattle.html_types.specs.declared.instruction.TokenizerSwitch.TheVariants.{Rc
 
 -- 13.2.6.4.1 The "initial" insertion mode: white space is left out, a comment goes to the Document
 abbrev pub initial_doctype : List Instr
-initial_doctype = AppendDoctype ∷ When QuirkyDoctype ∷ BecomeQuirky ∷ Enter BeforeHtml ∷ []
+initial_doctype = AppendDoctype ∷ When QuirkyDoctype ∷ BecomeQuirky ∷ SwitchMode BeforeHtml ∷ []
 
 abbrev pub initial_anything : List Instr
-initial_anything = BecomeQuirky ∷ Enter BeforeHtml ∷ Again ∷ []
+initial_anything = BecomeQuirky ∷ SwitchMode BeforeHtml ∷ Reprocess ∷ []
 
 -- 13.2.6.4.2 The "before html" insertion mode: white space is left out, a comment goes to the Document
 abbrev pub before_html_start : List (List Word × List Instr)
 before_html_start = (
   Html ∷ [],
-  InsertRoot ∷ Enter BeforeHead ∷ [],
+  InsertRoot ∷ SwitchMode BeforeHead ∷ [],
 ) ∷ []
 
 abbrev pub before_html_end : List (List Word × List Instr)
 before_html_end = (
   Head ∷ Body ∷ Html ∷ Br ∷ [],
-  InsertRootA ∷ Enter BeforeHead ∷ Again ∷ [],
+  InsertRootA ∷ SwitchMode BeforeHead ∷ Reprocess ∷ [],
 ) ∷ []
 
 abbrev pub before_html_anything : List Instr
-before_html_anything = InsertRootA ∷ Enter BeforeHead ∷ Again ∷ []
+before_html_anything = InsertRootA ∷ SwitchMode BeforeHead ∷ Reprocess ∷ []
 
 -- 13.2.6.4.3 The "before head" insertion mode: white space is left out
 abbrev pub before_head_start : List (List Word × List Instr)
 before_head_start = (
   Html ∷ [],
-  Using InBody ∷ [],
+  UsingRules InBody ∷ [],
 ) ∷ (
   Head ∷ [],
-  Insert ∷ PointHead ∷ Enter InHead ∷ [],
+  Insert ∷ SetHeadPointer ∷ SwitchMode InHead ∷ [],
 ) ∷ []
 
 abbrev pub before_head_end : List (List Word × List Instr)
 before_head_end = (
   Head ∷ Body ∷ Html ∷ Br ∷ [],
-  InsertA Head ∷ PointHead ∷ Enter InHead ∷ Again ∷ [],
+  InsertA Head ∷ SetHeadPointer ∷ SwitchMode InHead ∷ Reprocess ∷ [],
 ) ∷ []
 
 abbrev pub before_head_anything : List Instr
-before_head_anything = InsertA Head ∷ PointHead ∷ Enter InHead ∷ Again ∷ []
+before_head_anything = InsertA Head ∷ SetHeadPointer ∷ SwitchMode InHead ∷ Reprocess ∷ []
 
 -- 13.2.6.4.4 The "in head" insertion mode: white space is inserted
 abbrev pub in_head_start : List (List Word × List Instr)
 in_head_start = (
   Html ∷ [],
-  Using InBody ∷ [],
+  UsingRules InBody ∷ [],
 ) ∷ (
   Base ∷ Basefont ∷ Bgsound ∷ Link ∷ Meta ∷ [],
-  Void ∷ [],
+  InsertAndPop ∷ [],
 ) ∷ (
   Title ∷ [],
-  Insert ∷ KeepMode ∷ Enter InText ∷ Switch Rcdata ∷ [],
+  Insert ∷ SaveMode ∷ SwitchMode InText ∷ SwitchTokenizer Rcdata ∷ [],
 ) ∷ (
   Noscript ∷ Noframes ∷ Style ∷ [],
-  Insert ∷ KeepMode ∷ Enter InText ∷ Switch Rawtext ∷ [],
+  Insert ∷ SaveMode ∷ SwitchMode InText ∷ SwitchTokenizer Rawtext ∷ [],
 ) ∷ (
   Script ∷ [],
-  Insert ∷ KeepMode ∷ Enter InText ∷ Switch ScriptData ∷ [],
+  Insert ∷ SaveMode ∷ SwitchMode InText ∷ SwitchTokenizer ScriptData ∷ [],
 ) ∷ (
   Template ∷ [],
-  Insert ∷ Marker ∷ NotOk ∷ Enter InTemplate ∷ PushTemplateMode InTemplate ∷ [],
+  Insert ∷ PushMarker ∷ FramesetNotOk ∷ SwitchMode InTemplate ∷ PushTemplateMode InTemplate ∷ [],
 ) ∷ (
   Head ∷ [],
   [],
@@ -79,44 +79,44 @@ in_head_start = (
 abbrev pub in_head_end : List (List Word × List Instr)
 in_head_end = (
   Head ∷ [],
-  Pop ∷ Enter AfterHead ∷ [],
+  Pop ∷ SwitchMode AfterHead ∷ [],
 ) ∷ (
   Body ∷ Html ∷ Br ∷ [],
-  Pop ∷ Enter AfterHead ∷ Again ∷ [],
+  Pop ∷ SwitchMode AfterHead ∷ Reprocess ∷ [],
 ) ∷ (
   Template ∷ [],
-  Need (OnStack (The Template)) ∷ ImpliedThoroughly ∷ Until (The Template) ∷ ClearToMarker ∷ PopTemplateMode ∷ Reset ∷ [],
+  Need (OnStack (The Template)) ∷ GenerateImpliedThoroughly ∷ PopUntil (The Template) ∷ ClearToMarker ∷ PopTemplateMode ∷ ResetMode ∷ [],
 ) ∷ []
 
 abbrev pub in_head_anything : List Instr
-in_head_anything = Pop ∷ Enter AfterHead ∷ Again ∷ []
+in_head_anything = Pop ∷ SwitchMode AfterHead ∷ Reprocess ∷ []
 
 -- 13.2.6.4.6 The "after head" insertion mode: white space is inserted
 abbrev pub after_head_start : List (List Word × List Instr)
 after_head_start = (
   Html ∷ [],
-  Using InBody ∷ [],
+  UsingRules InBody ∷ [],
 ) ∷ (
   Body ∷ [],
-  Insert ∷ NotOk ∷ Enter InBody ∷ [],
+  Insert ∷ FramesetNotOk ∷ SwitchMode InBody ∷ [],
 ) ∷ (
   Frameset ∷ [],
-  Insert ∷ Enter InFrameset ∷ [],
+  Insert ∷ SwitchMode InFrameset ∷ [],
 ) ∷ (
   Base ∷ Basefont ∷ Bgsound ∷ Link ∷ Meta ∷ [],
-  PushHead ∷ Void ∷ TakeHeadOff ∷ [],
+  PushHead ∷ InsertAndPop ∷ TakeHeadOff ∷ [],
 ) ∷ (
   Title ∷ [],
-  PushHead ∷ Insert ∷ TakeHeadOff ∷ KeepMode ∷ Enter InText ∷ Switch Rcdata ∷ [],
+  PushHead ∷ Insert ∷ TakeHeadOff ∷ SaveMode ∷ SwitchMode InText ∷ SwitchTokenizer Rcdata ∷ [],
 ) ∷ (
   Noframes ∷ Style ∷ [],
-  PushHead ∷ Insert ∷ TakeHeadOff ∷ KeepMode ∷ Enter InText ∷ Switch Rawtext ∷ [],
+  PushHead ∷ Insert ∷ TakeHeadOff ∷ SaveMode ∷ SwitchMode InText ∷ SwitchTokenizer Rawtext ∷ [],
 ) ∷ (
   Script ∷ [],
-  PushHead ∷ Insert ∷ TakeHeadOff ∷ KeepMode ∷ Enter InText ∷ Switch ScriptData ∷ [],
+  PushHead ∷ Insert ∷ TakeHeadOff ∷ SaveMode ∷ SwitchMode InText ∷ SwitchTokenizer ScriptData ∷ [],
 ) ∷ (
   Template ∷ [],
-  PushHead ∷ Insert ∷ TakeHeadOff ∷ Marker ∷ NotOk ∷ Enter InTemplate ∷ PushTemplateMode InTemplate ∷ [],
+  PushHead ∷ Insert ∷ TakeHeadOff ∷ PushMarker ∷ FramesetNotOk ∷ SwitchMode InTemplate ∷ PushTemplateMode InTemplate ∷ [],
 ) ∷ (
   Head ∷ [],
   [],
@@ -125,11 +125,11 @@ after_head_start = (
 abbrev pub after_head_end : List (List Word × List Instr)
 after_head_end = (
   Body ∷ Html ∷ Br ∷ [],
-  InsertA Body ∷ Enter InBody ∷ Again ∷ [],
+  InsertA Body ∷ SwitchMode InBody ∷ Reprocess ∷ [],
 ) ∷ (
   Template ∷ [],
-  Using InHead ∷ [],
+  UsingRules InHead ∷ [],
 ) ∷ []
 
 abbrev pub after_head_anything : List Instr
-after_head_anything = InsertA Body ∷ Enter InBody ∷ Again ∷ []
+after_head_anything = InsertA Body ∷ SwitchMode InBody ∷ Reprocess ∷ []

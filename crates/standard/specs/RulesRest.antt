@@ -4,7 +4,7 @@ use Rattle.std.specs.Prelude.{List, [], ◌∷◌}
 use Rattle.html_types.specs.declared.word.Word.{Word}
 use Rattle.html_types.specs.declared.word.Word.TheVariants.{Base, Basefont, Bgsound, Caption, Col, Colgroup, Frame, Frameset, Hr, Html, Input, Keygen, Link, Meta, Noframes, Optgroup, Option, Script, Select, Style, Table, Tbody, Td, Template, Textarea, Tfoot, Th, Thead, Title, Tr}
 use Rattle.html_types.specs.declared.instruction.Instr.{Instr}
-use Rattle.html_types.specs.declared.instruction.Instr.TheVariants.{Need, Forbid, When, Unless, Insert, Void, Pop, Until, ClearToMarker, Enter, PushTemplateMode, PopTemplateMode, Reset, Using, Again, Finish}
+use Rattle.html_types.specs.declared.instruction.Instr.TheVariants.{Need, Forbid, When, Unless, Insert, InsertAndPop, Pop, PopUntil, ClearToMarker, SwitchMode, PushTemplateMode, PopTemplateMode, ResetMode, UsingRules, Reprocess, Finish}
 use Rattle.html_types.specs.declared.instruction.Test.TheVariants.{InScope, Current, OnStack, OptionInOptgroup}
 use Rattle.html_types.specs.declared.instruction.Who.TheVariants.{Own, The}
 use Rattle.html_types.specs.declared.instruction.Scope.TheVariants as scope
@@ -15,7 +15,7 @@ use Rattle.html_types.specs.declared.instruction.Mode.TheVariants.{InHead, InBod
 abbrev pub in_select_start : List (List Word × List Instr)
 in_select_start = (
   Html ∷ [],
-  Using InBody ∷ [],
+  UsingRules InBody ∷ [],
 ) ∷ (
   Option ∷ [],
   When (Current (The Option)) ∷ Pop ∷ Insert ∷ [],
@@ -24,16 +24,16 @@ in_select_start = (
   When (Current (The Option)) ∷ Pop ∷ When (Current (The Optgroup)) ∷ Pop ∷ Insert ∷ [],
 ) ∷ (
   Hr ∷ [],
-  When (Current (The Option)) ∷ Pop ∷ When (Current (The Optgroup)) ∷ Pop ∷ Void ∷ [],
+  When (Current (The Option)) ∷ Pop ∷ When (Current (The Optgroup)) ∷ Pop ∷ InsertAndPop ∷ [],
 ) ∷ (
   Select ∷ [],
-  Need (InScope scope.Select (The Select)) ∷ Until (The Select) ∷ Reset ∷ [],
+  Need (InScope scope.Select (The Select)) ∷ PopUntil (The Select) ∷ ResetMode ∷ [],
 ) ∷ (
   Input ∷ Keygen ∷ Textarea ∷ [],
-  Need (InScope scope.Select (The Select)) ∷ Until (The Select) ∷ Reset ∷ Again ∷ [],
+  Need (InScope scope.Select (The Select)) ∷ PopUntil (The Select) ∷ ResetMode ∷ Reprocess ∷ [],
 ) ∷ (
   Script ∷ Template ∷ [],
-  Using InHead ∷ [],
+  UsingRules InHead ∷ [],
 ) ∷ []
 
 abbrev pub in_select_any_start : List Instr
@@ -48,10 +48,10 @@ in_select_end = (
   Need (Current (The Option)) ∷ Pop ∷ [],
 ) ∷ (
   Select ∷ [],
-  Need (InScope scope.Select (The Select)) ∷ Until (The Select) ∷ Reset ∷ [],
+  Need (InScope scope.Select (The Select)) ∷ PopUntil (The Select) ∷ ResetMode ∷ [],
 ) ∷ (
   Template ∷ [],
-  Using InHead ∷ [],
+  UsingRules InHead ∷ [],
 ) ∷ []
 
 abbrev pub in_select_any_end : List Instr
@@ -61,44 +61,44 @@ in_select_any_end = []
 abbrev pub in_select_in_table_start : List (List Word × List Instr)
 in_select_in_table_start = (
   Caption ∷ Table ∷ Tbody ∷ Tfoot ∷ Thead ∷ Tr ∷ Td ∷ Th ∷ [],
-  Until (The Select) ∷ Reset ∷ Again ∷ [],
+  PopUntil (The Select) ∷ ResetMode ∷ Reprocess ∷ [],
 ) ∷ []
 
 abbrev pub in_select_in_table_end : List (List Word × List Instr)
 in_select_in_table_end = (
   Caption ∷ Table ∷ Tbody ∷ Tfoot ∷ Thead ∷ Tr ∷ Td ∷ Th ∷ [],
-  Need (InScope scope.Table Own) ∷ Until (The Select) ∷ Reset ∷ Again ∷ [],
+  Need (InScope scope.Table Own) ∷ PopUntil (The Select) ∷ ResetMode ∷ Reprocess ∷ [],
 ) ∷ []
 
 abbrev pub in_select_in_table_anything : List Instr
-in_select_in_table_anything = Using InSelect ∷ []
+in_select_in_table_anything = UsingRules InSelect ∷ []
 
 -- 13.2.6.4.18 The "in template" insertion mode: characters, comments and doctypes go by "in body"
 abbrev pub in_template_start : List (List Word × List Instr)
 in_template_start = (
   Base ∷ Basefont ∷ Bgsound ∷ Link ∷ Meta ∷ Noframes ∷ Script ∷ Style ∷ Template ∷ Title ∷ [],
-  Using InHead ∷ [],
+  UsingRules InHead ∷ [],
 ) ∷ (
   Caption ∷ Colgroup ∷ Tbody ∷ Tfoot ∷ Thead ∷ [],
-  PopTemplateMode ∷ PushTemplateMode InTable ∷ Enter InTable ∷ Again ∷ [],
+  PopTemplateMode ∷ PushTemplateMode InTable ∷ SwitchMode InTable ∷ Reprocess ∷ [],
 ) ∷ (
   Col ∷ [],
-  PopTemplateMode ∷ PushTemplateMode InColumnGroup ∷ Enter InColumnGroup ∷ Again ∷ [],
+  PopTemplateMode ∷ PushTemplateMode InColumnGroup ∷ SwitchMode InColumnGroup ∷ Reprocess ∷ [],
 ) ∷ (
   Tr ∷ [],
-  PopTemplateMode ∷ PushTemplateMode InTableBody ∷ Enter InTableBody ∷ Again ∷ [],
+  PopTemplateMode ∷ PushTemplateMode InTableBody ∷ SwitchMode InTableBody ∷ Reprocess ∷ [],
 ) ∷ (
   Td ∷ Th ∷ [],
-  PopTemplateMode ∷ PushTemplateMode InRow ∷ Enter InRow ∷ Again ∷ [],
+  PopTemplateMode ∷ PushTemplateMode InRow ∷ SwitchMode InRow ∷ Reprocess ∷ [],
 ) ∷ []
 
 abbrev pub in_template_any_start : List Instr
-in_template_any_start = PopTemplateMode ∷ PushTemplateMode InBody ∷ Enter InBody ∷ Again ∷ []
+in_template_any_start = PopTemplateMode ∷ PushTemplateMode InBody ∷ SwitchMode InBody ∷ Reprocess ∷ []
 
 abbrev pub in_template_end : List (List Word × List Instr)
 in_template_end = (
   Template ∷ [],
-  Using InHead ∷ [],
+  UsingRules InHead ∷ [],
 ) ∷ []
 
 abbrev pub in_template_any_end : List Instr
@@ -106,28 +106,28 @@ in_template_any_end = []
 
 abbrev pub in_template_end_of_file : List Instr
 in_template_end_of_file =
-    Unless (OnStack (The Template)) ∷ Finish ∷ Until (The Template) ∷ ClearToMarker ∷ PopTemplateMode ∷ Reset ∷ Again ∷ []
+    Unless (OnStack (The Template)) ∷ Finish ∷ PopUntil (The Template) ∷ ClearToMarker ∷ PopTemplateMode ∷ ResetMode ∷ Reprocess ∷ []
 
 -- 13.2.6.4.20 The "in frameset" insertion mode: white space is inserted
 abbrev pub in_frameset_start : List (List Word × List Instr)
 in_frameset_start = (
   Html ∷ [],
-  Using InBody ∷ [],
+  UsingRules InBody ∷ [],
 ) ∷ (
   Frameset ∷ [],
   Insert ∷ [],
 ) ∷ (
   Frame ∷ [],
-  Void ∷ [],
+  InsertAndPop ∷ [],
 ) ∷ (
   Noframes ∷ [],
-  Using InHead ∷ [],
+  UsingRules InHead ∷ [],
 ) ∷ []
 
 abbrev pub in_frameset_end : List (List Word × List Instr)
 in_frameset_end = (
   Frameset ∷ [],
-  Forbid (Current (The Html)) ∷ Pop ∷ Unless (Current (The Frameset)) ∷ Enter AfterFrameset ∷ [],
+  Forbid (Current (The Html)) ∷ Pop ∷ Unless (Current (The Frameset)) ∷ SwitchMode AfterFrameset ∷ [],
 ) ∷ []
 
 abbrev pub in_frameset_anything : List Instr
@@ -137,16 +137,16 @@ in_frameset_anything = []
 abbrev pub after_frameset_start : List (List Word × List Instr)
 after_frameset_start = (
   Html ∷ [],
-  Using InBody ∷ [],
+  UsingRules InBody ∷ [],
 ) ∷ (
   Noframes ∷ [],
-  Using InHead ∷ [],
+  UsingRules InHead ∷ [],
 ) ∷ []
 
 abbrev pub after_frameset_end : List (List Word × List Instr)
 after_frameset_end = (
   Html ∷ [],
-  Enter AfterAfterFrameset ∷ [],
+  SwitchMode AfterAfterFrameset ∷ [],
 ) ∷ []
 
 abbrev pub after_frameset_anything : List Instr
@@ -156,10 +156,10 @@ after_frameset_anything = []
 abbrev pub after_after_frameset_start : List (List Word × List Instr)
 after_after_frameset_start = (
   Html ∷ [],
-  Using InBody ∷ [],
+  UsingRules InBody ∷ [],
 ) ∷ (
   Noframes ∷ [],
-  Using InHead ∷ [],
+  UsingRules InHead ∷ [],
 ) ∷ []
 
 abbrev pub after_after_frameset_anything : List Instr
