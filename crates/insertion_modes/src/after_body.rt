@@ -1,4 +1,5 @@
-//! The rows of "after body" (13.2.6.4.19) and "after after body" (13.2.6.4.22).
+//! The rows of "after body" (13.2.6.4.19 #parsing-main-afterbody) and "after after body"
+//! (13.2.6.4.22 #the-after-after-body-insertion-mode).
 
 ghost use Rattle.std.specs.Prelude.{◌≡◌};
 ghost use Rattle.standard.specs.Rules.{row, start_row, end_row};

@@ -1,4 +1,4 @@
-//! The rows of "after head" (13.2.6.4.6).
+//! The rows of "after head" (13.2.6.4.6 #the-after-head-insertion-mode).
 
 ghost use Rattle.std.specs.Prelude.{◌≡◌};
 ghost use Rattle.standard.specs.Rules.{row, start_row, end_row};

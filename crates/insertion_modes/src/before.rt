@@ -1,4 +1,6 @@
-//! The rows of "initial" (13.2.6.4.1), "before html" (13.2.6.4.2) and "before head" (13.2.6.4.3).
+//! The rows of "initial" (13.2.6.4.1 #the-initial-insertion-mode), "before html"
+//! (13.2.6.4.2 #the-before-html-insertion-mode) and "before head"
+//! (13.2.6.4.3 #the-before-head-insertion-mode).
 
 ghost use Rattle.std.specs.Prelude.{◌≡◌};
 ghost use Rattle.standard.specs.Rules.{row, start_row, end_row, character_row};

@@ -1,4 +1,4 @@
-//! The rows of "in body" (13.2.6.4.7).
+//! The rows of "in body" (13.2.6.4.7 #parsing-main-inbody).
 
 ghost use Rattle.std.specs.Prelude.{◌≡◌};
 ghost use Rattle.html_types.specs.declared.instruction.Mode.TheVariants as mode;

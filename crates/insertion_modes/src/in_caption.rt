@@ -1,4 +1,4 @@
-//! The rows of "in caption" (13.2.6.4.11).
+//! The rows of "in caption" (13.2.6.4.11 #parsing-main-incaption).
 
 ghost use Rattle.std.specs.Prelude.{◌≡◌};
 ghost use Rattle.standard.specs.Rules.{row, start_row, end_row};

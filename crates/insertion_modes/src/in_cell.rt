@@ -1,4 +1,4 @@
-//! The rows of "in cell" (13.2.6.4.15).
+//! The rows of "in cell" (13.2.6.4.15 #parsing-main-intd).
 
 ghost use Rattle.std.specs.Prelude.{◌≡◌};
 ghost use Rattle.standard.specs.Rules.{row, start_row, end_row};

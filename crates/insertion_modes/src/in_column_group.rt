@@ -1,4 +1,4 @@
-//! The rows of "in column group" (13.2.6.4.12).
+//! The rows of "in column group" (13.2.6.4.12 #parsing-main-incolgroup).
 
 ghost use Rattle.std.specs.Prelude.{◌≡◌};
 ghost use Rattle.standard.specs.Rules.{row, start_row, end_row};

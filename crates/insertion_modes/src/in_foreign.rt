@@ -1,4 +1,4 @@
-//! The rules for parsing tokens in foreign content (13.2.6.5).
+//! The rules for parsing tokens in foreign content (13.2.6.5 #parsing-main-inforeign).
 
 ghost use Rattle.std.specs.Prelude.{◌≡◌};
 ghost use Rattle.html_types.specs.declared.instruction.Mode.TheVariants as mode;

@@ -1,4 +1,6 @@
-//! The rows of "in frameset" (13.2.6.4.20), "after frameset" (13.2.6.4.21) and "after after frameset" (13.2.6.4.23).
+//! The rows of "in frameset" (13.2.6.4.20 #parsing-main-inframeset), "after frameset"
+//! (13.2.6.4.21 #parsing-main-afterframeset) and "after after frameset"
+//! (13.2.6.4.23 #the-after-after-frameset-insertion-mode).
 
 ghost use Rattle.std.specs.Prelude.{◌≡◌};
 ghost use Rattle.standard.specs.Rules.{row, start_row, end_row};

@@ -1,4 +1,4 @@
-//! The rows of "in head" (13.2.6.4.4).
+//! The rows of "in head" (13.2.6.4.4 #parsing-main-inhead).
 
 ghost use Rattle.std.specs.Prelude.{◌≡◌};
 ghost use Rattle.standard.specs.Rules.{row, start_row, end_row};

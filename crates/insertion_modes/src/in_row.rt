@@ -1,4 +1,4 @@
-//! The rows of "in row" (13.2.6.4.14).
+//! The rows of "in row" (13.2.6.4.14 #parsing-main-intr).
 
 ghost use Rattle.std.specs.Prelude.{◌≡◌};
 ghost use Rattle.standard.specs.Rules.{row, start_row, end_row};

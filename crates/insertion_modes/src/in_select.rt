@@ -1,4 +1,5 @@
-//! The rows of "in select" (13.2.6.4.16) and "in select in table" (13.2.6.4.17).
+//! The rows of "in select" (13.2.6.4.16 #parsing-main-inselect) and "in select in table"
+//! (13.2.6.4.17 #parsing-main-inselectintable).
 
 ghost use Rattle.std.specs.Prelude.{◌≡◌};
 ghost use Rattle.standard.specs.Rules.{row, start_row, end_row};

@@ -1,4 +1,4 @@
-//! The rows of "in table" (13.2.6.4.9).
+//! The rows of "in table" (13.2.6.4.9 #parsing-main-intable).
 
 ghost use Rattle.std.specs.Prelude.{◌≡◌};
 ghost use Rattle.standard.specs.Rules.{row, start_row, end_row};

@@ -1,4 +1,4 @@
-//! The rows of "in table body" (13.2.6.4.13).
+//! The rows of "in table body" (13.2.6.4.13 #parsing-main-intbody).
 
 ghost use Rattle.std.specs.Prelude.{◌≡◌};
 ghost use Rattle.standard.specs.Rules.{row, start_row, end_row};

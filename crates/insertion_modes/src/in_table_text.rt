@@ -1,4 +1,4 @@
-//! The rows of "in table text" (13.2.6.4.10).
+//! The rows of "in table text" (13.2.6.4.10 #parsing-main-intabletext).
 
 ghost use Rattle.std.specs.Prelude.{◌≡◌};
 ghost use Rattle.html_types.specs.declared.instruction.Mode.TheVariants as mode;

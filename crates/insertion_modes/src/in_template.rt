@@ -1,4 +1,4 @@
-//! The rows of "in template" (13.2.6.4.18).
+//! The rows of "in template" (13.2.6.4.18 #parsing-main-intemplate).
 
 ghost use Rattle.std.specs.Prelude.{◌≡◌, drop};
 ghost use Rattle.standard.specs.Rows.{row_for};

@@ -1,4 +1,4 @@
-//! The rows of "text" (13.2.6.4.8).
+//! The rows of "text" (13.2.6.4.8 #parsing-main-incdata).
 
 ghost use Rattle.std.specs.Prelude.{◌≡◌};
 ghost use Rattle.html_types.specs.declared.instruction.Mode.TheVariants as mode;

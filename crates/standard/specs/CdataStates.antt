@@ -12,18 +12,18 @@ use Rattle.standard.specs.Step.{Step, in_mark, data_state, emit, to, emit_again,
 abbrev pub in_cdata : CdataState → TokState
 in_cdata s = in_mark (mark.Cdata s)
 
--- 13.2.5.69 CDATA section state: NUL is emitted as it is
+-- 13.2.5.69 #cdata-section-state CDATA section state: NUL is emitted as it is
 abbrev pub cdata_section_row : Class → ℕ → Step
 cdata_section_row RightBracket c = to (in_cdata Bracket)
 cdata_section_row InputEnd c = finish
 cdata_section_row _ c = emit (Character c ∷ []) (in_cdata Section)
 
--- 13.2.5.70 CDATA section bracket state. `]` is 93
+-- 13.2.5.70 #cdata-section-bracket-state CDATA section bracket state. `]` is 93
 abbrev pub cdata_bracket_row : Class → ℕ → Step
 cdata_bracket_row RightBracket c = to (in_cdata End)
 cdata_bracket_row _ c = emit_again (Character 93 ∷ []) (in_cdata Section)
 
--- 13.2.5.71 CDATA section end state
+-- 13.2.5.71 #cdata-section-end-state CDATA section end state
 abbrev pub cdata_end_row : Class → ℕ → Step
 cdata_end_row RightBracket c = emit (Character 93 ∷ []) (in_cdata End)
 cdata_end_row Greater c = to data_state

@@ -21,58 +21,59 @@ emit_comment text = emit (token.Comment text ∷ []) data_state
 abbrev pub finish_comment : List ℕ → Step
 finish_comment text = emit (token.Comment text ∷ token.EndOfFile ∷ []) data_state
 
--- 13.2.5.43 Comment start state
+-- 13.2.5.43 #comment-start-state Comment start state
 abbrev pub comment_start_row : Class → ℕ → Step
 comment_start_row Hyphen c = to (in_comment StartDash)
 comment_start_row Greater c = emit_comment []
 comment_start_row InputEnd c = finish_comment []
 comment_start_row _ c = again (in_comment (Inside []))
 
--- 13.2.5.44 Comment start dash state
+-- 13.2.5.44 #comment-start-dash-state Comment start dash state
 abbrev pub comment_start_dash_row : Class → ℕ → Step
 comment_start_dash_row Hyphen c = to (in_comment (End []))
 comment_start_dash_row Greater c = emit_comment []
 comment_start_dash_row InputEnd c = finish_comment []
 comment_start_dash_row _ c = again (in_comment (Inside (45 ∷ [])))
 
--- 13.2.5.45 Comment state
+-- 13.2.5.45 #comment-state Comment state
 abbrev pub comment_inside_row : List ℕ → Class → ℕ → Step
 comment_inside_row text Less c = to (in_comment (LessThan (text ++ c ∷ [])))
 comment_inside_row text Hyphen c = to (in_comment (EndDash text))
 comment_inside_row text InputEnd c = finish_comment text
 comment_inside_row text _ c = to (in_comment (Inside (text ++ shown c ∷ [])))
 
--- 13.2.5.46 Comment less-than sign state
+-- 13.2.5.46 #comment-less-than-sign-state Comment less-than sign state
 abbrev pub comment_less_than_row : List ℕ → Class → ℕ → Step
 comment_less_than_row text Bang c = to (in_comment (LessThanBang (text ++ c ∷ [])))
 comment_less_than_row text Less c = to (in_comment (LessThan (text ++ c ∷ [])))
 comment_less_than_row text InputEnd c = finish_comment text
 comment_less_than_row text _ c = again (in_comment (Inside text))
 
--- 13.2.5.47 Comment less-than sign bang state
+-- 13.2.5.47 #comment-less-than-sign-bang-state Comment less-than sign bang state
 abbrev pub comment_bang_row : List ℕ → Class → ℕ → Step
 comment_bang_row text Hyphen c = to (in_comment (LessThanBangDash text))
 comment_bang_row text InputEnd c = finish_comment text
 comment_bang_row text _ c = again (in_comment (Inside text))
 
--- 13.2.5.48 Comment less-than sign bang dash state
+-- 13.2.5.48 #comment-less-than-sign-bang-dash-state Comment less-than sign bang dash state
 abbrev pub comment_bang_dash_row : List ℕ → Class → ℕ → Step
 comment_bang_dash_row text Hyphen c = to (in_comment (LessThanBangDashDash text))
 comment_bang_dash_row text InputEnd c = finish_comment text
 comment_bang_dash_row text _ c = again (in_comment (EndDash text))
 
--- 13.2.5.49 Comment less-than sign bang dash dash state
+-- 13.2.5.49 #comment-less-than-sign-bang-dash-dash-state Comment less-than sign bang dash dash
+-- state
 abbrev pub comment_bang_dash_dash_row : List ℕ → Class → ℕ → Step
 comment_bang_dash_dash_row text InputEnd c = finish_comment text
 comment_bang_dash_dash_row text _ c = again (in_comment (End text))
 
--- 13.2.5.50 Comment end dash state
+-- 13.2.5.50 #comment-end-dash-state Comment end dash state
 abbrev pub comment_end_dash_row : List ℕ → Class → ℕ → Step
 comment_end_dash_row text Hyphen c = to (in_comment (End text))
 comment_end_dash_row text InputEnd c = finish_comment text
 comment_end_dash_row text _ c = again (in_comment (Inside (text ++ 45 ∷ [])))
 
--- 13.2.5.51 Comment end state
+-- 13.2.5.51 #comment-end-state Comment end state
 abbrev pub comment_end_row : List ℕ → Class → ℕ → Step
 comment_end_row text Greater c = emit_comment text
 comment_end_row text Bang c = to (in_comment (EndBang text))
@@ -80,7 +81,7 @@ comment_end_row text Hyphen c = to (in_comment (End (text ++ 45 ∷ [])))
 comment_end_row text InputEnd c = finish_comment text
 comment_end_row text _ c = again (in_comment (Inside (text ++ 45 ∷ 45 ∷ [])))
 
--- 13.2.5.52 Comment end bang state
+-- 13.2.5.52 #comment-end-bang-state Comment end bang state
 abbrev pub comment_end_bang_row : List ℕ → Class → ℕ → Step
 comment_end_bang_row text Hyphen c = to (in_comment (EndDash (text ++ 45 ∷ 45 ∷ 33 ∷ [])))
 comment_end_bang_row text Greater c = emit_comment text

@@ -28,12 +28,12 @@ declaration_step f held now =
     then to (in_mark (MarkupDeclarationOpen now))
     else again (in_mark (BogusComment held)))))
 
--- 13.2.5.42 Markup declaration open state
+-- 13.2.5.42 #markup-declaration-open-state Markup declaration open state
 abbrev pub markup_declaration_open_row : Bool → List ℕ → Class → ℕ → Step
 markup_declaration_open_row f held InputEnd c = again (in_mark (BogusComment held))
 markup_declaration_open_row f held _ c = declaration_step f held (held ++ c ∷ [])
 
--- 13.2.5.41 Bogus comment state
+-- 13.2.5.41 #bogus-comment-state Bogus comment state
 abbrev pub bogus_comment_row : List ℕ → Class → ℕ → Step
 bogus_comment_row text Greater c = emit_comment text
 bogus_comment_row text InputEnd c = finish_comment text

@@ -47,7 +47,7 @@ literally (AttributeValueUnquoted tag held) cs more = record { tokens = []; stat
 
 -- ---- names. `&` is 38
 
--- 13.2.5.72 Character reference state
+-- 13.2.5.72 #character-reference-state Character reference state
 abbrev pub ampersand_row : ReturnState → Class → ℕ → Step
 ampersand_row back class.Alpha c = again (in_reference (Named back (38 ∷ [])))
 ampersand_row back class.Digit c = again (in_reference (Named back (38 ∷ [])))
@@ -77,7 +77,7 @@ named_step back held (Some e) k =
     let beyond = drop (length e.name) held in
     if is_kept back e beyond k then literally back held true else literally back (e.characters ++ beyond) true
 
--- 13.2.5.73 Named character reference state
+-- 13.2.5.73 #named-character-reference-state Named character reference state
 abbrev pub named_row : Entities → ReturnState → List ℕ → Class → ℕ → Step
 named_row es back held class.InputEnd c = named_step back held (longest held es) class.InputEnd
 named_row es back held k c =
@@ -117,8 +117,9 @@ windows_1252 code =
     else (if code == 0x9F then 0x0178
     else code))))))))))))))))))))))))))
 
--- 13.2.5.80 Numeric character reference end state: the character of a code. No code of 0, of a surrogate, or beyond 10FFFF
--- has one; U+FFFD stands for it.
+-- 13.2.5.80 #numeric-character-reference-end-state Numeric character reference end state: the
+-- character of a code. No code of 0, of a surrogate, or beyond 10FFFF has one; U+FFFD stands for
+-- it.
 abbrev pub character_of : ℕ → ℕ
 character_of code =
     if code == 0 || (nat_le 0xD800 code && nat_le code 0xDFFF) || nat_le 0x11_0000 code then 0xFFFD
@@ -131,24 +132,26 @@ referred back code more = literally back (character_of code ∷ []) more
 abbrev pub longer_code : ℕ → ℕ → ℕ → ℕ
 longer_code radix code c = min (code * radix + digit_value c) 0x11_0000
 
--- 13.2.5.75 Numeric character reference state, 13.2.5.77 Decimal character reference start state
+-- 13.2.5.75 #numeric-character-reference-state Numeric character reference state,
+-- 13.2.5.77 #decimal-character-reference-start-state Decimal character reference start state
 abbrev pub numeric_row : ReturnState → Class → ℕ → Step
 numeric_row back class.Alpha c = if c == 120 || c == 88 then to (in_reference (HexadecimalStart back c)) else literally back (38 ∷ 35 ∷ []) true
 numeric_row back class.Digit c = again (in_reference (Decimal back 0))
 numeric_row back _ c = literally back (38 ∷ 35 ∷ []) true
 
--- 13.2.5.76 Hexadecimal character reference start state
+-- 13.2.5.76 #hexadecimal-character-reference-start-state Hexadecimal character reference start
+-- state
 abbrev pub hexadecimal_start_row : ReturnState → ℕ → Class → ℕ → Step
 hexadecimal_start_row back x class.InputEnd c = literally back (38 ∷ 35 ∷ x ∷ []) true
 hexadecimal_start_row back x _ c = if is_digit c 16 then again (in_reference (Hexadecimal back 0)) else literally back (38 ∷ 35 ∷ x ∷ []) true
 
--- 13.2.5.78 Hexadecimal character reference state
+-- 13.2.5.78 #hexadecimal-character-reference-state Hexadecimal character reference state
 abbrev pub hexadecimal_row : ReturnState → ℕ → Class → ℕ → Step
 hexadecimal_row back code class.Semicolon c = referred back code false
 hexadecimal_row back code class.InputEnd c = referred back code true
 hexadecimal_row back code _ c = if is_digit c 16 then to (in_reference (Hexadecimal back (longer_code 16 code c))) else referred back code true
 
--- 13.2.5.79 Decimal character reference state
+-- 13.2.5.79 #decimal-character-reference-state Decimal character reference state
 abbrev pub decimal_row : ReturnState → ℕ → Class → ℕ → Step
 decimal_row back code class.Semicolon c = referred back code false
 decimal_row back code class.InputEnd c = referred back code true

@@ -17,7 +17,7 @@ use Rattle.html_types.specs.declared.instruction.Mode.TheVariants.{InHead, InBod
 use Rattle.html_types.specs.declared.instruction.TokenizerSwitch.TheVariants.{Rcdata, Rawtext}
 use Rattle.html_types.specs.declared.instruction.TokenizerSwitch.TheVariants as reading
 
--- 13.2.6.4.7 The "in body" insertion mode: NUL is left out
+-- 13.2.6.4.7 #parsing-main-inbody The "in body" insertion mode: NUL is left out
 abbrev pub in_body_space : List Instr
 in_body_space = Reconstruct ∷ InsertText ∷ []
 
@@ -187,7 +187,7 @@ abbrev pub after_adopt : Then → Bool → List Instr
 after_adopt h true = AnyOtherEnd ∷ behind_adoption h
 after_adopt h false = behind_adoption h
 
--- 13.2.6.4.8 The "text" insertion mode: a character is inserted
+-- 13.2.6.4.8 #parsing-main-incdata The "text" insertion mode: a character is inserted
 abbrev pub in_text_end_of_file : List Instr
 in_text_end_of_file = Pop ∷ RestoreMode ∷ Reprocess ∷ []
 
@@ -200,7 +200,8 @@ in_text_end = (
 abbrev pub in_text_any_end : List Instr
 in_text_any_end = Pop ∷ RestoreMode ∷ []
 
--- 13.2.6.4.19 The "after body" insertion mode: white space goes by "in body", a comment to the html element
+-- 13.2.6.4.19 #parsing-main-afterbody The "after body" insertion mode: white space goes by "in
+-- body", a comment to the html element
 abbrev pub after_body_start : List (List Word × List Instr)
 after_body_start = (
   Html ∷ [],
@@ -216,7 +217,8 @@ after_body_end = (
 abbrev pub after_body_anything : List Instr
 after_body_anything = SwitchMode InBody ∷ Reprocess ∷ []
 
--- 13.2.6.4.22 The "after after body" insertion mode: white space goes by "in body", a comment to the Document
+-- 13.2.6.4.22 #the-after-after-body-insertion-mode The "after after body" insertion mode: white
+-- space goes by "in body", a comment to the Document
 abbrev pub after_after_body_start : List (List Word × List Instr)
 after_after_body_start = (
   Html ∷ [],

@@ -1,5 +1,6 @@
--- The rows of the rules for parsing tokens in foreign content (13.2.6.5): what is done at each token. A comment is inserted, and a doctype
--- left out. The end of the input never goes by them.
+-- The rows of the rules for parsing tokens in foreign content (13.2.6.5 #parsing-main-inforeign):
+-- what is done at each token. A comment is inserted, and a doctype left out. The end of the input
+-- never goes by them.
 use Rattle.std.specs.Prelude.{ℕ, ◌==◌, if◌then◌else◌, List, [], ◌∷◌}
 use Rattle.html_types.specs.declared.word.Word.{Word}
 use Rattle.html_types.specs.declared.word.Word.TheVariants.{Br, P}

@@ -9,14 +9,16 @@ use Rattle.html_types.specs.declared.instruction.Who.TheVariants.{The}
 use Rattle.html_types.specs.declared.instruction.Mode.TheVariants.{BeforeHtml, BeforeHead, InHead, AfterHead, InBody, InText, InTemplate, InFrameset}
 use Rattle.html_types.specs.declared.instruction.TokenizerSwitch.TheVariants.{Rcdata, Rawtext, ScriptData}
 
--- 13.2.6.4.1 The "initial" insertion mode: white space is left out, a comment goes to the Document
+-- 13.2.6.4.1 #the-initial-insertion-mode The "initial" insertion mode: white space is left out, a
+-- comment goes to the Document
 abbrev pub initial_doctype : List Instr
 initial_doctype = AppendDoctype ∷ When QuirkyDoctype ∷ BecomeQuirky ∷ SwitchMode BeforeHtml ∷ []
 
 abbrev pub initial_anything : List Instr
 initial_anything = BecomeQuirky ∷ SwitchMode BeforeHtml ∷ Reprocess ∷ []
 
--- 13.2.6.4.2 The "before html" insertion mode: white space is left out, a comment goes to the Document
+-- 13.2.6.4.2 #the-before-html-insertion-mode The "before html" insertion mode: white space is
+-- left out, a comment goes to the Document
 abbrev pub before_html_start : List (List Word × List Instr)
 before_html_start = (
   Html ∷ [],
@@ -32,7 +34,8 @@ before_html_end = (
 abbrev pub before_html_anything : List Instr
 before_html_anything = InsertRootA ∷ SwitchMode BeforeHead ∷ Reprocess ∷ []
 
--- 13.2.6.4.3 The "before head" insertion mode: white space is left out
+-- 13.2.6.4.3 #the-before-head-insertion-mode The "before head" insertion mode: white space is
+-- left out
 abbrev pub before_head_start : List (List Word × List Instr)
 before_head_start = (
   Html ∷ [],
@@ -51,7 +54,7 @@ before_head_end = (
 abbrev pub before_head_anything : List Instr
 before_head_anything = InsertA Head ∷ SetHeadPointer ∷ SwitchMode InHead ∷ Reprocess ∷ []
 
--- 13.2.6.4.4 The "in head" insertion mode: white space is inserted
+-- 13.2.6.4.4 #parsing-main-inhead The "in head" insertion mode: white space is inserted
 abbrev pub in_head_start : List (List Word × List Instr)
 in_head_start = (
   Html ∷ [],
@@ -91,7 +94,8 @@ in_head_end = (
 abbrev pub in_head_anything : List Instr
 in_head_anything = Pop ∷ SwitchMode AfterHead ∷ Reprocess ∷ []
 
--- 13.2.6.4.6 The "after head" insertion mode: white space is inserted
+-- 13.2.6.4.6 #the-after-head-insertion-mode The "after head" insertion mode: white space is
+-- inserted
 abbrev pub after_head_start : List (List Word × List Instr)
 after_head_start = (
   Html ∷ [],

@@ -10,8 +10,8 @@ use Rattle.html_types.specs.declared.instruction.Who.TheVariants.{Own, The}
 use Rattle.html_types.specs.declared.instruction.Scope.TheVariants as scope
 use Rattle.html_types.specs.declared.instruction.Mode.TheVariants.{InHead, InBody, InTable, InColumnGroup, InTableBody, InRow, InSelect, AfterFrameset, AfterAfterFrameset}
 
--- 13.2.6.4.16 The "in select" insertion mode: NUL is left out, another character is inserted; the end of the input goes by
--- "in body"
+-- 13.2.6.4.16 #parsing-main-inselect The "in select" insertion mode: NUL is left out, another
+-- character is inserted; the end of the input goes by "in body"
 abbrev pub in_select_start : List (List Word × List Instr)
 in_select_start = (
   Html ∷ [],
@@ -57,7 +57,7 @@ in_select_end = (
 abbrev pub in_select_any_end : List Instr
 in_select_any_end = []
 
--- 13.2.6.4.17 The "in select in table" insertion mode
+-- 13.2.6.4.17 #parsing-main-inselectintable The "in select in table" insertion mode
 abbrev pub in_select_in_table_start : List (List Word × List Instr)
 in_select_in_table_start = (
   Caption ∷ Table ∷ Tbody ∷ Tfoot ∷ Thead ∷ Tr ∷ Td ∷ Th ∷ [],
@@ -73,7 +73,8 @@ in_select_in_table_end = (
 abbrev pub in_select_in_table_anything : List Instr
 in_select_in_table_anything = UsingRules InSelect ∷ []
 
--- 13.2.6.4.18 The "in template" insertion mode: characters, comments and doctypes go by "in body"
+-- 13.2.6.4.18 #parsing-main-intemplate The "in template" insertion mode: characters, comments and
+-- doctypes go by "in body"
 abbrev pub in_template_start : List (List Word × List Instr)
 in_template_start = (
   Base ∷ Basefont ∷ Bgsound ∷ Link ∷ Meta ∷ Noframes ∷ Script ∷ Style ∷ Template ∷ Title ∷ [],
@@ -108,7 +109,7 @@ abbrev pub in_template_end_of_file : List Instr
 in_template_end_of_file =
     Unless (OnStack (The Template)) ∷ Finish ∷ PopUntil (The Template) ∷ ClearToMarker ∷ PopTemplateMode ∷ ResetMode ∷ Reprocess ∷ []
 
--- 13.2.6.4.20 The "in frameset" insertion mode: white space is inserted
+-- 13.2.6.4.20 #parsing-main-inframeset The "in frameset" insertion mode: white space is inserted
 abbrev pub in_frameset_start : List (List Word × List Instr)
 in_frameset_start = (
   Html ∷ [],
@@ -133,7 +134,8 @@ in_frameset_end = (
 abbrev pub in_frameset_anything : List Instr
 in_frameset_anything = []
 
--- 13.2.6.4.21 The "after frameset" insertion mode: white space is inserted
+-- 13.2.6.4.21 #parsing-main-afterframeset The "after frameset" insertion mode: white space is
+-- inserted
 abbrev pub after_frameset_start : List (List Word × List Instr)
 after_frameset_start = (
   Html ∷ [],
@@ -152,7 +154,8 @@ after_frameset_end = (
 abbrev pub after_frameset_anything : List Instr
 after_frameset_anything = []
 
--- 13.2.6.4.23 The "after after frameset" insertion mode: white space goes by "in body", a comment to the Document
+-- 13.2.6.4.23 #the-after-after-frameset-insertion-mode The "after after frameset" insertion mode:
+-- white space goes by "in body", a comment to the Document
 abbrev pub after_after_frameset_start : List (List Word × List Instr)
 after_after_frameset_start = (
   Html ∷ [],

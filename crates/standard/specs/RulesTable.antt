@@ -10,7 +10,8 @@ use Rattle.html_types.specs.declared.instruction.Group.TheVariants.{TableContext
 use Rattle.html_types.specs.declared.instruction.Scope.TheVariants as scope
 use Rattle.html_types.specs.declared.instruction.Mode.TheVariants.{InHead, InBody, InTable, InTableText, InCaption, InColumnGroup, InTableBody, InRow, InCell}
 
--- 13.2.6.4.9 The "in table" insertion mode: the end of the input goes by "in body"
+-- 13.2.6.4.9 #parsing-main-intable The "in table" insertion mode: the end of the input goes by
+-- "in body"
 abbrev pub in_table_character : List Instr
 in_table_character = Unless (Current (Any TextTargets)) ∷ InBodyFostering ∷ SaveMode ∷ SwitchMode InTableText ∷ Reprocess ∷ []
 
@@ -62,11 +63,12 @@ in_table_end = (
 abbrev pub in_table_any_end : List Instr
 in_table_any_end = InBodyFostering ∷ []
 
--- 13.2.6.4.10 The "in table text" insertion mode: NUL is left out, another character is added to the pending ones
+-- 13.2.6.4.10 #parsing-main-intabletext The "in table text" insertion mode: NUL is left out,
+-- another character is added to the pending ones
 abbrev pub in_table_text_anything : List Instr
 in_table_text_anything = InsertPending ∷ RestoreMode ∷ Reprocess ∷ []
 
--- 13.2.6.4.11 The "in caption" insertion mode
+-- 13.2.6.4.11 #parsing-main-incaption The "in caption" insertion mode
 abbrev pub in_caption_start : List (List Word × List Instr)
 in_caption_start = (
   Caption ∷ Col ∷ Colgroup ∷ Tbody ∷ Td ∷ Tfoot ∷ Th ∷ Thead ∷ Tr ∷ [],
@@ -88,7 +90,8 @@ in_caption_end = (
 abbrev pub in_caption_anything : List Instr
 in_caption_anything = UsingRules InBody ∷ []
 
--- 13.2.6.4.12 The "in column group" insertion mode: white space is inserted, the end of the input goes by "in body"
+-- 13.2.6.4.12 #parsing-main-incolgroup The "in column group" insertion mode: white space is
+-- inserted, the end of the input goes by "in body"
 abbrev pub in_column_group_start : List (List Word × List Instr)
 in_column_group_start = (
   Html ∷ [],
@@ -116,7 +119,7 @@ in_column_group_end = (
 abbrev pub in_column_group_anything : List Instr
 in_column_group_anything = Need (Current (The Colgroup)) ∷ Pop ∷ SwitchMode InTable ∷ Reprocess ∷ []
 
--- 13.2.6.4.13 The "in table body" insertion mode
+-- 13.2.6.4.13 #parsing-main-intbody The "in table body" insertion mode
 abbrev pub in_table_body_start : List (List Word × List Instr)
 in_table_body_start = (
   Tr ∷ [],
@@ -144,7 +147,7 @@ in_table_body_end = (
 abbrev pub in_table_body_anything : List Instr
 in_table_body_anything = UsingRules InTable ∷ []
 
--- 13.2.6.4.14 The "in row" insertion mode
+-- 13.2.6.4.14 #parsing-main-intr The "in row" insertion mode
 abbrev pub in_row_start : List (List Word × List Instr)
 in_row_start = (
   Th ∷ Td ∷ [],
@@ -172,7 +175,7 @@ in_row_end = (
 abbrev pub in_row_anything : List Instr
 in_row_anything = UsingRules InTable ∷ []
 
--- 13.2.6.4.15 The "in cell" insertion mode
+-- 13.2.6.4.15 #parsing-main-intd The "in cell" insertion mode
 abbrev pub in_cell_start : List (List Word × List Instr)
 in_cell_start = (
   Caption ∷ Col ∷ Colgroup ∷ Tbody ∷ Td ∷ Tfoot ∷ Th ∷ Thead ∷ Tr ∷ [],

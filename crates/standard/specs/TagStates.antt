@@ -44,7 +44,7 @@ bare (Some name) = Some (record { name = name; value = [] })
 abbrev pub with_bare : PartialTag → Option (List ℕ) → PartialTag
 with_bare tag held = with_attribute tag (bare held)
 
--- 13.2.5.6 Tag open state
+-- 13.2.5.6 #tag-open-state Tag open state
 abbrev pub tag_open_row : Class → ℕ → Step
 tag_open_row Bang c = to (in_mark (MarkupDeclarationOpen []))
 tag_open_row Slash c = to (in_tag EndTagOpen)
@@ -53,14 +53,14 @@ tag_open_row Question c = again (in_mark (BogusComment []))
 tag_open_row InputEnd c = emit (Character 60 ∷ EndOfFile ∷ []) data_state
 tag_open_row _ c = emit_again (Character 60 ∷ []) data_state
 
--- 13.2.5.7 End tag open state
+-- 13.2.5.7 #end-tag-open-state End tag open state
 abbrev pub end_tag_open_row : Class → ℕ → Step
 end_tag_open_row Alpha c = again (in_tag (TagName (new_tag kind.End [])))
 end_tag_open_row Greater c = to data_state
 end_tag_open_row InputEnd c = emit (Character 60 ∷ Character 47 ∷ EndOfFile ∷ []) data_state
 end_tag_open_row _ c = again (in_mark (BogusComment []))
 
--- 13.2.5.8 Tag name state
+-- 13.2.5.8 #tag-name-state Tag name state
 abbrev pub tag_name_row : PartialTag → Class → ℕ → Step
 tag_name_row tag Space c = to (in_tag (BeforeAttributeName tag))
 tag_name_row tag Slash c = to (in_tag (SelfClosingStartTag tag))
@@ -68,7 +68,7 @@ tag_name_row tag Greater c = emit_tag tag
 tag_name_row tag InputEnd c = finish
 tag_name_row tag _ c = to (in_tag (TagName (longer_name tag c)))
 
--- 13.2.5.32 Before attribute name state
+-- 13.2.5.32 #before-attribute-name-state Before attribute name state
 abbrev pub before_attribute_name_row : PartialTag → Class → ℕ → Step
 before_attribute_name_row tag Space c = to (in_tag (BeforeAttributeName tag))
 before_attribute_name_row tag Slash c = again (in_tag (AfterAttributeName tag None))
@@ -77,7 +77,7 @@ before_attribute_name_row tag InputEnd c = again (in_tag (AfterAttributeName tag
 before_attribute_name_row tag Equals c = to (in_tag (AttributeName tag (61 ∷ [])))
 before_attribute_name_row tag _ c = again (in_tag (AttributeName tag []))
 
--- 13.2.5.33 Attribute name state
+-- 13.2.5.33 #attribute-name-state Attribute name state
 abbrev pub attribute_name_row : PartialTag → List ℕ → Class → ℕ → Step
 attribute_name_row tag name Space c = again (in_tag (AfterAttributeName tag (fresh tag name)))
 attribute_name_row tag name Slash c = again (in_tag (AfterAttributeName tag (fresh tag name)))
@@ -86,7 +86,7 @@ attribute_name_row tag name InputEnd c = again (in_tag (AfterAttributeName tag (
 attribute_name_row tag name Equals c = to (in_tag (BeforeAttributeValue tag (fresh tag name)))
 attribute_name_row tag name _ c = to (in_tag (AttributeName tag (name ++ name_char c ∷ [])))
 
--- 13.2.5.34 After attribute name state
+-- 13.2.5.34 #after-attribute-name-state After attribute name state
 abbrev pub after_attribute_name_row : PartialTag → Option (List ℕ) → Class → ℕ → Step
 after_attribute_name_row tag held Space c = to (in_tag (AfterAttributeName tag held))
 after_attribute_name_row tag held Slash c = to (in_tag (SelfClosingStartTag (with_bare tag held)))
@@ -95,7 +95,7 @@ after_attribute_name_row tag held Greater c = emit_tag (with_bare tag held)
 after_attribute_name_row tag held InputEnd c = finish
 after_attribute_name_row tag held _ c = again (in_tag (AttributeName (with_bare tag held) []))
 
--- 13.2.5.35 Before attribute value state
+-- 13.2.5.35 #before-attribute-value-state Before attribute value state
 abbrev pub before_attribute_value_row : PartialTag → Option (List ℕ) → Class → ℕ → Step
 before_attribute_value_row tag held Space c = to (in_tag (BeforeAttributeValue tag held))
 before_attribute_value_row tag held DoubleQuote c = to (in_tag (AttributeValueQuoted tag (bare held) Double))
@@ -103,14 +103,14 @@ before_attribute_value_row tag held SingleQuote c = to (in_tag (AttributeValueQu
 before_attribute_value_row tag held Greater c = emit_tag (with_bare tag held)
 before_attribute_value_row tag held _ c = again (in_tag (AttributeValueUnquoted tag (bare held)))
 
--- 13.2.5.36 Attribute value (double-quoted) state
+-- 13.2.5.36 #attribute-value-(double-quoted)-state Attribute value (double-quoted) state
 abbrev pub double_quoted_row : PartialTag → Option Attribute → Class → ℕ → Step
 double_quoted_row tag held DoubleQuote c = to (in_tag (AfterAttributeValueQuoted (with_attribute tag held)))
 double_quoted_row tag held Ampersand c = to (in_reference (reference.Ampersand (back.AttributeValueQuoted tag held Double)))
 double_quoted_row tag held InputEnd c = finish
 double_quoted_row tag held _ c = to (in_tag (AttributeValueQuoted tag (longer_value held c) Double))
 
--- 13.2.5.37 Attribute value (single-quoted) state
+-- 13.2.5.37 #attribute-value-(single-quoted)-state Attribute value (single-quoted) state
 abbrev pub single_quoted_row : PartialTag → Option Attribute → Class → ℕ → Step
 single_quoted_row tag held SingleQuote c = to (in_tag (AfterAttributeValueQuoted (with_attribute tag held)))
 single_quoted_row tag held Ampersand c = to (in_reference (reference.Ampersand (back.AttributeValueQuoted tag held Single)))
@@ -121,7 +121,7 @@ abbrev pub quoted_row : PartialTag → Option Attribute → Quote → Class → 
 quoted_row tag held Double k c = double_quoted_row tag held k c
 quoted_row tag held Single k c = single_quoted_row tag held k c
 
--- 13.2.5.38 Attribute value (unquoted) state
+-- 13.2.5.38 #attribute-value-(unquoted)-state Attribute value (unquoted) state
 abbrev pub unquoted_row : PartialTag → Option Attribute → Class → ℕ → Step
 unquoted_row tag held Space c = to (in_tag (BeforeAttributeName (with_attribute tag held)))
 unquoted_row tag held Ampersand c = to (in_reference (reference.Ampersand (back.AttributeValueUnquoted tag held)))
@@ -129,7 +129,7 @@ unquoted_row tag held Greater c = emit_tag (with_attribute tag held)
 unquoted_row tag held InputEnd c = finish
 unquoted_row tag held _ c = to (in_tag (AttributeValueUnquoted tag (longer_value held c)))
 
--- 13.2.5.39 After attribute value (quoted) state
+-- 13.2.5.39 #after-attribute-value-(quoted)-state After attribute value (quoted) state
 abbrev pub after_quoted_row : PartialTag → Class → ℕ → Step
 after_quoted_row tag Space c = to (in_tag (BeforeAttributeName tag))
 after_quoted_row tag Slash c = to (in_tag (SelfClosingStartTag tag))
@@ -137,7 +137,7 @@ after_quoted_row tag Greater c = emit_tag tag
 after_quoted_row tag InputEnd c = finish
 after_quoted_row tag _ c = again (in_tag (BeforeAttributeName tag))
 
--- 13.2.5.40 Self-closing start tag state
+-- 13.2.5.40 #self-closing-start-tag-state Self-closing start tag state
 abbrev pub self_closing_row : PartialTag → Class → ℕ → Step
 self_closing_row tag Greater c = emit_tag_as true tag
 self_closing_row tag InputEnd c = finish

@@ -47,7 +47,7 @@ fn again_in_section(out: &mut Tokens) -> Result<Transition, NoMemory>
     again(TokState::Mark(MarkState::Cdata(CdataState::Section)), out)
 }
 
-/// 13.2.5.69 CDATA section state. NUL is emitted as it is.
+/// 13.2.5.69 #cdata-section-state CDATA section state. NUL is emitted as it is.
 fn cdata_section_row(class: Class, c: char, out: &mut Tokens) -> Result<Transition, NoMemory>
     ensures { IfOk result (Follows (rows.cdata_section_row class c) out.old out.new) }
 {
@@ -58,7 +58,7 @@ fn cdata_section_row(class: Class, c: char, out: &mut Tokens) -> Result<Transiti
     }
 }
 
-/// 13.2.5.70 CDATA section bracket state
+/// 13.2.5.70 #cdata-section-bracket-state CDATA section bracket state
 fn cdata_bracket_row(class: Class, c: char, out: &mut Tokens) -> Result<Transition, NoMemory>
     ensures { IfOk result (Follows (rows.cdata_bracket_row class c) out.old out.new) }
 {
@@ -71,7 +71,7 @@ fn cdata_bracket_row(class: Class, c: char, out: &mut Tokens) -> Result<Transiti
     }
 }
 
-/// 13.2.5.71 CDATA section end state
+/// 13.2.5.71 #cdata-section-end-state CDATA section end state
 fn cdata_end_row(class: Class, c: char, out: &mut Tokens) -> Result<Transition, NoMemory>
     ensures { IfOk result (Follows (rows.cdata_end_row class c) out.old out.new) }
 {

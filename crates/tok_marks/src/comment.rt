@@ -74,7 +74,7 @@ fn with_dashes_bang(mut text: Text) -> Result<Text, NoMemory>
     Ok(text)
 }
 
-/// 13.2.5.43 Comment start state
+/// 13.2.5.43 #comment-start-state Comment start state
 fn comment_start_row(
     alloc: Global,
     class: Class,
@@ -91,7 +91,7 @@ fn comment_start_row(
     }
 }
 
-/// 13.2.5.44 Comment start dash state
+/// 13.2.5.44 #comment-start-dash-state Comment start dash state
 fn comment_start_dash_row(
     alloc: Global,
     class: Class,
@@ -112,7 +112,7 @@ fn comment_start_dash_row(
     }
 }
 
-/// 13.2.5.45 Comment state
+/// 13.2.5.45 #comment-state Comment state
 fn comment_inside_row(
     mut text: Text,
     class: Class,
@@ -135,7 +135,7 @@ fn comment_inside_row(
     }
 }
 
-/// 13.2.5.46 Comment less-than sign state
+/// 13.2.5.46 #comment-less-than-sign-state Comment less-than sign state
 fn comment_less_than_row(
     mut text: Text,
     class: Class,
@@ -158,7 +158,7 @@ fn comment_less_than_row(
     }
 }
 
-/// 13.2.5.47 Comment less-than sign bang state
+/// 13.2.5.47 #comment-less-than-sign-bang-state Comment less-than sign bang state
 fn comment_bang_row(
     text: Text,
     class: Class,
@@ -174,7 +174,7 @@ fn comment_bang_row(
     }
 }
 
-/// 13.2.5.48 Comment less-than sign bang dash state
+/// 13.2.5.48 #comment-less-than-sign-bang-dash-state Comment less-than sign bang dash state
 fn comment_bang_dash_row(
     text: Text,
     class: Class,
@@ -190,7 +190,8 @@ fn comment_bang_dash_row(
     }
 }
 
-/// 13.2.5.49 Comment less-than sign bang dash dash state
+/// 13.2.5.49 #comment-less-than-sign-bang-dash-dash-state Comment less-than sign bang dash dash
+/// state
 fn comment_bang_dash_dash_row(
     text: Text,
     class: Class,
@@ -205,7 +206,7 @@ fn comment_bang_dash_dash_row(
     }
 }
 
-/// 13.2.5.50 Comment end dash state
+/// 13.2.5.50 #comment-end-dash-state Comment end dash state
 fn comment_end_dash_row(
     mut text: Text,
     class: Class,
@@ -224,7 +225,7 @@ fn comment_end_dash_row(
     }
 }
 
-/// 13.2.5.51 Comment end state
+/// 13.2.5.51 #comment-end-state Comment end state
 fn comment_end_row(
     mut text: Text,
     class: Class,
@@ -245,7 +246,7 @@ fn comment_end_row(
     }
 }
 
-/// 13.2.5.52 Comment end bang state
+/// 13.2.5.52 #comment-end-bang-state Comment end bang state
 fn comment_end_bang_row(
     text: Text,
     class: Class,

@@ -40,7 +40,7 @@ pub fn step(
     }
 }
 
-/// 13.2.5.41 Bogus comment state
+/// 13.2.5.41 #bogus-comment-state Bogus comment state
 fn bogus_comment_row(
     mut text: Text,
     class: Class,
@@ -103,7 +103,8 @@ fn declaration_step(
     }
 }
 
-/// 13.2.5.42 Markup declaration open state. Outside foreign content `[CDATA[` begins a bogus comment.
+/// 13.2.5.42 #markup-declaration-open-state Markup declaration open state. Outside foreign
+/// content `[CDATA[` begins a bogus comment.
 fn markup_declaration_open_row(
     alloc: Global,
     foreign: bool,

@@ -82,7 +82,7 @@ fn finish_doctype(name: Text, force_quirks: bool, out: &mut Tokens) -> Result<Tr
     finish_after(Token::Doctype { name, force_quirks }, out)
 }
 
-/// 13.2.5.53 DOCTYPE state
+/// 13.2.5.53 #doctype-state DOCTYPE state
 fn doctype_row(
     alloc: Global,
     class: Class,
@@ -98,7 +98,7 @@ fn doctype_row(
     }
 }
 
-/// 13.2.5.54 Before DOCTYPE name state
+/// 13.2.5.54 #before-doctype-name-state Before DOCTYPE name state
 fn before_doctype_name_row(
     alloc: Global,
     class: Class,
@@ -119,7 +119,7 @@ fn before_doctype_name_row(
     }
 }
 
-/// 13.2.5.55 DOCTYPE name state
+/// 13.2.5.55 #doctype-name-state DOCTYPE name state
 fn doctype_name_row(
     mut name: Text,
     class: Class,
@@ -163,7 +163,7 @@ fn keyword_step(name: Text, seen: Text, out: &mut Tokens) -> Result<Transition, 
     }
 }
 
-/// 13.2.5.56 After DOCTYPE name state
+/// 13.2.5.56 #after-doctype-name-state After DOCTYPE name state
 fn after_doctype_name_row(
     alloc: Global,
     name: Text,
@@ -185,7 +185,7 @@ fn after_doctype_name_row(
     }
 }
 
-/// 13.2.5.56 After DOCTYPE name state, within `PUBLIC` or `SYSTEM`
+/// 13.2.5.56 #after-doctype-name-state After DOCTYPE name state, within `PUBLIC` or `SYSTEM`
 fn doctype_keyword_row(
     name: Text,
     mut held: Text,
@@ -204,7 +204,8 @@ fn doctype_keyword_row(
     }
 }
 
-/// 13.2.5.57 After DOCTYPE public keyword state, 13.2.5.58 Before DOCTYPE public identifier state
+/// 13.2.5.57 #after-doctype-public-keyword-state After DOCTYPE public keyword state,
+/// 13.2.5.58 #before-doctype-public-identifier-state Before DOCTYPE public identifier state
 fn after_public_keyword_row(
     name: Text,
     class: Class,
@@ -223,7 +224,9 @@ fn after_public_keyword_row(
     }
 }
 
-/// 13.2.5.59, 13.2.5.60 DOCTYPE public identifier (double-quoted), (single-quoted) state
+/// 13.2.5.59 #doctype-public-identifier-(double-quoted)-state,
+/// 13.2.5.60 #doctype-public-identifier-(single-quoted)-state DOCTYPE public identifier
+/// (double-quoted), (single-quoted) state
 fn public_identifier_row(
     name: Text,
     quote: Quote,
@@ -243,7 +246,9 @@ fn public_identifier_row(
     }
 }
 
-/// 13.2.5.61 After DOCTYPE public identifier state, 13.2.5.62 Between DOCTYPE public and system identifiers state
+/// 13.2.5.61 #after-doctype-public-identifier-state After DOCTYPE public identifier state,
+/// 13.2.5.62 #between-doctype-public-and-system-identifiers-state Between DOCTYPE public and
+/// system identifiers state
 fn after_public_identifier_row(
     name: Text,
     class: Class,
@@ -262,7 +267,8 @@ fn after_public_identifier_row(
     }
 }
 
-/// 13.2.5.63 After DOCTYPE system keyword state, 13.2.5.64 Before DOCTYPE system identifier state
+/// 13.2.5.63 #after-doctype-system-keyword-state After DOCTYPE system keyword state,
+/// 13.2.5.64 #before-doctype-system-identifier-state Before DOCTYPE system identifier state
 fn after_system_keyword_row(
     name: Text,
     class: Class,
@@ -281,7 +287,9 @@ fn after_system_keyword_row(
     }
 }
 
-/// 13.2.5.65, 13.2.5.66 DOCTYPE system identifier (double-quoted), (single-quoted) state
+/// 13.2.5.65 #doctype-system-identifier-(double-quoted)-state,
+/// 13.2.5.66 #doctype-system-identifier-(single-quoted)-state DOCTYPE system identifier
+/// (double-quoted), (single-quoted) state
 fn system_identifier_row(
     name: Text,
     quote: Quote,
@@ -301,7 +309,7 @@ fn system_identifier_row(
     }
 }
 
-/// 13.2.5.67 After DOCTYPE system identifier state
+/// 13.2.5.67 #after-doctype-system-identifier-state After DOCTYPE system identifier state
 fn after_system_identifier_row(
     name: Text,
     class: Class,
@@ -318,7 +326,7 @@ fn after_system_identifier_row(
     }
 }
 
-/// 13.2.5.68 Bogus DOCTYPE state
+/// 13.2.5.68 #bogus-doctype-state Bogus DOCTYPE state
 fn bogus_doctype_row(
     name: Text,
     force_quirks: bool,

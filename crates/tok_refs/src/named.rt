@@ -15,7 +15,7 @@ use html_types::{Class, NoMemory, ReferenceState, ReturnState, Text, TokState, T
 use std::alloc::Global;
 use tok_rows::next::{Transition, to};
 
-/// 13.2.5.73 Named character reference state
+/// 13.2.5.73 #named-character-reference-state Named character reference state
 pub fn named_row(
     alloc: Global,
     table: &Table,

@@ -13,7 +13,8 @@ use tok_rows::next::{Transition, again, to};
 // All codes beyond the last character stand as this one.
 const BEYOND: u32 = 0x11_0000;
 
-/// 13.2.5.75 Numeric character reference state, 13.2.5.77 Decimal character reference start state
+/// 13.2.5.75 #numeric-character-reference-state Numeric character reference state,
+/// 13.2.5.77 #decimal-character-reference-start-state Decimal character reference start state
 #[tactic(auto, using(crate::proofs::Marks::mark_and_hash))]
 pub fn numeric_row(
     back: ReturnState,
@@ -33,7 +34,8 @@ pub fn numeric_row(
     }
 }
 
-/// 13.2.5.76 Hexadecimal character reference start state
+/// 13.2.5.76 #hexadecimal-character-reference-start-state Hexadecimal character reference start
+/// state
 pub fn hexadecimal_start_row(
     alloc: Global,
     back: ReturnState,
@@ -73,7 +75,7 @@ fn no_digits(
     literally(back, text.as_str(), out)
 }
 
-/// 13.2.5.78 Hexadecimal character reference state
+/// 13.2.5.78 #hexadecimal-character-reference-state Hexadecimal character reference state
 pub fn hexadecimal_row(
     alloc: Global,
     back: ReturnState,
@@ -99,7 +101,7 @@ pub fn hexadecimal_row(
     }
 }
 
-/// 13.2.5.79 Decimal character reference state
+/// 13.2.5.79 #decimal-character-reference-state Decimal character reference state
 pub fn decimal_row(
     alloc: Global,
     back: ReturnState,
@@ -158,7 +160,8 @@ fn end_of_digits(
     put(back, text.as_str(), reconsumes, out)
 }
 
-/// 13.2.5.80 Numeric character reference end state: the character that a number stands for.
+/// 13.2.5.80 #numeric-character-reference-end-state Numeric character reference end state: the
+/// character that a number stands for.
 pub fn character_of(code: u32) -> char
     ensures { result ≡ rows.character_of code }
 {

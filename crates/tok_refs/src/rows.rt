@@ -37,7 +37,7 @@ pub fn step(
     }
 }
 
-/// 13.2.5.72 Character reference state
+/// 13.2.5.72 #character-reference-state Character reference state
 #[tactic(auto, using(crate::proofs::Marks::mark))]
 fn ampersand_row(
     alloc: Global,

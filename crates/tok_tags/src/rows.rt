@@ -47,7 +47,7 @@ pub fn step(
     }
 }
 
-/// 13.2.5.6 Tag open state
+/// 13.2.5.6 #tag-open-state Tag open state
 fn tag_open_row(
     alloc: Global,
     class: Class,
@@ -75,7 +75,7 @@ fn tag_open_row(
     }
 }
 
-/// 13.2.5.7 End tag open state
+/// 13.2.5.7 #end-tag-open-state End tag open state
 fn end_tag_open_row(
     alloc: Global,
     class: Class,
@@ -101,7 +101,7 @@ fn end_tag_open_row(
     }
 }
 
-/// 13.2.5.8 Tag name state
+/// 13.2.5.8 #tag-name-state Tag name state
 fn tag_name_row(
     mut tag: PartialTag,
     class: Class,
@@ -122,7 +122,7 @@ fn tag_name_row(
     }
 }
 
-/// 13.2.5.32 Before attribute name state
+/// 13.2.5.32 #before-attribute-name-state Before attribute name state
 fn before_attribute_name_row(
     alloc: Global,
     tag: PartialTag,
@@ -149,7 +149,7 @@ fn before_attribute_name_row(
     }
 }
 
-/// 13.2.5.33 Attribute name state
+/// 13.2.5.33 #attribute-name-state Attribute name state
 fn attribute_name_row(
     tag: PartialTag,
     mut name: Text,
@@ -178,7 +178,7 @@ fn attribute_name_row(
     }
 }
 
-/// 13.2.5.34 After attribute name state
+/// 13.2.5.34 #after-attribute-name-state After attribute name state
 fn after_attribute_name_row(
     alloc: Global,
     tag: PartialTag,
@@ -209,7 +209,7 @@ fn after_attribute_name_row(
     }
 }
 
-/// 13.2.5.35 Before attribute value state
+/// 13.2.5.35 #before-attribute-value-state Before attribute value state
 fn before_attribute_value_row(
     alloc: Global,
     tag: PartialTag,
@@ -246,7 +246,8 @@ fn before_attribute_value_row(
     }
 }
 
-/// 13.2.5.36 Attribute value (double-quoted) state, 13.2.5.37 Attribute value (single-quoted) state
+/// 13.2.5.36 #attribute-value-(double-quoted)-state Attribute value (double-quoted) state,
+/// 13.2.5.37 #attribute-value-(single-quoted)-state Attribute value (single-quoted) state
 fn quoted_row(
     tag: PartialTag,
     held: Option<Attribute>,
@@ -277,7 +278,7 @@ fn quoted_row(
     }
 }
 
-/// 13.2.5.38 Attribute value (unquoted) state
+/// 13.2.5.38 #attribute-value-(unquoted)-state Attribute value (unquoted) state
 fn unquoted_row(
     tag: PartialTag,
     held: Option<Attribute>,
@@ -308,7 +309,7 @@ fn unquoted_row(
     }
 }
 
-/// 13.2.5.39 After attribute value (quoted) state
+/// 13.2.5.39 #after-attribute-value-(quoted)-state After attribute value (quoted) state
 fn after_quoted_row(
     tag: PartialTag,
     class: Class,
@@ -326,7 +327,7 @@ fn after_quoted_row(
     }
 }
 
-/// 13.2.5.40 Self-closing start tag state
+/// 13.2.5.40 #self-closing-start-tag-state Self-closing start tag state
 fn self_closing_row(
     tag: PartialTag,
     class: Class,

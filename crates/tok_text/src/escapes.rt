@@ -25,7 +25,7 @@ fn is_script(name: &Text) -> bool
     name.is(Word::Script.text())
 }
 
-/// 13.2.5.18 Script data escape start state
+/// 13.2.5.18 #script-data-escape-start-state Script data escape start state
 pub fn escape_start_row(
     last: Option<Word>,
     class: Class,
@@ -40,7 +40,7 @@ pub fn escape_start_row(
     }
 }
 
-/// 13.2.5.19 Script data escape start dash state
+/// 13.2.5.19 #script-data-escape-start-dash-state Script data escape start dash state
 pub fn escape_start_dash_row(
     last: Option<Word>,
     class: Class,
@@ -55,7 +55,7 @@ pub fn escape_start_dash_row(
     }
 }
 
-/// 13.2.5.21 Script data escaped dash state
+/// 13.2.5.21 #script-data-escaped-dash-state Script data escaped dash state
 pub fn escaped_dash_row(
     last: Option<Word>,
     class: Class,
@@ -79,7 +79,7 @@ pub fn escaped_dash_row(
     }
 }
 
-/// 13.2.5.22 Script data escaped dash dash state
+/// 13.2.5.22 #script-data-escaped-dash-dash-state Script data escaped dash dash state
 pub fn escaped_dash_dash_row(
     last: Option<Word>,
     class: Class,
@@ -108,7 +108,7 @@ pub fn escaped_dash_dash_row(
     }
 }
 
-/// 13.2.5.26 Script data double escape start state
+/// 13.2.5.26 #script-data-double-escape-start-state Script data double escape start state
 pub fn double_escape_start_row(
     last: Option<Word>,
     mut name: Text,
@@ -142,7 +142,7 @@ pub fn double_escape_start_row(
     }
 }
 
-/// 13.2.5.27 Script data double escaped state
+/// 13.2.5.27 #script-data-double-escaped-state Script data double escaped state
 pub fn double_escaped_row(
     last: Option<Word>,
     class: Class,
@@ -167,7 +167,7 @@ pub fn double_escaped_row(
     }
 }
 
-/// 13.2.5.28 Script data double escaped dash state
+/// 13.2.5.28 #script-data-double-escaped-dash-state Script data double escaped dash state
 pub fn double_escaped_dash_row(
     last: Option<Word>,
     class: Class,
@@ -196,7 +196,7 @@ pub fn double_escaped_dash_row(
     }
 }
 
-/// 13.2.5.29 Script data double escaped dash dash state
+/// 13.2.5.29 #script-data-double-escaped-dash-dash-state Script data double escaped dash dash state
 pub fn double_escaped_dash_dash_row(
     last: Option<Word>,
     class: Class,
@@ -230,7 +230,8 @@ pub fn double_escaped_dash_dash_row(
     }
 }
 
-/// 13.2.5.30 Script data double escaped less-than sign state
+/// 13.2.5.30 #script-data-double-escaped-less-than-sign-state Script data double escaped
+/// less-than sign state
 pub fn double_escaped_less_than_row(
     alloc: Global,
     last: Option<Word>,
@@ -250,7 +251,7 @@ pub fn double_escaped_less_than_row(
     }
 }
 
-/// 13.2.5.31 Script data double escape end state
+/// 13.2.5.31 #script-data-double-escape-end-state Script data double escape end state
 pub fn double_escape_end_row(
     last: Option<Word>,
     mut name: Text,

@@ -57,7 +57,7 @@ pub fn step(
     }
 }
 
-/// 13.2.5.1 Data state
+/// 13.2.5.1 #data-state Data state
 fn data_row(class: Class, c: char, out: &mut Tokens) -> Result<Transition, NoMemory>
     ensures { IfOk result (Follows (rows.data_row class c) out.old out.new) }
 {
@@ -72,7 +72,9 @@ fn data_row(class: Class, c: char, out: &mut Tokens) -> Result<Transition, NoMem
     }
 }
 
-/// 13.2.5.2 RCDATA state, 13.2.5.3 RAWTEXT state, 13.2.5.4 Script data state, 13.2.5.20 Script data escaped state
+/// 13.2.5.2 #rcdata-state RCDATA state, 13.2.5.3 #rawtext-state RAWTEXT state,
+/// 13.2.5.4 #script-data-state Script data state, 13.2.5.20 #script-data-escaped-state Script
+/// data escaped state
 fn raw_row(
     raw: RawText,
     last: Option<Word>,
@@ -98,7 +100,7 @@ fn raw_row(
     }
 }
 
-/// 13.2.5.5 PLAINTEXT state
+/// 13.2.5.5 #plaintext-state PLAINTEXT state
 fn plaintext_row(class: Class, c: char, out: &mut Tokens) -> Result<Transition, NoMemory>
     ensures { IfOk result (Follows (rows.plaintext_row class c) out.old out.new) }
 {
@@ -108,7 +110,9 @@ fn plaintext_row(class: Class, c: char, out: &mut Tokens) -> Result<Transition, 
     }
 }
 
-/// 13.2.5.9 RCDATA, 13.2.5.12 RAWTEXT, 13.2.5.15 Script data, 13.2.5.23 Script data escaped less-than sign state
+/// 13.2.5.9 #rcdata-less-than-sign-state RCDATA, 13.2.5.12 #rawtext-less-than-sign-state RAWTEXT,
+/// 13.2.5.15 #script-data-less-than-sign-state Script data,
+/// 13.2.5.23 #script-data-escaped-less-than-sign-state Script data escaped less-than sign state
 fn raw_less_than_row(
     alloc: Global,
     raw: RawText,
@@ -137,7 +141,9 @@ fn raw_less_than_row(
     }
 }
 
-/// 13.2.5.10 RCDATA, 13.2.5.13 RAWTEXT, 13.2.5.16 Script data, 13.2.5.24 Script data escaped end tag open state
+/// 13.2.5.10 #rcdata-end-tag-open-state RCDATA, 13.2.5.13 #rawtext-end-tag-open-state RAWTEXT,
+/// 13.2.5.16 #script-data-end-tag-open-state Script data,
+/// 13.2.5.24 #script-data-escaped-end-tag-open-state Script data escaped end tag open state
 fn raw_end_tag_open_row(
     alloc: Global,
     raw: RawText,
@@ -208,7 +214,9 @@ fn appropriate_tag(
     }
 }
 
-/// 13.2.5.11 RCDATA, 13.2.5.14 RAWTEXT, 13.2.5.17 Script data, 13.2.5.25 Script data escaped end tag name state
+/// 13.2.5.11 #rcdata-end-tag-name-state RCDATA, 13.2.5.14 #rawtext-end-tag-name-state RAWTEXT,
+/// 13.2.5.17 #script-data-end-tag-name-state Script data,
+/// 13.2.5.25 #script-data-escaped-end-tag-name-state Script data escaped end tag name state
 fn raw_end_tag_name_row(
     alloc: Global,
     raw: RawText,
