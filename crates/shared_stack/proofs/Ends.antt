@@ -1,7 +1,7 @@
 -- Lists that are seen from their end.
 use Rattle.std.proofs.Common.{◌≡◌, ℕ, suc, ◌+◌, ◌-◌, ◌≤◌, List, [], ◌∷◌, ◌++◌, length, take, drop, reverse, get_or, set, arith, refl, sym, ap, ◌∙◌}
 use lib.Seq.{take-append-add, drop-append-add}
-use Rattle.std.proofs.lemmas.List.{append_assoc, reverse-append, take-append-le, take_all, take_more, take-append-drop, set-append_right}
+use Rattle.std.proofs.lemmas.List.{append_assoc, reverse-append, take_all, take_more, take-append-drop, set-append_right}
 
 module _ {X : Type 0} where
   -- one fewer from the end
@@ -34,11 +34,5 @@ module _ {X : Type 0} where
 
   pub set_behind : (xs ys : List X) (i : ℕ) (y : X) → length xs ≤ i → set (xs ++ ys) i y ≡ xs ++ set ys (i - length xs) y
   set_behind xs ys i y le = set-append_right xs ys (length xs) i y refl le
-
-  -- so many of xs and ys
-  pub taken_within : (xs ys : List X) (n : ℕ) → n ≤ length xs → take n (xs ++ ys) ≡ take n xs
-  taken_within xs ys n le = take-append-le n xs ys le
-
-pub ruleset taken = (taken_within, take_behind)
 
 pub ruleset behind = (take_behind, drop_behind, drop_next_behind, set_behind)

@@ -2,7 +2,6 @@
 
 ghost use Rattle.std.specs.Prelude.{◌≡◌, ◌↔◌, ◌<◌, ◌≤◌, [], ◌∷◌, ◌++◌, length, reverse, drop, insert, remove, slice_set, slice_index_or, IsTrue, IfOk, OnOk, OnErr, MatchOption};
 
-use crate::block::copies;
 use crate::entry::Entry;
 use crate::older::Older;
 use crate::walk::Walk;
@@ -28,6 +27,48 @@ impl<T> Model for SharedStack<T> {
     ghost view = { λ s. reverse (s.older ++ s.own.items) };
 
     ghost invariant = { λ s. length s.older + length s.own.items < 2 ^ 64 };
+}
+
+// Copies of some entries, with room for so many more.
+fn copies<T: Entry>(alloc: Global, entries: &[T], more: usize) -> Result<Vec<T>, AllocError>
+    ensures { IfOk result (λ v. v.items ≡ entries.now) }
+{
+    let room = entries.len().saturating_add(more);
+    let mut copies = Vec::with_capacity(alloc, room)?;
+    for entry in entries {
+        copies.push(entry.copy(alloc)?)?;
+    }
+    Ok(copies)
+}
+
+// Copies of the older entries, and behind them the own ones, which are moved there.
+fn joined<T: Entry>(alloc: Global, older: &[T], own: &mut Vec<T>) -> Result<Vec<T>, AllocError>
+    ensures ok { IfOk result (λ v. v.items ≡ older.now ++ own.old.items) }
+    ensures moved { OnOk result (own.new.items ≡ []) }
+    ensures err { OnErr result (own.new.items ≡ own.old.items) }
+{
+    let mut entries = copies(alloc, older, own.len())?;
+    entries.append(own)?;
+    Ok(entries)
+}
+
+// Copies the entries from that place on, so that they are the list's own.
+#[tactic(auto, using(std::proofs::lemmas::Grind::common_steps, crate::proofs::Ends::parted))]
+fn own_from<T: Entry>(
+    older: &mut Older<T>,
+    own: &mut Vec<T>,
+    place: usize,
+) -> Result<(), AllocError>
+    ensures same { older.new ++ own.new.items ≡ older.old ++ own.old.items }
+    ensures owned { OnOk result (length older.new ≤ place) }
+{
+    if place < older.len() {
+        let alloc = *own.allocator();
+        let entries = joined(alloc, &older.as_slice()[place..], own)?;
+        *own = entries;
+        older.truncate(place);
+    }
+    Ok(())
 }
 
 impl<T: Entry> SharedStack<T> {
@@ -79,7 +120,6 @@ impl<T: Entry> SharedStack<T> {
     }
 
     /// Takes the latest entry off, if there is one, and gives it, or a copy where it is shared.
-    #[tactic(auto, using(std::proofs::lemmas::Grind::common_steps, crate::proofs::Ends::reverse_fewer))]
     pub fn take(&mut self) -> Result<Option<T>, AllocError>
         ensures ok { IfOk result (λ o. MatchOption o ((self.old ≡ []) × (self.new ≡ [])) (λ e. self.old ≡ e ∷ self.new)) }
         ensures err { OnErr result (self.new ≡ self.old) }
@@ -87,11 +127,12 @@ impl<T: Entry> SharedStack<T> {
         if let Some(entry) = self.own.pop() {
             return Ok(Some(entry));
         }
-        let Some(latest) = self.older.latest() else {
+        let alloc = *self.own.allocator();
+        let Some((entry, rest)) = self.older.as_slice().split_last() else {
             return Ok(None);
         };
-        let entry = latest.copy(*self.own.allocator())?;
-        let kept = self.older.len().saturating_sub(1);
+        let entry = entry.copy(alloc)?;
+        let kept = rest.len();
         self.older.truncate(kept);
         Ok(Some(entry))
     }
@@ -108,11 +149,11 @@ impl<T: Entry> SharedStack<T> {
         requires { place < length self.now }
         ensures { result.now ≡ slice_index_or (reverse self.now) place result.now }
     {
-        let older = self.older.len();
-        if place < older {
-            self.older.at(place)
+        let older = self.older.as_slice();
+        if place < older.len() {
+            &older[place]
         } else {
-            &self.own[place - older]
+            &self.own[place - older.len()]
         }
     }
 
@@ -120,8 +161,7 @@ impl<T: Entry> SharedStack<T> {
     pub fn walk(&self) -> Walk<'_, T>
         ensures { result ≡ self.now }
     {
-        let (front, back) = self.older.blocks();
-        Walk::new(front, back, self.own.as_slice())
+        Walk::new(self.older.as_slice(), self.own.as_slice())
     }
 
     /// Takes an entry out, wherever it stands: the earliest has place 0. Those behind it become the list's own.
@@ -131,7 +171,7 @@ impl<T: Entry> SharedStack<T> {
         ensures ok { OnOk result (self.new ≡ reverse (remove (reverse self.old) place)) }
         ensures err { OnErr result (self.new ≡ self.old) }
     {
-        self.older.give_from(&mut self.own, place)?;
+        own_from(&mut self.older, &mut self.own, place)?;
         let _ = self.own.remove(place - self.older.len());
         Ok(())
     }
@@ -146,7 +186,7 @@ impl<T: Entry> SharedStack<T> {
         if self.len() == usize::MAX {
             return Err(AllocError);
         }
-        self.older.give_from(&mut self.own, place)?;
+        own_from(&mut self.older, &mut self.own, place)?;
         let at = place - self.older.len();
         self.own.insert(at, entry)?;
         Ok(())
@@ -159,7 +199,7 @@ impl<T: Entry> SharedStack<T> {
         ensures ok { OnOk result (self.new ≡ reverse (slice_set (reverse self.old) place entry)) }
         ensures err { OnErr result (self.new ≡ self.old) }
     {
-        self.older.give_from(&mut self.own, place)?;
+        own_from(&mut self.older, &mut self.own, place)?;
         let at = place - self.older.len();
         self.own[at] = entry;
         Ok(())
@@ -172,7 +212,18 @@ impl<T: Entry> SharedStack<T> {
         if self.own.len() <= MOST_OWN {
             return Ok(());
         }
-        self.older.share(alloc, &mut self.own)
+        let entries = joined(alloc, self.older.as_slice(), &mut self.own)?;
+        match Older::of(alloc, entries) {
+            Ok(older) => {
+                self.older = older;
+                Ok(())
+            }
+            Err(failed) => {
+                self.older = Older::new();
+                self.own = failed.value;
+                Err(AllocError)
+            }
+        }
     }
 
     /// A copy, which shares the older entries. Those that are the list's own are copied.
