@@ -3,7 +3,7 @@
 //! plain data here. Its laws stand in `standard_laws`, worked pages in `standard_examples`.
 //!
 //! Reading order of `specs/`: Page, Statements, Scripts (a page, scripts and their files), Serial
-//! (the serial parse), Quiet (a page whose scripts do not run), Dump, Output (what is written).
+//! (the serial parse), Dump, Output (what is written).
 #![tactic(auto)]
 
 pub mod script;
