@@ -1,5 +1,5 @@
 -- A fragment's nodes beside a document's.
-use Rattle.std.proofs.Common.{◌≡◌, ◌<◌, ◌≤◌, ℕ, Bool, true, false, List, [], ◌∷◌, ◌++◌, length, Result, Ok, Err, OnOk, OnErr, map, refl, sym, ap, subst, ◌∙◌, append-nil}
+use Rattle.std.proofs.Common.{◌≡◌, ◌<◌, ◌≤◌, ℕ, Bool, true, false, List, [], ◌∷◌, ◌++◌, length, Result, Ok, Err, OnOk, OnErr, map, refl, sym, ap, subst, ◌∙◌, append-nil, arith}
 use Rattle.std.specs.Prelude.{◌||◌, if◌then◌else◌}
 use Rattle.std.specs.Map.{values_of}
 use Rattle.std.specs.BTreeMap.{insert_entry}
@@ -54,7 +54,7 @@ IsDoc-again t s bound other doc now stays = record {
 -- no id stands for anything
 pub IsDoc-none : (t : Nodes) (old now : Bound) → now ≡ [] → IsDoc t old → IsDoc t now
 IsDoc-none t old now none doc =
-    subst (IsDoc t) (sym none) (record { document = doc.document; plain = tt; one_to_one = λ a b n one two. absurd (cc one); elements = doc.elements })
+    subst (IsDoc t) (sym none) (record { document = doc.document; plain = λ k n below. absurd (omega arith); one_to_one = λ a b n one two. absurd (cc one); elements = doc.elements })
 
 -- ---- the roots
 

@@ -5,4 +5,4 @@ use Rattle.op_exec.proofs.Filling.{text-in_root}
 use Rattle.op_exec.proofs.fragment.in_root.Goals as goal
 
 pub returns-in-Text : goal.returns-in-Text
-returns-in-Text c = ap (λ o. all_in_root (spelled_one o)) c.in-Text.is ∙ text-in_root c.in-Text.place c.place_in_root.result c.in-Text.text c.place_in_root.ensures
+returns-in-Text c = ap (λ o. all_in_root (spelled_one o)) c.in-Text.is ∙ text-in_root c.in-Text.place c.place_in_root-in-Text.result c.in-Text.text c.place_in_root-in-Text.ensures

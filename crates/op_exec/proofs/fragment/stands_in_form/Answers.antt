@@ -1,4 +1,4 @@
-use Rattle.std.proofs.Common.{◌≡◌, ◌-◌, ◌+◌, suc, length, Some, arith, ◌∙◌, sym, ap}
+use Rattle.std.proofs.Common.{◌≡◌, ◌-◌, ◌+◌, suc, length, Some, refl, arith, ◌∙◌, sym, ap}
 use Rattle.standard.specs.Tree.{parent_of}
 use Rattle.standard.specs.Fragment.{is_form, in_form_by}
 use Rattle.op_exec.proofs.Contexts.{form-here, form-above, form-none}
@@ -16,7 +16,7 @@ loop-preserved c =
     let link : parent_of t c.loop.at ≡ Some c.in-Some.parent = sym c.parent.ensures.parent ∙ c.in-Some.is in
     let left : length t - c.loop.counter ≡ suc (length t - (c.loop.counter + 1)) = omega arith in
     record {
-      here = c.in-Some.ensures.here;
+      here = c.in-Some.ensures.here c.in-Some.parent refl;
       size = c.loop.invariant.size;
       same = c.loop.invariant.same ∙ (ap (λ k. in_form_by t k c.loop.at) left ∙ form-above t _ c.loop.at c.in-Some.parent (ap is_form (sym c.kind.ensures) ∙ (sym c.is_form.ensures ∙ c.if-is_form.false)) link);
     }
