@@ -1,8 +1,8 @@
 -- The children of a node taken out one after another.
-use Rattle.std.proofs.Common.{suc, ◌≡◌, ◌≤◌, ◌<◌, ℕ, List, [], ◌∷◌, Option, Some, None, length, refl, sym, ap, ◌∙◌, subst, arith}
+use Rattle.std.proofs.Common.{suc, ◌≡◌, ◌≤◌, ◌<◌, ℕ, List, [], ◌∷◌, Some, length, refl, sym, ap, ◌∙◌, subst, arith}
 use Rattle.std.proofs.lemmas.Bool.Decides.{nat_tests}
 use Rattle.html_types.specs.Numbers.{count_of, without}
-use Rattle.standard.specs.Tree.{Nodes, IsTree, children_of, first_of, detached, all_out, emptied}
+use Rattle.standard.specs.Tree.{Nodes, IsTree, children_of, first_of, detached, all_out}
 use Rattle.doc_tree.proofs.Trees.{once_among, children_of-detached}
 use Rattle.doc_tree.proofs.Views.{without-split, same_some, child_here, node_here}
 
@@ -32,13 +32,6 @@ fewer-left t tree p c below first = by (children_of t p) refl first
         let one : length (children_of (detached t c) p) ≡ length xs = ap length (left-children t tree p c below xs whole) in
         let all : length (children_of t p) ≡ suc (length xs) = ap length whole in
         omega (arith, one, all)
-
-pub none-left : (t : Nodes) (p : ℕ) → None ≡ first_of (children_of t p) → t ≡ all_out t (children_of t p)
-none-left t p first = by (children_of t p) refl first
-  where
-    by : (xs : List ℕ) → children_of t p ≡ xs → None ≡ first_of xs → t ≡ all_out t (children_of t p)
-    by [] is none = sym (ap (all_out t) is)
-    by (x ∷ xs) is some = absurd (cc)
 
 pub first-below : (t : Nodes) → IsTree t → (p c : ℕ) → Some c ≡ first_of (children_of t p) → c < length t
 first-below t tree p c first = by (children_of t p) refl first

@@ -1,8 +1,7 @@
-use Rattle.std.proofs.Common.{◌≡◌, ◌<◌, ℕ, Some, None, length, refl, sym, ap, ◌∙◌, subst, arith}
-use Rattle.standard.specs.Tree.{Nodes, IsTree, Keeps, children_of, first_of, all_out, emptied}
-use Rattle.doc_tree.proofs.Views.{child_here, node_here}
+use Rattle.std.proofs.Common.{◌≡◌, ◌<◌, Some, length, refl, sym, ap, ◌∙◌, subst, arith}
+use Rattle.standard.specs.Tree.{Nodes, IsTree, children_of, first_of, all_out, emptied}
 use Rattle.doc_tree.proofs.MovingAll.{keeps_twice}
-use Rattle.doc_tree.proofs.Emptying.{emptied-turn, fewer-left, none-left, first-below}
+use Rattle.doc_tree.proofs.Emptying.{emptied-turn, fewer-left, first-below}
 use Rattle.doc_tree.proofs.tree.Tree.take_children.Goals as goal
 use Rattle.doc_tree.proofs.tree.Tree.take_children.Goals.{In-Some}
 

@@ -1,5 +1,5 @@
-use Rattle.std.proofs.Common.{◌≡◌, ◌<◌, length}
-use Rattle.standard.specs.Tree.{IsTree, Keeps, children_of, all_out, emptied}
+use Rattle.std.proofs.Common.{◌≡◌, length}
+use Rattle.standard.specs.Tree.{Keeps, children_of, all_out, emptied}
 use Rattle.doc_tree.proofs.tree.Tree.take_children.Given as goal
 
 -- what is left of the children makes of the tree what all of them make of it as it was
