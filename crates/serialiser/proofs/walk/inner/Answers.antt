@@ -1,4 +1,4 @@
-use Rattle.std.proofs.Common.{◌≡◌, ◌<◌, ◌∷◌, ◌++◌, ℕ, List, length, map, Option, Some, sym, ap, subst, ◌∙◌, append-nil, append_assoc, arith}
+use Rattle.std.proofs.Common.{◌≡◌, ◌∷◌, ◌++◌, ℕ, List, length, map, Option, Some, sym, ap, subst, ◌∙◌, append-nil, append_assoc, arith}
 use Rattle.std.specs.List.{concat}
 use Rattle.standard.specs.Tree.{parent_of, first_of}
 use Rattle.standard.specs.Outer.{shown_in_text, outer_text}
@@ -24,8 +24,8 @@ pub push_outer-requires : goal.push_outer-requires
 push_outer-requires c =
     node_here c.args.tree.now c.in-Some.at (under c.args.tree.now c.args.node) (c.children.invariant.shown.here c.in-Some.at c.in-Some.is)
 
-pub next_sibling-requires : goal.next_sibling-requires
-next_sibling-requires c =
+pub next_sibling-child-requires : goal.next_sibling-child-requires
+next_sibling-child-requires c =
     node_here c.args.tree.now c.in-Some.at (under c.args.tree.now c.args.node) (c.children.invariant.shown.here c.in-Some.at c.in-Some.is)
 
 pub children-smaller : goal.children-smaller

@@ -1,4 +1,4 @@
-use Rattle.std.proofs.Common.{◌≡◌, List, Result, OnOk, sym, subst, ◌∙◌}
+use Rattle.std.proofs.Common.{◌≡◌, List, Result, OnOk, sym, subst}
 use Rattle.html_types.specs.declared.operation.Op.{Op}
 use Rattle.standard.specs.Act.{Doc, acts, is_bound, AreOpsBound}
 use Rattle.op_exec.proofs.Filling.{acts-none}

@@ -1,5 +1,5 @@
 use Rattle.std.proofs.Common.{ℕ, ap, sym, subst, ◌∙◌}
-use Rattle.standard.specs.Tree.{Nodes, is_element_at, emptied, children_moved}
+use Rattle.standard.specs.Tree.{Nodes, is_element_at, children_moved}
 use Rattle.standard.specs.Act.{Doc}
 use Rattle.act_laws.specs.Staying.{Stays}
 use Rattle.act_laws.proofs.Elements.{Alike-children_moved}
