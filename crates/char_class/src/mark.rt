@@ -7,12 +7,12 @@ ghost use Rattle.memchr.specs.Find.{is_byte3};
 
 use memchr::{memchr, memchr3};
 
-// So many bytes are looked through first, and then more and more: by two searches, of which the first may go on far behind what the second
-// finds.
+// So many bytes are looked through first, and then more and more: by two searches, of which the
+// first may go on far behind what the second finds.
 const FIRST: usize = 64;
 
 // The place of the first `<`, `&` or CR, or the length.
-#[tactic(auto, using(std::proofs::lemmas::Grind::common_steps, crate::proofs::Marks::first_place, crate::proofs::Marks::no_place))]
+#[tactic(auto, using(std::proofs::lemmas::Grind::common_steps, crate::proofs::Marks::places))]
 fn first_but_nul(bytes: &[u8]) -> usize
     ensures place { result ≡ position_or_len (is_byte3 60 38 13) bytes.now }
     ensures within { result ≤ length bytes.now }
@@ -24,7 +24,7 @@ fn first_but_nul(bytes: &[u8]) -> usize
 }
 
 // The place of the first mark of a few bytes, or how many they are.
-#[tactic(auto, using(std::proofs::lemmas::Grind::common_steps, crate::proofs::Marks::first_place, crate::proofs::Marks::no_place, crate::proofs::Marks::nul_before))]
+#[tactic(auto, using(std::proofs::lemmas::Grind::common_steps, crate::proofs::Marks::marks))]
 fn mark_in(bytes: &[u8]) -> usize
     ensures place { result ≡ classes.first_mark bytes.now }
     ensures within { result ≤ length bytes.now }
