@@ -501,7 +501,7 @@ framesets =
     record { page = "<frameset><!--a--></frameset><!--b--></html><!--c-->"; text = "tree \"<html><head></head><frameset><!--a--></frameset><!--b--></html><!--c-->\"\n" } ∷
     []
 
--- svg and math
+-- fragments
 abbrev pub fragments : List Example
 fragments =
     -- the children of an element are a fragment's, whose script doesn't run
@@ -528,6 +528,7 @@ fragments =
     record { page = "<script>document.getElementById(\"d\").innerHTML = \"x\";</script>"; text = "throw 1\ntree \"<html><head><script>document.getElementById(\\\"d\\\").innerHTML = \\\"x\\\";</script></head><body></body></html>\"\n" } ∷
     []
 
+-- svg and math
 abbrev pub foreign_content : List Example
 foreign_content =
     -- attributes and an element respelled; a foreignObject stays open at the end of its svg
