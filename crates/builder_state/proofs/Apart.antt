@@ -57,35 +57,35 @@ found : (a : Attribute) (bs : List Attribute) → has_attribute a bs ≡ true �
 found a [] e = absurd (true≢false (sym e))
 found a (b ∷ bs) e =
     elim (cases_Bool (same_attribute a b)) [
-      | inl yes ↦ ([], bs, ap (λ x. x ∷ bs) (same-is a b yes))
-      | inr no ↦
-          let rest = found a bs (sym (ap (λ s. s || has_attribute a bs) no) ∙ e) in
+      | inl same ↦ ([], bs, ap (λ x. x ∷ bs) (same-is a b same))
+      | inr apart ↦
+          let rest = found a bs (sym (ap (λ s. s || has_attribute a bs) apart) ∙ e) in
           (b ∷ rest.0, rest.1, ap (λ l. b ∷ l) rest.2)
     ]
 
 differ : (x a : Attribute) → same_text x.name a.name ≡ false → same_attribute x a ≡ false
-differ x a no = ap (λ s. s && same_text x.value a.value) no
+differ x a apart = ap (λ s. s && same_text x.value a.value) apart
 
 without : (x a : Attribute) (ys zs : List Attribute) → same_attribute x a ≡ false → has_attribute x (ys ++ a ∷ zs) ≡ has_attribute x (ys ++ zs)
-without x a [] zs no = ap (λ s. s || has_attribute x zs) no
-without x a (y ∷ ys) zs no = ap (λ r. same_attribute x y || r) (without x a ys zs no)
+without x a [] zs apart = ap (λ s. s || has_attribute x zs) apart
+without x a (y ∷ ys) zs apart = ap (λ r. same_attribute x y || r) (without x a ys zs apart)
 
 -- those of another name stay among the others without it
 keep : (a : Attribute) (ys zs as' : List Attribute) → has_name a.name as' ≡ false → are_among as' (ys ++ a ∷ zs) ≡ true → are_among as' (ys ++ zs) ≡ true
-keep a ys zs [] no h = refl
-keep a ys zs (x ∷ xs) no h =
-    let other = differ x a (or-first (same_text x.name a.name) (has_name a.name xs) no) in
+keep a ys zs [] apart h = refl
+keep a ys zs (x ∷ xs) apart h =
+    let other = differ x a (or-first (same_text x.name a.name) (has_name a.name xs) apart) in
     let here : has_attribute x (ys ++ a ∷ zs) ≡ true = and-first (has_attribute x (ys ++ a ∷ zs)) (are_among xs (ys ++ a ∷ zs)) h in
     let rest : are_among xs (ys ++ a ∷ zs) ≡ true = and-second (has_attribute x (ys ++ a ∷ zs)) (are_among xs (ys ++ a ∷ zs)) h in
-    and-both (has_attribute x (ys ++ zs)) (are_among xs (ys ++ zs)) (sym (without x a ys zs other) ∙ here) (keep a ys zs xs (or-second (same_text x.name a.name) (has_name a.name xs) no) rest)
+    and-both (has_attribute x (ys ++ zs)) (are_among xs (ys ++ zs)) (sym (without x a ys zs other) ∙ here) (keep a ys zs xs (or-second (same_text x.name a.name) (has_name a.name xs) apart) rest)
 
 fewer : (a : Attribute) (bs as' : List Attribute) → has_name a.name bs ≡ false → are_among bs (a ∷ as') ≡ true → are_among bs as' ≡ true
-fewer a [] as' no h = refl
-fewer a (x ∷ xs) as' no h =
-    let other = differ x a (or-first (same_text x.name a.name) (has_name a.name xs) no) in
+fewer a [] as' apart h = refl
+fewer a (x ∷ xs) as' apart h =
+    let other = differ x a (or-first (same_text x.name a.name) (has_name a.name xs) apart) in
     let here : has_attribute x (a ∷ as') ≡ true = and-first (has_attribute x (a ∷ as')) (are_among xs (a ∷ as')) h in
     let rest : are_among xs (a ∷ as') ≡ true = and-second (has_attribute x (a ∷ as')) (are_among xs (a ∷ as')) h in
-    and-both (has_attribute x as') (are_among xs as') (sym (ap (λ s. s || has_attribute x as') other) ∙ here) (fewer a xs as' (or-second (same_text x.name a.name) (has_name a.name xs) no) rest)
+    and-both (has_attribute x as') (are_among xs as') (sym (ap (λ s. s || has_attribute x as') other) ∙ here) (fewer a xs as' (or-second (same_text x.name a.name) (has_name a.name xs) apart) rest)
 
 middle_out : (a : Attribute) (ys zs cs : List Attribute) → are_among (ys ++ a ∷ zs) cs ≡ true → are_among (ys ++ zs) cs ≡ true
 middle_out a [] zs cs h = and-second (has_attribute a cs) (are_among zs cs) h
@@ -126,10 +126,10 @@ in_order (a ∷ as') bs da db h k =
     let zs = f.1 in
     let split : bs ≡ ys ++ a ∷ zs = f.2 in
     let d = distinct-middle a ys zs (ap are_distinct (sym split) ∙ db) in
-    let no = not-true (has_name a.name as') (and-first (not (has_name a.name as')) (are_distinct as') da) in
+    let apart = not-true (has_name a.name as') (and-first (not (has_name a.name as')) (are_distinct as') da) in
     let there : are_among as' (ys ++ a ∷ zs) ≡ true = ap (are_among as') (sym split) ∙ and-second (has_attribute a bs) (are_among as' bs) h in
     let back : are_among (ys ++ a ∷ zs) (a ∷ as') ≡ true = ap (λ l. are_among l (a ∷ as')) (sym split) ∙ k in
-    let rest = in_order as' (ys ++ zs) (and-second (not (has_name a.name as')) (are_distinct as') da) d.0 (keep a ys zs as' no there) (fewer a (ys ++ zs) as' d.1 (middle_out a ys zs (a ∷ as') back)) in
+    let rest = in_order as' (ys ++ zs) (and-second (not (has_name a.name as')) (are_distinct as') da) d.0 (keep a ys zs as' apart there) (fewer a (ys ++ zs) as' d.1 (middle_out a ys zs (a ∷ as') back)) in
     subst (λ l. IsPermutation (a ∷ as') l) (sym split)
     (IsPermutation-trans (a ∷ as') (a ∷ (ys ++ zs)) (ys ++ a ∷ zs) (IsPermutation-cons a as' (ys ++ zs) rest) (IsPermutation-sym (ys ++ a ∷ zs) (a ∷ (ys ++ zs)) (IsPermutation-middle ys a zs)))
 
