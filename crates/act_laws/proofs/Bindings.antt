@@ -67,7 +67,7 @@ NamesElements-alike d t names alike = record {
 }
 
 -- the nodes that there were are elements as before
-is_there : (t : Nodes) (n : ℕ) → is_element_at t n ≡ true → n < length t
+pub is_there : (t : Nodes) (n : ℕ) → is_element_at t n ≡ true → n < length t
 is_there [] n is = absurd (cc)
 is_there (x ∷ t) zero is = omega arith
 is_there (x ∷ t) (suc n) is = let l : n < length t = is_there t n is in omega (arith, l)

@@ -1,20 +1,23 @@
 -- What every change of a tree leaves: the nodes that are there keep their numbers, templates their contents, and elements are elements.
 use Rattle.std.proofs.Common.{◌≡◌, ◌≢◌, ◌<◌, ◌≤◌, ◌+◌, ℕ, zero, suc, Bool, true, false, List, [], ◌∷◌, ◌++◌, length, get_or, set, Option, Some, None, if◌then◌else◌, refl, sym, ap, subst, ◌∙◌, le_refl, le_trans, arith, length-set, length-append}
 use Rattle.std.specs.Prelude.{◌==◌}
+use Rattle.std.proofs.lemmas.Option.{none-some, same_Some}
 use Rattle.std.proofs.Math.ListN.{get_or-map}
 use Rattle.std.proofs.Math.Seq.{map-set_same}
 use Rattle.html_types.specs.declared.attributes.Attribute.{Attribute}
 use Rattle.html_types.specs.declared.name.Name.{Name}
 use Rattle.html_types.specs.declared.word.Word.TheVariants.{Template}
+use Rattle.html_types.specs.declared.open.Context.{Context}
 use Rattle.html_types.specs.declared.operation.Op.{Op}
 use Rattle.html_types.specs.declared.operation.Op.TheVariants.{Make, Put, Text, Comment, Doctype, Detach, MoveChildren, AddAttributes}
 use Rattle.html_types.specs.declared.tree.Node.{Node}
 use Rattle.html_types.specs.declared.tree.Kind.{Kind}
 use Rattle.html_types.specs.declared.tree.Kind.TheVariants as kind
 use Rattle.standard.specs.Elements.{is_word}
-use Rattle.standard.specs.Tree.{Nodes, Keeps, no_node, kind_of, parent_of, children_of, host_of, is_document, is_element, is_element_at, lone, with_children, relinked, taken_out, detached, moved, is_impossible, put_of, put_before_of, all_put, children_moved, all_out, emptied, with_new, with_more, text_before, text_put, text_added, with_lacking, attributes_added, with_template}
+use Rattle.standard.specs.Tree.{Nodes, Keeps, no_node, kind_of, parent_of, children_of, host_of, is_document, is_element, is_element_at, lone, with_children, relinked, taken_out, detached, moved, lies_in, appended, is_impossible, put_of, put_before_of, all_put, children_moved, all_out, emptied, with_new, with_more, text_before, text_put, text_added, with_lacking, attributes_added, with_template}
 use Rattle.standard.specs.Act.{Doc, node_of, end_of, spot_of, element_made, put_from, put_at, new_at, text_at, Spot, act, acts}
-use Rattle.standard.specs.Fragment.{roots_made, all_in_root, with_fragment, exchanged, filled, root_id}
+use Rattle.standard.specs.Entities.{Entities}
+use Rattle.standard.specs.Fragment.{root_id, fragment, context_at, roots_made, all_in_root, with_fragment, filled, setting, set_by, inner_set}
 use Rattle.act_laws.specs.Staying.{Stays}
 use Rattle.act_laws.proofs.Elements.{more, lacking}
 
@@ -57,6 +60,16 @@ either false t s h = h
 
 Stays-moved : (t : Nodes) (n p : ℕ) (before : Option ℕ) → Stays t (moved t n p before)
 Stays-moved t n p before = chain t (detached t n) (moved t n p before) (Stays-detached t n) (Stays-relinked (detached t n) p _ n (Some p))
+
+-- a script's move
+pub Stays-appended : (t : Nodes) (p n : Option ℕ) (s : Nodes) → appended t p n ≡ Some s → Stays t s
+Stays-appended t None n s is = absurd (none-some s is)
+Stays-appended t (Some p) None s is = absurd (none-some s is)
+Stays-appended t (Some p) (Some n) s is = by_test (lies_in t p n) is
+  where
+    by_test : (b : Bool) → (if b then None else Some (moved t n p None)) ≡ Some s → Stays t s
+    by_test true same = absurd (none-some s same)
+    by_test false same = subst (Stays t) (same_Some (moved t n p None) s same) (Stays-moved t n p None)
 
 Stays-put_of : (t : Nodes) (n p : ℕ) (before : Option ℕ) → Stays t (put_of t n p before)
 Stays-put_of t n p before = either (is_impossible t n p) t (moved t n p before) (Stays-moved t n p before)
@@ -143,3 +156,16 @@ Stays-filled t n form ops =
     let p : ℕ = (end_of d.tree n).parent in
     chain t d.tree (filled t n form ops) (Stays-acts (record { tree = t; bound = [] }) (roots_made form ++ all_in_root ops))
     (chain d.tree (emptied d.tree p) (children_moved (emptied d.tree p) (node_of d.bound (root_id 0)) p) (Stays-all_out d.tree (children_of d.tree p)) (Stays-children_moved (emptied d.tree p) (node_of d.bound (root_id 0)) p))
+
+-- and so where a script sets an element's children
+pub Stays-inner_set : (es : Entities) (quirks : Bool) (t : Nodes) (found : Option ℕ) (text : List ℕ) (s : Nodes) → inner_set es quirks t found text ≡ setting s → Stays t s
+unfolding inner_set
+Stays-inner_set es quirks t None text s is = absurd (cc)
+Stays-inner_set es quirks t (Some n) text s is = by (fragment es c text) is
+  where
+    c : Context
+    c = context_at t n quirks
+
+    by : (ops : Option (List Op)) → set_by t n c.form ops ≡ setting s → Stays t s
+    by None same = absurd (cc)
+    by (Some ops) same = let made : filled t n c.form ops ≡ s = cc in subst (Stays t) made (Stays-filled t n c.form ops)

@@ -46,7 +46,7 @@ module _ (Coming : (NodeId → Bool) → NodeId → Type 0) (law : Follows Comin
     line = λ l s h. h;
     counted = λ s h. h;
     inserted = λ t s fits h. h;
-    changed = λ t s h. h;
+    changed = λ t s stays h. h;
     awaits = λ name s h. h;
     parsed = λ s p d rest k es q h.
         subst Advances (sym (advance-parse es s.parser s.side.doc (before_point s)) ∙ q)

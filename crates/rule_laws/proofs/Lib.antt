@@ -25,7 +25,7 @@ mod Walk
 pub mod Rows
 mod Rounds
 pub mod Thinned
-mod Closed
+pub mod Closed
 mod Proper
 mod ProperModes
 pub mod Contexts

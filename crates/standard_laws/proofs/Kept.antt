@@ -15,6 +15,8 @@ use Rattle.standard.specs.Act.{Doc}
 use Rattle.serial.specs.Statements.{statements}
 use Rattle.standard.specs.Prepare.{Prepared, still, inline, external}
 use Rattle.standard.specs.Parser.{Parser}
+use Rattle.act_laws.specs.Staying.{Stays}
+use Rattle.act_laws.proofs.Staying.{Stays-detached, Stays-appended, Stays-inner_set}
 use Rattle.serial.specs.Serial.{World, Serial, Course, goes, refuses, starved, ◌then◌, Advanced, advanced, advance, before_point, moved, tree_of, inside, back_at, with_line_feed, insert, awaiting, with_tree, remove, with_line, read, one_more_executed, prepared, write_limit, execute, run_statements, on_element, on_move, write, go_on, stopped, end_of_script, run_prepared, run_text, on_set}
 
 pub record Steps (R : Serial → Serial → Type 0) : Type 0 where
@@ -23,7 +25,7 @@ pub record Steps (R : Serial → Serial → Type 0) : Type 0 where
   pub line : (l : Line) (s : Serial) → R s (with_line l s)
   pub counted : (s : Serial) → R s (one_more_executed s)
   pub inserted : (t : List ℕ) (s : Serial) → s.side.written + length t ≤ write_limit → R s (insert t s)
-  pub changed : (t : Nodes) (s : Serial) → R s (with_tree t s)
+  pub changed : (t : Nodes) (s : Serial) → Stays (tree_of s) t → R s (with_tree t s)
   pub awaits : (name : List ℕ) (s : Serial) → R s (awaiting (Some name) s)
   pub parsed : (s : Serial) (p : Parser) (d : Doc) (rest : List ℕ) (k : Stop) (es : Entities) → advance es s.parser s.side.doc (before_point s) ≡ advanced p d rest k → R s (moved p d rest s)
   pub script : (s t : Serial) → R (inside s) t → R s (back_at s t)
@@ -60,7 +62,7 @@ module _ (R : Serial → Serial → Type 0) (r : Steps R) where
     execute-kept (suc n) w (Some list) s =
         Kept-from s (one_more_executed s) _ (r.counted s) (run_statements-kept n w (suc s.side.executed) list (one_more_executed s))
 
-    run_statements-kept : (n : ℕ) (w : World) (k : ℕ) (list : List Statement) (s : Serial) → Kept R s (run_statements n w k list s)
+    pub run_statements-kept : (n : ℕ) (w : World) (k : ℕ) (list : List Statement) (s : Serial) → Kept R s (run_statements n w k list s)
     run_statements-kept zero w k list s = tt
     run_statements-kept (suc n) w k [] s = r.same s
     run_statements-kept (suc n) w k (statement.Write t ∷ list) s =
@@ -68,11 +70,12 @@ module _ (R : Serial → Serial → Type 0) (r : Steps R) where
     run_statements-kept (suc n) w k (statement.WriteLine t ∷ list) s =
         Kept-then s _ _ (write-kept n w _ (with_line_feed t) s refl) (λ s' a. Kept-from s s' _ a (run_statements-kept n w k list s'))
     run_statements-kept (suc n) w k (statement.Remove v ∷ list) s =
-        on_element-kept n w k list remove (find_id (tree_of s) v) s (λ e. r.changed (detached (tree_of s) e) s)
+        on_element-kept n w k list remove (find_id (tree_of s) v) s (λ e. r.changed (detached (tree_of s) e) s (Stays-detached (tree_of s) e))
     run_statements-kept (suc n) w k (statement.Append v c ∷ list) s =
-        on_move-kept n w k list (appended (tree_of s) (find_id (tree_of s) v) (find_id (tree_of s) c)) s
+        on_move-kept n w k list (appended (tree_of s) (find_id (tree_of s) v) (find_id (tree_of s) c)) s (Stays-appended (tree_of s) (find_id (tree_of s) v) (find_id (tree_of s) c))
     run_statements-kept (suc n) w k (statement.SetInner v t ∷ list) s =
         on_set-kept n w k list (inner_set w.entities s.parser.open_state.quirks (tree_of s) (find_id (tree_of s) v) t) s
+        (Stays-inner_set w.entities s.parser.open_state.quirks (tree_of s) (find_id (tree_of s) v) t)
     run_statements-kept (suc n) w k (statement.LogById v ∷ list) s = on_element-kept n w k list (read k) (find_id (tree_of s) v) s (λ e. r.line _ s)
     run_statements-kept (suc n) w k (statement.LogRoot ∷ list) s = on_element-kept n w k list (read k) (first_element (tree_of s)) s (λ e. r.line _ s)
 
@@ -82,16 +85,18 @@ module _ (R : Serial → Serial → Type 0) (r : Steps R) where
     on_element-kept (suc n) w k list work None s each = r.line _ s
     on_element-kept (suc n) w k list work (Some e) s each = Kept-from s (work e s) _ (each e) (run_statements-kept n w k list (work e s))
 
-    on_move-kept : (n : ℕ) (w : World) (k : ℕ) (list : List Statement) (left : Option Nodes) (s : Serial) → Kept R s (on_move n w k list left s)
-    on_move-kept zero w k list left s = tt
-    on_move-kept (suc n) w k list None s = r.line _ s
-    on_move-kept (suc n) w k list (Some t) s = Kept-from s (with_tree t s) _ (r.changed t s) (run_statements-kept n w k list (with_tree t s))
+    on_move-kept : (n : ℕ) (w : World) (k : ℕ) (list : List Statement) (left : Option Nodes) (s : Serial) →
+        ((t : Nodes) → left ≡ Some t → Stays (tree_of s) t) → Kept R s (on_move n w k list left s)
+    on_move-kept zero w k list left s stays = tt
+    on_move-kept (suc n) w k list None s stays = r.line _ s
+    on_move-kept (suc n) w k list (Some t) s stays = Kept-from s (with_tree t s) _ (r.changed t s (stays t refl)) (run_statements-kept n w k list (with_tree t s))
 
-    on_set-kept : (n : ℕ) (w : World) (k : ℕ) (list : List Statement) (t : Setting) (s : Serial) → Kept R s (on_set n w k list t s)
-    on_set-kept zero w k list t s = tt
-    on_set-kept (suc n) w k list lacking s = r.line _ s
-    on_set-kept (suc n) w k list too_deep s = r.same s
-    on_set-kept (suc n) w k list (setting t) s = Kept-from s (with_tree t s) _ (r.changed t s) (run_statements-kept n w k list (with_tree t s))
+    on_set-kept : (n : ℕ) (w : World) (k : ℕ) (list : List Statement) (there : Setting) (s : Serial) →
+        ((t : Nodes) → there ≡ setting t → Stays (tree_of s) t) → Kept R s (on_set n w k list there s)
+    on_set-kept zero w k list there s stays = tt
+    on_set-kept (suc n) w k list lacking s stays = r.line _ s
+    on_set-kept (suc n) w k list too_deep s stays = r.same s
+    on_set-kept (suc n) w k list (setting t) s stays = Kept-from s (with_tree t s) _ (r.changed t s (stays t refl)) (run_statements-kept n w k list (with_tree t s))
 
     write-kept : (n : ℕ) (w : World) (fits : Bool) (t : List ℕ) (s : Serial) → nat_le (s.side.written + length t) write_limit ≡ fits → Kept R s (write n w fits t s)
     write-kept zero w fits t s q = tt
@@ -135,7 +140,7 @@ Grows-steps = record {
   line = λ l s. (l ∷ [], refl);
   counted = λ s. ([], sym (append-nil _));
   inserted = λ t s h. ([], sym (append-nil _));
-  changed = λ t s. ([], sym (append-nil _));
+  changed = λ t s stays. ([], sym (append-nil _));
   awaits = λ name s. ([], sym (append-nil _));
   parsed = λ s p d rest k es q. ([], sym (append-nil _));
   script = λ s t h. h;
