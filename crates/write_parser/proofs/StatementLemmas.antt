@@ -104,11 +104,11 @@ does-write_line es k t old rest new rest' d going waits has =
 
 lacks : (es : Entities) (k : ℕ) (a : Statement) (old : Live) (rest : List ℕ) (new : Live) (rest' : List ℕ) (d : Did) → IsGoing old → LacksElement old.doc.tree a → rest' ≡ rest →
     (new ≡ old) × (d ≡ did.Nothing) → DoesMost es k a old rest new rest' d
-lacks es k a old rest new rest' d going lacking same (is, nothing) =
+lacks es k a old rest new rest' d going absent same (is, nothing) =
     subst (λ d'. DoesMost es k a old rest new rest' d') (sym nothing)
     (subst (λ r. DoesMost es k a old rest new r did.Nothing) (sym same)
     (subst (λ n. DoesMost es k a old rest n rest did.Nothing) (sym is)
-    (record { done = (refl, refl, lacking); served = going.served; light = record { light = omega arith; behind = refl; pending = refl } })))
+    (record { done = (refl, refl, absent); served = going.served; light = record { light = omega arith; behind = refl; pending = refl } })))
 
 -- ---- a removal
 
