@@ -1,5 +1,5 @@
 -- What every change of a tree leaves: the nodes that are there keep their numbers, templates their contents, and elements are elements.
-use Rattle.std.proofs.Common.{◌≡◌, ◌≢◌, ◌<◌, ◌≤◌, ◌+◌, ℕ, zero, suc, Bool, true, false, List, [], ◌∷◌, ◌++◌, length, get_or, set, Option, Some, None, if◌then◌else◌, refl, sym, ap, subst, ◌∙◌, le_refl, le_trans, arith, length-set, length-append}
+use Rattle.std.proofs.Common.{◌≡◌, ◌<◌, ◌+◌, ℕ, zero, suc, Bool, true, false, List, [], ◌∷◌, ◌++◌, length, get_or, set, Option, Some, None, if◌then◌else◌, refl, sym, ap, subst, ◌∙◌, le_refl, le_trans, arith, length-set, length-append}
 use Rattle.std.specs.Prelude.{◌==◌}
 use Rattle.std.proofs.lemmas.Option.{none-some, same_Some}
 use Rattle.std.proofs.Math.ListN.{get_or-map}
@@ -14,8 +14,8 @@ use Rattle.html_types.specs.declared.tree.Node.{Node}
 use Rattle.html_types.specs.declared.tree.Kind.{Kind}
 use Rattle.html_types.specs.declared.tree.Kind.TheVariants as kind
 use Rattle.standard.specs.Elements.{is_word}
-use Rattle.standard.specs.Tree.{Nodes, Keeps, no_node, kind_of, parent_of, children_of, host_of, is_document, is_element, is_element_at, lone, with_children, relinked, taken_out, detached, moved, lies_in, appended, is_impossible, put_of, put_before_of, all_put, children_moved, all_out, emptied, with_new, with_more, text_before, text_put, text_added, with_lacking, attributes_added, with_template}
-use Rattle.standard.specs.Act.{Doc, node_of, end_of, spot_of, element_made, put_from, put_at, new_at, text_at, Spot, act, acts}
+use Rattle.standard.specs.Tree.{Nodes, no_node, kind_of, parent_of, children_of, host_of, is_document, is_element, is_element_at, lone, with_children, relinked, taken_out, detached, moved, lies_in, appended, is_impossible, put_of, put_before_of, all_put, children_moved, all_out, emptied, with_new, text_before, text_put, text_added, with_template}
+use Rattle.standard.specs.Act.{Doc, node_of, end_of, spot_of, element_made, put_from, put_at, Spot, act, acts}
 use Rattle.standard.specs.Entities.{Entities}
 use Rattle.standard.specs.Fragment.{root_id, fragment, context_at, roots_made, all_in_root, with_fragment, filled, setting, set_by, inner_set}
 use Rattle.act_laws.specs.Staying.{Stays}

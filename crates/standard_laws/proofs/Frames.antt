@@ -10,7 +10,7 @@ use Rattle.html_types.specs.declared.instruction.Stop.{Stop}
 use Rattle.html_types.specs.declared.instruction.Stop.TheVariants as stop
 use Rattle.serial.specs.declared.script.Line.{Line}
 use Rattle.serial.specs.declared.script.Line.TheVariants as line
-use Rattle.standard.specs.Fragment.{Setting, lacking, too_deep, setting, inner_set}
+use Rattle.standard.specs.Fragment.{Setting, setting, inner_set}
 use Rattle.standard.specs.Tree.{Nodes, detached, appended, find_id, first_element}
 use Rattle.standard.specs.Act.{Doc}
 use Rattle.standard.specs.Outer.{outer_text}

@@ -14,7 +14,7 @@ use Rattle.standard.specs.Act.{Doc, acts}
 use Rattle.serial.specs.Page.{Page}
 use Rattle.standard.specs.Parser.{Parser, Took, took, take_character, Finished, finish, Parsed, after_character, and_rest, parse}
 use Rattle.standard.specs.Through.{Through, through, deep, after_those, and_through, read_through, if_finished}
-use Rattle.serial.specs.Quiet.{Quiet, tree, made, ended_quietly, quiet}
+use Rattle.serial.specs.Quiet.{tree, made, ended_quietly, quiet}
 use Rattle.serial.specs.Serial.{World, Serial, Outcome, Passes, reading, tag_ended, over, taken, at_end, ended, first, unless_pending, behind_script, read_next, moment_after}
 use Rattle.serial.specs.Serial as serial
 use Rattle.standard_laws.specs.Laws.{outcome_at}

@@ -32,7 +32,7 @@ use Rattle.serial.specs.declared.script.Statement.TheVariants as statement
 use Rattle.serial.specs.declared.script.Line.{Line}
 use Rattle.serial.specs.declared.script.Line.TheVariants as line
 use Rattle.html_types.specs.declared.instruction.Stop.TheVariants as stop
-use Rattle.standard.specs.Fragment.{Setting, lacking, too_deep, setting, inner_set}
+use Rattle.standard.specs.Fragment.{too_deep, setting, inner_set}
 use Rattle.standard.specs.Tree.{Nodes, detached, appended, find_id, first_element}
 use Rattle.standard.specs.Act.{Doc, node_of}
 use Rattle.standard.specs.Outer.{outer_text}
