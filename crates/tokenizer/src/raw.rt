@@ -1,4 +1,5 @@
-//! A text that is read up to its end tag: that tag, read at once where it stands whole, and a `<` that begins nothing.
+//! A text that is read up to its end tag: that tag, read at once where it stands whole, and a `<`
+//! that begins nothing.
 
 ghost use Rattle.std.specs.Prelude.{◌≡◌, ◌<◌, ◌≤◌, ◌==◌, ◌||◌, false, IfSome};
 ghost use Rattle.std.specs.Str.{chars, IsCharBoundary};
@@ -26,7 +27,8 @@ fn past_all(text: &str, from: usize, written: &str) -> Option<usize>
     Some(to)
 }
 
-// What ends the text in a state, as it is mostly written, and its name; of the elements that pages have most.
+// What ends the text in a state, as it is mostly written, and its name; of the elements that pages
+// have most.
 fn end_of(state: &TokState) -> Option<(Word, &'static str)>
     ensures { IfSome result (λ e. Ends state.now e.0 (chars e.1.now)) }
 {
@@ -42,13 +44,14 @@ fn end_of(state: &TokState) -> Option<(Word, &'static str)>
     }
 }
 
-/// The end tag at a place that ends the text in that state, and the place behind it; none where it stands not there, not
-/// whole, or written in another way.
+/// The end tag at a place that ends the text in that state, and the place behind it; none where it
+/// stands not there, not whole, or written in another way.
 pub fn raw_end(alloc: Global, state: &TokState, text: &str, from: usize) -> Option<Whole>
     requires { IsCharBoundary text.now from }
     ensures boundary { IfSome result (λ w. IsCharBoundary text.now w.end) }
     ensures onward { IfSome result (λ w. from < w.end) }
-    ensures makes { IfSome result (λ w. (es : Entities) → MakesFrom es state.now (piece text.now from w.end) w.token) }
+    ensures makes { IfSome result (λ w. (es : Entities)
+        → MakesFrom es state.now (piece text.now from w.end) w.token) }
     ensures no_cr { IfSome result (λ w. has_cr (piece text.now from w.end) ≡ false) }
 {
     let (word, written) = end_of(state)?;
@@ -71,7 +74,8 @@ fn begins(c: char) -> bool
     c == '\0' || c == '\r' || c == '&' || c == '<' || c == '/' || c == '!'
 }
 
-/// The place behind a `<` at a place and the character behind it, where nothing begins with them in such a text.
+/// The place behind a `<` at a place and the character behind it, where nothing begins with them in
+/// such a text.
 pub fn raw_less(text: &str, from: usize) -> Option<usize>
     requires { IsCharBoundary text.now from }
     ensures boundary { IfSome result (λ to. IsCharBoundary text.now to) }
