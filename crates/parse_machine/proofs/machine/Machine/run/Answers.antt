@@ -15,8 +15,8 @@ loop-ran-init c = record {
       c.in_ok-start.ensures.parsed;
 }
 
-pub take_run-start-requires : goal.take_run-start-requires
-take_run-start-requires c = IsCharBoundary-start c.args.text.now c.utf8.text
+pub take_run-requires : goal.take_run-requires
+take_run-requires c = IsCharBoundary-start c.args.text.now c.utf8.text
 
 pub loop-ran-preserved : goal.loop-ran-preserved
 loop-ran-preserved c =
