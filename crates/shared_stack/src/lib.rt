@@ -1,6 +1,7 @@
 //! Lists seen from their end, whose copies share their older entries.
 #![tactic(auto)]
 
+mod block;
 mod entry;
 mod older;
 mod stack;

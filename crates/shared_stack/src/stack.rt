@@ -2,6 +2,7 @@
 
 ghost use Rattle.std.specs.Prelude.{◌≡◌, ◌↔◌, ◌<◌, ◌≤◌, [], ◌∷◌, ◌++◌, length, reverse, drop, insert, remove, slice_set, slice_index_or, IsTrue, IfOk, OnOk, OnErr, MatchOption};
 
+use crate::block::copies;
 use crate::entry::Entry;
 use crate::older::Older;
 use crate::walk::Walk;
@@ -11,7 +12,8 @@ use std::marker::Model;
 // Where a list has more entries of its own, `share` makes all its entries shared.
 const MOST_OWN: usize = 16;
 
-/// A list seen from its end, whose copies share their older entries. Contracts see the list that begins with the latest entry.
+/// A list seen from its end, whose copies share their older entries. Contracts see the list that
+/// begins with the latest entry.
 #[derive(Drop)]
 pub struct SharedStack<T> {
     older: Older<T>,
@@ -27,48 +29,6 @@ impl<T> Model for SharedStack<T> {
     ghost view = { λ s. reverse (s.older ++ s.own.items) };
 
     ghost invariant = { λ s. length s.older + length s.own.items < 2 ^ 64 };
-}
-
-// Copies of some entries, with room for so many more.
-fn copies<T: Entry>(alloc: Global, entries: &[T], more: usize) -> Result<Vec<T>, AllocError>
-    ensures { IfOk result (λ v. v.items ≡ entries.now) }
-{
-    let room = entries.len().saturating_add(more);
-    let mut copies = Vec::with_capacity(alloc, room)?;
-    for entry in entries {
-        copies.push(entry.copy(alloc)?)?;
-    }
-    Ok(copies)
-}
-
-// Copies of the older entries, and behind them the own ones, which are moved there.
-fn joined<T: Entry>(alloc: Global, older: &[T], own: &mut Vec<T>) -> Result<Vec<T>, AllocError>
-    ensures ok { IfOk result (λ v. v.items ≡ older.now ++ own.old.items) }
-    ensures moved { OnOk result (own.new.items ≡ []) }
-    ensures err { OnErr result (own.new.items ≡ own.old.items) }
-{
-    let mut entries = copies(alloc, older, own.len())?;
-    entries.append(own)?;
-    Ok(entries)
-}
-
-// Copies the entries from that place on, so that they are the list's own.
-#[tactic(auto, using(std::proofs::lemmas::Grind::common_steps, crate::proofs::Ends::parted))]
-fn own_from<T: Entry>(
-    older: &mut Older<T>,
-    own: &mut Vec<T>,
-    place: usize,
-) -> Result<(), AllocError>
-    ensures same { older.new ++ own.new.items ≡ older.old ++ own.old.items }
-    ensures owned { OnOk result (length older.new ≤ place) }
-{
-    if place < older.len() {
-        let alloc = *own.allocator();
-        let entries = joined(alloc, &older.as_slice()[place..], own)?;
-        *own = entries;
-        older.truncate(place);
-    }
-    Ok(())
 }
 
 impl<T: Entry> SharedStack<T> {
@@ -103,7 +63,7 @@ impl<T: Entry> SharedStack<T> {
     }
 
     /// Takes the latest entry off, if there is one. One that is shared stays for the copies.
-    #[tactic(auto, using(std::proofs::lemmas::Grind::common_steps, crate::proofs::Ends::reverse_fewer))]
+    #[tactic(auto, using(std::proofs::lemmas::Grind::common_steps, crate::proofs::Ends::fewer))]
     pub fn pop(&mut self) -> bool
         ensures some { IsTrue result ↔ (0 < length self.old) }
         ensures rest { self.new ≡ drop 1 self.old }
@@ -120,19 +80,20 @@ impl<T: Entry> SharedStack<T> {
     }
 
     /// Takes the latest entry off, if there is one, and gives it, or a copy where it is shared.
+    #[tactic(auto, using(std::proofs::lemmas::Grind::common_steps, crate::proofs::Ends::fewer))]
     pub fn take(&mut self) -> Result<Option<T>, AllocError>
-        ensures ok { IfOk result (λ o. MatchOption o ((self.old ≡ []) × (self.new ≡ [])) (λ e. self.old ≡ e ∷ self.new)) }
+        ensures ok { IfOk result (λ o.
+            MatchOption o ((self.old ≡ []) × (self.new ≡ [])) (λ e. self.old ≡ e ∷ self.new)) }
         ensures err { OnErr result (self.new ≡ self.old) }
     {
         if let Some(entry) = self.own.pop() {
             return Ok(Some(entry));
         }
-        let alloc = *self.own.allocator();
-        let Some((entry, rest)) = self.older.as_slice().split_last() else {
+        let Some(latest) = self.older.latest() else {
             return Ok(None);
         };
-        let entry = entry.copy(alloc)?;
-        let kept = rest.len();
+        let entry = latest.copy(*self.own.allocator())?;
+        let kept = self.older.len().saturating_sub(1);
         self.older.truncate(kept);
         Ok(Some(entry))
     }
@@ -149,11 +110,11 @@ impl<T: Entry> SharedStack<T> {
         requires { place < length self.now }
         ensures { result.now ≡ slice_index_or (reverse self.now) place result.now }
     {
-        let older = self.older.as_slice();
-        if place < older.len() {
-            &older[place]
+        let older = self.older.len();
+        if place < older {
+            self.older.at(place)
         } else {
-            &self.own[place - older.len()]
+            &self.own[place - older]
         }
     }
 
@@ -161,22 +122,25 @@ impl<T: Entry> SharedStack<T> {
     pub fn walk(&self) -> Walk<'_, T>
         ensures { result ≡ self.now }
     {
-        Walk::new(self.older.as_slice(), self.own.as_slice())
+        let (front, back) = self.older.blocks();
+        Walk::new(front, back, self.own.as_slice())
     }
 
-    /// Takes an entry out, wherever it stands: the earliest has place 0. Those behind it become the list's own.
+    /// Takes an entry out, wherever it stands: the earliest has place 0. Those behind it become the
+    /// list's own.
     #[tactic(auto, using(std::proofs::lemmas::Grind::common_steps, crate::proofs::Ends::behind))]
     pub fn take_out(&mut self, place: usize) -> Result<(), AllocError>
         requires { place < length self.old }
         ensures ok { OnOk result (self.new ≡ reverse (remove (reverse self.old) place)) }
         ensures err { OnErr result (self.new ≡ self.old) }
     {
-        own_from(&mut self.older, &mut self.own, place)?;
+        self.older.give_from(&mut self.own, place)?;
         let _ = self.own.remove(place - self.older.len());
         Ok(())
     }
 
-    /// Puts an entry in at a place: the earliest has place 0. Those behind it become the list's own.
+    /// Puts an entry in at a place: the earliest has place 0. Those behind it become the list's
+    /// own.
     #[tactic(auto, using(std::proofs::lemmas::Grind::common_steps, crate::proofs::Ends::behind))]
     pub fn put_in(&mut self, place: usize, entry: T) -> Result<(), AllocError>
         requires { place ≤ length self.old }
@@ -186,44 +150,36 @@ impl<T: Entry> SharedStack<T> {
         if self.len() == usize::MAX {
             return Err(AllocError);
         }
-        own_from(&mut self.older, &mut self.own, place)?;
+        self.older.give_from(&mut self.own, place)?;
         let at = place - self.older.len();
         self.own.insert(at, entry)?;
         Ok(())
     }
 
-    /// Puts an entry in the stead of the one at a place: the earliest has place 0. Those behind it become the list's own.
+    /// Puts an entry in the stead of the one at a place: the earliest has place 0. Those behind it
+    /// become the list's own.
     #[tactic(auto, using(std::proofs::lemmas::Grind::common_steps, crate::proofs::Ends::behind))]
     pub fn replace(&mut self, place: usize, entry: T) -> Result<(), AllocError>
         requires { place < length self.old }
         ensures ok { OnOk result (self.new ≡ reverse (slice_set (reverse self.old) place entry)) }
         ensures err { OnErr result (self.new ≡ self.old) }
     {
-        own_from(&mut self.older, &mut self.own, place)?;
+        self.older.give_from(&mut self.own, place)?;
         let at = place - self.older.len();
         self.own[at] = entry;
         Ok(())
     }
 
-    /// Where more than 16 entries are the list's own, all its entries become shared, so that a copy copies none of them.
+    /// Where more than 16 entries are the list's own, all its entries become shared, so that a copy
+    /// copies none of them.
+    #[tactic(auto, using(std::proofs::lemmas::Grind::common_steps, crate::proofs::Ends::as_long))]
     pub fn share(&mut self, alloc: Global) -> Result<(), AllocError>
         ensures { self.new ≡ self.old }
     {
         if self.own.len() <= MOST_OWN {
             return Ok(());
         }
-        let entries = joined(alloc, self.older.as_slice(), &mut self.own)?;
-        match Older::of(alloc, entries) {
-            Ok(older) => {
-                self.older = older;
-                Ok(())
-            }
-            Err(failed) => {
-                self.older = Older::new();
-                self.own = failed.value;
-                Err(AllocError)
-            }
-        }
+        self.older.share(alloc, &mut self.own)
     }
 
     /// A copy, which shares the older entries. Those that are the list's own are copied.

@@ -5,10 +5,12 @@ ghost use Rattle.std.specs.Iterator.{YieldsFirstRef, item_count};
 
 use std::marker::Model;
 
-/// A walk over the entries of a shared stack, from the latest to the earliest: a contract sees the list of those that are left.
+/// A walk over the entries of a shared stack, from the latest to the earliest: a contract sees the
+/// list of those that are left.
 #[derive(Drop)]
 pub struct Walk<'a, T> {
-    older: &'a [T],
+    front: &'a [T],
+    back: &'a [T],
     own: &'a [T],
 }
 
@@ -17,34 +19,37 @@ impl<'a, T> Model for Walk<'a, T> {
 
     ghost Value = { List T };
 
-    ghost view = { λ w. reverse (w.older.now ++ w.own.now) };
+    ghost view = { λ w. reverse (w.front.now ++ w.back.now ++ w.own.now) };
 
-    ghost invariant = { λ w. length w.older.now + length w.own.now < 2 ^ 64 };
+    ghost invariant = { λ w. length w.front.now + length w.back.now + length w.own.now < 2 ^ 64 };
 }
 
 impl<'a, T> Walk<'a, T> {
-    /// A walk over `own`, and then over `older`, each from its end.
-    pub(crate) fn new(older: &'a [T], own: &'a [T]) -> Walk<'a, T>
-        requires { length older.now + length own.now < 2 ^ 64 }
-        ensures { result ≡ reverse (older.now ++ own.now) }
+    /// A walk over `own`, then over `back` and over `front`, each from its end.
+    pub(crate) fn new(front: &'a [T], back: &'a [T], own: &'a [T]) -> Walk<'a, T>
+        requires { length front.now + length back.now + length own.now < 2 ^ 64 }
+        ensures { result ≡ reverse (front.now ++ back.now ++ own.now) }
     {
-        Walk { older, own }
+        Walk { front, back, own }
     }
 
     /// How many entries are left.
     pub fn len(&self) -> usize
         ensures { result ≡ length self.now }
     {
-        self.older.len() + self.own.len()
+        self.front.len() + self.back.len() + self.own.len()
     }
 
     /// The next entry, which stays.
     pub fn latest(&self) -> Option<&'a T>
         ensures { MatchOption result (self.now ≡ []) (λ e. self.now ≡ e.now ∷ drop 1 self.now) }
     {
-        match self.own.last() {
+        if let Some(entry) = self.own.last() {
+            return Some(entry);
+        }
+        match self.back.last() {
             Some(entry) => Some(entry),
-            None => self.older.last(),
+            None => self.front.last(),
         }
     }
 
@@ -53,7 +58,8 @@ impl<'a, T> Walk<'a, T> {
         ensures { result ≡ self.now }
     {
         Walk {
-            older: self.older,
+            front: self.front,
+            back: self.back,
             own: self.own,
         }
     }
@@ -71,8 +77,12 @@ impl<'a, T> Iterator for Walk<'a, T> {
             self.own = rest;
             return Some(entry);
         }
-        let (entry, rest) = self.older.split_last()?;
-        self.older = rest;
+        if let Some((entry, rest)) = self.back.split_last() {
+            self.back = rest;
+            return Some(entry);
+        }
+        let (entry, rest) = self.front.split_last()?;
+        self.front = rest;
         Some(entry)
     }
 }

@@ -1,5 +1,5 @@
 use Rattle.std.proofs.Common.{◌≡◌, take}
-use Rattle.shared_stack.proofs.stack.copies.Given as goal
+use Rattle.shared_stack.proofs.block.copies.Given as goal
 
 abbrev pub invariant-loop-entry : goal.invariant-loop-entry
 invariant-loop-entry g l = l.copies.items ≡ take l.entry-index l.entries
