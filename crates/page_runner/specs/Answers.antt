@@ -43,12 +43,13 @@ pub record MayMeetPage (path dir : List ℕ) (before after : Seen) (page : PageM
   pub read : IsPageOf (file_at before path) (after.left Page) (FaultsRose Page before after) (NoFault Page before after) page.read
   pub scripts : AreScriptsOf dir before after page.scripts
 
--- Where the page can't be begun the port has nothing left.
+-- A page that was met was begun. Where it can't be begun, no file is open at its port, which has nothing left: so a failed read of a page that
+-- was begun isn't this.
 abbrev pub MayGivePage : List ℕ → List ℕ → Seen → Seen → Given PageMet → Type 0
 MayGivePage path dir before after unmet = Unit {0}
-MayGivePage path dir before after missing = AbsencesRose Page before after × IfSome (file_at before path) (λ file. file ≡ None) × NoFault Page before after
-MayGivePage path dir before after faulted = FaultsRose Page before after × IfSome (after.left Page) (λ rest. rest ≡ [])
-MayGivePage path dir before after (got page) = MayMeetPage path dir before after page
+MayGivePage path dir before after missing = AbsencesRose Page before after × IfSome (file_at before path) (λ file. file ≡ None) × NoFault Page before after × (after.open_at Page ≡ false)
+MayGivePage path dir before after faulted = FaultsRose Page before after × IfSome (after.left Page) (λ rest. rest ≡ []) × (after.open_at Page ≡ false)
+MayGivePage path dir before after (got page) = MayMeetPage path dir before after page × (after.open_at Page ≡ true)
 
 -- A fetch of a script failed only where the serial parse stops at it. Without a table there is no fetch.
 abbrev pub FaultsOver : Option Table → PageMet → Seen → Seen → Type 0

@@ -1,5 +1,5 @@
 -- What is reported of a page that was run: its journal is of this run, and replays in the core to this document, these lines and this outcome.
-use Rattle.std.specs.Prelude.{◌≡◌, ◌⊎◌, ℕ, Bool, true, false, List, ◌++◌, flat_map, Option, Some, IsTrue}
+use Rattle.std.specs.Prelude.{◌≡◌, ◌≢◌, ◌⊎◌, ℕ, Bool, true, false, List, ◌++◌, flat_map, Option, Some, IsTrue}
 use Rattle.outside.specs.Outside.{Seen}
 use Rattle.outside.specs.declared.traits.Port.TheVariants.{Page}
 use Rattle.standard.specs.Entities.{Entities}
@@ -20,12 +20,9 @@ use Rattle.page_turns.specs.Replaying.{ReplaysTo}
 use Rattle.page_turns.specs.WrittenInPart.{IsDue, WritesInPart}
 use Rattle.page_runner.specs.Answers.{status_with, is_answered, IsPageOf}
 
--- the statuses that come only where a page was parsed to its end
-abbrev pub is_parsed : Status → Bool
-is_parsed status.Done = true
-is_parsed status.BadUtf8 = true
-is_parsed (status.Limit which) = true
-is_parsed _ = false
+-- The page was begun, and there was memory for what a run begins with, unless the answer is want of memory.
+abbrev pub IsUnderWay : Seen → Status → Type 0
+IsUnderWay after outcome = (after.open_at Page ≡ true) × (outcome ≢ status.NoMemory)
 
 -- What the journal has was met outside: its pieces are a front of the page's text, and with the page's ending the whole page; and each thing
 -- that came of a script may have come of it.

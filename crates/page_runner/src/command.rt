@@ -8,7 +8,6 @@ ghost use Rattle.page_turns.specs.Given.{ReadTo};
 ghost use Rattle.page_turns.specs.Taken.{Took, TookFront};
 ghost use Rattle.page_turns.specs.Shown.{result_of};
 ghost use Rattle.page_runner.specs.Shown.{status_of};
-ghost use Rattle.page_runner.specs.Reports.{is_parsed};
 ghost use Rattle.page_runner.specs.Making.{MakesTo};
 ghost use Rattle.page_runner.specs.Answers.{status_for, table_of, is_finished, Gives, PageAnswers, ReadsPage, ReadsTable, ReadsNone, answer_without, Answers, RunsTo, StopsAtLimits, BeginsOnce, CompletesRun, Exactly, AbsenceRose, FaultRose};
 
@@ -107,7 +106,6 @@ pub(crate) fn end_page<K: Sink>(
 pub(crate) fn end_at_fault<K: Sink>(out: &mut K) -> Status
     ensures gives { Gives (Rose (K.faults out.old) (K.faults out.new)) (K.taken out.old) (K.taken out.new) (Status.ReadFault, []) result }
     ensures clean { IsTrue (is_finished result) → IsTrue (K.clean out.new) }
-    ensures unparsed { is_parsed result ≡ false }
 {
     match out.finish() {
         Ok(()) => Status::ReadFault,

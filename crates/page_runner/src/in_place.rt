@@ -1,7 +1,7 @@
 // A page is run with the parser's side on the calling thread.
 ghost use Rattle.std.specs.Prelude.{◌≡◌, ◌<◌, ◌≤◌, [], ◌∷◌, IfSome, IsSome, IsTrue};
 ghost use Rattle.std.specs.String.{string_bytes};
-ghost use Rattle.page_runner.specs.Reports.{is_parsed, Reports};
+ghost use Rattle.page_runner.specs.Reports.{IsUnderWay, Reports};
 ghost use Rattle.page_runner.specs.Answers.{is_finished, IsBegun, PageAnswers, ReadsPage};
 
 use crate::command::end_at_fault;
@@ -34,7 +34,7 @@ fn run_begun<E: InForce, F: Outside, K: Sink>(
     ensures clean { IsTrue (is_finished result.outcome) → IsTrue (K.clean out.new) }
     ensures reports { IfSome result.side (λ side. Reports job.now.table.now job.now.ahead job.now.dump (string_bytes job.now.page) (string_bytes job.now.dir)
         (F.seen files.old) (F.seen files.new) (K.taken out.old) (K.taken out.new) side result.outcome) }
-    ensures side { IsTrue (is_parsed result.outcome) → IsSome result.side }
+    ensures side { IsUnderWay (F.seen files.new) result.outcome → IsSome result.side }
 {
     let (mut room, mut side) = match begin_run(alloc, job) {
         Err(NoMemory) => {
@@ -72,7 +72,7 @@ pub fn page_in_place<F: Outside, K: Sink>(
     ensures clean { IsTrue (is_finished result.outcome) → IsTrue (K.clean out.new) }
     ensures reports { IfSome result.side (λ side. Reports job.now.table.now job.now.ahead job.now.dump (string_bytes job.now.page) (string_bytes job.now.dir)
         (F.seen files.old) (F.seen files.new) (K.taken out.old) (K.taken out.new) side result.outcome) }
-    ensures side { IsTrue (is_parsed result.outcome) → IsSome result.side }
+    ensures side { IsUnderWay (F.seen files.new) result.outcome → IsSome result.side }
 {
     match files.begin(Port::Page, job.page.as_str()) {
         Err(Failed) => Report {

@@ -5,7 +5,7 @@ ghost use Rattle.parser_thread.specs.declared.messages.ToParser.TheVariants as m
 ghost use Rattle.parser_thread.specs.Answers.{said};
 ghost use Rattle.parser_thread.specs.Running.{IsRunning};
 ghost use Rattle.core_steps.specs.Sides.{first_shown};
-ghost use Rattle.page_runner.specs.Reports.{is_parsed, Reports};
+ghost use Rattle.page_runner.specs.Reports.{IsUnderWay, Reports};
 ghost use Rattle.page_runner.specs.Answers.{is_finished, IsBegun, PageAnswers, ReadsPage};
 ghost use Rattle.page_runner.specs.OnTwo.{IfBoth, InOrder, IsAnswered, IsJournaled, DropsFailed, IsLookingAhead};
 
@@ -171,7 +171,7 @@ fn run_on_two<
     ensures clean { IsTrue (is_finished result.outcome) → IsTrue (K.clean out.new) }
     ensures reports { IfSome result.side (λ side. Reports job.now.table.now job.now.ahead job.now.dump (string_bytes job.now.page) (string_bytes job.now.dir)
         (F.seen files.old) (F.seen files.new) (K.taken out.old) (K.taken out.new) side result.outcome) }
-    ensures side { IsTrue (is_parsed result.outcome) → IsSome result.side }
+    ensures side { IsUnderWay (F.seen files.new) result.outcome → IsSome result.side }
     ensures in_order { IfSome result.ends (λ ends. InOrder E.InForce ends) }
     ensures answered { IfSome result.ends (λ ends. IsAnswered E.InForce ends) }
     ensures journaled { IfBoth result.side result.ends (λ side ends. IsJournaled E.InForce job.now.table.now job.now.ahead side.journal result.outcome ends) }
@@ -220,7 +220,7 @@ pub fn page_on_two<
     ensures clean { IsTrue (is_finished result.outcome) → IsTrue (K.clean out.new) }
     ensures reports { IfSome result.side (λ side. Reports job.now.table.now job.now.ahead job.now.dump (string_bytes job.now.page) (string_bytes job.now.dir)
         (F.seen files.old) (F.seen files.new) (K.taken out.old) (K.taken out.new) side result.outcome) }
-    ensures side { IsTrue (is_parsed result.outcome) → IsSome result.side }
+    ensures side { IsUnderWay (F.seen files.new) result.outcome → IsSome result.side }
 
     // What went through both lanes.
     ensures in_order { IfSome result.ends (λ ends. InOrder E.InForce ends) }

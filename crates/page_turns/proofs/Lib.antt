@@ -1,4 +1,5 @@
 pub mod WriteLemmas
+pub mod CallLemmas
 pub mod KeepsLemmas
 pub mod FetchLemmas
 pub mod TextLemmas

@@ -1,4 +1,5 @@
 pub mod Taken
+pub mod Calls
 pub mod Given
 pub mod Scripts
 pub mod Shown

@@ -1,5 +1,5 @@
 -- A page as it is read, and what its parse comes to.
-use Rattle.std.specs.Prelude.{◌≡◌, ◌≤◌, ◌+◌, ◌⊎◌, ℕ, Bool, true, false, List, [], ◌++◌, length, flat_map, Option, Some, None, IfSome}
+use Rattle.std.specs.Prelude.{◌≡◌, ◌≤◌, ◌+◌, ◌⊎◌, ℕ, Bool, true, false, List, [], ◌++◌, length, flat_map, Option, Some, None, IfSome, Result}
 use Rattle.html_types.specs.declared.ending.Ending.{Ending}
 use Rattle.html_types.specs.declared.ending.Why.TheVariants as why
 use Rattle.outside.specs.Outside.{Seen}
@@ -15,6 +15,9 @@ use Rattle.core_definitions.specs.Core.{joined}
 use Rattle.page_turns.specs.declared.page.TheConstants.{PAGE_LIMIT}
 use Rattle.page_turns.specs.declared.outcome.Outcome.{Outcome as Told}
 use Rattle.page_turns.specs.declared.reader.PageReader.{PageReader}
+use Rattle.outside.specs.Outside.{Call, reads}
+use Rattle.outside.specs.declared.traits.Failed.{Failed}
+use Rattle.page_turns.specs.Calls.{CallsAt, AreReads, given_first, ReadWithin, has_failed, GaveNone}
 use Rattle.page_turns.specs.Given.{FaultsRose, NoFault}
 use Rattle.page_turns.specs.Taken.{Took, TookFront}
 use Rattle.page_turns.specs.Scripts.{AreScriptsOf}
@@ -48,12 +51,19 @@ pub record ReadsOn (most : ℕ) (whole left : Option (List ℕ)) : Type 0 where
   pub taken : AreTaken whole left read
   pub at_most : length read ≤ most
 
--- The page is all that the port of the page had, where no read of it failed, or where one did what it gave.
+-- So many bytes were given before a read of the page failed: what was given behind that counts for nothing.
+pub record GivenFirst (before after : Seen) (bytes : List ℕ) : Type 0 where
+  pub calls : List Call
+  pub made : CallsAt port.Page before after calls
+  pub count : length bytes ≡ given_first calls
+
+-- The page is all that the port of the page had, where no read of it failed, or where one did what it gave before.
 pub record IsReadFrom (before after : Seen) (page : PageRead) : Type 0 where
   pub all : page.fault ≡ false → IfSome (before.left port.Page) (λ bytes. bytes ≡ page.bytes)
   pub no_fault : page.fault ≡ false → NoFault port.Page before after
   pub cut : page.fault ≡ true → AreTaken (before.left port.Page) (after.left port.Page) page.bytes
   pub cause : page.fault ≡ true → FaultsRose port.Page before after
+  pub first : page.fault ≡ true → GivenFirst before after page.bytes
 
 -- The serial parse of the page awaits a script whose fetch failed, and is refused there.
 pub record StopsAtScript (w : World) (page : Page) (o : Outcome) : Type 0 where
@@ -105,6 +115,12 @@ pub record ClosesAt (now after : Seen) (read : List ℕ) (e : Ending) : Type 0 w
   pub end : fault ≡ false → IfSome (now.left port.Page) (λ rest. rest ≡ [])
   pub no_fault : fault ≡ false → NoFault port.Page now after
   pub cause : fault ≡ true → FaultsRose port.Page now after
+  -- by one read more
+  pub most : ℕ
+  pub answer : Result ℕ Failed
+  pub made : CallsAt port.Page now after (reads most answer ∷ [])
+  pub gave_none : GaveNone answer
+  pub failed : fault ≡ has_failed answer
 
 -- The reader has read these bytes, which show no ending, and the pieces are their text.
 pub record IsReading (reader : PageReader) (pieces : List (List ℕ)) : Type 0 where
@@ -124,6 +140,10 @@ pub record PageOpen (before now : Seen) (reader : PageReader) (pieces : List (Li
   pub reading : IsReading reader pieces
   pub so_far : AreTaken (before.left port.Page) (now.left port.Page) reading.read
   pub quiet : NoFault port.Page before now
+  pub calls : List Call
+  pub made : CallsAt port.Page before now calls
+  pub reads_all : AreReads calls
+  pub count : length reading.read ≡ given_first calls
 
 -- The page goes on from the pieces, where its ending wasn't read, and is theirs where it was.
 abbrev pub IsPageBehind : Option Ending → List (List ℕ) → Page → Type 0
@@ -136,6 +156,7 @@ pub record PageFor (before now : Seen) (pieces : List (List ℕ)) (ending : Opti
   pub read_from : IsReadFrom before now page
   pub is : IsPageBehind ending pieces (page_at page)
   pub read : ReadsOn (PAGE_LIMIT + 1) (before.left port.Page) (now.left port.Page)
+  pub within : ReadWithin PAGE_LIMIT 0 port.Page before now
 
 -- what was read, as the pieces and the ending tell it
 abbrev pub PageAt : Seen → Seen → PageReader → List (List ℕ) → Option Ending → Type 0

@@ -22,6 +22,7 @@ use Rattle.page_turns.specs.declared.page.TheConstants.{PAGE_LIMIT}
 use Rattle.page_turns.specs.declared.outcome.Outcome.{Outcome as Told}
 use Rattle.page_turns.specs.declared.scripts.TheConstants.{SCRIPT_LIMIT}
 use Rattle.page_turns.specs.declared.reader.PageReader.{PageReader}
+use Rattle.page_turns.specs.Calls.{ReadWithin, EachWithin}
 use Rattle.page_turns.specs.Given.{NoFault, KeepsEntities}
 use Rattle.page_turns.specs.Taken.{Took, TookFront}
 use Rattle.page_turns.specs.Scripts.{MayMeet, BeginsFile, Fetches, AreKnown, ReadScriptsTo, NamesOnce}
@@ -203,7 +204,9 @@ pub record LeavesAlone (dir : List ℕ) (before after : Seen) : Type 0 where
   pub keeps : KeepsEntities before after
   pub read : ReadsOn (PAGE_LIMIT + 1) (before.left port.Page) (after.left port.Page)
   pub begun : after.begun port.Page ≡ before.begun port.Page
+  pub within : ReadWithin PAGE_LIMIT 0 port.Page before after
   pub scripts : ReadScriptsTo SCRIPT_LIMIT dir before after
+  pub scripts_within : EachWithin SCRIPT_LIMIT port.Script before after
   pub names : NamesOnce dir (before.begun port.Script) (after.begun port.Script)
 
 -- The sink took a front of the lines of what is shown, or was before the last events: all lines of the events before the refused one, and a front

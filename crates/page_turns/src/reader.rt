@@ -1,8 +1,9 @@
 // The page is read piece by piece.
-ghost use Rattle.std.specs.Prelude.{◌≡◌, ◌<◌, ◌≤◌, ℕ, List, length, take, None, IfOk, IfErr, OnOk, OnErr};
-ghost use Rattle.outside.specs.Outside.{KeepsOthers};
+ghost use Rattle.std.specs.Prelude.{◌≡◌, ◌<◌, ◌≤◌, ◌∷◌, [], ℕ, List, length, take, None, Ok, IfOk, IfErr, OnOk, OnErr};
+ghost use Rattle.outside.specs.Outside.{reads, KeepsOthers};
 ghost use Rattle.utf8_pieces.specs.Decoder.{HasRead};
 ghost use Rattle.page_turns.specs.declared.page.TheConstants.{PAGE_LIMIT};
+ghost use Rattle.page_turns.specs.Calls.{CallsAt};
 ghost use Rattle.page_turns.specs.Given.{NoFault};
 ghost use Rattle.page_turns.specs.Pages.{AreTaken, ClosesAt, IsReading, IsUnread};
 ghost use Rattle.page_turns.specs.Along.{Hands};
@@ -34,6 +35,8 @@ fn read_piece<F: Outside>(
     ensures ending { IfErr result (λ ending. 0 < length room.old → (read : List ℕ) → HasRead PAGE_LIMIT decoder.now read
         → ClosesAt (F.seen files.old) (F.seen files.new) read ending) }
     ensures no_fault { OnOk result (NoFault Port.Page (F.seen files.old) (F.seen files.new)) }
+    ensures call { IfOk result (λ n. CallsAt Port.Page (F.seen files.old) (F.seen files.new)
+        (reads (length room.old) (Ok n) ∷ [])) }
     ensures begun { (F.seen files.new).begun ≡ (F.seen files.old).begun }
     ensures others { KeepsOthers Port.Page (F.seen files.old) (F.seen files.new) }
 {

@@ -29,21 +29,21 @@ returns-in_err-fed-in-Ok-clause-err g c =
     let at = g.F.Outside.seen in
     let fits : c.in-Ok.n ≤ length c.read_piece.new.room = omega (arith, c.read_piece.auto.room, c.in-Ok.ensures.count.1) in
     let within : c.in-Ok.n ≤ c.args.self.now.left = omega (arith, c.min-most.ensures, c.in-Ok.ensures.count.1, length-take c.min-most.result c.args.room.now) in
-    on_err _ _ (reads_cut (at c.args.files.now) (at c.read_piece.new.files) c.args.self.now c.args.doc.now c.requires.reading c.in-Ok.n (take c.in-Ok.n (c.read_piece.new.room ++ drop c.min-most.result c.args.room.now)) c.in-Ok.ensures.count.0 (piece-length c.read_piece.new.room (drop c.min-most.result c.args.room.now) (c.read_piece.new.room ++ drop c.min-most.result c.args.room.now) c.in-Ok.n refl fits) within (piece-taken _ _ c.read_piece.new.room (drop c.min-most.result c.args.room.now) (c.read_piece.new.room ++ drop c.min-most.result c.args.room.now) c.in-Ok.n refl fits c.in-Ok.ensures.taken) c.in-Ok.ensures.no_fault c.args.doc.now.spent c.args.doc.now refl)
+    on_err _ _ (reads_cut (at c.args.files.now) (at c.read_piece.new.files) c.args.self.now c.args.doc.now c.requires.reading c.in-Ok.n (take c.in-Ok.n (c.read_piece.new.room ++ drop c.min-most.result c.args.room.now)) c.in-Ok.ensures.count.0 (piece-length c.read_piece.new.room (drop c.min-most.result c.args.room.now) (c.read_piece.new.room ++ drop c.min-most.result c.args.room.now) c.in-Ok.n refl fits) within (piece-taken _ _ c.read_piece.new.room (drop c.min-most.result c.args.room.now) (c.read_piece.new.room ++ drop c.min-most.result c.args.room.now) c.in-Ok.n refl fits c.in-Ok.ensures.taken) c.in-Ok.ensures.no_fault _ c.in-Ok.ensures.call c.args.doc.now.spent c.args.doc.now refl)
 
 pub piece-requires-clause-within : goal.piece-requires-clause-within
 piece-requires-clause-within g c =
     let at = g.F.Outside.seen in
     let fits : c.in-Ok.n ≤ length c.read_piece.new.room = omega (arith, c.read_piece.auto.room, c.in-Ok.ensures.count.1) in
     let within : c.in-Ok.n ≤ c.args.self.now.left = omega (arith, c.min-most.ensures, c.in-Ok.ensures.count.1, length-take c.min-most.result c.args.room.now) in
-    piece_within (at c.args.files.now) (at c.read_piece.new.files) c.args.self.now c.args.doc.now c.requires.reading c.in-Ok.n (take c.in-Ok.n (c.read_piece.new.room ++ drop c.min-most.result c.args.room.now)) c.in-Ok.ensures.count.0 (piece-length c.read_piece.new.room (drop c.min-most.result c.args.room.now) (c.read_piece.new.room ++ drop c.min-most.result c.args.room.now) c.in-Ok.n refl fits) within (piece-taken _ _ c.read_piece.new.room (drop c.min-most.result c.args.room.now) (c.read_piece.new.room ++ drop c.min-most.result c.args.room.now) c.in-Ok.n refl fits c.in-Ok.ensures.taken) c.in-Ok.ensures.no_fault (chars c.as_str.result.now) (λ limit read has. c.in_ok-fed-in-Ok.ensures.text limit read has ∙ ap (λ t. text_of limit read ++ t) (sym c.as_str.ensures))
+    piece_within (at c.args.files.now) (at c.read_piece.new.files) c.args.self.now c.args.doc.now c.requires.reading c.in-Ok.n (take c.in-Ok.n (c.read_piece.new.room ++ drop c.min-most.result c.args.room.now)) c.in-Ok.ensures.count.0 (piece-length c.read_piece.new.room (drop c.min-most.result c.args.room.now) (c.read_piece.new.room ++ drop c.min-most.result c.args.room.now) c.in-Ok.n refl fits) within (piece-taken _ _ c.read_piece.new.room (drop c.min-most.result c.args.room.now) (c.read_piece.new.room ++ drop c.min-most.result c.args.room.now) c.in-Ok.n refl fits c.in-Ok.ensures.taken) c.in-Ok.ensures.no_fault _ c.in-Ok.ensures.call (chars c.as_str.result.now) (λ limit read has. c.in_ok-fed-in-Ok.ensures.text limit read has ∙ ap (λ t. text_of limit read ++ t) (sym c.as_str.ensures))
 
 pub returns-in_err-piece-in-Ok-clause-err : goal.returns-in_err-piece-in-Ok-clause-err
 returns-in_err-piece-in-Ok-clause-err g c =
     let at = g.F.Outside.seen in
     let fits : c.in-Ok.n ≤ length c.read_piece.new.room = omega (arith, c.read_piece.auto.room, c.in-Ok.ensures.count.1) in
     let within : c.in-Ok.n ≤ c.args.self.now.left = omega (arith, c.min-most.ensures, c.in-Ok.ensures.count.1, length-take c.min-most.result c.args.room.now) in
-    on_err _ _ (reads_cut (at c.args.files.now) (at c.read_piece.new.files) c.args.self.now c.args.doc.now c.requires.reading c.in-Ok.n (take c.in-Ok.n (c.read_piece.new.room ++ drop c.min-most.result c.args.room.now)) c.in-Ok.ensures.count.0 (piece-length c.read_piece.new.room (drop c.min-most.result c.args.room.now) (c.read_piece.new.room ++ drop c.min-most.result c.args.room.now) c.in-Ok.n refl fits) within (piece-taken _ _ c.read_piece.new.room (drop c.min-most.result c.args.room.now) (c.read_piece.new.room ++ drop c.min-most.result c.args.room.now) c.in-Ok.n refl fits c.in-Ok.ensures.taken) c.in-Ok.ensures.no_fault true c.piece.new.self c.in_err-piece-in-Ok.ensures.err)
+    on_err _ _ (reads_cut (at c.args.files.now) (at c.read_piece.new.files) c.args.self.now c.args.doc.now c.requires.reading c.in-Ok.n (take c.in-Ok.n (c.read_piece.new.room ++ drop c.min-most.result c.args.room.now)) c.in-Ok.ensures.count.0 (piece-length c.read_piece.new.room (drop c.min-most.result c.args.room.now) (c.read_piece.new.room ++ drop c.min-most.result c.args.room.now) c.in-Ok.n refl fits) within (piece-taken _ _ c.read_piece.new.room (drop c.min-most.result c.args.room.now) (c.read_piece.new.room ++ drop c.min-most.result c.args.room.now) c.in-Ok.n refl fits c.in-Ok.ensures.taken) c.in-Ok.ensures.no_fault _ c.in-Ok.ensures.call true c.piece.new.self c.in_err-piece-in-Ok.ensures.err)
 
 pub returns-in-None-clause-ok : goal.returns-in-None-clause-ok
 returns-in-None-clause-ok g c =
@@ -51,7 +51,7 @@ returns-in-None-clause-ok g c =
     let fits : c.in-Ok.n ≤ length c.read_piece.new.room = omega (arith, c.read_piece.auto.room, c.in-Ok.ensures.count.1) in
     let within : c.in-Ok.n ≤ c.args.self.now.left = omega (arith, c.min-most.ensures, c.in-Ok.ensures.count.1, length-take c.min-most.result c.args.room.now) in
     let left : (c.args.self.now.left - c.in-Ok.n) + c.in-Ok.n ≡ c.args.self.now.left = omega (arith, within) in
-    reads_open (at c.args.files.now) (at c.read_piece.new.files) c.args.self.now c.args.doc.now c.requires.reading c.in-Ok.n (take c.in-Ok.n (c.read_piece.new.room ++ drop c.min-most.result c.args.room.now)) c.in-Ok.ensures.count.0 (piece-length c.read_piece.new.room (drop c.min-most.result c.args.room.now) (c.read_piece.new.room ++ drop c.min-most.result c.args.room.now) c.in-Ok.n refl fits) within (piece-taken _ _ c.read_piece.new.room (drop c.min-most.result c.args.room.now) (c.read_piece.new.room ++ drop c.min-most.result c.args.room.now) c.in-Ok.n refl fits c.in-Ok.ensures.taken) c.in-Ok.ensures.no_fault (chars c.as_str.result.now) (λ limit read has. c.in_ok-fed-in-Ok.ensures.text limit read has ∙ ap (λ t. text_of limit read ++ t) (sym c.as_str.ensures)) c.in_ok-fed-in-Ok.fed.ending c.in_ok-fed-in-Ok.ensures.ending (record { decoder = c.feed.new.self; left = c.args.self.now.left - c.in-Ok.n }) c.piece.new.self c.in-None.is c.in_ok-fed-in-Ok.ensures.read left c.requires.no_ending c.in_ok-piece-in-Ok.ensures.ok
+    reads_open (at c.args.files.now) (at c.read_piece.new.files) c.args.self.now c.args.doc.now c.requires.reading c.in-Ok.n (take c.in-Ok.n (c.read_piece.new.room ++ drop c.min-most.result c.args.room.now)) c.in-Ok.ensures.count.0 (piece-length c.read_piece.new.room (drop c.min-most.result c.args.room.now) (c.read_piece.new.room ++ drop c.min-most.result c.args.room.now) c.in-Ok.n refl fits) within (piece-taken _ _ c.read_piece.new.room (drop c.min-most.result c.args.room.now) (c.read_piece.new.room ++ drop c.min-most.result c.args.room.now) c.in-Ok.n refl fits c.in-Ok.ensures.taken) c.in-Ok.ensures.no_fault _ c.in-Ok.ensures.call (chars c.as_str.result.now) (λ limit read has. c.in_ok-fed-in-Ok.ensures.text limit read has ∙ ap (λ t. text_of limit read ++ t) (sym c.as_str.ensures)) c.in_ok-fed-in-Ok.fed.ending c.in_ok-fed-in-Ok.ensures.ending (record { decoder = c.feed.new.self; left = c.args.self.now.left - c.in-Ok.n }) c.piece.new.self c.in-None.is c.in_ok-fed-in-Ok.ensures.read left c.requires.no_ending c.in_ok-piece-in-Ok.ensures.ok
 
 pub returns-clause-ok : goal.returns-clause-ok
 returns-clause-ok g c =
@@ -59,7 +59,7 @@ returns-clause-ok g c =
     let fits : c.in-Ok.n ≤ length c.read_piece.new.room = omega (arith, c.read_piece.auto.room, c.in-Ok.ensures.count.1) in
     let within : c.in-Ok.n ≤ c.args.self.now.left = omega (arith, c.min-most.ensures, c.in-Ok.ensures.count.1, length-take c.min-most.result c.args.room.now) in
     let left : (c.args.self.now.left - c.in-Ok.n) + c.in-Ok.n ≡ c.args.self.now.left = omega (arith, within) in
-    ok_weaker _ _ _ (λ is. reads_shut (at c.args.files.now) (at c.read_piece.new.files) c.args.self.now c.args.doc.now c.requires.reading c.in-Ok.n (take c.in-Ok.n (c.read_piece.new.room ++ drop c.min-most.result c.args.room.now)) c.in-Ok.ensures.count.0 (piece-length c.read_piece.new.room (drop c.min-most.result c.args.room.now) (c.read_piece.new.room ++ drop c.min-most.result c.args.room.now) c.in-Ok.n refl fits) within (piece-taken _ _ c.read_piece.new.room (drop c.min-most.result c.args.room.now) (c.read_piece.new.room ++ drop c.min-most.result c.args.room.now) c.in-Ok.n refl fits c.in-Ok.ensures.taken) c.in-Ok.ensures.no_fault (chars c.as_str.result.now) (λ limit read has. c.in_ok-fed-in-Ok.ensures.text limit read has ∙ ap (λ t. text_of limit read ++ t) (sym c.as_str.ensures)) c.in_ok-fed-in-Ok.fed.ending c.in_ok-fed-in-Ok.ensures.ending (record { decoder = c.feed.new.self; left = c.args.self.now.left - c.in-Ok.n }) c.end-in-Some.new.self c.in-Some.ending c.in-Some.is left
+    ok_weaker _ _ _ (λ is. reads_shut (at c.args.files.now) (at c.read_piece.new.files) c.args.self.now c.args.doc.now c.requires.reading c.in-Ok.n (take c.in-Ok.n (c.read_piece.new.room ++ drop c.min-most.result c.args.room.now)) c.in-Ok.ensures.count.0 (piece-length c.read_piece.new.room (drop c.min-most.result c.args.room.now) (c.read_piece.new.room ++ drop c.min-most.result c.args.room.now) c.in-Ok.n refl fits) within (piece-taken _ _ c.read_piece.new.room (drop c.min-most.result c.args.room.now) (c.read_piece.new.room ++ drop c.min-most.result c.args.room.now) c.in-Ok.n refl fits c.in-Ok.ensures.taken) c.in-Ok.ensures.no_fault _ c.in-Ok.ensures.call (chars c.as_str.result.now) (λ limit read has. c.in_ok-fed-in-Ok.ensures.text limit read has ∙ ap (λ t. text_of limit read ++ t) (sym c.as_str.ensures)) c.in_ok-fed-in-Ok.fed.ending c.in_ok-fed-in-Ok.ensures.ending (record { decoder = c.feed.new.self; left = c.args.self.now.left - c.in-Ok.n }) c.end-in-Some.new.self c.in-Some.ending c.in-Some.is left
     (is ∙ ap (with_ending c.in-Some.ending) c.in_ok-piece-in-Ok.ensures.ok)) c.end-in-Some.ensures.ok
 
 pub returns-clause-err : goal.returns-clause-err
@@ -67,7 +67,7 @@ returns-clause-err g c =
     let at = g.F.Outside.seen in
     let fits : c.in-Ok.n ≤ length c.read_piece.new.room = omega (arith, c.read_piece.auto.room, c.in-Ok.ensures.count.1) in
     let within : c.in-Ok.n ≤ c.args.self.now.left = omega (arith, c.min-most.ensures, c.in-Ok.ensures.count.1, length-take c.min-most.result c.args.room.now) in
-    err_weaker _ _ _ (λ is. reads_shut_cut (at c.args.files.now) (at c.read_piece.new.files) c.args.self.now c.args.doc.now c.requires.reading c.in-Ok.n (take c.in-Ok.n (c.read_piece.new.room ++ drop c.min-most.result c.args.room.now)) c.in-Ok.ensures.count.0 (piece-length c.read_piece.new.room (drop c.min-most.result c.args.room.now) (c.read_piece.new.room ++ drop c.min-most.result c.args.room.now) c.in-Ok.n refl fits) within (piece-taken _ _ c.read_piece.new.room (drop c.min-most.result c.args.room.now) (c.read_piece.new.room ++ drop c.min-most.result c.args.room.now) c.in-Ok.n refl fits c.in-Ok.ensures.taken) c.in-Ok.ensures.no_fault (chars c.as_str.result.now) (λ limit read has. c.in_ok-fed-in-Ok.ensures.text limit read has ∙ ap (λ t. text_of limit read ++ t) (sym c.as_str.ensures)) c.in_ok-fed-in-Ok.fed.ending c.in_ok-fed-in-Ok.ensures.ending c.end-in-Some.new.self c.in-Some.ending c.in-Some.is
+    err_weaker _ _ _ (λ is. reads_shut_cut (at c.args.files.now) (at c.read_piece.new.files) c.args.self.now c.args.doc.now c.requires.reading c.in-Ok.n (take c.in-Ok.n (c.read_piece.new.room ++ drop c.min-most.result c.args.room.now)) c.in-Ok.ensures.count.0 (piece-length c.read_piece.new.room (drop c.min-most.result c.args.room.now) (c.read_piece.new.room ++ drop c.min-most.result c.args.room.now) c.in-Ok.n refl fits) within (piece-taken _ _ c.read_piece.new.room (drop c.min-most.result c.args.room.now) (c.read_piece.new.room ++ drop c.min-most.result c.args.room.now) c.in-Ok.n refl fits c.in-Ok.ensures.taken) c.in-Ok.ensures.no_fault _ c.in-Ok.ensures.call (chars c.as_str.result.now) (λ limit read has. c.in_ok-fed-in-Ok.ensures.text limit read has ∙ ap (λ t. text_of limit read ++ t) (sym c.as_str.ensures)) c.in_ok-fed-in-Ok.fed.ending c.in_ok-fed-in-Ok.ensures.ending c.end-in-Some.new.self c.in-Some.ending c.in-Some.is
     (is ∙ ap (λ (z : Shown). record z { spent = true }) c.in_ok-piece-in-Ok.ensures.ok)) c.end-in-Some.ensures.err
 
 pub slice_bounds-read_piece-end-2 : goal.slice_bounds-read_piece-end-2
