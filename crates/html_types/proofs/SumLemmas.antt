@@ -6,6 +6,7 @@ use Rattle.std.specs.BTreeSet.{BTreeSet}
 use Rattle.std.specs.List.Sorted.{IsPermutation}
 use Rattle.std.proofs.Math.Nat.{mod-add-div, add-mul-mod_self_left}
 use Rattle.std.proofs.lemmas.List.Sorted.{sum_by-IsPermutation}
+use Rattle.std.proofs.lemmas.List.Sums.{sum_by-cons}
 use Rattle.html_types.specs.declared.attributes.Attribute.{Attribute}
 use Rattle.html_types.specs.Text.{same_text}
 use Rattle.html_types.specs.Attributes.{has_name, Finds}
@@ -38,7 +39,7 @@ one_summed all left front last names names' sum was split new finds = record {
   parts = was.parts ∙ ap (λ l. l ++ was.behind) split ∙ append_assoc front (last ∷ []) was.behind;
   names_are = finds;
   distinct = distinct-more last was.behind new was.distinct;
-  sum_is = mod_more (2 ^ 64) sum (sum_by pair_sum was.behind) (pair_sum last) was.sum_is;
+  sum_is = rw (sum_by-cons pair_sum last was.behind) (mod_more (2 ^ 64) sum (sum_by pair_sum was.behind) (pair_sum last) was.sum_is);
 }
 
 pub all_summed : (all left : List Attribute) (names : BTreeSet (String Global)) (sum : ℕ) → left ≡ [] → IsSummed all left names sum → HasSum all (Some sum)

@@ -13,6 +13,7 @@ use std::alloc::Global;
 const FACTOR: u64 = 0x9e37_79b9_7f4a_7c15;
 
 // The number of a text, from one that stands for what goes before it.
+#[tactic(auto, unfolding(crate::specs::Sums::text_sum))]
 fn text_sum(start: u64, text: &Text) -> u64
     ensures { result ≡ text_sum start text.now }
 {
@@ -24,6 +25,7 @@ fn text_sum(start: u64, text: &Text) -> u64
 }
 
 // The number of an attribute. Others mostly have another; which ones don't is not secret.
+#[tactic(auto, unfolding(crate::specs::Sums::pair_sum))]
 fn pair_sum(attribute: &Attribute) -> u64
     ensures { result ≡ pair_sum attribute.now }
 {
