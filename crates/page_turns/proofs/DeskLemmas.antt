@@ -156,7 +156,7 @@ sends-left d = sends-first-left d.to_send d refl
 pub arrives-left : (name : List ℕ) (d : Desk) → left_to_do (arrives name d) ≡ left_to_do d
 arrives-left name d = in-left d.phase d (arrives name d) refl refl
 
-text-append : (xs ys : List Piece) → text_of (xs ++ ys) ≡ text_of xs ++ text_of ys
+pub text-append : (xs ys : List Piece) → text_of (xs ++ ys) ≡ text_of xs ++ text_of ys
 text-append [] ys = refl
 text-append (x ∷ xs) ys = ap (λ t. x.text ++ t) (text-append xs ys) ∙ sym (append_assoc x.text (text_of xs) (text_of ys))
 

@@ -14,7 +14,9 @@ pub mod WorldLemmas
 pub mod ReadLemmas
 pub mod LineLemmas
 pub mod StepLemmas
+pub mod CutLemmas
 pub mod StopLemmas
+pub mod AwaitLemmas
 pub mod EndLemmas
 pub mod DoLines
 pub mod AlongLemmas

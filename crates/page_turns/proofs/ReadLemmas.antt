@@ -89,6 +89,10 @@ still_room limit room read open_yet is = by_test (is_text_so_far (take (limit + 
 pub has_room : (reader : PageReader) (pieces : List (List ℕ)) (room : List ℕ) (most : ℕ) → IsReading reader pieces → 0 < length room → most ≡ min (length room) reader.left → 0 < length (take most room)
 has_room reader pieces room most at some is = let still = still_room PAGE_LIMIT reader.left at.read at.open_yet at.left_is in omega (arith, length-take most room)
 
+-- and so many are asked for
+pub asked_is : (reader : PageReader) (room : List ℕ) (most : ℕ) → most ≡ min (length room) reader.left → length (take most room) ≡ min (length room) reader.left
+asked_is reader room most is = omega (arith, is, length-take most room)
+
 -- ---- the page so far
 
 module _ (before now : Seen) (reader : PageReader) (pieces : List (List ℕ)) where

@@ -4,6 +4,7 @@ pub mod Given
 pub mod Scripts
 pub mod Shown
 pub mod Pages
+pub mod Cuts
 pub mod Turns
 pub mod Along
 pub mod Messages

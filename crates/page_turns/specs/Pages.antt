@@ -1,8 +1,9 @@
 -- A page as it is read, and what its parse comes to.
-use Rattle.std.specs.Prelude.{◌≡◌, ◌≤◌, ◌+◌, ◌⊎◌, ℕ, Bool, true, false, List, [], ◌++◌, length, flat_map, Option, Some, None, IfSome, Result}
+use Rattle.std.specs.Prelude.{◌≡◌, ◌≤◌, ◌+◌, ◌⊎◌, ℕ, Bool, true, false, List, [], ◌++◌, length, map, flat_map, Option, Some, None, IfSome, Result}
+use Rattle.std.specs.List.{AllByRecursion}
 use Rattle.html_types.specs.declared.ending.Ending.{Ending}
 use Rattle.html_types.specs.declared.ending.Why.TheVariants as why
-use Rattle.outside.specs.Outside.{Seen}
+use Rattle.outside.specs.Outside.{Seen, Begun}
 use Rattle.outside.specs.declared.traits.Port.TheVariants as port
 use Rattle.standard.specs.Entities.{Entities}
 use Rattle.serial.specs.Page.{Page, page_of, text_of, ending_of, shown}
@@ -10,6 +11,7 @@ use Rattle.serial.specs.Scripts.{Fetched, faulted}
 use Rattle.standard.specs.Act.{Doc}
 use Rattle.serial.specs.Serial.{World, fetched, Serial, Outcome, refusal, awaits, IsSerial, Passes}
 use Rattle.serial.specs.Output.{line_text, output_with}
+use Rattle.serial.specs.declared.script.Line.{Line}
 use Rattle.utf8_pieces.specs.Decoder.{HasRead}
 use Rattle.core_definitions.specs.Core.{joined}
 use Rattle.page_turns.specs.declared.page.TheConstants.{PAGE_LIMIT}
@@ -20,7 +22,7 @@ use Rattle.outside.specs.declared.traits.Failed.{Failed}
 use Rattle.page_turns.specs.Calls.{CallsAt, AreReads, given_first, ReadWithin, has_failed, GaveNone}
 use Rattle.page_turns.specs.Given.{FaultsRose, NoFault}
 use Rattle.page_turns.specs.Taken.{Took, TookFront}
-use Rattle.page_turns.specs.Scripts.{AreScriptsOf}
+use Rattle.page_turns.specs.Scripts.{AreScriptsOf, path_of}
 use Rattle.page_turns.specs.Shown.{result_of}
 
 -- what the reads of a page gave, and whether a read behind that failed
@@ -80,22 +82,30 @@ MeetsFaults w page o before after = NoFault port.Script before after ⊎ StopsAt
 
 -- ---- what a parse comes to
 
--- The serial parse of the page ended so, with the tree of this document, and the sink took its lines.
-pub record Ended (w : World) (page : PageRead) (doc : Doc) (taken taken' : Option (List ℕ)) (told : Told) : Type 0 where
+-- The serial parse of the page ended so, with the tree of this document and these lines, and the sink took them.
+pub record Ended (w : World) (page : PageRead) (doc : Doc) (lines : List Line) (taken taken' : Option (List ℕ)) (told : Told) : Type 0 where
   pub outcome : Outcome
   pub comes : ComesTo w page outcome
   pub result : outcome.result ≡ result_of told
   pub tree : outcome.last.side.doc.tree ≡ doc.tree
+  pub lines : outcome.last.side.lines ≡ lines
   pub took : Took taken taken' (flat_map line_text outcome.last.side.lines)
 
+-- The scripts of these names were begun, and nothing else at their port; and each of them the serial parse of the page awaits.
+pub record BeginsAwaited (w : World) (page : Page) (dir : List ℕ) (before after : Seen) : Type 0 where
+  pub names : List (List ℕ)
+  pub begun : Begun (before.begun port.Script) (after.begun port.Script) (map (path_of dir) names)
+  pub awaited : AllByRecursion (λ name. (last : Serial) × Passes page w (awaits name last)) names
+
 -- So ended the page that was read at its port, with the scripts of the folder.
-pub record EndsWithScripts (es : Entities) (dir : List ℕ) (before after : Seen) (doc : Doc) (taken taken' : Option (List ℕ)) (told : Told) : Type 0 where
+pub record EndsWithScripts (es : Entities) (dir : List ℕ) (before after : Seen) (doc : Doc) (lines : List Line) (taken taken' : Option (List ℕ)) (told : Told) : Type 0 where
   pub scripts : List ℕ → Fetched
   pub are_scripts : AreScriptsOf dir before after scripts
   pub page : PageRead
   pub read_from : IsReadFrom before after page
-  pub ended : Ended (world_of es scripts) page doc taken taken' told
+  pub ended : Ended (world_of es scripts) page doc lines taken taken' told
   pub faults : MeetsFaults (world_of es scripts) page ended.outcome before after
+  pub begins : BeginsAwaited (world_of es scripts) (page_at page) dir before after
 
 -- The sink took a front of what is written of it.
 pub record FrontWithScripts (es : Entities) (dir : List ℕ) (before after : Seen) (taken taken' : Option (List ℕ)) : Type 0 where
@@ -103,6 +113,7 @@ pub record FrontWithScripts (es : Entities) (dir : List ℕ) (before after : See
   pub are_scripts : AreScriptsOf dir before after scripts
   pub page : PageRead
   pub read_from : IsReadFrom before after page
+  pub begins : BeginsAwaited (world_of es scripts) (page_at page) dir before after
   pub front : (dump : Bool) (o : Outcome) → ComesTo (world_of es scripts) page o → TookFront taken taken' (output_with dump o)
 
 -- ---- reading on

@@ -1,5 +1,5 @@
 -- The files of external scripts, as a run meets them.
-use Rattle.std.specs.Prelude.{◌≡◌, ◌≢◌, ◌⊎◌, ℕ, Bool, true, List, [], ◌∷◌, ◌++◌, map, Option, Some, None, IfSome, IsSome}
+use Rattle.std.specs.Prelude.{◌≡◌, ◌≢◌, ◌⊎◌, ℕ, true, List, [], ◌∷◌, ◌++◌, map, Option, Some, None, IfSome, IsSome}
 use Rattle.std.specs.List.{AllByRecursion}
 use Rattle.outside.specs.Outside.{Files, Paths, Begun, Seen}
 use Rattle.outside.specs.declared.traits.Port.TheVariants.{Script as script_port}
@@ -84,19 +84,23 @@ pub data BeginsFile (dir name : List ℕ) (before after : Seen) : Type 0 where
   begun_once : Begun (before.begun script_port) (after.begun script_port) (path_of dir name ∷ []) → ReadTo SCRIPT_LIMIT script_port (path_of dir name) before after
       → EachWithin SCRIPT_LIMIT script_port before after → BeginsFile dir name before after
 
--- No script was begun whose name was fetched before, and where the fetching is done, all that were begun are among those that were.
-pub record BeginsNew (done : Bool) (dir : List ℕ) (before after : Paths) (old new : Met) : Type 0 where
+abbrev pub IsOneOf : List ℕ → List (List ℕ) → Type 0
+IsOneOf name [] = ⊥
+IsOneOf name (n ∷ names) = (n ≡ name) ⊎ IsOneOf name names
+
+-- No script was begun whose name was fetched before, and all that were begun are among those that were, or are `unmet`.
+pub record BeginsNew (unmet : List (List ℕ)) (dir : List ℕ) (before after : Paths) (old new : Met) : Type 0 where
   pub which : NamesOnce dir before after
   pub fresh : AllByRecursion (λ name. found name old ≡ None) which.names
-  pub met : done ≡ true → AllByRecursion (λ name. IsSome (found name new)) which.names
+  pub met : AllByRecursion (λ name. IsSome (found name new) ⊎ IsOneOf name unmet) which.names
 
--- Scripts were fetched: more names are met, and what was met stays. It is done, or memory ran out.
-pub record Fetches (done : Bool) (dir : List ℕ) (before after : Seen) (old new : Met) : Type 0 where
+-- Scripts were fetched: more names are met, and what was met stays. From fetching those that are `unmet` nothing came: memory ran out.
+pub record Fetches (unmet : List (List ℕ)) (dir : List ℕ) (before after : Seen) (old new : Met) : Type 0 where
   pub kept : (name : List ℕ) (f : Fetched) → found name old ≡ Some f → found name new ≡ Some f
   pub fresh : (name : List ℕ) (f : Fetched) → found name new ≡ Some f → (found name old ≡ Some f) ⊎ MayMeet dir before after name f
   pub no_further : ReadScriptsTo SCRIPT_LIMIT dir before after
   pub within : EachWithin SCRIPT_LIMIT script_port before after
-  pub begins : BeginsNew done dir (before.begun script_port) (after.begun script_port) old new
+  pub begins : BeginsNew unmet dir (before.begun script_port) (after.begun script_port) old new
 
 -- Each name that was fetched is lawful, and none twice.
 pub record AreKnown (met : Met) : Type 0 where

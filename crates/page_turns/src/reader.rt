@@ -6,6 +6,7 @@ ghost use Rattle.page_turns.specs.declared.page.TheConstants.{PAGE_LIMIT};
 ghost use Rattle.page_turns.specs.Calls.{CallsAt};
 ghost use Rattle.page_turns.specs.Given.{NoFault};
 ghost use Rattle.page_turns.specs.Pages.{AreTaken, ClosesAt, IsReading, IsUnread};
+ghost use Rattle.page_turns.specs.Cuts.{CutsOn, CutsShort};
 ghost use Rattle.page_turns.specs.Along.{Hands};
 ghost use Rattle.page_turns.specs.Turns.{ReadsPiece, ReadsInPart};
 
@@ -71,6 +72,8 @@ impl PageReader {
         requires no_ending { doc.old.journal.ending ≡ None }
         ensures ok { OnOk result (ReadsPiece (F.seen files.old) (F.seen files.new) self.old self.new doc.old doc.new) }
         ensures err { OnErr result (ReadsInPart (F.seen files.old) (F.seen files.new) self.old doc.old doc.new) }
+        ensures cut { OnOk result (CutsOn (length room.old) (F.seen files.old) (F.seen files.new) self.old self.new doc.old doc.new) }
+        ensures cut_short { OnErr result (CutsShort (length room.old) (F.seen files.old) (F.seen files.new) self.old doc.old doc.new) }
         ensures handed { Hands doc.old doc.new }
         ensures begun { (F.seen files.new).begun ≡ (F.seen files.old).begun }
         ensures others { KeepsOthers Port.Page (F.seen files.old) (F.seen files.new) }
