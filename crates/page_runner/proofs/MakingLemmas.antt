@@ -151,7 +151,7 @@ module _ (asked : MakeWords) (few : asked.count ≤ 50000) (before after : Seen)
   file-there = ap (option_map (λ m. m (codes "page"))) told ∙ ap Some page_there
 
   -- the page that was read is the page that was made
-  pub read-as_made : (page : PageRead) → IsPageOf (file_at before (codes "page")) (after.left Page) (FaultsRose Page before after) (NoFault Page before after) page → page_at page ≡ page_made asked
+  pub read-as_made : (page : PageRead) → IsPageOf (codes "page") before after page → page_at page ≡ page_made asked
   read-as_made page is = by page.fault refl
     where
       by : (b : Bool) → page.fault ≡ b → page_at page ≡ page_made asked
@@ -171,10 +171,10 @@ module _ (asked : MakeWords) (few : asked.count ≤ 50000) (before after : Seen)
   settled-at t t' absent r may parsed gives = absurd (cc (some_at (file_at before (codes "page")) (λ f. f ≡ None) (Some (made_page asked.number asked.count)) file-there may.1))
   settled-at t t' failed r may parsed gives = absurd (no_page_fault may.0)
   settled-at t t' (given page) r may parsed gives =
-      let here : IsSerial (page_at page.read) made_world page.outcome = subst (λ w. IsSerial (page_at page.read) w page.outcome) (world-is page.scripts may.scripts) parsed in
+      let here : IsSerial (page_at page.read) made_world page.outcome = subst (λ w. IsSerial (page_at page.read) w page.outcome) (world-is page.scripts may.0.scripts) parsed in
       record {
         end = page.outcome;
-        comes = subst (λ p. IsSerial p made_world page.outcome) (read-as_made page.read may.read) here;
+        comes = subst (λ p. IsSerial p made_world page.outcome) (read-as_made page.read may.0.read) here;
         status_is = given-or t t' (Rose 0 0) _ r gives never-rose;
       }
 

@@ -17,12 +17,12 @@ use Rattle.run_laws.specs.Along.{HoldsAlong, takes_in, SendsOf, LooksAhead}
 use Rattle.run_laws.proofs.Dropping.{drops-are_over}
 use Rattle.page_turns.specs.declared.page.Failure.{Failure}
 use Rattle.page_turns.specs.declared.page.Failure.TheVariants.{Memory, Write}
-use Rattle.page_turns.specs.Along.{requests_of, Goes}
+use Rattle.page_turns.specs.Along.{AsksOf, FetchesAwaited, requests_of, Goes}
 use Rattle.page_turns.specs.Messages.{Message, TakenSoFar, MayTakeMore}
-use Rattle.page_turns.proofs.AlongLemmas.{looks_along, sends_along}
+use Rattle.page_turns.proofs.AlongLemmas.{looks_along, asks_along, awaited_along, sends_along}
 use Rattle.page_runner.specs.declared.status.Status.{Status}
 use Rattle.page_runner.specs.Answers.{status_for}
-use Rattle.page_runner.specs.OnTwo.{asks_in, requests_in, AreRepliesAt, IsJournaled, DropsFailed, IsLookingAhead}
+use Rattle.page_runner.specs.OnTwo.{asks_in, requests_in, AreRepliesAt, IsJournaled, DropsFailed, IsLookingAhead, IsFetchingAwaited}
 
 -- ---- the messages to the parser's side
 
@@ -52,20 +52,23 @@ taken_at_err Write (Some ms) vs exact more = inl (exact refl)
 -- ---- both ends
 
 module _ {E : Type 0} (g : InForce.Ghosts E) (es : Entities) (ahead : ℕ) (s : Shown) (l : Lanes E g) (asks : List Asked) (goes : Goes (Some asks) s) (entities : s.entities ≡ es) (credit : s.ahead ≡ ahead) (stopped : l.asked.put ≡ map Ask asks ++ Stop ∷ []) where
-  requests-are : requests_in l.asked.put ≡ goes.requests
-  requests-are = ap requests_in stopped ∙ (ap requests_of (asks-stopped asks) ∙ goes.told)
+  asks-are : asks_in l.asked.put ≡ goes.asked
+  asks-are = ap asks_in stopped ∙ (asks-stopped asks ∙ goes.told)
+
+  requests-are : requests_in l.asked.put ≡ requests_of goes.asked
+  requests-are = ap requests_of asks-are
 
   along-here : (P : Setup → Event → Desk → Type 0) → HoldsAlong P s.entities s.ahead s.journal → HoldsAlong P es ahead s.journal
   along-here P h = subst (λ n. HoldsAlong P es n s.journal) credit (subst (λ e. HoldsAlong P e s.ahead s.journal) entities h)
 
   sent-here : HoldsAlong (λ x. SendsOf (requests_in l.asked.put)) es ahead s.journal
-  sent-here = subst (λ rs. HoldsAlong (λ x. SendsOf rs) es ahead s.journal) (sym requests-are) (along-here (λ x. SendsOf goes.requests) (sends_along (Some asks) s goes))
+  sent-here = subst (λ rs. HoldsAlong (λ x. SendsOf rs) es ahead s.journal) (sym requests-are) (along-here (λ x. SendsOf (requests_of goes.asked)) (sends_along (Some asks) s goes))
 
   pub is_journaled : (outcome : Status) (messages : List Message) → map (said g) l.answers.taken ≡ messages → AreRepliesAt outcome (takes_in s.journal.events) messages → IsJournaled g es ahead s.journal outcome l
   is_journaled outcome messages same taken = record {
     stopped = (asks, stopped);
-    sends = ap length requests-are ∙ goes.sends;
-    sent = sent-here;
+    sends = ap length asks-are ∙ goes.sends;
+    sent = subst (λ qs. HoldsAlong (λ x. AsksOf qs x.pieces) es ahead s.journal) (sym asks-are) (along-here (λ x. AsksOf goes.asked x.pieces) (asks_along (Some asks) s goes));
     taken = subst (λ ms. AreRepliesAt outcome (takes_in s.journal.events) ms) (sym same) taken;
   }
 
@@ -74,3 +77,7 @@ module _ {E : Type 0} (g : InForce.Ghosts E) (es : Entities) (ahead : ℕ) (s : 
 
 pub is_looking_ahead : (es : Entities) (ahead : ℕ) (s : Shown) (asks : Option (List Asked)) → Goes asks s → s.entities ≡ es → s.ahead ≡ ahead → IsLookingAhead es ahead s.journal
 is_looking_ahead es ahead s asks goes entities credit = record { looks = subst (λ n. HoldsAlong (λ x. LooksAhead x.ahead) es n s.journal) credit (subst (λ e. HoldsAlong (λ x. LooksAhead x.ahead) e s.ahead s.journal) entities (looks_along asks s goes)) }
+
+pub is_fetching_awaited : (es : Entities) (ahead : ℕ) (s : Shown) (asks : Option (List Asked)) → Goes asks s → s.entities ≡ es → s.ahead ≡ ahead → IsFetchingAwaited es ahead s.journal
+is_fetching_awaited es ahead s asks goes entities credit =
+    record { awaited = subst (λ n. HoldsAlong (λ x. FetchesAwaited) es n s.journal) credit (subst (λ e. HoldsAlong (λ x. FetchesAwaited) e s.ahead s.journal) entities (awaited_along asks s goes)) }

@@ -10,8 +10,8 @@ use Rattle.parser_thread.specs.declared.messages.ToParser.{ToParser}
 use Rattle.parser_thread.specs.declared.messages.ToParser.TheVariants.{Ask, Stop}
 use Rattle.parser_thread.specs.declared.running.Lanes.{Lanes}
 use Rattle.parser_thread.specs.Answers.{said, Worked}
-use Rattle.run_laws.specs.Along.{HoldsAlong, sends_in, takes_in, SendsOf, LooksAhead, DropsOver}
-use Rattle.page_turns.specs.Along.{requests_of}
+use Rattle.run_laws.specs.Along.{HoldsAlong, sends_in, takes_in, LooksAhead, DropsOver}
+use Rattle.page_turns.specs.Along.{AsksOf, FetchesAwaited, requests_of}
 use Rattle.page_turns.specs.Messages.{Message, AreReplies}
 use Rattle.page_runner.specs.declared.status.Status.{Status}
 use Rattle.page_runner.specs.declared.status.Status.TheVariants.{NoMemory}
@@ -48,11 +48,12 @@ module _ {E : Type 0} (g : InForce.Ghosts E) where
   pub record IsAnswered (l : Lanes E g) : Type 0 where
     pub worked : Worked g l.asked.taken l.answers.put
 
-  -- The requests put are those of the journal's Sends, and behind them the word to stop; the replies taken are those of its Takes.
+  -- The requests put are those of the journal's Sends, each with the place of its piece in the page, and behind them the word to stop; the
+  -- replies taken are those of its Takes.
   pub record IsJournaled (es : Entities) (ahead : ℕ) (j : Journal) (outcome : Status) (l : Lanes E g) : Type 0 where
     pub stopped : (asks : List Asked) × (l.asked.put ≡ map Ask asks ++ Stop ∷ [])
-    pub sends : length (requests_in l.asked.put) ≡ sends_in j.events
-    pub sent : HoldsAlong (λ x. SendsOf (requests_in l.asked.put)) es ahead j
+    pub sends : length (asks_in l.asked.put) ≡ sends_in j.events
+    pub sent : HoldsAlong (λ x. AsksOf (asks_in l.asked.put) x.pieces) es ahead j
     pub taken : AreRepliesAt outcome (takes_in j.events) (map (said g) l.answers.taken)
 
   -- A reply is dropped only under an epoch that a failed script ended.
@@ -62,3 +63,7 @@ module _ {E : Type 0} (g : InForce.Ghosts E) where
 -- At each Do, and at each Arrive, the credit is used up or the page's last request in this epoch was sent.
 pub record IsLookingAhead (es : Entities) (ahead : ℕ) (j : Journal) : Type 0 where
   pub looks : HoldsAlong (λ x. LooksAhead x.ahead) es ahead j
+
+-- Each script that was fetched was awaited where it arrived.
+pub record IsFetchingAwaited (es : Entities) (ahead : ℕ) (j : Journal) : Type 0 where
+  pub awaited : HoldsAlong (λ x. FetchesAwaited) es ahead j

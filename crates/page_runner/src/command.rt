@@ -4,6 +4,7 @@ ghost use Rattle.std.specs.String.{string_bytes};
 ghost use Rattle.serial.specs.Output.{result_with};
 ghost use Rattle.outside.specs.Outside.{Rose, Begun, KeepsOthers};
 ghost use Rattle.command_words.specs.Words.{for_page, asked, shown};
+ghost use Rattle.page_turns.specs.Calls.{EachWithin};
 ghost use Rattle.page_turns.specs.Given.{ReadTo};
 ghost use Rattle.page_turns.specs.Taken.{Took, TookFront};
 ghost use Rattle.page_turns.specs.Shown.{result_of};
@@ -194,6 +195,7 @@ fn read_entities<F: Outside>(alloc: Global, files: &mut F, path: &str) -> Result
     ensures table { IfOk result (λ table. ReadsTable path.now (F.seen files.old) (F.seen files.new) table) }
     ensures none { IfErr result (λ unread. ReadsNone path.now (F.seen files.old) (F.seen files.new) unread) }
     ensures no_further { ReadTo ENTITIES_LIMIT Port.Entities path.now (F.seen files.old) (F.seen files.new) }
+    ensures within { EachWithin ENTITIES_LIMIT Port.Entities (F.seen files.old) (F.seen files.new) }
     ensures begun { Begun ((F.seen files.old).begun Port.Entities) ((F.seen files.new).begun Port.Entities) (path.now ∷ []) }
     ensures others { KeepsOthers Port.Entities (F.seen files.old) (F.seen files.new) }
 {

@@ -19,8 +19,8 @@ pub(crate) struct Run {
 pub struct Report<E: InForce> {
     /// How the run ended.
     pub outcome: Status,
-    /// The document's side as it ended, with the document and the journal: none where the page wasn't begun, or memory ran out before there
-    /// was one. Where memory ran out later, or writing failed, the journal has the events before that.
+    /// The document's side as it ended, with the document and the journal: none where the page wasn't begun, or memory ran out before anything
+    /// of it was read. Where memory ran out later, or writing failed, the journal has the events before that.
     pub side: Option<DocSide>,
     /// What went through both lanes between the document's side and the parser's side: none where there were no lanes.
     pub ends: Option<Lanes<E>>,

@@ -1,7 +1,6 @@
 -- What holds along the events so far holds along one more, and in each run.
 use Rattle.std.proofs.Common.{◌≡◌, ℕ, zero, suc, ◌+◌, nat_lt, Bool, true, false, true≢false, List, [], ◌∷◌, ◌++◌, length, map, Option, Some, None, Ok, Err, refl, sym, ◌∙◌, ap, subst, inl, inr, append-nil, append_assoc, length-append, arith}
 use Rattle.std.specs.Prelude.{◌⊎◌, Result, OnOk, OnErr, IsTrue, IfSome, not, ◌&&◌, slice_get}
-use Rattle.std.specs.Option.{option_map}
 use Rattle.std.specs.List.{AllByRecursion}
 use Rattle.std.proofs.lemmas.List.{map-append}
 use Rattle.std.proofs.lemmas.Bool.{and_parts}
@@ -25,6 +24,7 @@ use Rattle.core_steps.specs.Sides.{Shown, first_shown, ShowsIn, Shows, DoesShow,
 use Rattle.core_steps.proofs.Counts.{counts-same}
 use Rattle.run_laws.specs.Along.{MovesWith, HoldsAlong, sends_in, IsForFirst, SendsOf, IsSentAhead, LooksAhead}
 use Rattle.page_turns.specs.Along.{Stays, MayDo, Hands, IsSentSoFar, LooksSoFar, AsksOf, IsAwaitedIn, FetchesAwaited, GoesSoFar, requests_of, HasArrived, Goes}
+use Rattle.page_turns.specs.Messages.{Adds}
 use Rattle.page_turns.specs.Turns.{StaysRead}
 use Rattle.page_turns.proofs.DeskLemmas.{text-append}
 use Rattle.page_turns.proofs.ReachLemmas.{joined-append, pieces-more}
@@ -288,20 +288,21 @@ module _ (asks : Option (List Asked)) (s : Shown) (g : Goes asks s) where
   abbrev Now : Asked → Event → Desk → Type 0
   Now q = GoesSoFar (g.asked ++ q ∷ []) s.journal.pieces s.ahead s.journal.ending
 
-  pub goes_sent : (asks' : Option (List Asked)) (q : Asked) (s' : Shown) → asks' ≡ option_map (λ all. all ++ q ∷ []) asks → IsTrue (can_send s.ahead s.desk) → IsRequestFor s.desk.to_send s.desk q.request → q.from ≡ sent_before s
+  pub goes_sent : (asks' : Option (List Asked)) (q : Asked) (s' : Shown) → Adds asks asks' q → IsTrue (can_send s.ahead s.desk) → IsRequestFor s.desk.to_send s.desk q.request → q.from ≡ sent_before s
       → s' ≡ journaled Send (sends s.desk) s → Goes asks' s'
   goes_sent asks' q s' put can for from is = subst (Goes asks') (sym is) (record {
     asked = g.asked ++ q ∷ [];
-    told = subst (λ o. IfSome o (λ all. all ≡ g.asked ++ q ∷ [])) (sym put) (told-of asks g.told);
+    told = told-of asks asks' put g.told;
     count = let longer = length-append g.asked (q ∷ []) in let was = g.count in let more = sends-sent s.desk.to_send s.desk q.request for in omega (arith, longer, was, more);
     sends = let longer = length-append g.asked (q ∷ []) in let was = g.sends in let more = sends-then s.journal.events Send in omega (arith, longer, was, more);
     arrived = arrived-more Send (names_of s.journal.fetches) g.arrived;
     along = along;
   })
     where
-      told-of : (o : Option (List Asked)) → IfSome o (λ all. all ≡ g.asked) → IfSome (option_map (λ all. all ++ q ∷ []) o) (λ all. all ≡ g.asked ++ q ∷ [])
-      told-of None h = tt
-      told-of (Some all) h = ap (λ l. l ++ q ∷ []) h
+      told-of : (o o' : Option (List Asked)) → Adds o o' q → IfSome o (λ all. all ≡ g.asked) → IfSome o' (λ all. all ≡ g.asked ++ q ∷ [])
+      told-of o None put h = tt
+      told-of None (Some now) put h = absurd put
+      told-of (Some all) (Some now) put h = put ∙ ap (λ l. l ++ q ∷ []) h
 
       going : is_done s.desk.phase ≡ false
       going = not-done s.desk.phase (and_parts _ _ (and_parts _ _ can).0).0

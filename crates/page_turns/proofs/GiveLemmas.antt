@@ -48,11 +48,13 @@ none-left n taken sent count quiet = let le = ltb-false 0 (sent - taken) quiet i
 module _ (es : Entities) (ahead : ℕ) (dir : List ℕ) (before : Seen) (t : Option (List ℕ)) where
   -- ---- giving up
 
-  alone-of : (after : Seen) (met : Met) (ps : List (List ℕ)) (o : Option Ending) → KeepsEntities before after → after.begun port.Page ≡ before.begun port.Page → PageFor before after ps o → {unmet : List (List ℕ)} → Fetches unmet dir before after [] met → LeavesAlone dir before after
-  alone-of after met ps o keeps begun for fetches = record {
+  alone-of : (after : Seen) (met : Met) (ps : List (List ℕ)) (o : Option Ending) → KeepsEntities before after → after.begun port.Page ≡ before.begun port.Page → after.open_at port.Page ≡ before.open_at port.Page
+      → PageFor before after ps o → {unmet : List (List ℕ)} → Fetches unmet dir before after [] met → LeavesAlone dir before after
+  alone-of after met ps o keeps begun opened for fetches = record {
     keeps = keeps;
     read = for.read;
     begun = begun;
+    open_at = opened;
     within = for.within;
     scripts = fetches.no_further;
     scripts_within = fetches.within;
@@ -79,7 +81,7 @@ module _ (es : Entities) (ahead : ℕ) (dir : List ℕ) (before : Seen) (t : Opt
     }
 
     pub alone_now : LeavesAlone dir before now
-    alone_now = alone-of now s.journal.fetches s.journal.pieces s.journal.ending h.outside.keeps h.outside.begun leaves_now.page leaves_now.fetches
+    alone_now = alone-of now s.journal.fetches s.journal.pieces s.journal.ending h.outside.keeps h.outside.begun h.outside.open_at leaves_now.page leaves_now.fetches
 
     -- ---- the end
 
@@ -123,8 +125,8 @@ module _ (es : Entities) (ahead : ℕ) (dir : List ℕ) (before : Seen) (t : Opt
       gives_up goes s' stays same = gives_up_as goes s' stays (part_none s' (ap (λ (z : Shown). z.entities) stays ∙ h.inside.entities) (ap (λ (z : Shown). z.ahead) stays ∙ h.inside.ahead_is) same)
 
       -- while the page was read on
-      pub gives_up_reading : (after : Seen) (s' : Shown) → Goes None s' → s.journal.ending ≡ None → ReadsInPart now after reader s s' → KeepsOthers port.Page now after → after.begun ≡ now.begun → GivesUp es ahead dir before after t t' s'
-      gives_up_reading after s' goes none part keeps begun =
+      pub gives_up_reading : (after : Seen) (s' : Shown) → Goes None s' → s.journal.ending ≡ None → ReadsInPart now after reader s s' → KeepsOthers port.Page now after → after.begun ≡ now.begun → after.open_at ≡ now.open_at → GivesUp es ahead dir before after t t' s'
+      gives_up_reading after s' goes none part keeps begun opened =
           let o = part.others in
           let fetched : s'.journal.fetches ≡ s.journal.fetches = ap (λ (z : Shown). z.journal.fetches) o in
           let fetches : Fetches [] dir before after [] s.journal.fetches =
@@ -144,7 +146,7 @@ module _ (es : Entities) (ahead : ℕ) (dir : List ℕ) (before : Seen) (t : Opt
             replayed = λ r. r;
             leaves = left;
             goes = goes;
-            alone = alone-of after s'.journal.fetches s'.journal.pieces s'.journal.ending (entities-then before now after h.outside.keeps (entities-others port.Page now after (λ e. cc e) keeps)) (ap (λ b. b port.Page) begun ∙ h.outside.begun) left.page left.fetches;
+            alone = alone-of after s'.journal.fetches s'.journal.pieces s'.journal.ending (entities-then before now after h.outside.keeps (entities-others port.Page now after (λ e. cc e) keeps)) (ap (λ b. b port.Page) begun ∙ h.outside.begun) (ap (λ b. b port.Page) opened ∙ h.outside.open_at) left.page left.fetches;
             front = subst (λ (x : Serial). TookFront t t' (flat_map line_text x.side.lines)) (sym part.own) (front-of t' s h.inside.lines h.took);
             part = part_none s' left.entities left.ahead_is (ap (λ (x : Serial). x.side.lines) part.own);
           }
@@ -166,7 +168,7 @@ module _ (es : Entities) (ahead : ℕ) (dir : List ℕ) (before : Seen) (t : Opt
             replayed = λ _. replayed;
             leaves = leaves;
             goes = goes;
-            alone = alone-of after s.journal.fetches s.journal.pieces s.journal.ending (entities-then before now after h.outside.keeps (entities-others port.Script now after (λ e. cc e) keeps)) (keeps.begun port.Page (λ e. cc e) ∙ h.outside.begun) for fetches;
+            alone = alone-of after s.journal.fetches s.journal.pieces s.journal.ending (entities-then before now after h.outside.keeps (entities-others port.Script now after (λ e. cc e) keeps)) (keeps.begun port.Page (λ e. cc e) ∙ h.outside.begun) (keeps.open_at port.Page (λ e. cc e) ∙ h.outside.open_at) for fetches;
             front = front-of t' s h.inside.lines h.took;
             part = part_none s' left.entities left.ahead_is (ap (λ (z : Shown). z.desk.own.side.lines) stays);
           }

@@ -21,6 +21,7 @@ pub mod EndLemmas
 pub mod DoLines
 pub mod AlongLemmas
 pub mod MessageLemmas
+pub mod InPlaceLemmas
 pub mod TurnLemmas
 pub mod GiveLemmas
 pub mod ReplayLemmas

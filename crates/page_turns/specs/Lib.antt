@@ -8,5 +8,6 @@ pub mod Cuts
 pub mod Turns
 pub mod Along
 pub mod Messages
+pub mod InPlaces
 pub mod Replaying
 pub mod WrittenInPart

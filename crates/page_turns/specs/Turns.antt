@@ -151,6 +151,7 @@ StopsIn (done r) s = StoppedAt s
 pub record Outside (dir : List ℕ) (before now : Seen) (reader : PageReader) (j : Journal) : Type 0 where
   pub page : PageAt before now reader j.pieces j.ending
   pub begun : now.begun port.Page ≡ before.begun port.Page
+  pub open_at : now.open_at port.Page ≡ before.open_at port.Page
   pub fetches : Fetches [] dir before now [] j.fetches
   pub keeps : KeepsEntities before now
 
@@ -209,6 +210,7 @@ pub record LeavesAlone (dir : List ℕ) (before after : Seen) : Type 0 where
   pub keeps : KeepsEntities before after
   pub read : ReadsOn (PAGE_LIMIT + 1) (before.left port.Page) (after.left port.Page)
   pub begun : after.begun port.Page ≡ before.begun port.Page
+  pub open_at : after.open_at port.Page ≡ before.open_at port.Page
   pub within : ReadWithin PAGE_LIMIT 0 port.Page before after
   pub scripts : ReadScriptsTo SCRIPT_LIMIT dir before after
   pub scripts_within : EachWithin SCRIPT_LIMIT port.Script before after

@@ -39,6 +39,7 @@ fn read_piece<F: Outside>(
     ensures call { IfOk result (λ n. CallsAt Port.Page (F.seen files.old) (F.seen files.new)
         (reads (length room.old) (Ok n) ∷ [])) }
     ensures begun { (F.seen files.new).begun ≡ (F.seen files.old).begun }
+    ensures open_at { (F.seen files.new).open_at ≡ (F.seen files.old).open_at }
     ensures others { KeepsOthers Port.Page (F.seen files.old) (F.seen files.new) }
 {
     match files.read(Port::Page, room) {
@@ -76,6 +77,7 @@ impl PageReader {
         ensures cut_short { OnErr result (CutsShort (length room.old) (F.seen files.old) (F.seen files.new) self.old doc.old doc.new) }
         ensures handed { Hands doc.old doc.new }
         ensures begun { (F.seen files.new).begun ≡ (F.seen files.old).begun }
+        ensures open_at { (F.seen files.new).open_at ≡ (F.seen files.old).open_at }
         ensures others { KeepsOthers Port.Page (F.seen files.old) (F.seen files.new) }
     {
         let most = room.len().min(self.left);

@@ -44,7 +44,7 @@ read_on-requires-clause-reading g c =
 
 pub turns-preserved-in-Continue-branch-3 : goal.turns-preserved-in-Continue-branch-3
 turns-preserved-in-Continue-branch-3 g c =
-    record { cuts = cuts_read _ _ _ _ _ _ _ _ _ c.turns.invariant.room (none-of _ _ _ c.may_read-may_read.ensures.may c.if-may_read.true) c.in_ok-read_on.ensures.cut c.turns.invariant.cuts; room = c.read_on.auto.room ∙ c.turns.invariant.room; holds = holds_read _ _ _ _ _ _ _ _ _ _ _ _ _ c.in_default.ensures.on (none-of _ _ _ c.may_read-may_read.ensures.may c.if-may_read.true) c.in_ok-read_on.ensures.ok c.read_on.ensures.others c.read_on.ensures.begun c.turns.invariant.holds; goes = goes_read _ _ c.turns.invariant.goes _ (none-of _ _ _ c.may_read-may_read.ensures.may c.if-may_read.true) c.read_on.ensures.handed; taken = taken_kept (g.L.Counterpart.taken c.turns.lanes) (g.L.Counterpart.taken c.turns.lanes) c.turns.doc.journal.events c.read_on.new.doc.journal.events refl (ap (λ (z : Shown). z.journal.events) c.read_on.ensures.handed.others) c.turns.invariant.taken; faults = c.turns.invariant.faults }
+    record { cuts = cuts_read _ _ _ _ _ _ _ _ _ c.turns.invariant.room (none-of _ _ _ c.may_read-may_read.ensures.may c.if-may_read.true) c.in_ok-read_on.ensures.cut c.turns.invariant.cuts; room = c.read_on.auto.room ∙ c.turns.invariant.room; holds = holds_read _ _ _ _ _ _ _ _ _ _ _ _ _ c.in_default.ensures.on (none-of _ _ _ c.may_read-may_read.ensures.may c.if-may_read.true) c.in_ok-read_on.ensures.ok c.read_on.ensures.others c.read_on.ensures.begun c.read_on.ensures.open_at c.turns.invariant.holds; goes = goes_read _ _ c.turns.invariant.goes _ (none-of _ _ _ c.may_read-may_read.ensures.may c.if-may_read.true) c.read_on.ensures.handed; taken = taken_kept (g.L.Counterpart.taken c.turns.lanes) (g.L.Counterpart.taken c.turns.lanes) c.turns.doc.journal.events c.read_on.new.doc.journal.events refl (ap (λ (z : Shown). z.journal.events) c.read_on.ensures.handed.others) c.turns.invariant.taken; faults = c.turns.invariant.faults }
 
 pub turns-smaller-in-Continue-branch-3 : goal.turns-smaller-in-Continue-branch-3
 turns-smaller-in-Continue-branch-3 g c =
@@ -52,7 +52,7 @@ turns-smaller-in-Continue-branch-3 g c =
 
 pub returns-in_err-read_on-clause-err : goal.returns-in_err-read_on-clause-err
 returns-in_err-read_on-clause-err g c =
-    on_err _ _ (gives_up_reading _ _ _ _ _ _ _ _ _ _ c.turns.invariant.holds c.may_read-may_read.ensures.replayed _ _ (goes_forget _ _ (goes_read _ _ c.turns.invariant.goes _ (none-of _ _ _ c.may_read-may_read.ensures.may c.if-may_read.true) c.read_on.ensures.handed)) (none-of _ _ _ c.may_read-may_read.ensures.may c.if-may_read.true) c.in_err-read_on.ensures.err c.read_on.ensures.others c.read_on.ensures.begun)
+    on_err _ _ (gives_up_reading _ _ _ _ _ _ _ _ _ _ c.turns.invariant.holds c.may_read-may_read.ensures.replayed _ _ (goes_forget _ _ (goes_read _ _ c.turns.invariant.goes _ (none-of _ _ _ c.may_read-may_read.ensures.may c.if-may_read.true) c.read_on.ensures.handed)) (none-of _ _ _ c.may_read-may_read.ensures.may c.if-may_read.true) c.in_err-read_on.ensures.err c.read_on.ensures.others c.read_on.ensures.begun c.read_on.ensures.open_at)
 
 pub returns-in_err-answer-clause-err : goal.returns-in_err-answer-clause-err
 returns-in_err-answer-clause-err g c =
