@@ -31,7 +31,7 @@ use Rattle.tally_laws.proofs.Tallying.{tallies-as-serial}
 use Rattle.core_steps.specs.Journals.{found}
 use Rattle.core_steps.specs.Sides.{Shown, ShowsIn, IsReplayed}
 use Rattle.core_steps.specs.declared.tally.Tally.{Tally}
-use Rattle.core_steps.specs.Tallies.{nodes_below, tally_of}
+use Rattle.core_steps.specs.Tallies.{nodes_below, AreInHand, tally_of, IsTallyOf}
 use Rattle.page_maker.specs.Made.{made_page, named_script, made_scripts}
 use Rattle.page_maker.specs.declared.page.MadeScript.{MadeScript as ScriptFile}
 use Rattle.made_laws.proofs.MadePages.{is-in_ascii, is-read_as_made}
@@ -195,7 +195,7 @@ module _ (asked : MakeWords) (few : asked.count ≤ 50000) (before after : Seen)
           alike-sym f (file_among made_scripts name) (subst (λ x. Alike f x) is same)
 
   numbers-at : (s : Shown) (t t' : Option (List ℕ)) (o : Outcome) → IsReplayed s → Reports [] 8 false (codes "page") (codes "scripts") before after t t' s status.Done → s.desk.phase ≡ done finished →
-      IsSerial (page_made asked) made_world o → AreNumbers asked o (tally_of s.desk)
+      IsSerial (page_made asked) made_world o → AreNumbers asked o (tally_of 0 s.desk)
   numbers-at s t t' o replayed reports at_done comes =
       let met = reports.met in
       let fetches = s.journal.fetches in
@@ -231,15 +231,17 @@ module _ (asked : MakeWords) (few : asked.count ≤ 50000) (before after : Seen)
 module _ (asked : MakeWords) (few : asked.count ≤ 50000) (before after : Seen) (map : Files) (told : before.files ≡ Some map) (page_there : map (codes "page") ≡ Some (made_page asked.number asked.count))
     (scripts_there : (name : List ℕ) → fetched_of (map (path_of (codes "scripts") name)) ≡ file_among made_scripts name)
     (no_page_fault : FaultsRose Page before after → ⊥) (no_script_fault : FaultsRose Script before after → ⊥) (t t' : Option (List ℕ)) where
-  finished-run : (s : Shown) (n : Tally) → IsSettled asked status.Done → Reports [] 8 false (codes "page") (codes "scripts") before after t t' s status.Done → IsReplayed s → (s.spent ≡ false → n ≡ tally_of s.desk) →
+  finished-run : (s : Shown) (n : Tally) → IsSettled asked status.Done → Reports [] 8 false (codes "page") (codes "scripts") before after t t' s status.Done → IsReplayed s → (s.spent ≡ false → IsTallyOf s.desk n) →
       IsRunOf asked (made.Finished n)
   finished-run s n ended reports replayed numbers =
       let written = reports.written refl in
       let result : written.result ≡ finished = is-done written.result written.outcome_is in
       let at_done : s.desk.phase ≡ done finished = written.phase ∙ ap done result in
       let end : ended.end.result ≡ finished = elim ended.status_is [ inl is ↦ is-done ended.end.result is | inr is ↦ absurd (cc is) ] in
-      let all : AreNumbers asked ended.end (tally_of s.desk) = numbers-at asked few before after map told page_there scripts_there no_page_fault no_script_fault s t t' ended.end replayed reports at_done ended.comes in
-      (ended.end, ended.comes, (end, subst (λ z. AreNumbers asked ended.end z) (sym (numbers written.going)) all))
+      let (k, in_hand, counted) = numbers written.going in
+      let none : k ≡ 0 = subst (λ p. AreInHand p k) at_done in_hand in
+      let all : AreNumbers asked ended.end (tally_of 0 s.desk) = numbers-at asked few before after map told page_there scripts_there no_page_fault no_script_fault s t t' ended.end replayed reports at_done ended.comes in
+      (ended.end, ended.comes, (end, subst (λ z. AreNumbers asked ended.end z) (sym (counted ∙ ap (λ j. tally_of j s.desk) none)) all))
 
   refused-run : (r : Status) → IsSettled asked r → r ≢ status.Done → r ≢ status.NoMemory → IsRunOf asked (made.Refused r)
   refused-run r ended other memory = by ended.end.result refl

@@ -22,7 +22,8 @@ use Rattle.page_turns.specs.Messages.{Message, TakenSoFar, MayTakeMore}
 use Rattle.page_turns.proofs.AlongLemmas.{looks_along, asks_along, awaited_along, sends_along}
 use Rattle.page_runner.specs.declared.status.Status.{Status}
 use Rattle.page_runner.specs.Answers.{status_for}
-use Rattle.page_runner.specs.OnTwo.{asks_in, requests_in, AreRepliesAt, IsJournaled, DropsFailed, IsLookingAhead, IsFetchingAwaited}
+use Rattle.page_runner.proofs.TakenLemmas.{takes_follow}
+use Rattle.page_runner.specs.OnTwo.{asks_in, requests_in, AreRepliesAt, TakesOf, InOrder, IsAnswered, IsJournaled, DropsFailed, IsLookingAhead, IsFetchingAwaited}
 
 -- ---- the messages to the parser's side
 
@@ -64,12 +65,23 @@ module _ {E : Type 0} (g : InForce.Ghosts E) (es : Entities) (ahead : ℕ) (s : 
   sent-here : HoldsAlong (λ x. SendsOf (requests_in l.asked.put)) es ahead s.journal
   sent-here = subst (λ rs. HoldsAlong (λ x. SendsOf rs) es ahead s.journal) (sym requests-are) (along-here (λ x. SendsOf (requests_of goes.asked)) (sends_along (Some asks) s goes))
 
-  pub is_journaled : (outcome : Status) (messages : List Message) → map (said g) l.answers.taken ≡ messages → AreRepliesAt outcome (takes_in s.journal.events) messages → IsJournaled g es ahead s.journal outcome l
-  is_journaled outcome messages same taken = record {
+  took-here : es ≡ g.entities → InOrder g l → IsAnswered g l → (outcome : Status) (messages : List Message) → map (said g) l.answers.taken ≡ messages → AreRepliesAt outcome (takes_in s.journal.events) messages →
+      HoldsAlong (TakesOf (map (said g) l.answers.taken)) es ahead s.journal
+  took-here table order answered outcome messages same taken =
+      let asked : HoldsAlong (λ x. AsksOf asks x.pieces) g.entities ahead s.journal =
+      subst (λ e. HoldsAlong (λ x. AsksOf asks x.pieces) e ahead s.journal) table
+      (subst (λ qs. HoldsAlong (λ x. AsksOf qs x.pieces) es ahead s.journal) (sym goes.told) (along-here (λ x. AsksOf goes.asked x.pieces) (asks_along (Some asks) s goes))) in
+      subst (λ e. HoldsAlong (TakesOf (map (said g) l.answers.taken)) e ahead s.journal) (sym table)
+      (subst (λ ms. HoldsAlong (TakesOf ms) g.entities ahead s.journal) (sym same) (takes_follow g l asks stopped order answered ahead s.journal outcome messages same taken asked))
+
+  pub is_journaled : es ≡ g.entities → InOrder g l → IsAnswered g l → (outcome : Status) (messages : List Message) → map (said g) l.answers.taken ≡ messages → AreRepliesAt outcome (takes_in s.journal.events) messages →
+      IsJournaled g es ahead s.journal outcome l
+  is_journaled table order answered outcome messages same taken = record {
     stopped = (asks, stopped);
     sends = ap length asks-are ∙ goes.sends;
     sent = subst (λ qs. HoldsAlong (λ x. AsksOf qs x.pieces) es ahead s.journal) (sym asks-are) (along-here (λ x. AsksOf goes.asked x.pieces) (asks_along (Some asks) s goes));
     taken = subst (λ ms. AreRepliesAt outcome (takes_in s.journal.events) ms) (sym same) taken;
+    took = took-here table order answered outcome messages same taken;
   }
 
   pub drops_failed : DropsFailed g es ahead s.journal l

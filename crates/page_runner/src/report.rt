@@ -1,6 +1,6 @@
 // What came of a page.
-ghost use Rattle.std.specs.Prelude.{◌≡◌, Some, None, false, IfSome};
-ghost use Rattle.core_steps.specs.Tallies.{tally_of};
+ghost use Rattle.std.specs.Prelude.{◌≡◌, None, false, IfSome, IsSomeAnd};
+ghost use Rattle.core_steps.specs.Tallies.{IsTallyOf};
 
 use crate::status::Status;
 use core_steps::{DocSide, Tally};
@@ -30,7 +30,7 @@ impl<E: InForce> Report<E> {
     /// What the run came to in numbers, where the page was begun. After want of memory they tell nothing. The tree is walked.
     pub fn tally(&self) -> Option<Tally>
         ensures none { self.now.side ≡ None → result ≡ None }
-        ensures some { IfSome self.now.side (λ side. side.spent ≡ false → result ≡ Some (tally_of side.desk)) }
+        ensures some { IfSome self.now.side (λ side. side.spent ≡ false → IsSomeAnd result (IsTallyOf side.desk)) }
     {
         match &self.side {
             Some(side) => Some(side.tally()),
