@@ -172,16 +172,18 @@ fn run_on_two<
     ensures clean { IsTrue (is_finished result.outcome) → IsTrue (K.clean out.new) }
     ensures reports { IfSome result.side (λ side. Reports job.now.table.now job.now.ahead job.now.dump (string_bytes job.now.page) (string_bytes job.now.dir)
         (F.seen files.old) (F.seen files.new) (K.taken out.old) (K.taken out.new) side result.outcome) }
-    ensures side { IsSome result.side ⊎ ((result.outcome ≡ Status.NoMemory) × (F.seen files.new ≡ F.seen files.old)
-        × (K.taken out.new ≡ K.taken out.old)) }
+    ensures side { IsSome result.side ⊎ ((result.outcome ≡ Status.NoMemory)
+        × (F.seen files.new ≡ F.seen files.old) × (K.taken out.new ≡ K.taken out.old)) }
     ensures cut { IfSome result.side (λ side. IsCut job.now.piece (has_run_out result.outcome)
         (F.seen files.old) (F.seen files.new) side.journal.pieces) }
     ensures in_order { IfSome result.ends (λ ends. InOrder E.InForce ends) }
     ensures answered { IfSome result.ends (λ ends. IsAnswered E.InForce ends) }
     ensures journaled { IfBoth result.side result.ends (λ side ends. IsJournaled E.InForce job.now.table.now job.now.ahead side.journal result.outcome ends) }
     ensures dropped { IfBoth result.side result.ends (λ side ends. DropsFailed E.InForce job.now.table.now job.now.ahead side.journal ends) }
-    ensures looks_ahead { IfSome result.side (λ side. IsLookingAhead job.now.table.now job.now.ahead side.journal) }
-    ensures fetches { IfSome result.side (λ side. IsFetchingAwaited job.now.table.now job.now.ahead side.journal) }
+    ensures looks_ahead { IfSome result.side (λ side. IsLookingAhead job.now.table.now job.now.ahead
+        side.journal) }
+    ensures fetches { IfSome result.side (λ side. IsFetchingAwaited job.now.table.now job.now.ahead
+        side.journal) }
     ensures ends { IfSome result.side (λ _. IsSome result.ends) }
 {
     let Ok((mut room, mut side, running)) = begin_on_two::<R, E, G>(rt, alloc, job, gate) else {
@@ -236,8 +238,10 @@ pub fn page_on_two<
     ensures answered { IfSome result.ends (λ ends. IsAnswered E.InForce ends) }
     ensures journaled { IfBoth result.side result.ends (λ side ends. IsJournaled E.InForce job.now.table.now job.now.ahead side.journal result.outcome ends) }
     ensures dropped { IfBoth result.side result.ends (λ side ends. DropsFailed E.InForce job.now.table.now job.now.ahead side.journal ends) }
-    ensures looks_ahead { IfSome result.side (λ side. IsLookingAhead job.now.table.now job.now.ahead side.journal) }
-    ensures fetches { IfSome result.side (λ side. IsFetchingAwaited job.now.table.now job.now.ahead side.journal) }
+    ensures looks_ahead { IfSome result.side (λ side. IsLookingAhead job.now.table.now job.now.ahead
+        side.journal) }
+    ensures fetches { IfSome result.side (λ side. IsFetchingAwaited job.now.table.now job.now.ahead
+        side.journal) }
     ensures ends { IfSome result.side (λ _. IsSome result.ends) }
 {
     match files.begin(Port::Page, job.page.as_str()) {

@@ -30,7 +30,8 @@ impl<E: InForce> Report<E> {
     /// What the run came to in numbers, where the page was begun. After want of memory they tell nothing. The tree is walked.
     pub fn tally(&self) -> Option<Tally>
         ensures none { self.now.side ≡ None → result ≡ None }
-        ensures some { IfSome self.now.side (λ side. side.spent ≡ false → IsSomeAnd result (IsTallyOf side.desk)) }
+        ensures some { IfSome self.now.side (λ side. side.spent ≡ false
+            → IsSomeAnd result (IsTallyOf side.desk)) }
     {
         match &self.side {
             Some(side) => Some(side.tally()),

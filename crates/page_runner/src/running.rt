@@ -44,7 +44,8 @@ pub(crate) fn run_with<E: InForce, L: Counterpart<E>, F: Outside, K: Sink>(
     ensures clean { IsTrue (is_finished result) → IsTrue (K.clean out.new) }
     ensures reports { Reports job.now.table.now job.now.ahead job.now.dump (string_bytes job.now.page) (string_bytes job.now.dir)
         (F.seen files.old) (F.seen files.new) (K.taken out.old) (K.taken out.new) doc.new result }
-    ensures cut { IsCut (length room.old) (has_run_out result) (F.seen files.old) (F.seen files.new) doc.new.journal.pieces }
+    ensures cut { IsCut (length room.old) (has_run_out result) (F.seen files.old) (F.seen files.new)
+        doc.new.journal.pieces }
     ensures goes { Goes (L.put lanes.new) doc.new }
     ensures messages { IfSome (L.taken lanes.new) (λ messages. AreRepliesAt result (takes_in doc.new.journal.events) messages) }
 {

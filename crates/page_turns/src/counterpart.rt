@@ -43,7 +43,9 @@ pub trait Counterpart<E: InForce> {
         requires { 0 < (load self.old).replies }
         ensures load { OnOk result (load self.old ≡ record (load self.new) { replies = suc (load self.new).replies }) }
         ensures put { put self.new ≡ put self.old }
-        ensures taken { IfOk result (λ reply. Adds (taken self.old) (taken self.new) (Some reply.said)) }
+        ensures taken { IfOk result (λ reply. Adds (taken self.old) (taken self.new)
+            (Some reply.said)) }
         // Want of memory is the last that is taken, or a reply that came to nothing.
-        ensures refused { OnErr result ((last : Option Told) × Adds (taken self.old) (taken self.new) last) };
+        ensures refused { OnErr result ((last : Option Told)
+            × Adds (taken self.old) (taken self.new) last) };
 }

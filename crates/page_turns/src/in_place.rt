@@ -37,13 +37,16 @@ impl<E: InForce> Model for InPlace<E> {
     ghost Value = { Place };
 
     ghost view = { λ l. record {
-      load = record { requests = length l.requests.items; hand = in_hand l.work.hand; replies = length l.replies.items };
+      load = record { requests = length l.requests.items; hand = in_hand l.work.hand;
+          replies = length l.replies.items };
       asked = told_of l.tells_asked (asked_in l.asked.items);
       taken = told_of l.tells_taken (taken_in l.taken.items);
     } };
 
-    // The replies given, those that were taken and those that stand, are the answers to the first requests that were put.
-    ghost invariant = { λ l. l.spent ≡ false → IsAnswering E.entities (asked_in l.asked.items) (taken_in l.taken.items ++ replies_in l.replies.items) l.work l.requests.items };
+    // The replies given, those that were taken and those that stand, are the answers to the first
+    // requests that were put.
+    ghost invariant = { λ l. l.spent ≡ false → IsAnswering E.entities (asked_in l.asked.items)
+        (taken_in l.taken.items ++ replies_in l.replies.items) l.work l.requests.items };
 }
 
 impl<E: InForce> InPlace<E> {

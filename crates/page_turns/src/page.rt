@@ -173,9 +173,12 @@ pub(crate) fn take_turns<E: InForce, L: Counterpart<E>, F: Outside, K: Sink>(
     requires few { job.now.ahead ≤ 64 }
     ensures ok { IfOk result (λ o. RunsOut job.now.table.now job.now.ahead (string_bytes job.now.dir) (F.seen files.old) (F.seen files.new) (K.taken out.old) (K.taken out.new) doc.new o) }
     ensures err { OnErr result (GivesUp job.now.table.now job.now.ahead (string_bytes job.now.dir) (F.seen files.old) (F.seen files.new) (K.taken out.old) (K.taken out.new) doc.new) }
-    ensures cut { OnOk result (IsCut (length room.old) false (F.seen files.old) (F.seen files.new) doc.new.journal.pieces) }
-    ensures cut_short { OnErr result (IsCut (length room.old) true (F.seen files.old) (F.seen files.new) doc.new.journal.pieces) }
-    ensures write_cut { IsErrOf result Failure.Write → IsCut (length room.old) false (F.seen files.old) (F.seen files.new) doc.new.journal.pieces }
+    ensures cut { OnOk result (IsCut (length room.old) false (F.seen files.old) (F.seen files.new)
+        doc.new.journal.pieces) }
+    ensures cut_short { OnErr result (IsCut (length room.old) true (F.seen files.old) (F.seen files.new)
+        doc.new.journal.pieces) }
+    ensures write_cut { IsErrOf result Failure.Write → IsCut (length room.old) false
+        (F.seen files.old) (F.seen files.new) doc.new.journal.pieces }
     ensures goes { Goes (L.put lanes.new) doc.new }
     ensures taken { OnOk result (TakenSoFar (L.taken lanes.new) doc.new.journal.events) }
     ensures write_taken { IsErrOf result Failure.Write → TakenSoFar (L.taken lanes.new) doc.new.journal.events }

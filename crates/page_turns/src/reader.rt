@@ -73,8 +73,10 @@ impl PageReader {
         requires no_ending { doc.old.journal.ending ≡ None }
         ensures ok { OnOk result (ReadsPiece (F.seen files.old) (F.seen files.new) self.old self.new doc.old doc.new) }
         ensures err { OnErr result (ReadsInPart (F.seen files.old) (F.seen files.new) self.old doc.old doc.new) }
-        ensures cut { OnOk result (CutsOn (length room.old) (F.seen files.old) (F.seen files.new) self.old self.new doc.old doc.new) }
-        ensures cut_short { OnErr result (CutsShort (length room.old) (F.seen files.old) (F.seen files.new) self.old doc.old doc.new) }
+        ensures cut { OnOk result (CutsOn (length room.old) (F.seen files.old) (F.seen files.new)
+            self.old self.new doc.old doc.new) }
+        ensures cut_short { OnErr result (CutsShort (length room.old) (F.seen files.old)
+            (F.seen files.new) self.old doc.old doc.new) }
         ensures handed { Hands doc.old doc.new }
         ensures begun { (F.seen files.new).begun ≡ (F.seen files.old).begun }
         ensures open_at { (F.seen files.new).open_at ≡ (F.seen files.old).open_at }

@@ -170,7 +170,8 @@ impl<E: InForce, G: Gate + Drop> ParserThread<E, G> {
         ensures running { IsRunning E.InForce self.new }
         ensures asked { self.new.ask.put ≡ self.old.ask.put ++ message.Ask request ∷ [] }
         ensures taken { self.new.replies.taken ≡ self.old.replies.taken }
-        ensures room { (self.new.ask.room ≡ self.old.ask.room) × (self.new.replies.room ≡ self.old.replies.room) }
+        ensures room { (self.new.ask.room ≡ self.old.ask.room)
+            × (self.new.replies.room ≡ self.old.replies.room) }
     {
         self.ask.put(rt, ToParser::Ask(request));
         self.seat.step(rt, self.alloc, &self.table, &*self.gate);
@@ -182,7 +183,8 @@ impl<E: InForce, G: Gate + Drop> ParserThread<E, G> {
         ensures running { IsRunning E.InForce self.new }
         ensures asked { self.new.ask.put ≡ self.old.ask.put }
         ensures taken { self.new.replies.taken ≡ self.old.replies.taken ++ result ∷ [] }
-        ensures room { (self.new.ask.room ≡ self.old.ask.room) × (self.new.replies.room ≡ self.old.replies.room) }
+        ensures room { (self.new.ask.room ≡ self.old.ask.room)
+            × (self.new.replies.room ≡ self.old.replies.room) }
     {
         self.replies.take(rt)
     }
