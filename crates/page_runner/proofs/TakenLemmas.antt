@@ -1,26 +1,24 @@
 -- Each Take of a journal takes the reply that stands at its place among those that came.
-use Rattle.std.proofs.Common.{◌≡◌, ◌≤◌, ◌<◌, true≢false, ℕ, zero, suc, ◌+◌, ◌-◌, nat_lt, Bool, true, false, List, [], ◌∷◌, ◌++◌, length, map, Option, Some, None, refl, sym, ◌∙◌, ap, subst, inl, inr, append_assoc, length-append, arith}
+use Rattle.std.proofs.Common.{◌≡◌, ◌≤◌, ◌<◌, true≢false, ℕ, zero, suc, ◌+◌, ◌-◌, nat_lt, Bool, true, false, List, [], ◌∷◌, ◌++◌, length, map, Option, Some, None, refl, sym, ◌∙◌, ap, subst, inl, inr, append-nil, append_assoc, length-append, arith}
 use Rattle.std.specs.Prelude.{◌⊎◌, IsTrue, not, ◌&&◌, is_some, slice_get, if◌then◌else◌}
 use Rattle.std.proofs.lemmas.Bool.{and_parts}
 use Rattle.std.proofs.lemmas.List.{map-append}
-use Rattle.std.proofs.lemmas.Option.{slice_get_within}
 use mathlib.Core.List.{IsPrefix}
 use Rattle.standard.specs.Entities.{Entities}
 use Rattle.standard.specs.Parser.{Parser}
 use Rattle.core_definitions.specs.declared.event.Event.{Event}
 use Rattle.core_definitions.specs.declared.event.Event.TheVariants.{Send, Pick, Give, Take, Do, Arrive}
 use Rattle.core_definitions.specs.Batches.{Piece}
-use Rattle.core_definitions.specs.Core.{Setup, Request, Reply, Core, first_core, first_work, answer_to, reply_to, request_for, enabled, sent_from, picked_from, given_to, taken_from, takes_reply}
-use Rattle.core_definitions.specs.Desk.{Desk, first_desk, pieces_with, is_free, is_done, outstanding, stale, can_send, wants_reply, sends_first, sends, with_batches, drops, answer_called_for, takes, arrives, Moves}
+use Rattle.core_definitions.specs.Core.{Setup, Request, Reply, Core, first_core, first_work, answer_to, reply_to, request_for, enabled, sent_from, picked_from, taken_from, takes_reply}
+use Rattle.core_definitions.specs.Desk.{Desk, first_desk, pieces_with, is_free, outstanding, stale, can_send, wants_reply, sends_first, sends, with_batches, drops, answer_called_for, takes, arrives, Moves}
 use Rattle.core_definitions.specs.Settling.{is_empty}
 use Rattle.core_definitions.specs.Journal.{Journal}
-use Rattle.core_laws.proofs.Together.{Together, steps-together, first-together, both, sent-desk}
+use Rattle.core_laws.proofs.Together.{Together, steps-together, first-together, both}
 use Rattle.run_laws.specs.Along.{MovesWith, HoldsAlong, IsForFirst, takes_in}
 use Rattle.speculation.specs.declared.in_force.InForce as InForce
 use Rattle.speculation.specs.Asking.{Asked, Told}
 use Rattle.parser_thread.specs.declared.messages.ToParser.{ToParser}
 use Rattle.parser_thread.specs.declared.messages.ToParser.TheVariants.{Ask, Stop}
-use Rattle.parser_thread.specs.declared.messages.FromParser.{FromParser}
 use Rattle.parser_thread.specs.declared.running.Lanes.{Lanes}
 use Rattle.parser_thread.specs.Answers.{told_to, end_of, answers, after, said, Worked}
 use Rattle.page_turns.specs.Along.{AsksOf, requests_of}
@@ -47,10 +45,7 @@ get-there (x ∷ xs) (suc k) less = get-there xs k (omega (arith, less))
 
 get-some : {A : Type 0} (xs : List A) (more : List (Option A)) (k : ℕ) (x : A) → slice_get xs k ≡ Some x → slice_get (map Some xs ++ more) k ≡ Some (Some x)
 get-some [] more k x at = absurd (cc at)
-get-some (z ∷ xs) more zero x at = ap (λ o. slice_get (o ∷ map Some xs ++ more) zero) (at-head z x at)
-  where
-    at-head : {A : Type 0} (a b : A) → Some a ≡ Some b → Some a ≡ Some b
-    at-head a b e = e
+get-some (z ∷ xs) more zero x at = ap Some at
 get-some (z ∷ xs) more (suc k) x at = get-some xs more k x at
 
 some-same : {A : Type 0} (a b : A) → Some a ≡ Some b → a ≡ b
@@ -366,11 +361,7 @@ asks-front (z ∷ qs) (a ∷ as) more q =
 
 -- so many replies, and then perhaps more
 replies-of : (outcome : Status) (n : ℕ) (messages : List Message) → AreRepliesAt outcome n messages → (rs : List Told) × (more : List Message) × (messages ≡ map Some rs ++ more) × (length rs ≡ n)
-replies-of outcome n messages (inl (rs, is, long)) = (rs, [], is ∙ sym (append-end (map Some rs)), long)
-  where
-    append-end : (l : List Message) → l ++ [] ≡ l
-    append-end [] = refl
-    append-end (m ∷ l) = ap (λ z. m ∷ z) (append-end l)
+replies-of outcome n messages (inl (rs, is, long)) = (rs, [], is ∙ sym (append-nil (map Some rs)), long)
 replies-of outcome n messages (inr (ran_out, before, last, is, (rs, front, long))) = (rs, last ∷ [], is ∙ ap (λ l. l ++ last ∷ []) front, long)
 
 module _ {E : Type 0} (g : InForce.Ghosts E) (l : Lanes E g) (asks : List Asked) (stopped : l.asked.put ≡ map Ask asks ++ Stop ∷ []) (order : InOrder g l) (answered : IsAnswered g l) where
@@ -387,11 +378,7 @@ module _ {E : Type 0} (g : InForce.Ghosts E) (l : Lanes E g) (asks : List Asked)
       asks-front qs asks (more ++ rest) (sym (append_assoc (map Ask qs) more rest) ∙ (ap (λ t. t ++ rest) (sym is) ∙ (whole ∙ stopped)))
 
   given-are : Worked g l.asked.taken l.answers.put → Given
-  given-are (qs, inl (taken, given)) = (qs, [], front-of qs (Stop ∷ []) taken, inl refl, given ∙ sym (nothing-more (map Some (told qs))))
-    where
-      nothing-more : (z : List (Option Told)) → z ++ [] ≡ z
-      nothing-more [] = refl
-      nothing-more (m ∷ z) = ap (λ y. m ∷ y) (nothing-more z)
+  given-are (qs, inl (taken, given)) = (qs, [], front-of qs (Stop ∷ []) taken, inl refl, given ∙ sym (append-nil (map Some (told qs))))
   given-are (qs, inr (last, taken, given)) = (qs, None ∷ [], front-of qs (Ask last ∷ []) taken, inr refl, given)
 
   messages-are : (rs : List Told) (more : List Message) → map (said g) l.answers.taken ≡ map Some rs ++ more → Given → IsPrefix rs (told asks)
@@ -421,8 +408,7 @@ module _ {E : Type 0} (g : InForce.Ghosts E) (l : Lanes E g) (asks : List Asked)
       HoldsAlong (λ x. AsksOf asks x.pieces) g.entities ahead j → HoldsAlong (TakesOf messages) g.entities ahead j
   takes_follow ahead j outcome messages same are asked x run =
       let (d, with) = asked x run in
-      let n = takes_in j.events in
-      let at = messages_at outcome n messages same are in
-      let at_x : (k : ℕ) (t : Told) → k < n → slice_get (answers x.world.entities first_work.parser asks) k ≡ Some t → slice_get messages k ≡ Some (Some t) =
+      let at = messages_at outcome (takes_in j.events) messages same are in
+      let at_x : (k : ℕ) (t : Told) → k < takes_in j.events → slice_get (answers x.world.entities first_work.parser asks) k ≡ Some t → slice_get messages k ≡ Some (Some t) =
       λ k t less here. at k t less (ap (λ es. slice_get (answers es first_work.parser asks) k) (sym run.entities) ∙ here) in
-      (d, takes_along x x.pieces asks messages n at_x j.events d (omega arith) with)
+      (d, takes_along x x.pieces asks messages (takes_in j.events) at_x j.events d (omega arith) with)
