@@ -72,10 +72,10 @@ module _ (s0 : Side) (b : Batch) (bs : List Batch) (mid : Side) where
       shows-all (at_end_tag true i d1) (desk_of new)
       (ap (at_end_tag true i) is ∙ (ap (λ h. record (at_end_tag true i (desk_of mid)) { hand = h }) more ∙ ap desk_of (sym m)))
 
-  done-shows : (r : Option Why) (new : Side) → IsBehind → new ≡ ended r mid → Shows (in_phase (done (result_of r)) d1) (desk_of new)
-  done-shows r new is m =
+  done-shows : (r : Option Why) (in_hand : Bool) (new : Side) → IsBehind → new ≡ ended r in_hand mid → Shows (in_phase (done (result_of r)) d1) (desk_of new)
+  done-shows r in_hand new is m =
       subst (λ (z : Side). Shows (in_phase (done (result_of r)) d1) (desk_of z)) (sym m)
-      (subst (λ (z : Desk). Shows (in_phase (done (result_of r)) z) (desk_of (ended r mid))) (sym is) (refl, refl, refl, counts-same (result_of r) (desk_of (ended r mid)).own.side (desk_of (ended r mid)).own.side refl))
+      (subst (λ (z : Desk). Shows (in_phase (done (result_of r)) z) (desk_of (ended r in_hand mid))) (sym is) (refl, refl, refl, counts-same (result_of r) (desk_of (ended r in_hand mid)).own.side (desk_of (ended r in_hand mid)).own.side refl))
 
   abbrev runs_there_in : Desk → Side → Type 0
   runs_there_in e m = (i : NodeId) → runs (prepared i e.own) ≡ runs_there i m
@@ -84,10 +84,10 @@ module _ (s0 : Side) (b : Batch) (bs : List Batch) (mid : Side) where
   halt-shows (halt.At stop.InputEnd) new is more stage same halts = shows-all d1 (desk_of new) (behind-all is more stage ∙ ap desk_of (sym halts))
   halt-shows (halt.At (stop.Script i)) new is more stage same halts =
       tag-shows i new (runs (prepared i d1.own)) is more stage (subst (λ run. MeetsTag run i mid new) (sym (same i)) halts)
-  halt-shows (halt.At stop.Deep) new is more stage same halts = done-shows (Some why.Depth) new is halts
-  halt-shows (halt.Finishing finale.Finished) new is more stage same halts = done-shows None new is halts
-  halt-shows (halt.Finishing finale.Deep) new is more stage same halts = done-shows (Some why.Depth) new is halts
-  halt-shows (halt.Refusing w) new is more stage same halts = done-shows (Some w) new is halts
+  halt-shows (halt.At stop.Deep) new is more stage same halts = done-shows (Some why.Depth) false new is halts
+  halt-shows (halt.Finishing finale.Finished) new is more stage same halts = done-shows None false new is halts
+  halt-shows (halt.Finishing finale.Deep) new is more stage same halts = done-shows (Some why.Depth) false new is halts
+  halt-shows (halt.Refusing w) new is more stage same halts = done-shows (Some w) false new is halts
 
 free-shows : (w : World) (s0 : Side) (h : code.Halt) (mid new : Side) → Executed (at_stage Free s0) h mid → Halts h mid new → ShownBehind w (desk_of (at_stage Free s0)) new
 free-shows w s0 h mid new x halts =
@@ -200,4 +200,4 @@ acts-show w Free s new es free_ halted fetch x =
     free-shows w s x.halt x.mid new (subst (λ (z : Side). Executed z x.halt x.mid) here x.executed) x.halts
 acts-show w (Tagged i held) s new es free_ halted fetch x = tagged-shows w s i held new es x
 acts-show w (Waits name held) s new es free_ halted fetch x = fetched-shows w s name held new (met s name) es halted fetch x
-acts-show w (Done why) s new es free_ halted fetch x = absurd x
+acts-show w (Done why in_hand) s new es free_ halted fetch x = absurd x

@@ -49,8 +49,8 @@ stays-then a b c x y = record { table = y.table ∙ x.table; given = y.given ∙
 stays-as : (old mid new : Side) → new ≡ mid → Stays old mid → Stays old new
 stays-as old mid new is x = subst (Stays old) (sym is) x
 
-ended-stays : (w : Option Why) (old new : Side) → new ≡ ended w old → Stays old new
-ended-stays w old new is = stays-as old (ended w old) new is (record { table = refl; given = refl; ahead = refl })
+ended-stays : (w : Option Why) (in_hand : Bool) (old new : Side) → new ≡ ended w in_hand old → Stays old new
+ended-stays w in_hand old new is = stays-as old (ended w in_hand old) new is (record { table = refl; given = refl; ahead = refl })
 
 executed-stays : (old new : Side) (h : code.Halt) → Executed old h new → Stays old new
 executed-stays old new h x = record {
@@ -70,10 +70,10 @@ tag-stays true i old new is = record {
 halts-stay : (h : code.Halt) (old new : Side) → Halts h old new → Stays old new
 halts-stay (halt.At stop.InputEnd) old new is = stays-as old old new is (stays-same old)
 halts-stay (halt.At (stop.Script i)) old new is = tag-stays (runs_there i old) i old new is
-halts-stay (halt.At stop.Deep) old new is = ended-stays (Some why.Depth) old new is
-halts-stay (halt.Finishing finale.Finished) old new is = ended-stays None old new is
-halts-stay (halt.Finishing finale.Deep) old new is = ended-stays (Some why.Depth) old new is
-halts-stay (halt.Refusing w) old new is = ended-stays (Some w) old new is
+halts-stay (halt.At stop.Deep) old new is = ended-stays (Some why.Depth) false old new is
+halts-stay (halt.Finishing finale.Finished) old new is = ended-stays None false old new is
+halts-stay (halt.Finishing finale.Deep) old new is = ended-stays (Some why.Depth) false old new is
+halts-stay (halt.Refusing w) old new is = ended-stays (Some w) false old new is
 
 judged-stays : (c : Verdict) (held : Parser) (old new : Side) → JudgedAs c held old new → Stays old new
 judged-stays Keep held old new is = record {
@@ -94,7 +94,7 @@ leaves-stay (left.Awaits name) held old new is = record {
   given = ap (λ (z : Side). lines_given z.given.items) is;
   ahead = ap (λ (z : Side). z.ledger.ahead) is;
 }
-leaves-stay (left.Limit l) held old new is = ended-stays (Some (why_of l)) old new is
+leaves-stay (left.Limit l) held old new is = ended-stays (Some (why_of l)) true old new is
 
 settled-stays : (held : Parser) (v : View) (old new : Side) → Settled held (with_writer v old) new → Stays old new
 settled-stays held v old new x = by (leaves-stay x.answer held (with_writer x.mid old) new x.leaves)
@@ -105,13 +105,13 @@ settled-stays held v old new x = by (leaves-stay x.answer held (with_writer x.mi
 fetched-stays : (f : Fetched) (name : List ℕ) (held : Parser) (old new : Side) → RunsFetched f name held old new → Stays old new
 fetched-stays (got bytes) name held old new x = settled-stays held x.mid old new x.settled
 fetched-stays missing name held old new x = settled-stays held x.mid old new x.settled
-fetched-stays faulted name held old new x = ended-stays (Some why.Fault) old new x
+fetched-stays faulted name held old new x = ended-stays (Some why.Fault) true old new x
 
 acts-stay : (stage : Stage) (old new : Side) → ActsBy stage old new → Stays old new
 acts-stay Free old new x = stays-then old x.mid new (executed-stays old x.mid x.halt x.executed) (halts-stay x.halt x.mid new x.halts)
 acts-stay (Tagged i held) old new x = settled-stays held x.mid old new x.settled
 acts-stay (Waits name held) old new x = fetched-stays (met old name) name held old new x
-acts-stay (Done w) old new x = absurd x
+acts-stay (Done w in_hand) old new x = absurd x
 
 -- ---- behind Do
 
@@ -120,13 +120,13 @@ halted-of : (stage : Stage) (s : Side) → IsSound (at_stage stage s) → Halted
 halted-of Free s sound = tt
 halted-of (Tagged i held) s sound = tt
 halted-of (Waits name held) s sound = sound.stands.halted
-halted-of (Done w) s sound = tt
+halted-of (Done w in_hand) s sound = tt
 
 fetches-of : (w : World) (stage : Stage) (s : Side) → Knows s.journal.fetches w → IsTrue (can_do (desk_of (at_stage stage s))) → Fetches w stage s
 fetches-of w Free s knows can = tt
 fetches-of w (Tagged i held) s knows can = tt
 fetches-of w (Waits name held) s knows can = fetched-met w name s.journal.fetches knows can
-fetches-of w (Done why) s knows can = tt
+fetches-of w (Done why in_hand) s knows can = tt
 
 -- Do was done, and the event is in the journal
 module _ (stage : Stage) (s mid : Side) (j : Journal) (free : s.stage ≡ Free) (sound : IsSound (at_stage stage s)) (can : IsTrue (can_do (desk_of (at_stage stage s)))) (acts : ActsBy stage s mid)

@@ -40,7 +40,7 @@ abbrev Weighs : ℕ → Stage → View → Kept → Type 0
 Weighs n Free v k = n ≡ written_left v + 3 * pages k + 1
 Weighs n (Tagged i held) v k = n ≡ written_left v + 3 * pages k + 3
 Weighs n (Waits name held) v k = n ≡ written_left v + 3 * pages k + 2
-Weighs n (Done w) v k = n ≡ 0
+Weighs n (Done w in_hand) v k = n ≡ 0
 
 nil : (t : List ℕ) → length (t ++ []) ≡ length t
 nil t = omega (arith, length-append t [])
@@ -52,7 +52,7 @@ weighs stage s is = subst (λ t. Weighs (left_to_do (desk_of (at_stage t s))) st
     by Free = omega (arith, nil s.writer.rest)
     by (Tagged i held) = omega (arith, nil s.writer.rest)
     by (Waits name held) = omega (arith, nil s.writer.rest)
-    by (Done w) = refl
+    by (Done w in_hand) = refl
 
 rewound-pages : (k : Kept) → pages (rewound k) ≡ pages k
 rewound-pages k =
@@ -78,8 +78,8 @@ tag-less n n' i true mid new stage m is less =
     let kept : pages new.ledger ≡ pages mid.ledger = ap (λ (z : Side). pages z.ledger) m in
     omega (arith, now, is, written, kept, less)
 
-done-less : (n : ℕ) (w : Option Why) (mid new : Side) → new ≡ ended w mid → 0 < n → left_to_do (desk_of new) < n
-done-less n w mid new m some =
+done-less : (n : ℕ) (w : Option Why) (in_hand : Bool) (mid new : Side) → new ≡ ended w in_hand mid → 0 < n → left_to_do (desk_of new) < n
+done-less n w in_hand mid new m some =
     let now : left_to_do (desk_of new) ≡ 0 = ap (λ (z : Side). left_to_do (desk_of z)) m in
     omega (arith, now, some)
 
@@ -92,10 +92,10 @@ halt-less n (halt.At stop.InputEnd) k mid new stage some m is =
 halt-less n (halt.At (stop.Script i)) k mid new stage some m is =
     let one : 1 ≤ k = some in
     tag-less n (left_to_do (desk_of new)) i (runs_there i mid) mid new stage m refl (omega (arith, one, is))
-halt-less n (halt.At stop.Deep) k mid new stage some m is = done-less n (Some why.Depth) mid new m (omega (arith, is))
-halt-less n (halt.Finishing finale.Finished) k mid new stage some m is = done-less n None mid new m (omega (arith, is))
-halt-less n (halt.Finishing finale.Deep) k mid new stage some m is = done-less n (Some why.Depth) mid new m (omega (arith, is))
-halt-less n (halt.Refusing w) k mid new stage some m is = done-less n (Some w) mid new m (omega (arith, is))
+halt-less n (halt.At stop.Deep) k mid new stage some m is = done-less n (Some why.Depth) false mid new m (omega (arith, is))
+halt-less n (halt.Finishing finale.Finished) k mid new stage some m is = done-less n None false mid new m (omega (arith, is))
+halt-less n (halt.Finishing finale.Deep) k mid new stage some m is = done-less n (Some why.Depth) false mid new m (omega (arith, is))
+halt-less n (halt.Refusing w) k mid new stage some m is = done-less n (Some w) false mid new m (omega (arith, is))
 
 batch-less : (s new : Side) → s.stage ≡ Free → RunsBatch s new → left_to_do (desk_of new) < left_to_do (desk_of s)
 batch-less s new stage x =
@@ -132,7 +132,7 @@ leaves-less n (left.Awaits name) held s new mid (halted, pending) m less =
     let kept : pages new.ledger ≡ pages s.ledger = ap (λ (z : Side). pages z.ledger) m in
     let one : scripts_awaited mid.pending ≡ 1 = ap scripts_awaited pending in
     omega (arith, now, written, kept, one, less)
-leaves-less n (left.Limit l) held s new mid halted m less = done-less n (Some (why_of l)) (with_writer mid s) new m (omega (arith, less))
+leaves-less n (left.Limit l) held s new mid halted m less = done-less n (Some (why_of l)) true (with_writer mid s) new m (omega (arith, less))
 
 settled-less : (n : ℕ) (held : Parser) (s new : Side) → Settled held s new → left_to_parse s.writer + 3 * pages s.ledger + 1 < n → left_to_do (desk_of new) < n
 settled-less n held s new x less = leaves-less n x.answer held s new x.mid x.left x.leaves (omega (arith, x.no_more, less))
@@ -154,7 +154,7 @@ fetched-less missing s new name held waits x =
     waited-less (left_to_do (desk_of (at_stage (Waits name held) s))) held s new x.mid x.less x.settled (sym (weighs (Waits name held) (at_stage (Waits name held) s) refl)) (ap scripts_awaited waits)
 fetched-less faulted s new name held waits x =
     let before = weighs (Waits name held) (at_stage (Waits name held) s) refl in
-    done-less (left_to_do (desk_of (at_stage (Waits name held) s))) (Some why.Fault) s new x (omega (arith, before))
+    done-less (left_to_do (desk_of (at_stage (Waits name held) s))) (Some why.Fault) true s new x (omega (arith, before))
 
 pub acts-less : (stage : Stage) (s new : Side) → s.stage ≡ Free → IsSound (at_stage stage s) → ActsBy stage s new → left_to_do (desk_of new) < left_to_do (desk_of (at_stage stage s))
 acts-less Free s new free sound x =
@@ -163,4 +163,4 @@ acts-less Free s new free sound x =
     omega (arith, same, less)
 acts-less (Tagged i held) s new free sound x = tagged-less s new i held sound.stands.idle.pending x
 acts-less (Waits name held) s new free sound x = fetched-less (met s name) s new name held sound.stands.pending x
-acts-less (Done w) s new free sound x = absurd x
+acts-less (Done w in_hand) s new free sound x = absurd x

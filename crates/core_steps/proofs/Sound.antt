@@ -189,8 +189,8 @@ tag-sound i true mid new stage going free ahead placed bound m = subst IsSound (
   placed = placed;
 })
 
-done-sound : (w : Option Why) (mid new : Side) → mid.writer.spent ≡ false → IsPlaced mid.counts.place mid.counts.sent_to mid.ledger mid.journal → new ≡ ended w mid → IsSound new
-done-sound w mid new going placed m = subst IsSound (sym m) (record { going = going; stands = tt; ahead = tt; placed = placed })
+done-sound : (w : Option Why) (in_hand : Bool) (mid new : Side) → mid.writer.spent ≡ false → IsPlaced mid.counts.place mid.counts.sent_to mid.ledger mid.journal → new ≡ ended w in_hand mid → IsSound new
+done-sound w in_hand mid new going placed m = subst IsSound (sym m) (record { going = going; stands = tt; ahead = tt; placed = placed })
 
 halt-sound : (h : code.Halt) (mid new : Side) → mid.stage ≡ Free → mid.writer.spent ≡ false → IsFree mid.counts.realm mid.writer → GoesOn (halt_of h) (AreAhead mid.ready (free_hand mid)) →
     IsPlaced mid.counts.place mid.counts.sent_to mid.ledger mid.journal → IsHaltBound (is_bound mid.writer.doc.bound) (halt_of h) → Halts h mid new → IsSound new
@@ -201,10 +201,10 @@ halt-sound (halt.At stop.InputEnd) mid new stage going free ahead placed bound m
   placed = placed;
 })
 halt-sound (halt.At (stop.Script i)) mid new stage going free ahead placed bound m = tag-sound i (runs_there i mid) mid new stage going free ahead placed bound m
-halt-sound (halt.At stop.Deep) mid new stage going free ahead placed bound m = done-sound (Some why.Depth) mid new going placed m
-halt-sound (halt.Finishing finale.Finished) mid new stage going free ahead placed bound m = done-sound None mid new going placed m
-halt-sound (halt.Finishing finale.Deep) mid new stage going free ahead placed bound m = done-sound (Some why.Depth) mid new going placed m
-halt-sound (halt.Refusing w) mid new stage going free ahead placed bound m = done-sound (Some w) mid new going placed m
+halt-sound (halt.At stop.Deep) mid new stage going free ahead placed bound m = done-sound (Some why.Depth) false mid new going placed m
+halt-sound (halt.Finishing finale.Finished) mid new stage going free ahead placed bound m = done-sound None false mid new going placed m
+halt-sound (halt.Finishing finale.Deep) mid new stage going free ahead placed bound m = done-sound (Some why.Depth) false mid new going placed m
+halt-sound (halt.Refusing w) mid new stage going free ahead placed bound m = done-sound (Some w) false mid new going placed m
 
 batch-sound : (s new : Side) → s.stage ≡ Free → s.writer.spent ≡ false → IsIdle s.writer → RunsBatch s new → IsSound new
 batch-sound s new stage going idle x =
@@ -246,19 +246,19 @@ settled-sound held s new ahead placed x = by x.answer x.left x.leaves
       ahead = ahead;
       placed = placed;
     })
-    by (left.Limit l) halted m = done-sound (Some (why_of l)) (with_writer x.mid s) new x.kept placed m
+    by (left.Limit l) halted m = done-sound (Some (why_of l)) true (with_writer x.mid s) new x.kept placed m
 
 fetched-sound : (f : Fetched) (name : List ℕ) (held : Parser) (s new : Side) → s.writer.spent ≡ false → AreAhead s.ready (answer s.table (Some held) s.ledger.left).batches →
     IsPlaced s.counts.place s.counts.sent_to s.ledger s.journal → RunsFetched f name held s new → IsSound new
 fetched-sound (got bytes) name held s new going ahead placed x = settled-sound held (with_writer x.mid s) new ahead placed x.settled
 fetched-sound missing name held s new going ahead placed x = settled-sound held (with_writer x.mid s) new ahead placed x.settled
-fetched-sound faulted name held s new going ahead placed x = done-sound (Some why.Fault) s new going placed x
+fetched-sound faulted name held s new going ahead placed x = done-sound (Some why.Fault) true s new going placed x
 
 pub acts-sound : (stage : Stage) (s new : Side) → s.stage ≡ Free → IsSound (at_stage stage s) → ActsBy stage s new → IsSound new
 acts-sound Free s new free sound x = batch-sound s new free sound.going sound.stands.idle x
 acts-sound (Tagged i held) s new free sound x = settled-sound held (with_writer x.mid s) new sound.ahead sound.placed x.settled
 acts-sound (Waits name held) s new free sound x = fetched-sound (met s name) name held s new sound.going sound.ahead sound.placed x
-acts-sound (Done w) s new free sound x = absurd x
+acts-sound (Done w in_hand) s new free sound x = absurd x
 
 -- ---- where the parser goes on, and how scripts that are awaited leave it
 

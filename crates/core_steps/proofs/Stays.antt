@@ -128,7 +128,7 @@ stage-free : (t : Stage) → IsTrue (is_free (phase_of t)) → t ≡ Free
 stage-free Free h = refl
 stage-free (Tagged i held) h = absurd (false≢true h)
 stage-free (Waits name held) h = absurd (false≢true h)
-stage-free (Done w) h = absurd (false≢true h)
+stage-free (Done w in_hand) h = absurd (false≢true h)
 
 pub wants-stage : (s : Side) → IsTrue (wants_reply (desk_of s)) → s.stage ≡ Free
 wants-stage s wants = stage-free s.stage (and_parts _ _ (and_parts _ _ wants).0).0
@@ -187,7 +187,7 @@ stands-taken (Waits name held) realm v h = record {
   halted = h.halted;
   holding = record { room = h.holding.room; held_room = h.holding.held_room; apart = h.holding.apart };
 }
-stands-taken (Done w) realm v h = tt
+stands-taken (Done w in_hand) realm v h = tt
 
 pub sound-taken : (s s' : Side) → s' ≡ record s { writer = record s.writer { lines = [] }; given = s'.given } → IsSound s → IsSound s'
 sound-taken s s' is h = subst IsSound (sym is) (record { going = h.going; stands = stands-taken s.stage s.counts.realm s.writer h.stands; ahead = h.ahead; placed = h.placed })

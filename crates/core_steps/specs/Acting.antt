@@ -30,9 +30,9 @@ use Rattle.core_steps.specs.declared.side.Side.{Side}
 use Rattle.core_steps.specs.Journals.{found}
 use Rattle.core_steps.specs.Sides.{IsHolding, AreAhead, IsPlaced}
 
--- the parse is over
-abbrev pub ended : Option Why → Side → Side
-ended w s = record s { ready = []; stage = Done w }
+-- the parse is over, perhaps with a script in hand
+abbrev pub ended : Option Why → Bool → Side → Side
+ended w in_hand s = record s { ready = []; stage = Done w in_hand }
 
 abbrev pub at_stage : Stage → Side → Side
 at_stage t s = record s { stage = t }
@@ -109,10 +109,10 @@ runs_there i s = runs (prepare s.writer.doc.tree (node_of s.writer.doc.bound i))
 abbrev pub Halts : code.Halt → Side → Side → Type 0
 Halts (halt.At stop.InputEnd) old new = new ≡ old
 Halts (halt.At (stop.Script i)) old new = MeetsTag (runs_there i old) i old new
-Halts (halt.At stop.Deep) old new = new ≡ ended (Some why.Depth) old
-Halts (halt.Finishing finale.Finished) old new = new ≡ ended None old
-Halts (halt.Finishing finale.Deep) old new = new ≡ ended (Some why.Depth) old
-Halts (halt.Refusing w) old new = new ≡ ended (Some w) old
+Halts (halt.At stop.Deep) old new = new ≡ ended (Some why.Depth) false old
+Halts (halt.Finishing finale.Finished) old new = new ≡ ended None false old
+Halts (halt.Finishing finale.Deep) old new = new ≡ ended (Some why.Depth) false old
+Halts (halt.Refusing w) old new = new ≡ ended (Some w) false old
 
 -- a batch was executed, and what its end asks for was done
 pub record RunsBatch (old new : Side) : Type 0 where
@@ -146,7 +146,7 @@ Judged held old new = (c : Verdict) × IsVerdict held old.writer.parser c × Jud
 abbrev pub LeavesBy : Left → Parser → Side → Side → Type 0
 LeavesBy left.Empty held old new = Judged held old new
 LeavesBy (left.Awaits name) held old new = new ≡ record old { stage = Waits name held }
-LeavesBy (left.Limit l) held old new = new ≡ ended (Some (why_of l)) old
+LeavesBy (left.Limit l) held old new = new ≡ ended (Some (why_of l)) true old
 
 -- What was written was parsed as far as it goes.
 pub record Settled (held : Parser) (old new : Side) : Type 0 where
@@ -191,7 +191,7 @@ pub record Misses (name : List ℕ) (held : Parser) (old new : Side) : Type 0 wh
 abbrev pub RunsFetched : Fetched → List ℕ → Parser → Side → Side → Type 0
 RunsFetched (got bytes) name held old new = RunsText bytes held old new
 RunsFetched missing name held old new = Misses name held old new
-RunsFetched faulted name held old new = new ≡ ended (Some why.Fault) old
+RunsFetched faulted name held old new = new ≡ ended (Some why.Fault) true old
 
 -- ---- by what is in hand
 
@@ -199,4 +199,4 @@ abbrev pub ActsBy : Stage → Side → Side → Type 0
 ActsBy Free old new = RunsBatch old new
 ActsBy (Tagged i held) old new = RunsTagged i held old new
 ActsBy (Waits name held) old new = RunsFetched (met old name) name held old new
-ActsBy (Done w) old new = ⊥
+ActsBy (Done w in_hand) old new = ⊥

@@ -144,14 +144,14 @@ abbrev pub phase_of : Stage → Phase
 phase_of Free = free
 phase_of (Tagged i held) = tagged i held
 phase_of (Waits name held) = waits name held
-phase_of (Done why) = done (result_of why)
+phase_of (Done why in_hand) = done (result_of why)
 
 -- The batches in hand are those that the rest of the piece in hand comes to, from where the text behind the script in hand was parsed.
 abbrev pub hand_of : Entities → Stage → Parser → Piece → List Batch
 hand_of es Free now x = (answer es (Some now) x).batches
 hand_of es (Tagged i held) now x = (answer es (Some held) x).batches
 hand_of es (Waits name held) now x = (answer es (Some held) x).batches
-hand_of es (Done why) now x = []
+hand_of es (Done why in_hand) now x = []
 
 abbrev pub desk_of : Side → Desk
 desk_of s = record {
@@ -205,7 +205,7 @@ abbrev pub StandsIn : Stage → ℕ → View → Type 0
 StandsIn Free realm v = IsFree realm v
 StandsIn (Tagged i held) realm v = IsTagged realm held v (is_bound v.doc.bound i)
 StandsIn (Waits name held) realm v = IsWaiting realm name held v
-StandsIn (Done why) realm v = Unit {0}
+StandsIn (Done why in_hand) realm v = Unit {0}
 
 -- Batches that were made ahead are there, or none.
 abbrev pub AreAhead : List Batch → List Batch → Type 0

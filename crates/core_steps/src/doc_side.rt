@@ -9,7 +9,7 @@ ghost use Rattle.speculation.specs.Asking.{page_limit};
 ghost use Rattle.core_steps.specs.Fetches.{fetched_of};
 ghost use Rattle.core_steps.specs.Sides.{first_shown, with_piece, with_ending, journaled, with_fetch, IsRequestFor, sent_before, DoesShow, awaiting, standing_of, left_to_do, IsReplayed};
 ghost use Rattle.core_steps.specs.States.{standing_told};
-ghost use Rattle.core_steps.specs.Tallies.{tally_of};
+ghost use Rattle.core_steps.specs.Tallies.{IsTallyOf};
 
 use crate::fetch::Fetch;
 use crate::journal::Journal;
@@ -233,7 +233,7 @@ impl DocSide {
 
     /// What it comes to in numbers. After want of memory it tells nothing. The tree is walked.
     pub fn tally(&self) -> Tally
-        ensures { self.now.spent ≡ false → result ≡ tally_of self.now.desk }
+        ensures { self.now.spent ≡ false → IsTallyOf self.now.desk result }
     {
         self.side.tally()
     }

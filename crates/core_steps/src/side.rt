@@ -11,7 +11,7 @@ ghost use Rattle.core_definitions.specs.Settling.{is_empty as has_none};
 ghost use Rattle.speculation.specs.Asking.{page_limit};
 ghost use Rattle.core_steps.specs.Fetches.{fetched_of};
 ghost use Rattle.core_steps.specs.States.{standing_told};
-ghost use Rattle.core_steps.specs.Tallies.{tally_of};
+ghost use Rattle.core_steps.specs.Tallies.{AreInHand, IsTallyOf};
 ghost use Rattle.std.specs.Prelude.{◌+◌, ◌≤◌, suc};
 ghost use Rattle.standard.specs.Act.{is_bound};
 ghost use Rattle.core_definitions.specs.declared.verdict.Verdict.TheVariants as verdict;
@@ -136,7 +136,7 @@ impl Side {
     fn is_done(&self) -> bool
         ensures { result ≡ is_done (desk_of self.now).phase }
     {
-        matches!(&self.stage, Stage::Done(_))
+        matches!(&self.stage, Stage::Done(_, _))
     }
 
     /// Whether a piece may be sent.
@@ -161,7 +161,7 @@ impl Side {
             Stage::Free => !self.ledger.left().is_blank(),
             Stage::Tagged(_, _) => true,
             Stage::Waits(name, _) => self.has_arrived(name),
-            Stage::Done(_) => false,
+            Stage::Done(_, _) => false,
         }
     }
 
@@ -187,8 +187,8 @@ impl Side {
                     State::Awaits(name)
                 }
             }
-            Stage::Done(None) => State::Done,
-            Stage::Done(Some(why)) => State::Refused(*why),
+            Stage::Done(None, _) => State::Done,
+            Stage::Done(Some(why), _) => State::Refused(*why),
             _ => State::Running,
         }
     }
@@ -269,9 +269,23 @@ impl Side {
         self.writer.lines()
     }
 
-    /// What it comes to in numbers. Each script of the page that was in hand took a realm of ids, and each that failed one more and an epoch.
+    // How many scripts are in hand, or were where the page was refused.
+    fn in_hand(&self) -> u64
+        ensures { AreInHand (desk_of self.now).phase result }
+    {
+        match &self.stage {
+            Stage::Free => 0,
+            Stage::Tagged(_, _) => 1,
+            Stage::Waits(_, _) => 1,
+            Stage::Done(None, _) => 0,
+            Stage::Done(Some(_), in_hand) => u64::from(*in_hand),
+        }
+    }
+
+    /// What it comes to in numbers. Each script of the page that was in hand took a realm of ids, and each that failed one more and an epoch. A
+    /// script that is in hand is neither kept nor failed.
     pub fn tally(&self) -> Tally
-        ensures { result ≡ tally_of (desk_of self.now) }
+        ensures { IsTallyOf (desk_of self.now) result }
     {
         let Counts { epoch, realm, .. } = &self.counts;
         let failed = epoch.saturating_sub(1);
@@ -279,7 +293,8 @@ impl Side {
             scripts: self.writer.executed(),
             kept: u64::from(*realm)
                 .saturating_sub(*epoch)
-                .saturating_sub(failed),
+                .saturating_sub(failed)
+                .saturating_sub(self.in_hand()),
             failed,
             nodes: count_nodes(self.writer.doc().tree()),
             written: self.writer.written(),
@@ -395,12 +410,12 @@ impl Side {
         }
     }
 
-    // The parse is over.
-    fn end_parse(&mut self, why: Option<Why>)
-        ensures { self.new ≡ ended why self.old }
+    // The parse is over, perhaps with a script in hand.
+    fn end_parse(&mut self, why: Option<Why>, in_hand: bool)
+        ensures { self.new ≡ ended why in_hand self.old }
     {
         self.ready = Batches::new(self.alloc);
-        self.stage = Stage::Done(why);
+        self.stage = Stage::Done(why, in_hand);
     }
 
     // A realm that no element's id has, and the next behind it.
@@ -450,10 +465,10 @@ impl Side {
         match self.execute_batch()? {
             Halt::At(Stop::InputEnd) => {}
             Halt::At(Stop::Script(id)) => self.meet_end_tag(id)?,
-            Halt::At(Stop::Deep) => self.end_parse(Some(Why::Depth)),
-            Halt::Finishing(Finish::Finished) => self.end_parse(None),
-            Halt::Finishing(Finish::Deep) => self.end_parse(Some(Why::Depth)),
-            Halt::Refusing(why) => self.end_parse(Some(why)),
+            Halt::At(Stop::Deep) => self.end_parse(Some(Why::Depth), false),
+            Halt::Finishing(Finish::Finished) => self.end_parse(None, false),
+            Halt::Finishing(Finish::Deep) => self.end_parse(Some(Why::Depth), false),
+            Halt::Refusing(why) => self.end_parse(Some(why), false),
         }
         Ok(())
     }
@@ -489,7 +504,7 @@ impl Side {
                 self.settle(held)
             }
             Some(Fetch::Faulted) => {
-                self.end_parse(Some(Why::Fault));
+                self.end_parse(Some(Why::Fault), true);
                 Ok(())
             }
         }
@@ -504,7 +519,7 @@ impl Side {
         match self.writer.feed_left(&self.table)? {
             Left::Empty => self.judge(held)?,
             Left::Awaits(name) => self.stage = Stage::Waits(name, held),
-            Left::Limit(overrun) => self.end_parse(Some(why_of(overrun))),
+            Left::Limit(overrun) => self.end_parse(Some(why_of(overrun)), true),
         }
         Ok(())
     }
@@ -557,7 +572,7 @@ impl Side {
             Stage::Free => self.run_batch(),
             Stage::Tagged(id, held) => self.run_tagged(id, held),
             Stage::Waits(name, held) => self.run_awaited(&name, held),
-            Stage::Done(_) => Ok(()),
+            Stage::Done(_, _) => Ok(()),
         }
     }
 

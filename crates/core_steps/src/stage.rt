@@ -12,6 +12,6 @@ pub(crate) enum Stage {
     Tagged(NodeId, Machine),
     /// A script that awaits the file of that name, and that parser.
     Waits(Text, Machine),
-    /// The parse is over: why it is refused, if it is.
-    Done(Option<Why>),
+    /// The parse is over: why it is refused, if it is, and whether a script was in hand then.
+    Done(Option<Why>, bool),
 }

@@ -1,8 +1,8 @@
 -- What contracts see of files in memory with calls that fail.
-use Rattle.std.specs.Prelude.{ℕ, ◌+◌, ◌-◌, ◌^◌, min, List, Some}
+use Rattle.std.specs.Prelude.{ℕ, ◌+◌, ◌-◌, ◌^◌, min, Bool, List}
 use Rattle.outside.specs.ByPort.{at_port}
-use Rattle.outside.specs.Outside.{Files, Paths, Seen}
-use Rattle.outside.specs.Memory.{files_of, left_of, begun_of, absences_of}
+use Rattle.outside.specs.Outside.{Files, Paths, Calls, Seen}
+use Rattle.outside.specs.Memory.{files_of, left_of, begun_of, calls_of, open_of, absences_of, seen_with}
 use Rattle.outside.specs.declared.traits.Port.{Port}
 use Rattle.outside.specs.declared.mem_files.MemFiles.{MemFiles}
 
@@ -15,6 +15,12 @@ left_in all = left_of all.files
 abbrev pub begun_in : MemFiles → Port → Paths
 begun_in all = begun_of all.files
 
+abbrev pub calls_in : MemFiles → Port → Calls
+calls_in all = calls_of all.files
+
+abbrev pub open_in : MemFiles → Port → Bool
+open_in all = open_of all.files
+
 abbrev pub faults_in : MemFiles → Port → ℕ
 faults_in all = at_port all.faults
 
@@ -22,7 +28,7 @@ abbrev pub absences_in : MemFiles → Port → ℕ
 absences_in all = absences_of all.files
 
 abbrev pub shown : MemFiles → Seen
-shown all = record { files = Some (files_in all); left = λ port. Some (left_in all port); begun = begun_in all; faults = faults_in all; absences = absences_in all }
+shown all = seen_with (faults_in all) all.files
 
 -- the calls that are to fail: the port, and the call's number at that port
 abbrev pub failing : MemFiles → List (Port × ℕ)

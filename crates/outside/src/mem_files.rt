@@ -1,9 +1,9 @@
 // Files in memory, where the calls that a list names fail.
-ghost use Rattle.std.specs.Prelude.{◌≡◌, ◌↔◌, ◌<◌, ◌≤◌, ◌+◌, ◌-◌, ◌^◌, [], ◌∷◌, Some, None, min, length, take, drop, if◌then◌else◌, IsTrue, IsErr, IfOk, IfSome, IsSome, OnOk, OnErr, Contains};
+ghost use Rattle.std.specs.Prelude.{◌≡◌, ◌↔◌, ◌<◌, ◌≤◌, ◌+◌, ◌-◌, ◌^◌, [], ◌∷◌, Some, None, false, min, length, take, drop, if◌then◌else◌, IsTrue, IsErr, IfOk, IfSome, IsSome, OnOk, OnErr, Contains};
 ghost use Rattle.std.specs.Bool.{OnTrue, OnFalse};
 ghost use Rattle.std.specs.Str.{bytes_eq};
 ghost use Rattle.outside.specs.ByPort.{at_port};
-ghost use Rattle.outside.specs.Outside.{Rose, NeverFall, OthersStay, Begun, KeepsOthers};
+ghost use Rattle.outside.specs.Outside.{Rose, NeverFall, OthersStay, Begun, begins, reads, Called, KeepsOthers};
 
 use crate::by_port::ByPort;
 use crate::{Failed, NeverFails, Outside, Port};
@@ -35,7 +35,7 @@ fn is_listed(calls: &[(Port, u64)], port: Port, number: u64) -> bool
 }
 
 impl MemFiles {
-    ghost use Rattle.outside.specs.MemFiles.{files_in, begun_in, shown, failing, number_at, most_in};
+    ghost use Rattle.outside.specs.MemFiles.{files_in, begun_in, calls_in, shown, failing, number_at, most_in};
 
     /// No file, nothing begun, and the list of the calls that are to fail. A read gives as many bytes as its piece takes.
     pub fn new(alloc: Global, fail: &[(Port, u64)]) -> Result<Self, NoMemory>
@@ -44,6 +44,7 @@ impl MemFiles {
         ensures most { IfOk result (λ all. most_in all ≡ usize.MAX) }
         ensures number { IfOk result (λ all. (port : _) → number_at all port ≡ 1) }
         ensures begun { IfOk result (λ all. (port : _) → begun_in all port ≡ Some []) }
+        ensures called { IfOk result (λ all. (port : _) → calls_in all port ≡ Some []) }
     {
         Ok(MemFiles {
             files: NeverFails::new(alloc),
@@ -112,7 +113,7 @@ impl MemFiles {
 }
 
 impl Outside for MemFiles {
-    ghost use Rattle.outside.specs.MemFiles.{files_in, left_in, begun_in, faults_in, absences_in, shown, failing, number_at, most_in};
+    ghost use Rattle.outside.specs.MemFiles.{files_in, left_in, begun_in, calls_in, open_in, faults_in, absences_in, shown, failing, number_at, most_in};
 
     ghost seen = { shown };
 
@@ -130,6 +131,10 @@ impl Outside for MemFiles {
         ensures none_left { IfOk result (λ there. OnFalse there (left_in self.new port ≡ [])) }
         ensures none_left_failed { OnErr result (left_in self.new port ≡ []) }
         ensures begun { Begun (begun_in self.old port) (begun_in self.new port) (path.now ∷ []) }
+        ensures calls { Called (calls_in self.old port) (calls_in self.new port)
+            (begins path.now result ∷ []) }
+        ensures opened { IfOk result (λ there. open_in self.new port ≡ there) }
+        ensures not_opened { OnErr result (open_in self.new port ≡ false) }
         ensures absences_rose { IfOk result (λ there. OnFalse there (Rose (absences_in self.old port) (absences_in self.new port))) }
         ensures faults_rose { OnErr result (Rose (faults_in self.old port) (faults_in self.new port)) }
         ensures no_fault { OnOk result (faults_in self.new port ≡ faults_in self.old port) }
@@ -137,7 +142,7 @@ impl Outside for MemFiles {
     {
         if self.fails(port) {
             self.count_fault(port);
-            self.files.close(port, path);
+            self.files.close(port, path, Failed);
             return Err(Failed);
         }
         self.files.begin(port, path)
@@ -159,6 +164,9 @@ impl Outside for MemFiles {
         ensures end { IfOk result (λ n. n ≡ 0 → 0 < length into.old → left_in self.old port ≡ []) }
         ensures failed { OnErr result (left_in self.new port ≡ left_in self.old port) }
         ensures begun { begun_in self.new ≡ begun_in self.old }
+        ensures calls { Called (calls_in self.old port) (calls_in self.new port)
+            (reads (length into.old) result ∷ []) }
+        ensures open_at { open_in self.new ≡ open_in self.old }
         ensures faults_rose { OnErr result (Rose (faults_in self.old port) (faults_in self.new port)) }
         ensures absences { absences_in self.new ≡ absences_in self.old }
         ensures no_fault { OnOk result (faults_in self.new port ≡ faults_in self.old port) }
@@ -166,9 +174,9 @@ impl Outside for MemFiles {
     {
         if self.fails(port) {
             self.count_fault(port);
+            self.files.fail_read(port, into.len(), Failed);
             return Err(Failed);
         }
-        let most = into.len().min(self.most);
-        self.files.read(port, &mut into[..most])
+        Ok(self.files.read_at_most(port, into, self.most))
     }
 }

@@ -1,7 +1,7 @@
 // The traits of the outside.
 ghost use Rattle.std.specs.Prelude.{◌≡◌, ◌<◌, ◌≤◌, ◌++◌, [], ◌∷◌, ℕ, List, Option, Some, None, Bool, false, length, take, drop, IfOk, IfSome, OnOk, OnErr, IsSome, IsTrue};
 ghost use Rattle.std.specs.Bool.{OnTrue, OnFalse};
-ghost use Rattle.outside.specs.Outside.{Seen, Rose, Begun, KeepsOthers};
+ghost use Rattle.outside.specs.Outside.{Seen, Rose, Begun, begins, reads, Called, KeepsOthers};
 
 /// What a file is read for. At each port one file is read at a time.
 #[derive(Clone, Copy, PartialEq, Eq)]
@@ -20,9 +20,9 @@ pub struct Failed;
 
 /// Files that are read by port.
 pub trait Outside {
-    /// What contracts see: the files, what each port has left to read (where nothing is begun that is nothing) and the
-    /// paths that were begun at it so far, where an outside tells them; and of each port how often a call has failed and
-    /// how often a file wasn't there.
+    /// What contracts see: the files, what each port has left to read (where nothing is begun that is nothing), the
+    /// paths that were begun at it and the calls that were made so far, where an outside tells them; and of each port
+    /// whether a file is open, how often a call has failed and how often a file wasn't there.
     ghost seen: { Self → Seen };
 
     /// Begins the file at this path anew. `false` says that there is no such file; the port then has nothing left,
@@ -38,6 +38,12 @@ pub trait Outside {
 
         // Whatever it answers, the path is one more of those that were begun.
         ensures begun { Begun ((seen self.old).begun port) ((seen self.new).begun port) (path.now ∷ []) }
+        ensures calls { Called ((seen self.old).calls port) ((seen self.new).calls port)
+            (begins path.now result ∷ []) }
+
+        // A file is open at the port from then on exactly where the answer is true.
+        ensures opened { IfOk result (λ there. (seen self.new).open_at port ≡ there) }
+        ensures not_opened { OnErr result ((seen self.new).open_at port ≡ false) }
 
         ensures absences_rose { IfOk result (λ there. OnFalse there (Rose ((seen self.old).absences port) ((seen self.new).absences port))) }
         ensures faults_rose { OnErr result (Rose ((seen self.old).faults port) ((seen self.new).faults port)) }
@@ -56,6 +62,9 @@ pub trait Outside {
         ensures failed { OnErr result ((seen self.new).left port ≡ (seen self.old).left port) }
 
         ensures begun { (seen self.new).begun ≡ (seen self.old).begun }
+        ensures calls { Called ((seen self.old).calls port) ((seen self.new).calls port)
+            (reads (length into.old) result ∷ []) }
+        ensures open_at { (seen self.new).open_at ≡ (seen self.old).open_at }
         ensures absences { (seen self.new).absences ≡ (seen self.old).absences }
         ensures faults_rose { OnErr result (Rose ((seen self.old).faults port) ((seen self.new).faults port)) }
         ensures no_fault { OnOk result ((seen self.new).faults port ≡ (seen self.old).faults port) }

@@ -89,8 +89,8 @@ module _ (asked : PageAsked) (before after' : Seen) where
   fault_page es (got page) may parsed e = by_cause page may (fault_met (world_of es page.scripts) page.read page.outcome parsed (fault_result _ e))
     where
       by_cause : (page : PageMet) → MayGivePage asked.page asked.dir before after' (got page) → (page.read.fault ≡ true) ⊎ ((name : List ℕ) × (page.scripts name ≡ fetched.faulted)) → FaultRose before after'
-      by_cause page may (inl fault) = inr (inl (may.read.cause fault))
-      by_cause page may (inr met) = inr (inr (subst (λ f. MayFetch asked.dir before after' met.0 f) met.1 (may.scripts.each met.0)))
+      by_cause page may (inl fault) = inr (inl (may.0.read.cause fault))
+      by_cause page may (inr met) = let failed = subst (λ f. MayFetch asked.dir before after' met.0 f) met.1 (may.0.scripts.each met.0) in inr (inr failed.0)
 
   fault_over : (table : Option Table) (page : Given PageMet) → MayGivePage asked.page asked.dir before after' page → ((es : Table) → table ≡ Some es → IsParsed es page)
       → status.ReadFault ≡ (answer_over asked.dump table page).0 → FaultRose before after'
@@ -102,7 +102,7 @@ module _ (asked : PageAsked) (before after' : Seen) where
       → status.ReadFault ≡ (answer_to asked.dump entities page).0 → FaultRose before after'
   fault_of unmet page may may' parsed e = absurd (cc e)
   fault_of missing page may may' parsed e = absurd (cc e)
-  fault_of faulted page may may' parsed e = inl may
+  fault_of faulted page may may' parsed e = inl may.0
   fault_of (got bytes) page may may' parsed e = fault_over (table_of bytes) page may' (λ es is. parsed bytes es refl is) e
 
 -- ---- the made page

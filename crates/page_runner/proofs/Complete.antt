@@ -73,7 +73,7 @@ fetch_told dir before after map name fetched.missing told none may =
     let at : file_at before (path_of dir name) ≡ Some (map (path_of dir name)) = ap (option_map (λ m. m (path_of dir name))) told in
     let is : map (path_of dir name) ≡ None = absent_told (file_at before (path_of dir name)) (AbsencesRose Script before after) (map (path_of dir name)) at may in
     sym (ap fetched_of is)
-fetch_told dir before after map name fetched.faulted told none may = absurd (none may)
+fetch_told dir before after map name fetched.faulted told none may = absurd (none may.0)
 
 -- so the scripts are those of the folder
 pub scripts_told : (dir : List ℕ) (before after : Seen) (map : Files) (scripts : List ℕ → Fetched) → before.files ≡ Some map → ¬ (FaultsRose Script before after) → AreScriptsOf dir before after scripts
@@ -89,7 +89,7 @@ module _ (asked : PageAsked) (before after : Seen) (map : Files) (told : before.
   file_told : (path : List ℕ) → file_at before path ≡ Some (map path)
   file_told path = ap (option_map (λ m. m path)) told
 
-  read_page : (bytes : List ℕ) (fault : Bool) (scripts : List ℕ → Fetched) (end : Outcome) → IsPageOf (file_at before asked.page) (after.left Page) (FaultsRose Page before after) (NoFault Page before after) (record { bytes = bytes; fault = fault })
+  read_page : (bytes : List ℕ) (fault : Bool) (scripts : List ℕ → Fetched) (end : Outcome) → IsPageOf asked.page before after (record { bytes = bytes; fault = fault })
       → AreScriptsOf asked.dir before after scripts → ComesTo (world_of es scripts) (record { bytes = bytes; fault = fault }) end
       → Gives rose t t' (status_with end.result, output_with asked.dump end) r → Finishes asked.dump t t' r o
   read_page bytes true scripts end may are parsed gives = absurd (none' (may.cause refl))
@@ -106,7 +106,7 @@ module _ (asked : PageAsked) (before after : Seen) (map : Files) (told : before.
   met_page unmet may parsed gives = memory_only rose t t' r gives unless
   met_page missing may parsed gives = absurd (cc (some_at (file_at before asked.page) (λ f. f ≡ None) (Some page) (file_told asked.page ∙ ap Some there) may.1))
   met_page faulted may parsed gives = absurd (none' may.0)
-  met_page (got p) may parsed gives = read_page p.read.bytes p.read.fault p.scripts p.outcome may.read may.scripts parsed gives
+  met_page (got p) may parsed gives = read_page p.read.bytes p.read.fault p.scripts p.outcome may.0.read may.0.scripts parsed gives
 
   met_entities : (entities : List ℕ) (given : Given (List ℕ)) (given' : Given PageMet) → map asked.entities ≡ Some entities → table_of entities ≡ Some es
       → MayGive ENTITIES_LIMIT Entities asked.entities before after given → MayGivePage asked.page asked.dir before after given'
@@ -114,7 +114,7 @@ module _ (asked : PageAsked) (before after : Seen) (map : Files) (told : before.
       → Gives rose t t' (answer_to asked.dump given given') r → Finishes asked.dump t t' r o
   met_entities entities unmet given' at table may may' parsed gives = memory_only rose t t' r gives unless
   met_entities entities missing given' at table may may' parsed gives = absurd (cc (some_at (file_at before asked.entities) (λ f. f ≡ None) (Some entities) (file_told asked.entities ∙ ap Some at) may.1))
-  met_entities entities faulted given' at table may may' parsed gives = absurd (none may)
+  met_entities entities faulted given' at table may may' parsed gives = absurd (none may.0)
   met_entities entities (got bytes) given' at table may may' parsed gives =
       let read = some_at (file_at before asked.entities) (λ f. IsSomeAnd f (λ whole. bytes ≡ take (ENTITIES_LIMIT + 1) whole)) (Some entities) (file_told asked.entities ∙ ap Some at) may.0 in
       let all : bytes ≡ entities = read ∙ all_taken ENTITIES_LIMIT entities (table_fits entities es table) in

@@ -1,5 +1,6 @@
 pub mod PageFaults
 pub mod RunLemmas
+pub mod TakenLemmas
 pub mod OnTwoLemmas
 pub mod ReportLemmas
 pub mod Complete

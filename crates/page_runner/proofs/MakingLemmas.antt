@@ -31,7 +31,7 @@ use Rattle.tally_laws.proofs.Tallying.{tallies-as-serial}
 use Rattle.core_steps.specs.Journals.{found}
 use Rattle.core_steps.specs.Sides.{Shown, ShowsIn, IsReplayed}
 use Rattle.core_steps.specs.declared.tally.Tally.{Tally}
-use Rattle.core_steps.specs.Tallies.{nodes_below, tally_of}
+use Rattle.core_steps.specs.Tallies.{nodes_below, AreInHand, tally_of, IsTallyOf}
 use Rattle.page_maker.specs.Made.{made_page, named_script, made_scripts}
 use Rattle.page_maker.specs.declared.page.MadeScript.{MadeScript as ScriptFile}
 use Rattle.made_laws.proofs.MadePages.{is-in_ascii, is-read_as_made}
@@ -151,7 +151,7 @@ module _ (asked : MakeWords) (few : asked.count ≤ 50000) (before after : Seen)
   file-there = ap (option_map (λ m. m (codes "page"))) told ∙ ap Some page_there
 
   -- the page that was read is the page that was made
-  pub read-as_made : (page : PageRead) → IsPageOf (file_at before (codes "page")) (after.left Page) (FaultsRose Page before after) (NoFault Page before after) page → page_at page ≡ page_made asked
+  pub read-as_made : (page : PageRead) → IsPageOf (codes "page") before after page → page_at page ≡ page_made asked
   read-as_made page is = by page.fault refl
     where
       by : (b : Bool) → page.fault ≡ b → page_at page ≡ page_made asked
@@ -171,10 +171,10 @@ module _ (asked : MakeWords) (few : asked.count ≤ 50000) (before after : Seen)
   settled-at t t' absent r may parsed gives = absurd (cc (some_at (file_at before (codes "page")) (λ f. f ≡ None) (Some (made_page asked.number asked.count)) file-there may.1))
   settled-at t t' failed r may parsed gives = absurd (no_page_fault may.0)
   settled-at t t' (given page) r may parsed gives =
-      let here : IsSerial (page_at page.read) made_world page.outcome = subst (λ w. IsSerial (page_at page.read) w page.outcome) (world-is page.scripts may.scripts) parsed in
+      let here : IsSerial (page_at page.read) made_world page.outcome = subst (λ w. IsSerial (page_at page.read) w page.outcome) (world-is page.scripts may.0.scripts) parsed in
       record {
         end = page.outcome;
-        comes = subst (λ p. IsSerial p made_world page.outcome) (read-as_made page.read may.read) here;
+        comes = subst (λ p. IsSerial p made_world page.outcome) (read-as_made page.read may.0.read) here;
         status_is = given-or t t' (Rose 0 0) _ r gives never-rose;
       }
 
@@ -195,7 +195,7 @@ module _ (asked : MakeWords) (few : asked.count ≤ 50000) (before after : Seen)
           alike-sym f (file_among made_scripts name) (subst (λ x. Alike f x) is same)
 
   numbers-at : (s : Shown) (t t' : Option (List ℕ)) (o : Outcome) → IsReplayed s → Reports [] 8 false (codes "page") (codes "scripts") before after t t' s status.Done → s.desk.phase ≡ done finished →
-      IsSerial (page_made asked) made_world o → AreNumbers asked o (tally_of s.desk)
+      IsSerial (page_made asked) made_world o → AreNumbers asked o (tally_of 0 s.desk)
   numbers-at s t t' o replayed reports at_done comes =
       let met = reports.met in
       let fetches = s.journal.fetches in
@@ -231,15 +231,17 @@ module _ (asked : MakeWords) (few : asked.count ≤ 50000) (before after : Seen)
 module _ (asked : MakeWords) (few : asked.count ≤ 50000) (before after : Seen) (map : Files) (told : before.files ≡ Some map) (page_there : map (codes "page") ≡ Some (made_page asked.number asked.count))
     (scripts_there : (name : List ℕ) → fetched_of (map (path_of (codes "scripts") name)) ≡ file_among made_scripts name)
     (no_page_fault : FaultsRose Page before after → ⊥) (no_script_fault : FaultsRose Script before after → ⊥) (t t' : Option (List ℕ)) where
-  finished-run : (s : Shown) (n : Tally) → IsSettled asked status.Done → Reports [] 8 false (codes "page") (codes "scripts") before after t t' s status.Done → IsReplayed s → (s.spent ≡ false → n ≡ tally_of s.desk) →
+  finished-run : (s : Shown) (n : Tally) → IsSettled asked status.Done → Reports [] 8 false (codes "page") (codes "scripts") before after t t' s status.Done → IsReplayed s → (s.spent ≡ false → IsTallyOf s.desk n) →
       IsRunOf asked (made.Finished n)
   finished-run s n ended reports replayed numbers =
       let written = reports.written refl in
       let result : written.result ≡ finished = is-done written.result written.outcome_is in
       let at_done : s.desk.phase ≡ done finished = written.phase ∙ ap done result in
       let end : ended.end.result ≡ finished = elim ended.status_is [ inl is ↦ is-done ended.end.result is | inr is ↦ absurd (cc is) ] in
-      let all : AreNumbers asked ended.end (tally_of s.desk) = numbers-at asked few before after map told page_there scripts_there no_page_fault no_script_fault s t t' ended.end replayed reports at_done ended.comes in
-      (ended.end, ended.comes, (end, subst (λ z. AreNumbers asked ended.end z) (sym (numbers written.going)) all))
+      let (k, in_hand, counted) = numbers written.going in
+      let none : k ≡ 0 = subst (λ p. AreInHand p k) at_done in_hand in
+      let all : AreNumbers asked ended.end (tally_of 0 s.desk) = numbers-at asked few before after map told page_there scripts_there no_page_fault no_script_fault s t t' ended.end replayed reports at_done ended.comes in
+      (ended.end, ended.comes, (end, subst (λ z. AreNumbers asked ended.end z) (sym (counted ∙ ap (λ j. tally_of j s.desk) none)) all))
 
   refused-run : (r : Status) → IsSettled asked r → r ≢ status.Done → r ≢ status.NoMemory → IsRunOf asked (made.Refused r)
   refused-run r ended other memory = by ended.end.result refl

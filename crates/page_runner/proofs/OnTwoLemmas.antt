@@ -17,12 +17,13 @@ use Rattle.run_laws.specs.Along.{HoldsAlong, takes_in, SendsOf, LooksAhead}
 use Rattle.run_laws.proofs.Dropping.{drops-are_over}
 use Rattle.page_turns.specs.declared.page.Failure.{Failure}
 use Rattle.page_turns.specs.declared.page.Failure.TheVariants.{Memory, Write}
-use Rattle.page_turns.specs.Along.{requests_of, Goes}
+use Rattle.page_turns.specs.Along.{AsksOf, FetchesAwaited, requests_of, Goes}
 use Rattle.page_turns.specs.Messages.{Message, TakenSoFar, MayTakeMore}
-use Rattle.page_turns.proofs.AlongLemmas.{looks_along, sends_along}
+use Rattle.page_turns.proofs.AlongLemmas.{looks_along, asks_along, awaited_along, sends_along}
 use Rattle.page_runner.specs.declared.status.Status.{Status}
 use Rattle.page_runner.specs.Answers.{status_for}
-use Rattle.page_runner.specs.OnTwo.{asks_in, requests_in, AreRepliesAt, IsJournaled, DropsFailed, IsLookingAhead}
+use Rattle.page_runner.proofs.TakenLemmas.{takes_follow}
+use Rattle.page_runner.specs.OnTwo.{asks_in, requests_in, AreRepliesAt, TakesOf, InOrder, IsAnswered, IsJournaled, DropsFailed, IsLookingAhead, IsFetchingAwaited}
 
 -- ---- the messages to the parser's side
 
@@ -52,21 +53,35 @@ taken_at_err Write (Some ms) vs exact more = inl (exact refl)
 -- ---- both ends
 
 module _ {E : Type 0} (g : InForce.Ghosts E) (es : Entities) (ahead : ℕ) (s : Shown) (l : Lanes E g) (asks : List Asked) (goes : Goes (Some asks) s) (entities : s.entities ≡ es) (credit : s.ahead ≡ ahead) (stopped : l.asked.put ≡ map Ask asks ++ Stop ∷ []) where
-  requests-are : requests_in l.asked.put ≡ goes.requests
-  requests-are = ap requests_in stopped ∙ (ap requests_of (asks-stopped asks) ∙ goes.told)
+  asks-are : asks_in l.asked.put ≡ goes.asked
+  asks-are = ap asks_in stopped ∙ (asks-stopped asks ∙ goes.told)
+
+  requests-are : requests_in l.asked.put ≡ requests_of goes.asked
+  requests-are = ap requests_of asks-are
 
   along-here : (P : Setup → Event → Desk → Type 0) → HoldsAlong P s.entities s.ahead s.journal → HoldsAlong P es ahead s.journal
   along-here P h = subst (λ n. HoldsAlong P es n s.journal) credit (subst (λ e. HoldsAlong P e s.ahead s.journal) entities h)
 
   sent-here : HoldsAlong (λ x. SendsOf (requests_in l.asked.put)) es ahead s.journal
-  sent-here = subst (λ rs. HoldsAlong (λ x. SendsOf rs) es ahead s.journal) (sym requests-are) (along-here (λ x. SendsOf goes.requests) (sends_along (Some asks) s goes))
+  sent-here = subst (λ rs. HoldsAlong (λ x. SendsOf rs) es ahead s.journal) (sym requests-are) (along-here (λ x. SendsOf (requests_of goes.asked)) (sends_along (Some asks) s goes))
 
-  pub is_journaled : (outcome : Status) (messages : List Message) → map (said g) l.answers.taken ≡ messages → AreRepliesAt outcome (takes_in s.journal.events) messages → IsJournaled g es ahead s.journal outcome l
-  is_journaled outcome messages same taken = record {
+  took-here : es ≡ g.entities → InOrder g l → IsAnswered g l → (outcome : Status) (messages : List Message) → map (said g) l.answers.taken ≡ messages → AreRepliesAt outcome (takes_in s.journal.events) messages →
+      HoldsAlong (TakesOf (map (said g) l.answers.taken)) es ahead s.journal
+  took-here table order answered outcome messages same taken =
+      let asked : HoldsAlong (λ x. AsksOf asks x.pieces) g.entities ahead s.journal =
+      subst (λ e. HoldsAlong (λ x. AsksOf asks x.pieces) e ahead s.journal) table
+      (subst (λ qs. HoldsAlong (λ x. AsksOf qs x.pieces) es ahead s.journal) (sym goes.told) (along-here (λ x. AsksOf goes.asked x.pieces) (asks_along (Some asks) s goes))) in
+      subst (λ e. HoldsAlong (TakesOf (map (said g) l.answers.taken)) e ahead s.journal) (sym table)
+      (subst (λ ms. HoldsAlong (TakesOf ms) g.entities ahead s.journal) (sym same) (takes_follow g l asks stopped order answered ahead s.journal outcome messages same taken asked))
+
+  pub is_journaled : es ≡ g.entities → InOrder g l → IsAnswered g l → (outcome : Status) (messages : List Message) → map (said g) l.answers.taken ≡ messages → AreRepliesAt outcome (takes_in s.journal.events) messages →
+      IsJournaled g es ahead s.journal outcome l
+  is_journaled table order answered outcome messages same taken = record {
     stopped = (asks, stopped);
-    sends = ap length requests-are ∙ goes.sends;
-    sent = sent-here;
+    sends = ap length asks-are ∙ goes.sends;
+    sent = subst (λ qs. HoldsAlong (λ x. AsksOf qs x.pieces) es ahead s.journal) (sym asks-are) (along-here (λ x. AsksOf goes.asked x.pieces) (asks_along (Some asks) s goes));
     taken = subst (λ ms. AreRepliesAt outcome (takes_in s.journal.events) ms) (sym same) taken;
+    took = took-here table order answered outcome messages same taken;
   }
 
   pub drops_failed : DropsFailed g es ahead s.journal l
@@ -74,3 +89,7 @@ module _ {E : Type 0} (g : InForce.Ghosts E) (es : Entities) (ahead : ℕ) (s : 
 
 pub is_looking_ahead : (es : Entities) (ahead : ℕ) (s : Shown) (asks : Option (List Asked)) → Goes asks s → s.entities ≡ es → s.ahead ≡ ahead → IsLookingAhead es ahead s.journal
 is_looking_ahead es ahead s asks goes entities credit = record { looks = subst (λ n. HoldsAlong (λ x. LooksAhead x.ahead) es n s.journal) credit (subst (λ e. HoldsAlong (λ x. LooksAhead x.ahead) e s.ahead s.journal) entities (looks_along asks s goes)) }
+
+pub is_fetching_awaited : (es : Entities) (ahead : ℕ) (s : Shown) (asks : Option (List Asked)) → Goes asks s → s.entities ≡ es → s.ahead ≡ ahead → IsFetchingAwaited es ahead s.journal
+is_fetching_awaited es ahead s asks goes entities credit =
+    record { awaited = subst (λ n. HoldsAlong (λ x. FetchesAwaited) es n s.journal) credit (subst (λ e. HoldsAlong (λ x. FetchesAwaited) e s.ahead s.journal) entities (awaited_along asks s goes)) }

@@ -1,10 +1,12 @@
 -- From the parts of a run to its answer.
 use Rattle.std.proofs.Common.{◌≡◌, ℕ, ◌≤◌, ◌+◌, List, [], ◌∷◌, ◌++◌, Bool, true, false, Option, Some, None, IfSome, flat_map, refl, sym, ap, subst, ◌∙◌, inl, inr, arith}
-use Rattle.std.specs.Prelude.{◌⊎◌, IsSome, IsSomeAnd, IsTrue}
+use Rattle.std.specs.Prelude.{◌⊎◌, IsSome, IsSomeAnd, IsTrue, Result}
+use Rattle.serial.specs.declared.script.Line.{Line}
 use Rattle.std.specs.Bool.{OnTrue, OnFalse}
 use Rattle.std.specs.Option.{option_map}
 use Rattle.html_types.specs.declared.ending.Why.TheVariants as why
-use Rattle.outside.specs.Outside.{Rose, Files, Begun, Seen, KeepsOthers}
+use Rattle.outside.specs.Outside.{Rose, Files, Begun, begins, Seen, KeepsOthers}
+use Rattle.outside.specs.declared.traits.Failed.{Failed}
 use Rattle.outside.specs.declared.traits.Port.{Port}
 use Rattle.outside.specs.declared.traits.Port.TheVariants.{Entities, Page, Script}
 use Rattle.standard.specs.Act.{Doc}
@@ -29,16 +31,18 @@ use Rattle.command_words.specs.declared.words.MakeWords.{MakeWords}
 use Rattle.command_words.specs.Words.{PageAsked, Asked, for_page, for_make}
 use Rattle.page_runner.specs.Making.{Makes, MakesTo}
 use Rattle.page_turns.specs.Given.{Given, unmet, missing, faulted, got, FaultsRose, NoFault, AbsencesRose, file_at, MayGive, AreRead, ReadTo, untouched, unbegun, begun, KeepsEntities}
+use Rattle.page_turns.specs.Calls.{CallsAt, EachWithin}
 use Rattle.page_turns.specs.Taken.{Took, TookFront}
 use Rattle.page_turns.specs.Scripts.{path_of, IsAbsent, MayFetch, ReadScriptsTo, NamesOnce, none_begun, last}
 use Rattle.page_turns.specs.Shown.{result_of}
 use Rattle.page_runner.specs.Shown.{status_of}
-use Rattle.page_turns.specs.Pages.{PageRead, page_at, world_of, AreTaken, ReadsOn, IsReadFrom, Ended, EndsWithScripts, FrontWithScripts}
+use Rattle.page_turns.specs.Pages.{PageRead, page_at, world_of, AreTaken, ReadsOn, GivenFirst, IsReadFrom, Ended, EndsWithScripts, FrontWithScripts}
 use Rattle.page_turns.specs.Turns.{LeavesAlone}
-use Rattle.page_runner.specs.Answers.{IsPageOf, PageMet, MayGivePage, FaultsOver, FaultsMet, IsParsed, Answer, status_with, answer_to_page, answer_over, answer_to, table_of, status_for, Gives, is_answered, IsBegun, PageAnswers, ReadsPage, ReadsTable, ReadsNone, answer_without, Answers, RunsTo, StopsAtEach, StopsAtLimits, BeginsEach, BeginsOnce, is_finished}
+use Rattle.page_runner.specs.Answers.{IsPageOf, PageMet, MayMeetPage, MayGivePage, FaultsOver, FaultsMet, AwaitsOver, AwaitsEach, IsParsed, Answer, status_with, answer_to_page, answer_over, answer_to, table_of, status_for, Gives, is_answered, IsBegun, PageAnswers, ReadsPage, ReadsTable, ReadsNone, answer_without, Answers, RunsTo, StopsAtEach, StopsAtLimits, BeginsEach, BeginsOnce, is_finished}
 use Rattle.outside.proofs.KeepsLemmas.{keeps-same}
 use Rattle.page_turns.proofs.KeepsLemmas.{begun_none, begun_then, begun_stays, begun_since, begun_is, rose-on, rose-stays, entities-same, entities-then, entities-others}
 use Rattle.page_turns.proofs.MeetLemmas.{names_none}
+use Rattle.page_turns.proofs.CallLemmas.{called_none, called_then, called_stays, called_since, each_none, failed_since, unbegun_each}
 use Rattle.page_turns.proofs.PageTakenLemmas.{took_nothing, front_nothing, took_then, front_then}
 
 -- ---- a status and what was written
@@ -93,14 +97,13 @@ failure_unfinished failures.Write e = cc
 -- ---- the page
 
 -- the page that a begun port gives is the file's
-page_of : (files : Option Files) (path : List ℕ) (before after : Seen) (page : PageRead) → IfSome files (λ map. IsSome (map path) × (before.left Page ≡ map path))
-    → IsReadFrom before after page → IsPageOf (option_map (λ map. map path) files) (after.left Page) (FaultsRose Page before after) (NoFault Page before after) page
-page_of None path before after page found from = record { whole = λ _. tt; no_fault = from.no_fault; cut = λ _. tt; cause = from.cause }
-page_of (Some map) path before after page found from = record {
-  whole = λ e. all_of (map path) (before.left Page) page found.0 found.1 (from.all e);
+page_of : (path : List ℕ) (before after : Seen) (page : PageRead) → IfSome before.files (λ map. IsSome (map path) × (before.left Page ≡ map path)) → IsReadFrom before after page → IsPageOf path before after page
+page_of path before after page found from = record {
+  whole = λ e. whole_of before.files found (from.all e);
   no_fault = from.no_fault;
-  cut = λ e. cut_of (map path) (before.left Page) (after.left Page) page found.0 found.1 (from.cut e);
+  cut = λ e. cut_by before.files found (from.cut e);
   cause = from.cause;
+  first = from.first;
 }
   where
     all_of : (file whole : Option (List ℕ)) (page : PageRead) → IsSome file → whole ≡ file → IfSome whole (λ bytes. bytes ≡ page.bytes) → file ≡ Some page.bytes
@@ -114,6 +117,16 @@ page_of (Some map) path before after page found from = record {
         let there = subst (λ w. IfSome w (λ all. (rest : List ℕ) × (all ≡ page.bytes ++ rest) × (left ≡ Some rest))) same cut.so_far in
         (there.0, ap Some there.1, there.2)
 
+    whole_of : (files : Option Files) → IfSome files (λ map. IsSome (map path) × (before.left Page ≡ map path)) → IfSome (before.left Page) (λ bytes. bytes ≡ page.bytes)
+        → IfSome (option_map (λ map. map path) files) (λ f. f ≡ Some page.bytes)
+    whole_of None found all = tt
+    whole_of (Some map) found all = all_of (map path) (before.left Page) page found.0 found.1 all
+
+    cut_by : (files : Option Files) → IfSome files (λ map. IsSome (map path) × (before.left Page ≡ map path)) → AreTaken (before.left Page) (after.left Page) page.bytes
+        → IfSome (option_map (λ map. map path) files) (λ f. (rest : List ℕ) × (f ≡ Some (page.bytes ++ rest)) × (after.left Page ≡ Some rest))
+    cut_by None found cut = tt
+    cut_by (Some map) found cut = cut_of (map path) (before.left Page) (after.left Page) page found.0 found.1 cut
+
 -- and what the port has left of it is told
 read_of : (files : Option Files) (path : List ℕ) (whole left : Option (List ℕ)) (read : List ℕ) → IfSome files (λ map. IsSome (map path) × (whole ≡ map path))
     → AreTaken whole left read → AreRead (option_map (λ map. map path) files) left read
@@ -126,55 +139,60 @@ read_of (Some map) path whole left read found taken = record { so_far = there (m
     there (Some all) whole some same taken = subst (λ w. IfSome w (λ all. (rest : List ℕ) × (all ≡ read ++ rest) × (left ≡ Some rest))) same taken
 
 -- what is written of an outcome depends on the tree only where the parse finished
-ended_text : (w : World) (page : PageRead) (doc : Doc) (t t' : Option (List ℕ)) (o : Told) (end : Ended w page doc t t' o) (dump : Bool)
+ended_text : (w : World) (page : PageRead) (doc : Doc) (lines : List Line) (t t' : Option (List ℕ)) (o : Told) (end : Ended w page doc lines t t' o) (dump : Bool)
     → output_with dump end.outcome ≡ flat_map line_text end.outcome.last.side.lines ++ result_with dump (result_of o) doc.tree
 unfolding output_with
-ended_text w page doc t t' o end dump =
+ended_text w page doc lines t t' o end dump =
     ap (λ r. flat_map line_text end.outcome.last.side.lines ++ result_with dump r end.outcome.last.side.doc.tree) end.result
     ∙ ap (λ x. flat_map line_text end.outcome.last.side.lines ++ result_with dump (result_of o) x) end.tree
 
 module _ (es : Table) (dump : Bool) (path dir : List ℕ) (before after : Seen) (found : IsBegun path before) where
-  pub may_page : (page : PageRead) → IsReadFrom before after page → IsPageOf (file_at before path) (after.left Page) (FaultsRose Page before after) (NoFault Page before after) page
-  may_page page from = page_of before.files path before after page found from
+  pub may_page : (page : PageRead) → IsReadFrom before after page → IsPageOf path before after page
+  may_page page from = page_of path before after page found.1 from
 
   -- the parse gave up
-  pub page_gave_up : (k k' : ℕ) (t t' : Option (List ℕ)) (f : Failure) → (f ≡ failures.Write → Rose k k') → FrontWithScripts es dir before after t t' → PageAnswers es dump path dir before after k k' t t' (status_for f)
-  page_gave_up k k' t t' f cause part =
+  pub page_gave_up : (k k' : ℕ) (t t' : Option (List ℕ)) (f : Failure) → (f ≡ failures.Write → Rose k k') → LeavesAlone dir before after → FrontWithScripts es dir before after t t'
+      → PageAnswers es dump path dir before after k k' t t' (status_for f)
+  page_gave_up k k' t t' f cause alone part =
       let end = has_outcome (page_at part.page) (world_of es part.scripts) in
       let met : PageMet = record { read = part.page; scripts = part.scripts; outcome = end.0 } in
       record {
         page = got met;
-        may = record { read = may_page part.page part.read_from; scripts = part.are_scripts };
+        may = (record { read = may_page part.page part.read_from; scripts = part.are_scripts }, alone.open_at ∙ found.0);
         faults = λ e. absurd (failure_unanswered f e);
+        awaited = part.begins;
         parsed = end.1;
         gives = gives_failure f (Rose k k') t t' (answer_to_page dump (got met)) cause (part.front dump end.0 end.1);
       }
 
   -- the parse ended, and what comes of it was written, or a front of it
-  pub page_ended : (k now_k k' : ℕ) (t now' t' : Option (List ℕ)) (doc doc' : Doc) (o : Told) (r : Status) → k ≤ now_k → EndsWithScripts es dir before after doc t now' o → doc' ≡ doc
+  pub page_ended : (k now_k k' : ℕ) (t now' t' : Option (List ℕ)) (doc doc' : Doc) (lines : List Line) (o : Told) (r : Status) → k ≤ now_k → LeavesAlone dir before after → EndsWithScripts es dir before after doc lines t now' o → doc' ≡ doc
       → Gives (Rose now_k k') now' t' (status_of o, result_with dump (result_of o) doc'.tree) r → PageAnswers es dump path dir before after k k' t t' r
-  page_ended k now_k k' t now' t' doc doc' o r later ends same gives' =
+  page_ended k now_k k' t now' t' doc doc' lines o r later alone ends same gives' =
       let gives = subst (λ d. Gives (Rose now_k k') now' t' (status_of o, result_with dump (result_of o) d.tree) r) same gives' in
       let end = ends.ended in
       let all = gives_behind (Rose now_k k') (Rose k k') t now' t' (status_of o) _ _ r (λ rose. rose-on k now_k k' later rose) end.took gives in
       record {
         page = got (record { read = ends.page; scripts = ends.scripts; outcome = end.outcome });
-        may = record { read = may_page ends.page ends.read_from; scripts = ends.are_scripts };
+        may = (record { read = may_page ends.page ends.read_from; scripts = ends.are_scripts }, alone.open_at ∙ found.0);
         faults = λ _. ends.faults;
+        awaited = ends.begins;
         parsed = end.comes;
         gives = subst (λ s. Gives (Rose k k') t t' (s, output_with dump end.outcome) r) (status_is o ∙ ap status_with (sym end.result))
-            (subst (λ l. Gives (Rose k k') t t' (status_of o, l) r) (sym (ended_text (world_of es ends.scripts) ends.page doc t now' o end dump)) all);
+            (subst (λ l. Gives (Rose k k') t t' (status_of o, l) r) (sym (ended_text (world_of es ends.scripts) ends.page doc lines t now' o end dump)) all);
       }
 
   page_read_to : ReadsOn (PAGE_LIMIT + 1) (before.left Page) (after.left Page) → ReadTo PAGE_LIMIT Page path before after
-  page_read_to reads = begun reads.read (read_of before.files path (before.left Page) (after.left Page) reads.read found reads.taken) reads.at_most
+  page_read_to reads = begun reads.read (read_of before.files path (before.left Page) (after.left Page) reads.read found.1 reads.taken) reads.at_most
 
   -- what it read
   pub page_reads : LeavesAlone dir before after → ReadsPage path dir [] before after
   page_reads alone = record {
     others = alone.keeps;
     page = page_read_to alone.read;
+    within = alone.within;
     scripts = alone.scripts;
+    scripts_within = alone.scripts_within;
     begun = begun_none _ _ alone.begun;
     names = alone.names;
   }
@@ -189,33 +207,61 @@ absent_since (Some f) file' rose rose' same on none = subst (λ f. IsAbsent f ro
 file_since : (path : List ℕ) (before now : Seen) → now.files ≡ before.files → file_at now path ≡ file_at before path
 file_since path before now same = ap (λ files. option_map (λ map. map path) files) same
 
-pub fetch_since : (port : Port) (dir : List ℕ) (before now after : Seen) (name : List ℕ) (f : Fetched) → KeepsOthers port before now → MayFetch dir now after name f → MayFetch dir before after name f
-fetch_since port dir before now after name (fetched.got bytes) keeps may = subst (λ file. IfSome file (λ f. f ≡ Some bytes)) (file_since (path_of dir name) before now keeps.files) may
-fetch_since port dir before now after name fetched.missing keeps may =
+pub fetch_since : (port : Port) (dir : List ℕ) (before now after : Seen) (name : List ℕ) (f : Fetched) → (Script ≡ port → ⊥) → KeepsOthers port before now → MayFetch dir now after name f → MayFetch dir before after name f
+fetch_since port dir before now after name (fetched.got bytes) other keeps may = subst (λ file. IfSome file (λ f. f ≡ Some bytes)) (file_since (path_of dir name) before now keeps.files) may
+fetch_since port dir before now after name fetched.missing other keeps may =
     absent_since (file_at now (path_of dir name)) (file_at before (path_of dir name)) (AbsencesRose Script now after) (AbsencesRose Script before after)
     (file_since (path_of dir name) before now keeps.files) (λ r. rose-on _ _ _ (keeps.absences Script) r) may
-fetch_since port dir before now after name fetched.faulted keeps may = rose-on _ _ _ (keeps.faults Script) may
+fetch_since port dir before now after name fetched.faulted other keeps may =
+    (rose-on _ _ _ (keeps.faults Script) may.0, failed_since Script (path_of dir name) before now after [] (called_none _ _ (keeps.calls Script other)) may.1)
+
+-- What was given before a read failed was given since, too.
+abbrev pub FirstSince : Seen → Seen → Seen → Type 0
+FirstSince before now after = (bytes : List ℕ) → GivenFirst now after bytes → GivenFirst before after bytes
+
+first_other : (before now after : Seen) → now.calls Page ≡ before.calls Page → FirstSince before now after
+first_other before now after same bytes g = record { calls = g.calls; made = called_since _ _ _ g.calls same g.made; count = g.count }
+
+-- the page was begun
+pub first_begun : (path : List ℕ) (answer : Result Bool Failed) (before now after : Seen) → CallsAt Page before now (begins path answer ∷ []) → FirstSince before now after
+first_begun path answer before now after made bytes g = record { calls = begins path answer ∷ g.calls; made = called_then _ _ _ (begins path answer ∷ []) g.calls made g.made; count = g.count }
 
 -- and so the page is the file's
-pub file_page_since : (port : Port) (path : List ℕ) (before now after : Seen) (page : PageRead) → KeepsOthers port before now → NoFault Page before now → IsPageOf (file_at now path) (after.left Page) (FaultsRose Page now after) (NoFault Page now after) page
-    → IsPageOf (file_at before path) (after.left Page) (FaultsRose Page before after) (NoFault Page before after) page
-file_page_since port path before now after page keeps quiet is = record {
+pub file_page_since : (port : Port) (path : List ℕ) (before now after : Seen) (page : PageRead) → KeepsOthers port before now → NoFault Page before now → FirstSince before now after → IsPageOf path now after page → IsPageOf path before after page
+file_page_since port path before now after page keeps quiet first is = record {
   whole = λ e. subst (λ file. IfSome file (λ f. f ≡ Some page.bytes)) (file_since path before now keeps.files) (is.whole e);
   no_fault = λ e. is.no_fault e ∙ quiet;
   cut = λ e. subst (λ file. IfSome file (λ f. (rest : List ℕ) × (f ≡ Some (page.bytes ++ rest)) × (after.left Page ≡ Some rest))) (file_since path before now keeps.files) (is.cut e);
   cause = λ e. rose-on _ _ _ (keeps.faults Page) (is.cause e);
+  first = λ e. first page.bytes (is.first e);
 }
 
--- and may be given all the same
-pub may_since : (port : Port) (path dir : List ℕ) (before now after : Seen) (page : Given PageMet) → KeepsOthers port before now → NoFault Page before now → MayGivePage path dir now after page → MayGivePage path dir before after page
-may_since port path dir before now after unmet keeps quiet may = tt
-may_since port path dir before now after missing keeps quiet may =
-    (rose-on _ _ _ (keeps.absences Page) may.0, subst (λ file. IfSome file (λ f. f ≡ None)) (file_since path before now keeps.files) may.1, may.2 ∙ quiet)
-may_since port path dir before now after faulted keeps quiet may = (rose-on _ _ _ (keeps.faults Page) may.0, may.1)
-may_since port path dir before now after (got page) keeps quiet may = record {
-  read = file_page_since port path before now after page.read keeps quiet may.read;
-  scripts = record { each = λ name. fetch_since port dir before now after name (page.scripts name) keeps (may.scripts.each name) };
+-- and may be met all the same
+pub may_meet_since : (port : Port) (path dir : List ℕ) (before now after : Seen) (page : PageMet) → (Script ≡ port → ⊥) → KeepsOthers port before now → NoFault Page before now → FirstSince before now after → MayMeetPage path dir now after page
+    → MayMeetPage path dir before after page
+may_meet_since port path dir before now after page other keeps quiet first may = record {
+  read = file_page_since port path before now after page.read keeps quiet first may.read;
+  scripts = record { each = λ name. fetch_since port dir before now after name (page.scripts name) other keeps (may.scripts.each name) };
 }
+
+pub may_since : (port : Port) (path dir : List ℕ) (before now after : Seen) (page : Given PageMet) → (Script ≡ port → ⊥) → KeepsOthers port before now → NoFault Page before now → FirstSince before now after → MayGivePage path dir now after page
+    → MayGivePage path dir before after page
+may_since port path dir before now after unmet other keeps quiet first may = tt
+may_since port path dir before now after missing other keeps quiet first may =
+    (rose-on _ _ _ (keeps.absences Page) may.0, subst (λ file. IfSome file (λ f. f ≡ None)) (file_since path before now keeps.files) may.1, may.2 ∙ quiet, may.3)
+may_since port path dir before now after faulted other keeps quiet first may = (rose-on _ _ _ (keeps.faults Page) may.0, may.1, may.2)
+may_since port path dir before now after (got page) other keeps quiet first may = (may_meet_since port path dir before now after page other keeps quiet first may.0, may.1)
+
+-- the scripts that were begun
+awaits_over : (table : Option Table) (dir : List ℕ) (before now after : Seen) (page : PageMet) → now.begun Script ≡ before.begun Script → AwaitsOver table dir page now after → AwaitsOver table dir page before after
+awaits_over None dir before now after page same none = begun_since _ _ _ [] same none
+awaits_over (Some es) dir before now after page same begins = record { names = begins.names; begun = begun_since _ _ _ _ same begins.begun; awaited = begins.awaited }
+
+awaits_since : (table : Option Table) (dir : List ℕ) (before now after : Seen) (page : Given PageMet) → now.begun Script ≡ before.begun Script → AwaitsEach table dir page now after → AwaitsEach table dir page before after
+awaits_since table dir before now after unmet same none = begun_since _ _ _ [] same none
+awaits_since table dir before now after missing same none = begun_since _ _ _ [] same none
+awaits_since table dir before now after faulted same none = begun_since _ _ _ [] same none
+awaits_since table dir before now after (got page) same begins = awaits_over table dir before now after page same begins
 
 faults_over : (table : Option Table) (before now after : Seen) (page : PageMet) → NoFault Script before now → FaultsOver table page now after → FaultsOver table page before after
 faults_over None before now after page quiet met = met ∙ quiet
@@ -229,27 +275,29 @@ faults_since table before now after faulted quiet met = met ∙ quiet
 faults_since table before now after (got page) quiet met = faults_over table before now after page quiet met
 
 -- the page was begun before
-pub page_since : (es : Table) (dump : Bool) (path dir : List ℕ) (before now after : Seen) (k k' : ℕ) (t t' : Option (List ℕ)) (result : Status) → KeepsOthers Page before now → NoFault Page before now
+pub page_since : (es : Table) (dump : Bool) (path dir : List ℕ) (before now after : Seen) (k k' : ℕ) (t t' : Option (List ℕ)) (result : Status) (path' : List ℕ) (answer : Result Bool Failed) → KeepsOthers Page before now → NoFault Page before now → CallsAt Page before now (begins path' answer ∷ [])
     → PageAnswers es dump path dir now after k k' t t' result → PageAnswers es dump path dir before after k k' t t' result
-page_since es dump path dir before now after k k' t t' result keeps quiet answers = record {
+page_since es dump path dir before now after k k' t t' result path' answer keeps quiet made answers = record {
   page = answers.page;
-  may = may_since Page path dir before now after answers.page keeps quiet answers.may;
+  may = may_since Page path dir before now after answers.page (λ e. cc e) keeps quiet (first_begun path' answer before now after made) answers.may;
   faults = λ e. faults_since (Some es) before now after answers.page (keeps.other_faults Script (λ e. cc e)) (answers.faults e);
+  awaited = awaits_since (Some es) dir before now after answers.page (keeps.begun Script (λ e. cc e)) answers.awaited;
   parsed = answers.parsed;
   gives = answers.gives;
 }
 
 -- it could not be begun
 module _ (es : Table) (dump : Bool) (path dir : List ℕ) (before after : Seen) (keeps : KeepsOthers Page before after) (k k' : ℕ) (t t' : Option (List ℕ)) where
-  pub page_faulted : (r : Status) → FaultsRose Page before after → IfSome (after.left Page) (λ rest. rest ≡ []) → Gives (Rose k k') t t' (status.ReadFault, []) r → PageAnswers es dump path dir before after k k' t t' r
-  page_faulted r rose none gives = record { page = faulted; may = (rose, none); faults = λ _. keeps.other_faults Script (λ e. cc e); parsed = tt; gives = gives }
+  pub page_faulted : (r : Status) → FaultsRose Page before after → IfSome (after.left Page) (λ rest. rest ≡ []) → after.open_at Page ≡ false → Gives (Rose k k') t t' (status.ReadFault, []) r → PageAnswers es dump path dir before after k k' t t' r
+  page_faulted r rose none closed gives = record { page = faulted; may = (rose, none, closed); faults = λ _. keeps.other_faults Script (λ e. cc e); awaited = begun_none _ _ (keeps.begun Script (λ e. cc e)); parsed = tt; gives = gives }
 
-  pub page_absent : (b : Bool) (path' : List ℕ) → b ≡ false → path' ≡ path → OnFalse b (Rose (before.absences Page) (after.absences Page)) → OnFalse b (IfSome before.files (λ map. map path' ≡ None)) → NoFault Page before after → t' ≡ t
+  pub page_absent : (b : Bool) (path' : List ℕ) → b ≡ false → path' ≡ path → OnFalse b (Rose (before.absences Page) (after.absences Page)) → OnFalse b (IfSome before.files (λ map. map path' ≡ None)) → NoFault Page before after → after.open_at Page ≡ b → t' ≡ t
       → PageAnswers es dump path dir before after k k' t t' status.Absent
-  page_absent b path' is same rose none quiet stays = record {
+  page_absent b path' is same rose none quiet closed stays = record {
     page = missing;
-    may = (on_false b is rose, none_at before.files (subst (λ p. IfSome before.files (λ map. map p ≡ None)) same (on_false b is none)), quiet);
+    may = (on_false b is rose, none_at before.files (subst (λ p. IfSome before.files (λ map. map p ≡ None)) same (on_false b is none)), quiet, closed ∙ is);
     faults = λ _. keeps.other_faults Script (λ e. cc e);
+    awaited = begun_none _ _ (keeps.begun Script (λ e. cc e));
     parsed = tt;
     gives = (refl, subst (λ k. Took t k []) (sym stays) (took_nothing t));
   }
@@ -263,11 +311,13 @@ module _ (es : Table) (dump : Bool) (path dir : List ℕ) (before after : Seen) 
       none_at (Some map) none = none
 
   pub page_unbegun : (path' : List ℕ) → path' ≡ path → IfSome (after.left Page) (λ rest. rest ≡ []) → AbsencesRose Page before after ⊎ FaultsRose Page before after → Begun (before.begun Page) (after.begun Page) (path' ∷ [])
-      → ReadsPage path dir (path ∷ []) before after
-  page_unbegun path' same none cause paths = record {
+      → (answer : Result Bool Failed) → CallsAt Page before after (begins path' answer ∷ []) → ReadsPage path dir (path ∷ []) before after
+  page_unbegun path' same none cause paths answer made = record {
     others = entities-others Page before after (λ e. cc e) keeps;
     page = unbegun none cause;
+    within = unbegun_each Page path' before after PAGE_LIMIT answer made;
     scripts = none_begun (keeps.left Script (λ e. cc e));
+    scripts_within = each_none SCRIPT_LIMIT Script before after (keeps.calls Script (λ e. cc e));
     begun = begun_is _ _ path' path same paths;
     names = names_none dir _ _ (keeps.begun Script (λ e. cc e));
   }
@@ -278,8 +328,9 @@ answers_on asked before now after k k' t t' result es reads keeps answers keeps'
   entities = got reads.bytes;
   page = answers.page;
   may_entities = (reads.given.0, keeps'.no_fault ∙ reads.given.1);
-  may_page = may_since Entities asked.page asked.dir before now after answers.page keeps (keeps.other_faults Page (λ e. cc e)) answers.may;
+  may_page = may_since Entities asked.page asked.dir before now after answers.page (λ e. cc e) keeps (keeps.other_faults Page (λ e. cc e)) (first_other before now after (keeps.calls Page (λ e. cc e))) answers.may;
   faults = λ e. subst (λ table. FaultsMet table answers.page before after) (sym reads.lists) (faults_since (Some es) before now after answers.page (keeps.other_faults Script (λ e. cc e)) (answers.faults e));
+  awaited = subst (λ table. AwaitsEach table asked.dir answers.page before after) (sym reads.lists) (awaits_since (Some es) asked.dir before now after answers.page (keeps.begun Script (λ e. cc e)) answers.awaited);
   parsed = λ bytes' es' same table'.
       let is : reads.bytes ≡ bytes' = cc in
       let one : Some es ≡ Some es' = sym reads.lists ∙ ap table_of is ∙ table' in
@@ -297,6 +348,7 @@ module _ (asked : PageAsked) (before after : Seen) (keeps : KeepsOthers Entities
     may_entities = may;
     may_page = tt;
     faults = λ _. keeps.other_faults Script (λ e. cc e);
+    awaited = begun_none _ _ (keeps.begun Script (λ e. cc e));
     parsed = λ bytes es same table. tt;
     gives = gives;
   }
@@ -357,27 +409,39 @@ none_read (Some map) path left left' found same = record { so_far = there (map p
 
 pub begun_page_read : (path : List ℕ) (before now after : Seen) → KeepsOthers Page before now → IsBegun path now → ReadTo PAGE_LIMIT Page path now after → ReadTo PAGE_LIMIT Page path before after
 begun_page_read path before now after keeps found (untouched same) =
-    begun [] (subst (λ file. AreRead file (after.left Page) []) (file_since path before now keeps.files) (none_read now.files path (now.left Page) (after.left Page) found same)) (omega arith)
+    begun [] (subst (λ file. AreRead file (after.left Page) []) (file_since path before now keeps.files) (none_read now.files path (now.left Page) (after.left Page) found.1 same)) (omega arith)
 begun_page_read path before now after keeps found (unbegun none (inl rose)) = unbegun none (inl (rose-on _ _ _ (keeps.absences Page) rose))
 begun_page_read path before now after keeps found (unbegun none (inr rose)) = unbegun none (inr (rose-on _ _ _ (keeps.faults Page) rose))
 begun_page_read path before now after keeps found (begun read taken most) =
     begun read (subst (λ file. AreRead file (after.left Page) read) (file_since path before now keeps.files) taken) most
 
 -- where the entities alone were read
-pub stops_early : (asked : PageAsked) (before after : Seen) → ReadTo ENTITIES_LIMIT Entities asked.entities before after → KeepsOthers Entities before after → StopsAtEach asked before after
-stops_early asked before after reads keeps = record {
+each_since : (limit : ℕ) (port : Port) (before now after : Seen) → now.calls port ≡ before.calls port → EachWithin limit port now after → EachWithin limit port before after
+each_since limit port before now after same each = record { calls = each.calls; made = called_since _ _ _ each.calls same each.made; within = each.within }
+
+each_still : (limit : ℕ) (port : Port) (before now after : Seen) → after.calls port ≡ now.calls port → EachWithin limit port before now → EachWithin limit port before after
+each_still limit port before now after same each = record { calls = each.calls; made = called_stays _ _ _ each.calls each.made same; within = each.within }
+
+pub stops_early : (asked : PageAsked) (before after : Seen) → ReadTo ENTITIES_LIMIT Entities asked.entities before after → EachWithin ENTITIES_LIMIT Entities before after → KeepsOthers Entities before after → StopsAtEach asked before after
+stops_early asked before after reads within keeps = record {
   entities = reads;
   page = untouched (keeps.left Page (λ e. cc e));
   scripts = none_begun (keeps.left Script (λ e. cc e));
+  entities_within = within;
+  page_within = each_none PAGE_LIMIT Page before after (keeps.calls Page (λ e. cc e));
+  scripts_within = each_none SCRIPT_LIMIT Script before after (keeps.calls Script (λ e. cc e));
 }
 
 -- the page and its scripts were read behind them
-pub stops_on : (asked : PageAsked) (paths : List (List ℕ)) (before now after : Seen) → ReadTo ENTITIES_LIMIT Entities asked.entities before now → KeepsOthers Entities before now → ReadsPage asked.page asked.dir paths now after
-    → StopsAtEach asked before after
-stops_on asked paths before now after reads keeps page = record {
+pub stops_on : (asked : PageAsked) (before now after : Seen) → ReadTo ENTITIES_LIMIT Entities asked.entities before now → EachWithin ENTITIES_LIMIT Entities before now → KeepsOthers Entities before now
+    → ReadsPage asked.page asked.dir (asked.page ∷ []) now after → StopsAtEach asked before after
+stops_on asked before now after reads within keeps page = record {
   entities = read_still ENTITIES_LIMIT asked.entities before now after reads page.others;
   page = page_since_entities asked.page before now after keeps page.page;
   scripts = scripts_since_entities asked.dir before now after keeps page.scripts;
+  entities_within = each_still ENTITIES_LIMIT Entities before now after page.others.calls within;
+  page_within = each_since PAGE_LIMIT Page before now after (keeps.calls Page (λ e. cc e)) page.within;
+  scripts_within = each_since SCRIPT_LIMIT Script before now after (keeps.calls Script (λ e. cc e)) page.scripts_within;
 }
 
 -- what was begun at the ports
@@ -397,22 +461,30 @@ begins_on asked path before now after same paths keeps page = record {
 }
 
 -- the page was begun, and read
-pub reads_since : (path dir path' : List ℕ) (before now after : Seen) → path' ≡ path → KeepsOthers Page before now → Begun (before.begun Page) (now.begun Page) (path' ∷ []) → IsBegun path now → ReadsPage path dir [] now after
-    → ReadsPage path dir (path ∷ []) before after
-reads_since path dir path' before now after same keeps paths found reads = record {
+pub reads_since : (path dir path' : List ℕ) (before now after : Seen) → path' ≡ path → KeepsOthers Page before now → Begun (before.begun Page) (now.begun Page) (path' ∷ []) → (answer : Result Bool Failed) → CallsAt Page before now (begins path' answer ∷ []) → IsBegun path now
+    → ReadsPage path dir [] now after → ReadsPage path dir (path ∷ []) before after
+reads_since path dir path' before now after same keeps paths answer made found reads = record {
   others = entities-then before now after (entities-others Page before now (λ e. cc e) keeps) reads.others;
   page = begun_page_read path before now after keeps found reads.page;
+  within = record { calls = begins path' answer ∷ reads.within.calls; made = called_then _ _ _ (begins path' answer ∷ []) reads.within.calls made reads.within.made; within = λ k. reads.within.within };
   scripts = scripts_since_page dir before now after keeps reads.scripts;
+  scripts_within = each_since SCRIPT_LIMIT Script before now after (keeps.calls Script (λ e. cc e)) reads.scripts_within;
   begun = begun_then _ _ _ (path ∷ []) [] (begun_is _ _ path' path same paths) reads.begun;
   names = subst (λ b. NamesOnce dir b (after.begun Script)) (keeps.begun Script (λ e. cc e)) reads.names;
 }
 
 -- nothing was read
 pub reads_nothing : (path dir : List ℕ) (before : Seen) → ReadsPage path dir [] before before
-reads_nothing path dir before = record { others = entities-same before; page = untouched refl; scripts = none_begun refl; begun = begun_none _ _ refl; names = names_none dir _ _ refl }
+reads_nothing path dir before = record {
+  others = entities-same before;
+  page = untouched refl;
+  within = record { calls = []; made = called_none _ _ refl; within = tt };
+  scripts = none_begun refl;
+  scripts_within = each_none SCRIPT_LIMIT Script before before refl;
+  begun = begun_none _ _ refl; names = names_none dir _ _ refl }
 
 pub page_no_memory : (es : Table) (dump : Bool) (path dir : List ℕ) (before : Seen) (k : ℕ) (t : Option (List ℕ)) → PageAnswers es dump path dir before before k k t t status.NoMemory
-page_no_memory es dump path dir before k t = record { page = unmet; may = tt; faults = λ _. refl; parsed = tt; gives = front_nothing t [] }
+page_no_memory es dump path dir before k t = record { page = unmet; may = tt; faults = λ _. refl; awaited = begun_none _ _ refl; parsed = tt; gives = front_nothing t [] }
 
 -- ---- the words
 
@@ -436,9 +508,16 @@ pub begins_asked : (asked : Option Asked) (a : Asked) (before after : Seen) → 
 begins_asked asked a before after is begins = subst (λ o. BeginsOnce o before after) is begins
 
 pub stops_at_once : (asked : Option Asked) (before : Seen) → StopsAtLimits asked before before
-stops_at_once None before = refl
-stops_at_once (Some (for_make asked)) before = refl
-stops_at_once (Some (for_page asked)) before = record { entities = untouched refl; page = untouched refl; scripts = none_begun refl }
+stops_at_once None before = (refl, refl)
+stops_at_once (Some (for_make asked)) before = (refl, refl)
+stops_at_once (Some (for_page asked)) before = record {
+  entities = untouched refl;
+  page = untouched refl;
+  scripts = none_begun refl;
+  entities_within = each_none ENTITIES_LIMIT Entities before before refl;
+  page_within = each_none PAGE_LIMIT Page before before refl;
+  scripts_within = each_none SCRIPT_LIMIT Script before before refl;
+}
 
 pub stops_asked : (asked : Option Asked) (a : Asked) (before after : Seen) → Some a ≡ asked → StopsAtLimits (Some a) before after → StopsAtLimits asked before after
 stops_asked asked a before after is stops = subst (λ o. StopsAtLimits o before after) is stops
@@ -459,11 +538,11 @@ makes_made asked a before k k' t t' result is makes = subst (λ o. MakesTo o bef
 -- ---- small steps
 
 -- the file that was begun is there
-pub found_there : (b : Bool) (before now : Seen) (path path' : List ℕ) → b ≡ true → path ≡ path' → OnTrue b (IfSome before.files (λ map. IsSome (map path) × (now.left Page ≡ map path))) → KeepsOthers Page before now → IsBegun path' now
-found_there b before now path path' is same found keeps =
+pub found_there : (b : Bool) (before now : Seen) (path path' : List ℕ) → b ≡ true → path ≡ path' → OnTrue b (IfSome before.files (λ map. IsSome (map path) × (now.left Page ≡ map path))) → now.open_at Page ≡ b → KeepsOthers Page before now → IsBegun path' now
+found_there b before now path path' is same found opened keeps =
     let there = subst (λ b. OnTrue b (IfSome before.files (λ map. IsSome (map path) × (now.left Page ≡ map path)))) is found in
-    subst (λ files. IfSome files (λ map. IsSome (map path') × (now.left Page ≡ map path'))) (sym keeps.files)
-    (subst (λ p. IfSome before.files (λ map. IsSome (map p) × (now.left Page ≡ map p))) same there)
+    (opened ∙ is, subst (λ files. IfSome files (λ map. IsSome (map path') × (now.left Page ≡ map path'))) (sym keeps.files)
+    (subst (λ p. IfSome before.files (λ map. IsSome (map p) × (now.left Page ≡ map p))) same there))
 
 pub read_to_is : (limit : ℕ) (port : Port) (path path' : List ℕ) (before after : Seen) → path ≡ path' → ReadTo limit port path before after → ReadTo limit port path' before after
 read_to_is limit port path path' before after same reads = subst (λ p. ReadTo limit port p before after) same reads

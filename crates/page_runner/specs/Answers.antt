@@ -1,5 +1,5 @@
 -- What a run answers: its status and the bytes that the sink took, as a function of what it met outside.
-use Rattle.std.specs.Prelude.{◌≡◌, ◌⊎◌, ℕ, Bool, true, false, List, [], ◌++◌, length, nat_le, if◌then◌else◌, Option, Some, None, IfSome, IsSome, IsTrue}
+use Rattle.std.specs.Prelude.{◌≡◌, ◌⊎◌, ℕ, Bool, true, false, List, [], ◌∷◌, ◌++◌, length, nat_le, if◌then◌else◌, Option, Some, None, IfSome, IsSome, IsTrue}
 use Rattle.html_types.specs.declared.ending.Why.TheVariants as why
 use Rattle.outside.specs.Outside.{Rose, Begun, Seen}
 use Rattle.outside.specs.declared.traits.Port.TheVariants.{Entities, Page, Script}
@@ -19,18 +19,20 @@ use Rattle.page_runner.specs.declared.status.Status.{Status}
 use Rattle.page_runner.specs.declared.status.Status.TheVariants as status
 use Rattle.command_words.specs.Words.{PageAsked, Asked, for_page, for_make}
 use Rattle.page_turns.specs.Given.{Given, unmet, missing, faulted, got, FaultsRose, NoFault, AbsencesRose, file_at, MayGive, ReadTo, BegunOnce, KeepsEntities}
+use Rattle.page_turns.specs.Calls.{ReadWithin, EachWithin}
 use Rattle.page_turns.specs.Taken.{Took, TookFront}
 use Rattle.page_turns.specs.Scripts.{AreScriptsOf, ReadScriptsTo, NamesOnce, world_in}
-use Rattle.page_turns.specs.Pages.{PageRead, MeetsFaults, world_of, ComesTo}
+use Rattle.page_turns.specs.Pages.{PageRead, page_at, GivenFirst, MeetsFaults, BeginsAwaited, world_of, ComesTo}
 
 -- ---- what the outside may give of the page
 
--- The page is the file, where no call failed, or where a read did the file without what the port has left.
-pub record IsPageOf (file : Option (Option (List ℕ))) (left : Option (List ℕ)) (rose none_failed : Type 0) (page : PageRead) : Type 0 where
-  pub whole : page.fault ≡ false → IfSome file (λ f. f ≡ Some page.bytes)
-  pub no_fault : page.fault ≡ false → none_failed
-  pub cut : page.fault ≡ true → IfSome file (λ f. (rest : List ℕ) × (f ≡ Some (page.bytes ++ rest)) × (left ≡ Some rest))
-  pub cause : page.fault ≡ true → rose
+-- The page is the file, where no call failed, or where a read did the file without what the port has left: what was given before that read.
+pub record IsPageOf (path : List ℕ) (before after : Seen) (page : PageRead) : Type 0 where
+  pub whole : page.fault ≡ false → IfSome (file_at before path) (λ f. f ≡ Some page.bytes)
+  pub no_fault : page.fault ≡ false → NoFault Page before after
+  pub cut : page.fault ≡ true → IfSome (file_at before path) (λ f. (rest : List ℕ) × (f ≡ Some (page.bytes ++ rest)) × (after.left Page ≡ Some rest))
+  pub cause : page.fault ≡ true → FaultsRose Page before after
+  pub first : page.fault ≡ true → GivenFirst before after page.bytes
 
 -- a page that was begun and read, what came of the scripts' names, and what its serial parse comes to
 pub record PageMet : Type 0 where
@@ -40,15 +42,16 @@ pub record PageMet : Type 0 where
 
 -- the page is the file's, and the scripts are the folder's
 pub record MayMeetPage (path dir : List ℕ) (before after : Seen) (page : PageMet) : Type 0 where
-  pub read : IsPageOf (file_at before path) (after.left Page) (FaultsRose Page before after) (NoFault Page before after) page.read
+  pub read : IsPageOf path before after page.read
   pub scripts : AreScriptsOf dir before after page.scripts
 
--- Where the page can't be begun the port has nothing left.
+-- A page that was met was begun. Where it can't be begun, no file is open at its port, which has nothing left: so a failed read of a page that
+-- was begun isn't this.
 abbrev pub MayGivePage : List ℕ → List ℕ → Seen → Seen → Given PageMet → Type 0
 MayGivePage path dir before after unmet = Unit {0}
-MayGivePage path dir before after missing = AbsencesRose Page before after × IfSome (file_at before path) (λ file. file ≡ None) × NoFault Page before after
-MayGivePage path dir before after faulted = FaultsRose Page before after × IfSome (after.left Page) (λ rest. rest ≡ [])
-MayGivePage path dir before after (got page) = MayMeetPage path dir before after page
+MayGivePage path dir before after missing = AbsencesRose Page before after × IfSome (file_at before path) (λ file. file ≡ None) × NoFault Page before after × (after.open_at Page ≡ false)
+MayGivePage path dir before after faulted = FaultsRose Page before after × IfSome (after.left Page) (λ rest. rest ≡ []) × (after.open_at Page ≡ false)
+MayGivePage path dir before after (got page) = MayMeetPage path dir before after page × (after.open_at Page ≡ true)
 
 -- A fetch of a script failed only where the serial parse stops at it. Without a table there is no fetch.
 abbrev pub FaultsOver : Option Table → PageMet → Seen → Seen → Type 0
@@ -58,6 +61,15 @@ FaultsOver (Some es) page before after = MeetsFaults (world_of es page.scripts) 
 abbrev pub FaultsMet : Option Table → Given PageMet → Seen → Seen → Type 0
 FaultsMet table (got page) before after = FaultsOver table page before after
 FaultsMet table other before after = NoFault Script before after
+
+-- Each script that was begun is one that the serial parse of the page awaits. Where there is no table or no page none was begun.
+abbrev pub AwaitsOver : Option Table → List ℕ → PageMet → Seen → Seen → Type 0
+AwaitsOver None dir page before after = Begun (before.begun Script) (after.begun Script) []
+AwaitsOver (Some es) dir page before after = BeginsAwaited (world_of es page.scripts) (page_at page.read) dir before after
+
+abbrev pub AwaitsEach : Option Table → List ℕ → Given PageMet → Seen → Seen → Type 0
+AwaitsEach table dir (got page) before after = AwaitsOver table dir page before after
+AwaitsEach table dir other before after = Begun (before.begun Script) (after.begun Script) []
 
 -- the outcome is that of the serial parse
 abbrev pub IsParsed : Table → Given PageMet → Type 0
@@ -123,23 +135,31 @@ is_answered _ = true
 
 -- ---- a run
 
--- the page at the path was begun, where the files are told
+-- The page at the path was begun: its port has all of it, where the files are told.
 abbrev pub IsBegun : List ℕ → Seen → Type 0
-IsBegun path now = IfSome now.files (λ map. IsSome (map path) × (now.left Page ≡ map path))
+IsBegun path now = (now.open_at Page ≡ true) × IfSome now.files (λ map. IsSome (map path) × (now.left Page ≡ map path))
 
 -- from where the page is begun
 pub record PageAnswers (es : Table) (dump : Bool) (path dir : List ℕ) (before after : Seen) (sink sink' : ℕ) (taken taken' : Option (List ℕ)) (result : Status) : Type 0 where
   pub page : Given PageMet
   pub may : MayGivePage path dir before after page
   pub faults : IsTrue (is_answered result) → FaultsMet (Some es) page before after
+  pub awaited : AwaitsEach (Some es) dir page before after
   pub parsed : IsParsed es page
   pub gives : Gives (Rose sink sink') taken taken' (answer_to_page dump page) result
+
+-- how far the page was read, where these were begun at its port
+abbrev pub PageWithin : List (List ℕ) → Seen → Seen → Type 0
+PageWithin [] before after = ReadWithin PAGE_LIMIT 0 Page before after
+PageWithin (path ∷ paths) before after = EachWithin PAGE_LIMIT Page before after
 
 -- What a call does outside that reads a page and its scripts: these were begun at the page's port.
 pub record ReadsPage (path dir : List ℕ) (paths : List (List ℕ)) (before after : Seen) : Type 0 where
   pub others : KeepsEntities before after
   pub page : ReadTo PAGE_LIMIT Page path before after
+  pub within : PageWithin paths before after
   pub scripts : ReadScriptsTo SCRIPT_LIMIT dir before after
+  pub scripts_within : EachWithin SCRIPT_LIMIT Script before after
   pub begun : Begun (before.begun Page) (after.begun Page) paths
   pub names : NamesOnce dir (before.begun Script) (after.begun Script)
 
@@ -170,6 +190,7 @@ pub record Answers (asked : PageAsked) (before after : Seen) (sink sink' : ℕ) 
   pub may_entities : MayGive ENTITIES_LIMIT Entities asked.entities before after entities
   pub may_page : MayGivePage asked.page asked.dir before after page
   pub faults : IsTrue (is_answered result) → FaultsMet (table_in entities) page before after
+  pub awaited : AwaitsEach (table_in entities) asked.dir page before after
   pub parsed : (bytes : List ℕ) (es : Table) → entities ≡ got bytes → table_of bytes ≡ Some es → IsParsed es page
   pub gives : Gives (Rose sink sink') taken taken' (answer_to asked.dump entities page) result
 
@@ -187,16 +208,24 @@ is_finished (status.Limit which) = true
 is_finished status.ReadFault = true
 is_finished _ = false
 
--- No file is read further than one byte past its limit.
+-- No file is read further than one byte past its limit: by what a port has left, of the file that was begun last; and where the calls are told,
+-- each file that was begun.
 pub record StopsAtEach (asked : PageAsked) (before after : Seen) : Type 0 where
   pub entities : ReadTo ENTITIES_LIMIT Entities asked.entities before after
   pub page : ReadTo PAGE_LIMIT Page asked.page before after
   pub scripts : ReadScriptsTo SCRIPT_LIMIT asked.dir before after
+  pub entities_within : EachWithin ENTITIES_LIMIT Entities before after
+  pub page_within : EachWithin PAGE_LIMIT Page before after
+  pub scripts_within : EachWithin SCRIPT_LIMIT Script before after
+
+-- no file is read
+abbrev pub ReadsNothing : Seen → Seen → Type 0
+ReadsNothing before after = (after.left ≡ before.left) × (after.calls ≡ before.calls)
 
 abbrev pub StopsAtLimits : Option Asked → Seen → Seen → Type 0
-StopsAtLimits None before after = after.left ≡ before.left
+StopsAtLimits None before after = ReadsNothing before after
 StopsAtLimits (Some (for_page asked)) before after = StopsAtEach asked before after
-StopsAtLimits (Some (for_make asked)) before after = after.left ≡ before.left
+StopsAtLimits (Some (for_make asked)) before after = ReadsNothing before after
 
 -- The entities and the page are begun once at most, so is each script, by a lawful name, and nothing else ever is.
 pub record BeginsEach (asked : PageAsked) (before after : Seen) : Type 0 where

@@ -12,7 +12,7 @@ use Rattle.serial.specs.Scripts.{Fetched, got, missing}
 use Rattle.serial.specs.Serial.{World, Result, finished, refused, Outcome, IsSerial}
 use Rattle.core_definitions.specs.Verdict.{Watch, AreVerdicts}
 use Rattle.core_steps.specs.Sides.{Shown, IsReplayed}
-use Rattle.core_steps.specs.Tallies.{nodes_below, tally_of}
+use Rattle.core_steps.specs.Tallies.{nodes_below, IsTallyOf}
 use Rattle.core_steps.specs.declared.tally.Tally.{Tally}
 use Rattle.page_maker.specs.Made.{made_page, made_scripts}
 use Rattle.page_maker.specs.declared.page.MadeScript.{MadeScript}
@@ -102,5 +102,5 @@ IsRunOf asked run = (o : Outcome) × IsSerial (page_made asked) made_world o × 
 
 -- what a report's status and document's side tell: of a parse that finished the numbers, and of another the status, where memory didn't run out
 abbrev pub Tells : Status → Option Shown → MadeRun → Type 0
-Tells outcome side (made.Finished t) = (outcome ≡ status.Done) × (s : Shown) × (side ≡ Some s) × IsReplayed s × (s.spent ≡ false → t ≡ tally_of s.desk)
+Tells outcome side (made.Finished t) = (outcome ≡ status.Done) × (s : Shown) × (side ≡ Some s) × IsReplayed s × (s.spent ≡ false → IsTallyOf s.desk t)
 Tells outcome side (made.Refused told) = (told ≡ outcome) × (outcome ≢ status.Done) × (outcome ≢ status.NoMemory)

@@ -4,11 +4,11 @@ ghost use Rattle.std.specs.String.{string_bytes};
 ghost use Rattle.serial.specs.Output.{result_with};
 ghost use Rattle.outside.specs.Outside.{Rose, Begun, KeepsOthers};
 ghost use Rattle.command_words.specs.Words.{for_page, asked, shown};
+ghost use Rattle.page_turns.specs.Calls.{EachWithin};
 ghost use Rattle.page_turns.specs.Given.{ReadTo};
 ghost use Rattle.page_turns.specs.Taken.{Took, TookFront};
 ghost use Rattle.page_turns.specs.Shown.{result_of};
 ghost use Rattle.page_runner.specs.Shown.{status_of};
-ghost use Rattle.page_runner.specs.Reports.{is_parsed};
 ghost use Rattle.page_runner.specs.Making.{MakesTo};
 ghost use Rattle.page_runner.specs.Answers.{status_for, table_of, is_finished, Gives, PageAnswers, ReadsPage, ReadsTable, ReadsNone, answer_without, Answers, RunsTo, StopsAtLimits, BeginsOnce, CompletesRun, Exactly, AbsenceRose, FaultRose};
 
@@ -107,7 +107,6 @@ pub(crate) fn end_page<K: Sink>(
 pub(crate) fn end_at_fault<K: Sink>(out: &mut K) -> Status
     ensures gives { Gives (Rose (K.faults out.old) (K.faults out.new)) (K.taken out.old) (K.taken out.new) (Status.ReadFault, []) result }
     ensures clean { IsTrue (is_finished result) → IsTrue (K.clean out.new) }
-    ensures unparsed { is_parsed result ≡ false }
 {
     match out.finish() {
         Ok(()) => Status::ReadFault,
@@ -196,6 +195,7 @@ fn read_entities<F: Outside>(alloc: Global, files: &mut F, path: &str) -> Result
     ensures table { IfOk result (λ table. ReadsTable path.now (F.seen files.old) (F.seen files.new) table) }
     ensures none { IfErr result (λ unread. ReadsNone path.now (F.seen files.old) (F.seen files.new) unread) }
     ensures no_further { ReadTo ENTITIES_LIMIT Port.Entities path.now (F.seen files.old) (F.seen files.new) }
+    ensures within { EachWithin ENTITIES_LIMIT Port.Entities (F.seen files.old) (F.seen files.new) }
     ensures begun { Begun ((F.seen files.old).begun Port.Entities) ((F.seen files.new).begun Port.Entities) (path.now ∷ []) }
     ensures others { KeepsOthers Port.Entities (F.seen files.old) (F.seen files.new) }
 {

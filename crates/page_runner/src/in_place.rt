@@ -1,7 +1,9 @@
 // A page is run with the parser's side on the calling thread.
-ghost use Rattle.std.specs.Prelude.{◌≡◌, ◌<◌, ◌≤◌, [], ◌∷◌, IfSome, IsSome, IsTrue};
+ghost use Rattle.std.specs.Prelude.{◌≡◌, ◌<◌, ◌≤◌, ◌⊎◌, [], ◌∷◌, IfSome, IsSome, IsTrue};
 ghost use Rattle.std.specs.String.{string_bytes};
-ghost use Rattle.page_runner.specs.Reports.{is_parsed, Reports};
+ghost use Rattle.page_runner.specs.Reports.{HasSide, has_run_out, IsCutByReads, Reports};
+ghost use Rattle.page_turns.specs.Cuts.{IsCut};
+ghost use Rattle.page_runner.specs.OnTwo.{IsLookingAhead, IsFetchingAwaited};
 ghost use Rattle.page_runner.specs.Answers.{is_finished, IsBegun, PageAnswers, ReadsPage};
 
 use crate::command::end_at_fault;
@@ -34,7 +36,14 @@ fn run_begun<E: InForce, F: Outside, K: Sink>(
     ensures clean { IsTrue (is_finished result.outcome) → IsTrue (K.clean out.new) }
     ensures reports { IfSome result.side (λ side. Reports job.now.table.now job.now.ahead job.now.dump (string_bytes job.now.page) (string_bytes job.now.dir)
         (F.seen files.old) (F.seen files.new) (K.taken out.old) (K.taken out.new) side result.outcome) }
-    ensures side { IsTrue (is_parsed result.outcome) → IsSome result.side }
+    ensures side { IsSome result.side ⊎ ((result.outcome ≡ Status.NoMemory)
+        × (F.seen files.new ≡ F.seen files.old) × (K.taken out.new ≡ K.taken out.old)) }
+    ensures cut { IfSome result.side (λ side. IsCut job.now.piece (has_run_out result.outcome)
+        (F.seen files.old) (F.seen files.new) side.journal.pieces) }
+    ensures looks_ahead { IfSome result.side (λ side. IsLookingAhead job.now.table.now job.now.ahead
+        side.journal) }
+    ensures fetches { IfSome result.side (λ side. IsFetchingAwaited job.now.table.now job.now.ahead
+        side.journal) }
 {
     let (mut room, mut side) = match begin_run(alloc, job) {
         Err(NoMemory) => {
@@ -72,7 +81,17 @@ pub fn page_in_place<F: Outside, K: Sink>(
     ensures clean { IsTrue (is_finished result.outcome) → IsTrue (K.clean out.new) }
     ensures reports { IfSome result.side (λ side. Reports job.now.table.now job.now.ahead job.now.dump (string_bytes job.now.page) (string_bytes job.now.dir)
         (F.seen files.old) (F.seen files.new) (K.taken out.old) (K.taken out.new) side result.outcome) }
-    ensures side { IsTrue (is_parsed result.outcome) → IsSome result.side }
+    ensures side { HasSide (string_bytes job.now.page) (F.seen files.old) (F.seen files.new)
+        (K.taken out.old) (K.taken out.new) result.outcome result.side }
+    // How the page was cut: a piece for each read.
+    ensures cut { IfSome result.side (λ side. IsCutByReads job.now.piece (string_bytes job.now.page)
+        (F.seen files.old) (F.seen files.new) result.outcome side.journal.pieces) }
+    // As far as the credit and the page go requests are sent first, and a script is fetched where
+    // it is awaited.
+    ensures looks_ahead { IfSome result.side (λ side. IsLookingAhead job.now.table.now job.now.ahead
+        side.journal) }
+    ensures fetches { IfSome result.side (λ side. IsFetchingAwaited job.now.table.now job.now.ahead
+        side.journal) }
 {
     match files.begin(Port::Page, job.page.as_str()) {
         Err(Failed) => Report {

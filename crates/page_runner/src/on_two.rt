@@ -1,13 +1,14 @@
 // A page is run with the parser's side in a thread of its own.
-ghost use Rattle.std.specs.Prelude.{◌≡◌, ◌<◌, ◌≤◌, [], ◌∷◌, ◌++◌, length, map, Some, None, IfOk, IfSome, IsSome, IsTrue};
+ghost use Rattle.std.specs.Prelude.{◌≡◌, ◌<◌, ◌≤◌, ◌⊎◌, [], ◌∷◌, ◌++◌, length, map, Some, None, IfOk, IfSome, IsSome, IsTrue};
 ghost use Rattle.std.specs.String.{string_bytes};
 ghost use Rattle.parser_thread.specs.declared.messages.ToParser.TheVariants as message;
 ghost use Rattle.parser_thread.specs.Answers.{said};
 ghost use Rattle.parser_thread.specs.Running.{IsRunning};
 ghost use Rattle.core_steps.specs.Sides.{first_shown};
-ghost use Rattle.page_runner.specs.Reports.{is_parsed, Reports};
+ghost use Rattle.page_runner.specs.Reports.{HasSide, has_run_out, IsCutByReads, Reports};
+ghost use Rattle.page_turns.specs.Cuts.{IsCut};
 ghost use Rattle.page_runner.specs.Answers.{is_finished, IsBegun, PageAnswers, ReadsPage};
-ghost use Rattle.page_runner.specs.OnTwo.{IfBoth, InOrder, IsAnswered, IsJournaled, DropsFailed, IsLookingAhead};
+ghost use Rattle.page_runner.specs.OnTwo.{IfBoth, InOrder, IsAnswered, IsJournaled, DropsFailed, IsLookingAhead, IsFetchingAwaited};
 
 use crate::command::end_at_fault;
 use crate::report::Report;
@@ -135,7 +136,7 @@ fn begin_on_two<
     requires piece { 0 < job.now.piece }
     requires some { 0 < job.now.ahead }
     requires few { job.now.ahead ≤ 64 }
-    ensures room { IfOk result (λ begun. 0 < length begun.0.items) }
+    ensures room { IfOk result (λ begun. length begun.0.items ≡ job.now.piece) }
     ensures side { IfOk result (λ begun. begun.1 ≡ first_shown job.now.table.now job.now.ahead) }
     ensures running { IfOk result (λ begun. IsRunning E.InForce begun.2) }
     ensures first { IfOk result (λ begun. (begun.2.ask.put ≡ []) × (begun.2.replies.taken ≡ [])) }
@@ -171,12 +172,18 @@ fn run_on_two<
     ensures clean { IsTrue (is_finished result.outcome) → IsTrue (K.clean out.new) }
     ensures reports { IfSome result.side (λ side. Reports job.now.table.now job.now.ahead job.now.dump (string_bytes job.now.page) (string_bytes job.now.dir)
         (F.seen files.old) (F.seen files.new) (K.taken out.old) (K.taken out.new) side result.outcome) }
-    ensures side { IsTrue (is_parsed result.outcome) → IsSome result.side }
+    ensures side { IsSome result.side ⊎ ((result.outcome ≡ Status.NoMemory)
+        × (F.seen files.new ≡ F.seen files.old) × (K.taken out.new ≡ K.taken out.old)) }
+    ensures cut { IfSome result.side (λ side. IsCut job.now.piece (has_run_out result.outcome)
+        (F.seen files.old) (F.seen files.new) side.journal.pieces) }
     ensures in_order { IfSome result.ends (λ ends. InOrder E.InForce ends) }
     ensures answered { IfSome result.ends (λ ends. IsAnswered E.InForce ends) }
     ensures journaled { IfBoth result.side result.ends (λ side ends. IsJournaled E.InForce job.now.table.now job.now.ahead side.journal result.outcome ends) }
     ensures dropped { IfBoth result.side result.ends (λ side ends. DropsFailed E.InForce job.now.table.now job.now.ahead side.journal ends) }
-    ensures looks_ahead { IfSome result.side (λ side. IsLookingAhead job.now.table.now job.now.ahead side.journal) }
+    ensures looks_ahead { IfSome result.side (λ side. IsLookingAhead job.now.table.now job.now.ahead
+        side.journal) }
+    ensures fetches { IfSome result.side (λ side. IsFetchingAwaited job.now.table.now job.now.ahead
+        side.journal) }
     ensures ends { IfSome result.side (λ _. IsSome result.ends) }
 {
     let Ok((mut room, mut side, running)) = begin_on_two::<R, E, G>(rt, alloc, job, gate) else {
@@ -220,14 +227,21 @@ pub fn page_on_two<
     ensures clean { IsTrue (is_finished result.outcome) → IsTrue (K.clean out.new) }
     ensures reports { IfSome result.side (λ side. Reports job.now.table.now job.now.ahead job.now.dump (string_bytes job.now.page) (string_bytes job.now.dir)
         (F.seen files.old) (F.seen files.new) (K.taken out.old) (K.taken out.new) side result.outcome) }
-    ensures side { IsTrue (is_parsed result.outcome) → IsSome result.side }
+    ensures side { HasSide (string_bytes job.now.page) (F.seen files.old) (F.seen files.new)
+        (K.taken out.old) (K.taken out.new) result.outcome result.side }
+    // How the page was cut: a piece for each read.
+    ensures cut { IfSome result.side (λ side. IsCutByReads job.now.piece (string_bytes job.now.page)
+        (F.seen files.old) (F.seen files.new) result.outcome side.journal.pieces) }
 
     // What went through both lanes.
     ensures in_order { IfSome result.ends (λ ends. InOrder E.InForce ends) }
     ensures answered { IfSome result.ends (λ ends. IsAnswered E.InForce ends) }
     ensures journaled { IfBoth result.side result.ends (λ side ends. IsJournaled E.InForce job.now.table.now job.now.ahead side.journal result.outcome ends) }
     ensures dropped { IfBoth result.side result.ends (λ side ends. DropsFailed E.InForce job.now.table.now job.now.ahead side.journal ends) }
-    ensures looks_ahead { IfSome result.side (λ side. IsLookingAhead job.now.table.now job.now.ahead side.journal) }
+    ensures looks_ahead { IfSome result.side (λ side. IsLookingAhead job.now.table.now job.now.ahead
+        side.journal) }
+    ensures fetches { IfSome result.side (λ side. IsFetchingAwaited job.now.table.now job.now.ahead
+        side.journal) }
     ensures ends { IfSome result.side (λ _. IsSome result.ends) }
 {
     match files.begin(Port::Page, job.page.as_str()) {

@@ -1,6 +1,6 @@
 // What came of a page.
-ghost use Rattle.std.specs.Prelude.{◌≡◌, Some, None, false, IfSome};
-ghost use Rattle.core_steps.specs.Tallies.{tally_of};
+ghost use Rattle.std.specs.Prelude.{◌≡◌, None, false, IfSome, IsSomeAnd};
+ghost use Rattle.core_steps.specs.Tallies.{IsTallyOf};
 
 use crate::status::Status;
 use core_steps::{DocSide, Tally};
@@ -19,8 +19,8 @@ pub(crate) struct Run {
 pub struct Report<E: InForce> {
     /// How the run ended.
     pub outcome: Status,
-    /// The document's side as it ended, with the document and the journal: none where the page wasn't begun, or memory ran out before there
-    /// was one. Where memory ran out later, or writing failed, the journal has the events before that.
+    /// The document's side as it ended, with the document and the journal: none where the page wasn't begun, or memory ran out before anything
+    /// of it was read. Where memory ran out later, or writing failed, the journal has the events before that.
     pub side: Option<DocSide>,
     /// What went through both lanes between the document's side and the parser's side: none where there were no lanes.
     pub ends: Option<Lanes<E>>,
@@ -30,7 +30,8 @@ impl<E: InForce> Report<E> {
     /// What the run came to in numbers, where the page was begun. After want of memory they tell nothing. The tree is walked.
     pub fn tally(&self) -> Option<Tally>
         ensures none { self.now.side ≡ None → result ≡ None }
-        ensures some { IfSome self.now.side (λ side. side.spent ≡ false → result ≡ Some (tally_of side.desk)) }
+        ensures some { IfSome self.now.side (λ side. side.spent ≡ false
+            → IsSomeAnd result (IsTallyOf side.desk)) }
     {
         match &self.side {
             Some(side) => Some(side.tally()),

@@ -5,7 +5,8 @@ ghost use Rattle.core_steps.specs.Sides.{first_shown};
 ghost use Rattle.run_laws.specs.Along.{takes_in};
 ghost use Rattle.page_turns.specs.Along.{Goes};
 ghost use Rattle.page_turns.specs.Turns.{no_load};
-ghost use Rattle.page_runner.specs.Reports.{Reports};
+ghost use Rattle.page_turns.specs.Cuts.{IsCut};
+ghost use Rattle.page_runner.specs.Reports.{has_run_out, Reports};
 ghost use Rattle.page_runner.specs.OnTwo.{AreRepliesAt};
 ghost use Rattle.page_runner.specs.Answers.{is_finished, IsBegun, PageAnswers, ReadsPage};
 
@@ -43,6 +44,8 @@ pub(crate) fn run_with<E: InForce, L: Counterpart<E>, F: Outside, K: Sink>(
     ensures clean { IsTrue (is_finished result) → IsTrue (K.clean out.new) }
     ensures reports { Reports job.now.table.now job.now.ahead job.now.dump (string_bytes job.now.page) (string_bytes job.now.dir)
         (F.seen files.old) (F.seen files.new) (K.taken out.old) (K.taken out.new) doc.new result }
+    ensures cut { IsCut (length room.old) (has_run_out result) (F.seen files.old) (F.seen files.new)
+        doc.new.journal.pieces }
     ensures goes { Goes (L.put lanes.new) doc.new }
     ensures messages { IfSome (L.taken lanes.new) (λ messages. AreRepliesAt result (takes_in doc.new.journal.events) messages) }
 {
@@ -57,7 +60,7 @@ pub(crate) fn begin_run(alloc: Global, job: &Job<'_>) -> Result<(Vec<u8>, DocSid
     requires piece { 0 < job.now.piece }
     requires some { 0 < job.now.ahead }
     requires few { job.now.ahead ≤ 64 }
-    ensures room { IfOk result (λ begun. 0 < length begun.0.items) }
+    ensures room { IfOk result (λ begun. length begun.0.items ≡ job.now.piece) }
     ensures side { IfOk result (λ begun. begun.1 ≡ first_shown job.now.table.now job.now.ahead) }
 {
     let room = vec![in alloc; 0u8; job.piece]?;

@@ -1,7 +1,7 @@
 -- What holds along the events so far holds along one more, and in each run.
 use Rattle.std.proofs.Common.{◌≡◌, ℕ, zero, suc, ◌+◌, nat_lt, Bool, true, false, true≢false, List, [], ◌∷◌, ◌++◌, length, map, Option, Some, None, Ok, Err, refl, sym, ◌∙◌, ap, subst, inl, inr, append-nil, append_assoc, length-append, arith}
 use Rattle.std.specs.Prelude.{◌⊎◌, Result, OnOk, OnErr, IsTrue, IfSome, not, ◌&&◌, slice_get}
-use Rattle.std.specs.Option.{option_map}
+use Rattle.std.specs.List.{AllByRecursion}
 use Rattle.std.proofs.lemmas.List.{map-append}
 use Rattle.std.proofs.lemmas.Bool.{and_parts}
 use Rattle.html_types.specs.declared.ending.Ending.{Ending}
@@ -12,18 +12,22 @@ use Rattle.serial.specs.Serial.{World}
 use Rattle.core_definitions.specs.declared.event.Event.{Event}
 use Rattle.core_definitions.specs.declared.event.Event.TheVariants.{Send, Pick, Give, Take, Do, Arrive}
 use Rattle.core_definitions.specs.Batches.{Piece, of_text, of_ending}
-use Rattle.core_definitions.specs.Core.{Setup, Request, request_for}
+use Rattle.core_definitions.specs.Core.{Setup, Request, request_for, joined}
 use Rattle.core_definitions.specs.Desk.{Phase, free, tagged, waits, done, Desk, first_desk, pieces_with, with_more, outstanding, is_done, is_free, can_send, wants_reply, can_do, can_do_in, can_arrive, sends_first, sends, takes, Moves}
 use Rattle.core_definitions.specs.Settling.{is_empty}
+use Rattle.core_definitions.specs.StandsFor.{text_of}
 use Rattle.core_definitions.specs.Journal.{Journal, Knows, IsPageOf, IsRunOf}
 use Rattle.core_laws.proofs.Handing.{more-may_follow}
 use Rattle.speculation.specs.Asking.{Asked}
-use Rattle.core_steps.specs.Sides.{Shown, first_shown, ShowsIn, Shows, DoesShow, journaled, with_piece, with_ending, with_fetch, IsRequestFor}
+use Rattle.core_steps.specs.Fetches.{names_of}
+use Rattle.core_steps.specs.Sides.{Shown, first_shown, ShowsIn, Shows, DoesShow, journaled, with_piece, with_ending, with_fetch, sent_before, IsRequestFor}
 use Rattle.core_steps.proofs.Counts.{counts-same}
 use Rattle.run_laws.specs.Along.{MovesWith, HoldsAlong, sends_in, IsForFirst, SendsOf, IsSentAhead, LooksAhead}
-use Rattle.page_turns.specs.Along.{Stays, MayDo, Hands, IsSentSoFar, LooksSoFar, GoesSoFar, requests_of, Goes}
+use Rattle.page_turns.specs.Along.{Stays, MayDo, Hands, IsSentSoFar, LooksSoFar, AsksOf, IsAwaitedIn, FetchesAwaited, GoesSoFar, requests_of, HasArrived, Goes}
+use Rattle.page_turns.specs.Messages.{Adds}
 use Rattle.page_turns.specs.Turns.{StaysRead}
-use Rattle.page_turns.proofs.ReachLemmas.{pieces-more}
+use Rattle.page_turns.proofs.DeskLemmas.{text-append}
+use Rattle.page_turns.proofs.ReachLemmas.{joined-append, pieces-more}
 
 -- ---- events one behind another
 
@@ -54,13 +58,13 @@ get-last : {A : Type 0} (xs : List A) (x : A) → slice_get (xs ++ x ∷ []) (le
 get-last [] x = refl
 get-last (z ∷ xs) x = get-last xs x
 
-sends-longer : (rs more : List Request) (v : Event) (d : Desk) → SendsOf rs v d → SendsOf (rs ++ more) v d
-sends-longer rs more Send d (r, at, for) = (r, get-more rs more d.sent r at, for)
-sends-longer rs more Pick d s = s
-sends-longer rs more Give d s = s
-sends-longer rs more Take d s = s
-sends-longer rs more Do d s = s
-sends-longer rs more (Arrive name) d s = s
+asks-longer : (asks more : List Asked) (pieces : List (List ℕ)) (v : Event) (d : Desk) → AsksOf asks pieces v d → AsksOf (asks ++ more) pieces v d
+asks-longer asks more pieces Send d (a, at, for, from) = (a, get-more asks more d.sent a at, for, from)
+asks-longer asks more pieces Pick d s = s
+asks-longer asks more pieces Give d s = s
+asks-longer asks more pieces Take d s = s
+asks-longer asks more pieces Do d s = s
+asks-longer asks more pieces (Arrive name) d s = s
 
 for-first : (ps : List Piece) (d : Desk) (r : Request) → IsRequestFor ps d r → IsForFirst ps d r
 for-first [] d r for = for
@@ -70,45 +74,44 @@ for-more : (ps xs : List Piece) (d : Desk) (r : Request) → IsForFirst ps d r �
 for-more [] xs d r for = absurd for
 for-more (p ∷ ps) xs d r for = for
 
-sends-more : (rs : List Request) (xs : List Piece) (v : Event) (d : Desk) → SendsOf rs v d → SendsOf rs v (with_more xs d)
-sends-more rs xs Send d (r, at, for) = (r, at, for-more d.to_send xs d r for)
-sends-more rs xs Pick d s = s
-sends-more rs xs Give d s = s
-sends-more rs xs Take d s = s
-sends-more rs xs Do d s = s
-sends-more rs xs (Arrive name) d s = s
+-- so many characters more are to be sent as the page has more
+asks-more : (asks : List Asked) (pieces pieces' : List (List ℕ)) (xs : List Piece) → length (joined pieces') ≡ length (joined pieces) + length (text_of xs) → (v : Event) (d : Desk) → AsksOf asks pieces v d
+    → AsksOf asks pieces' v (with_more xs d)
+asks-more asks pieces pieces' xs longer Send d (a, at, for, from) =
+    let text : length (text_of (d.to_send ++ xs)) ≡ length (text_of d.to_send) + length (text_of xs) = ap (λ t. length t) (text-append d.to_send xs) ∙ length-append (text_of d.to_send) (text_of xs) in
+    (a, at, for-more d.to_send xs d a.request for, omega (arith, longer, text, from))
+asks-more asks pieces pieces' xs longer Pick d s = s
+asks-more asks pieces pieces' xs longer Give d s = s
+asks-more asks pieces pieces' xs longer Take d s = s
+asks-more asks pieces pieces' xs longer Do d s = s
+asks-more asks pieces pieces' xs longer (Arrive name) d s = s
 
-full-of : (ahead : ℕ) (d : Desk) → IsSentSoFar ahead None d → nat_lt (outstanding d) ahead ≡ false
-full-of ahead d (inl full) = full
-full-of ahead d (inr (some, nil)) = absurd (true≢false (sym some))
+awaited-more : (xs : List Piece) (v : Event) (d : Desk) → FetchesAwaited v d → FetchesAwaited v (with_more xs d)
+awaited-more xs Send d s = s
+awaited-more xs Pick d s = s
+awaited-more xs Give d s = s
+awaited-more xs Take d s = s
+awaited-more xs Do d s = s
+awaited-more xs (Arrive name) d s = s
 
-looks-more : (ahead : ℕ) (o : Option Ending) (xs : List Piece) (v : Event) (d : Desk) → LooksSoFar ahead None v d → LooksSoFar ahead o v (with_more xs d)
-looks-more ahead o xs Send d l = tt
-looks-more ahead o xs Pick d l = tt
-looks-more ahead o xs Give d l = tt
-looks-more ahead o xs Take d l = tt
-looks-more ahead o xs Do d l = inl (full-of ahead d l)
-looks-more ahead o xs (Arrive name) d l = inl (full-of ahead d l)
+text-pieces : (ts : List (List ℕ)) (o : Option Ending) → text_of (pieces_with ts o) ≡ joined ts
+text-pieces [] None = refl
+text-pieces [] (Some e) = refl
+text-pieces (t ∷ ts) o = ap (λ l. t ++ l) (text-pieces ts o)
 
-looks-behind : (ahead : ℕ) (xs : List Piece) (v : Event) (d : Desk) → LooksSoFar ahead None v d → LooksAhead ahead v (with_more xs d)
-looks-behind ahead xs Send d l = tt
-looks-behind ahead xs Pick d l = tt
-looks-behind ahead xs Give d l = tt
-looks-behind ahead xs Take d l = tt
-looks-behind ahead xs Do d l = inl (full-of ahead d l)
-looks-behind ahead xs (Arrive name) d l = inl (full-of ahead d l)
+-- the requests among them are those of the Sends
+request-at : (asks : List Asked) (k : ℕ) (a : Asked) → slice_get asks k ≡ Some a → slice_get (requests_of asks) k ≡ Some a.request
+request-at [] k a at = absurd (cc at)
+request-at (x ∷ asks) zero a at = let same : x ≡ a = cc in ap (λ (z : Asked). Some z.request) same
+request-at (x ∷ asks) (suc k) a at = request-at asks k a at
 
-ahead-of : (ahead : ℕ) (o : Option Ending) (d : Desk) → IsSentSoFar ahead o d → IsSentAhead ahead d
-ahead-of ahead o d (inl full) = inl full
-ahead-of ahead o d (inr (some, nil)) = inr nil
-
-looks-whole : (ahead : ℕ) (o : Option Ending) (v : Event) (d : Desk) → LooksSoFar ahead o v d → LooksAhead ahead v d
-looks-whole ahead o Send d l = tt
-looks-whole ahead o Pick d l = tt
-looks-whole ahead o Give d l = tt
-looks-whole ahead o Take d l = tt
-looks-whole ahead o Do d l = ahead-of ahead o d l
-looks-whole ahead o (Arrive name) d l = ahead-of ahead o d l
+pub asks-send : (asks : List Asked) (pieces : List (List ℕ)) (v : Event) (d : Desk) → AsksOf asks pieces v d → SendsOf (requests_of asks) v d
+asks-send asks pieces Send d (a, at, for, from) = (a.request, request-at asks d.sent a at, for)
+asks-send asks pieces Pick d s = tt
+asks-send asks pieces Give d s = tt
+asks-send asks pieces Take d s = tt
+asks-send asks pieces Do d s = tt
+asks-send asks pieces (Arrive name) d s = tt
 
 -- ---- counts
 
@@ -167,11 +170,7 @@ do-going (done r) d e = absurd (true≢false (sym e))
 -- ---- the events of a run
 
 pub goes_first : (es : Entities) (ahead : ℕ) (asks : Option (List Asked)) (s : Shown) → IfSome asks (λ all. all ≡ []) → s ≡ first_shown es ahead → Goes asks s
-goes_first es ahead asks s none is = subst (Goes asks) (sym is) (record { requests = []; told = by asks none; count = refl; sends = refl; along = λ w entities knows. (first_desk [], refl, refl) })
-  where
-    by : (o : Option (List Asked)) → IfSome o (λ all. all ≡ []) → IfSome o (λ all. requests_of all ≡ [])
-    by None h = tt
-    by (Some all) h = ap requests_of h
+goes_first es ahead asks s none is = subst (Goes asks) (sym is) (record { asked = []; told = none; count = refl; sends = refl; arrived = tt; along = λ w entities knows. (first_desk [], refl, refl) })
 
 -- ---- what is handed in
 
@@ -264,130 +263,175 @@ stays_read old new is = subst (λ z. StaysRead old z) (sym is) refl
 
 -- nothing of desk and journal was changed
 pub goes_stays : (asks : Option (List Asked)) (s s' : Shown) → Stays s s' → Goes asks s → Goes asks s'
-goes_stays asks s s' is g = subst (Goes asks) (sym is) (record { requests = g.requests; told = g.told; count = g.count; sends = g.sends; along = g.along })
+goes_stays asks s s' is g = subst (Goes asks) (sym is) (record { asked = g.asked; told = g.told; count = g.count; sends = g.sends; arrived = g.arrived; along = g.along })
+
+-- whatever was put
+pub goes_forget : (asks : Option (List Asked)) (s : Shown) → Goes asks s → Goes None s
+goes_forget asks s g = record { asked = g.asked; told = tt; count = g.count; sends = g.sends; arrived = g.arrived; along = g.along }
 
 pub goes_same : (asks asks' : Option (List Asked)) (s : Shown) → asks' ≡ asks → Goes asks s → Goes asks' s
 goes_same asks asks' s same g = subst (λ o. Goes o s) (sym same) g
 
 module _ (asks : Option (List Asked)) (s : Shown) (g : Goes asks s) where
+  abbrev Was : Option Ending → Event → Desk → Type 0
+  Was o = GoesSoFar g.asked s.journal.pieces s.ahead o
+
   -- one event more, which is no Send
-  same-sends : (v : Event) → sends_in (v ∷ []) ≡ 0 → length g.requests ≡ sends_in (s.journal.events ++ v ∷ [])
+  same-sends : (v : Event) → sends_in (v ∷ []) ≡ 0 → length g.asked ≡ sends_in (s.journal.events ++ v ∷ [])
   same-sends v none = let all = sends-then s.journal.events v in let was = g.sends in omega (arith, all, was, none)
 
-  pub goes_sent : (asks' : Option (List Asked)) (q : Asked) (s' : Shown) → asks' ≡ option_map (λ all. all ++ q ∷ []) asks → IsTrue (can_send s.ahead s.desk) → IsRequestFor s.desk.to_send s.desk q.request → s' ≡ journaled Send (sends s.desk) s → Goes asks' s'
-  goes_sent asks' q s' put can for is = subst (Goes asks') (sym is) (record {
-    requests = g.requests ++ q.request ∷ [];
-    told = subst (λ o. IfSome o (λ all. requests_of all ≡ g.requests ++ q.request ∷ [])) (sym put) (told-of asks g.told);
-    count = let longer = length-append g.requests (q.request ∷ []) in let was = g.count in let more = sends-sent s.desk.to_send s.desk q.request for in omega (arith, longer, was, more);
-    sends = let longer = length-append g.requests (q.request ∷ []) in let was = g.sends in let more = sends-then s.journal.events Send in omega (arith, longer, was, more);
+  arrived-more : (v : Event) (names : List (List ℕ)) → AllByRecursion (λ name. HasArrived name s.journal.events) names → AllByRecursion (λ name. HasArrived name (s.journal.events ++ v ∷ [])) names
+  arrived-more v [] all = tt
+  arrived-more v (name ∷ names) ((earlier, later, is), all) =
+      ((earlier, later ++ v ∷ [], ap (λ l. l ++ v ∷ []) is ∙ append_assoc earlier (Arrive name ∷ later) (v ∷ [])), arrived-more v names all)
+
+  abbrev Now : Asked → Event → Desk → Type 0
+  Now q = GoesSoFar (g.asked ++ q ∷ []) s.journal.pieces s.ahead s.journal.ending
+
+  pub goes_sent : (asks' : Option (List Asked)) (q : Asked) (s' : Shown) → Adds asks asks' q → IsTrue (can_send s.ahead s.desk) → IsRequestFor s.desk.to_send s.desk q.request → q.from ≡ sent_before s
+      → s' ≡ journaled Send (sends s.desk) s → Goes asks' s'
+  goes_sent asks' q s' put can for from is = subst (Goes asks') (sym is) (record {
+    asked = g.asked ++ q ∷ [];
+    told = told-of asks asks' put g.told;
+    count = let longer = length-append g.asked (q ∷ []) in let was = g.count in let more = sends-sent s.desk.to_send s.desk q.request for in omega (arith, longer, was, more);
+    sends = let longer = length-append g.asked (q ∷ []) in let was = g.sends in let more = sends-then s.journal.events Send in omega (arith, longer, was, more);
+    arrived = arrived-more Send (names_of s.journal.fetches) g.arrived;
     along = along;
   })
     where
-      told-of : (o : Option (List Asked)) → IfSome o (λ all. requests_of all ≡ g.requests) → IfSome (option_map (λ all. all ++ q ∷ []) o) (λ all. requests_of all ≡ g.requests ++ q.request ∷ [])
-      told-of None h = tt
-      told-of (Some all) h = map-append (λ (a : Asked). a.request) all (q ∷ []) ∙ ap (λ rs. rs ++ q.request ∷ []) h
+      told-of : (o o' : Option (List Asked)) → Adds o o' q → IfSome o (λ all. all ≡ g.asked) → IfSome o' (λ all. all ≡ g.asked ++ q ∷ [])
+      told-of o None put h = tt
+      told-of None (Some now) put h = absurd put
+      told-of (Some all) (Some now) put h = put ∙ ap (λ l. l ++ q ∷ []) h
 
       going : is_done s.desk.phase ≡ false
       going = not-done s.desk.phase (and_parts _ _ (and_parts _ _ can).0).0
 
       along : (w : World) → w.entities ≡ s.entities → Knows s.journal.fetches w →
-          (d : Desk) × MovesWith (GoesSoFar (g.requests ++ q.request ∷ []) s.ahead s.journal.ending) s.ahead w (s.journal.events ++ Send ∷ []) (first_desk (pieces_with s.journal.pieces s.journal.ending)) d × Shows d (sends s.desk)
+          (d : Desk) × MovesWith (Now q) s.ahead w (s.journal.events ++ Send ∷ []) (first_desk (pieces_with s.journal.pieces s.journal.ending)) d × Shows d (sends s.desk)
       along w entities knows =
           let (d, with, shows) = g.along w entities knows in
           let same : d ≡ s.desk = shown-going s.desk.phase d s.desk going shows in
-          let longer = with-weaker (GoesSoFar g.requests s.ahead s.journal.ending) (GoesSoFar (g.requests ++ q.request ∷ []) s.ahead s.journal.ending) s.ahead w (λ v e h. (sends-longer g.requests (q.request ∷ []) v e h.0, h.1)) s.journal.events (first_desk (pieces_with s.journal.pieces s.journal.ending)) d with in
-          let at : slice_get (g.requests ++ q.request ∷ []) s.desk.sent ≡ Some q.request = ap (λ k. slice_get (g.requests ++ q.request ∷ []) k) (sym g.count) ∙ get-last g.requests q.request in
-          let here : GoesSoFar (g.requests ++ q.request ∷ []) s.ahead s.journal.ending Send d = subst (λ e. GoesSoFar (g.requests ++ q.request ∷ []) s.ahead s.journal.ending Send e) (sym same) ((q.request, at, for-first s.desk.to_send s.desk q.request for), tt) in
+          let longer = with-weaker (Was s.journal.ending) (Now q) s.ahead w (λ v e h. (asks-longer g.asked (q ∷ []) s.journal.pieces v e h.0, h.1, h.2)) s.journal.events (first_desk (pieces_with s.journal.pieces s.journal.ending)) d with in
+          let at : slice_get (g.asked ++ q ∷ []) s.desk.sent ≡ Some q = ap (λ k. slice_get (g.asked ++ q ∷ []) k) (sym g.count) ∙ get-last g.asked q in
+          let here : Now q Send d = subst (λ e. Now q Send e) (sym same) ((q, at, for-first s.desk.to_send s.desk q.request for, from), tt, tt) in
           let step : Moves s.ahead w Send d (sends s.desk) = subst (λ e. Moves s.ahead w Send e (sends s.desk)) (sym same) (can, refl) in
-          (sends s.desk, with-then (GoesSoFar (g.requests ++ q.request ∷ []) s.ahead s.journal.ending) s.ahead w s.journal.events Send (first_desk (pieces_with s.journal.pieces s.journal.ending)) d (sends s.desk) longer here step, shows-same (sends s.desk).phase (sends s.desk))
+          (sends s.desk, with-then (Now q) s.ahead w s.journal.events Send (first_desk (pieces_with s.journal.pieces s.journal.ending)) d (sends s.desk) longer here step, shows-same (sends s.desk).phase (sends s.desk))
 
   pub goes_took : (s' : Shown) → IsTrue (wants_reply s.desk) → (takes s.entities s.desk).sent ≡ s.desk.sent → s' ≡ journaled Take (takes s.entities s.desk) s → Goes asks s'
-  goes_took s' wants sent is = subst (Goes asks) (sym is) (record { requests = g.requests; told = g.told; count = g.count ∙ sym sent; sends = same-sends Take refl; along = along })
+  goes_took s' wants sent is = subst (Goes asks) (sym is) (record { asked = g.asked; told = g.told; count = g.count ∙ sym sent; sends = same-sends Take refl; arrived = arrived-more Take (names_of s.journal.fetches) g.arrived; along = along })
     where
       going : is_done s.desk.phase ≡ false
       going = free-going s.desk.phase (and_parts _ _ (and_parts _ _ wants).0).0
 
       along : (w : World) → w.entities ≡ s.entities → Knows s.journal.fetches w →
-          (d : Desk) × MovesWith (GoesSoFar g.requests s.ahead s.journal.ending) s.ahead w (s.journal.events ++ Take ∷ []) (first_desk (pieces_with s.journal.pieces s.journal.ending)) d × Shows d (takes s.entities s.desk)
+          (d : Desk) × MovesWith (GoesSoFar g.asked s.journal.pieces s.ahead s.journal.ending) s.ahead w (s.journal.events ++ Take ∷ []) (first_desk (pieces_with s.journal.pieces s.journal.ending)) d × Shows d (takes s.entities s.desk)
       along w entities knows =
           let (d, with, shows) = g.along w entities knows in
           let same : d ≡ s.desk = shown-going s.desk.phase d s.desk going shows in
           let step : Moves s.ahead w Take d (takes s.entities s.desk) = subst (λ e. Moves s.ahead w Take e (takes s.entities s.desk)) (sym same) (wants, ap (λ es. takes es s.desk) (sym entities)) in
-          (takes s.entities s.desk, with-then (GoesSoFar g.requests s.ahead s.journal.ending) s.ahead w s.journal.events Take (first_desk (pieces_with s.journal.pieces s.journal.ending)) d (takes s.entities s.desk) with (tt, tt) step, shows-same (takes s.entities s.desk).phase (takes s.entities s.desk))
+          (takes s.entities s.desk, with-then (GoesSoFar g.asked s.journal.pieces s.ahead s.journal.ending) s.ahead w s.journal.events Take (first_desk (pieces_with s.journal.pieces s.journal.ending)) d (takes s.entities s.desk) with (tt, tt, tt) step, shows-same (takes s.entities s.desk).phase (takes s.entities s.desk))
 
   pub goes_did : (s' : Shown) → IsTrue (can_do s.desk) → IsSentSoFar s.ahead s.journal.ending s.desk → DoesShow s.entities s.journal.fetches s.desk s'.desk → s'.desk.sent ≡ s.desk.sent → s' ≡ record (journaled Do s'.desk s) { given = s'.given; spent = s'.spent } → Goes asks s'
-  goes_did s' can looks does sent is = subst (Goes asks) (sym is) (record { requests = g.requests; told = g.told; count = g.count ∙ sym sent; sends = same-sends Do refl; along = along })
+  goes_did s' can looks does sent is = subst (Goes asks) (sym is) (record { asked = g.asked; told = g.told; count = g.count ∙ sym sent; sends = same-sends Do refl; arrived = arrived-more Do (names_of s.journal.fetches) g.arrived; along = along })
     where
       going : is_done s.desk.phase ≡ false
       going = do-going s.desk.phase s.desk can
 
       along : (w : World) → w.entities ≡ s.entities → Knows s.journal.fetches w →
-          (d : Desk) × MovesWith (GoesSoFar g.requests s.ahead s.journal.ending) s.ahead w (s.journal.events ++ Do ∷ []) (first_desk (pieces_with s.journal.pieces s.journal.ending)) d × Shows d s'.desk
+          (d : Desk) × MovesWith (GoesSoFar g.asked s.journal.pieces s.ahead s.journal.ending) s.ahead w (s.journal.events ++ Do ∷ []) (first_desk (pieces_with s.journal.pieces s.journal.ending)) d × Shows d s'.desk
       along w entities knows =
           let (d, with, shows) = g.along w entities knows in
           let same : d ≡ s.desk = shown-going s.desk.phase d s.desk going shows in
           let (d', it, shows') = does w entities knows in
-          let here : GoesSoFar g.requests s.ahead s.journal.ending Do d = subst (λ e. GoesSoFar g.requests s.ahead s.journal.ending Do e) (sym same) (tt, looks) in
+          let here : GoesSoFar g.asked s.journal.pieces s.ahead s.journal.ending Do d = subst (λ e. GoesSoFar g.asked s.journal.pieces s.ahead s.journal.ending Do e) (sym same) (tt, looks, tt) in
           let step : Moves s.ahead w Do d d' = subst (λ e. Moves s.ahead w Do e d') (sym same) (can, it) in
-          (d', with-then (GoesSoFar g.requests s.ahead s.journal.ending) s.ahead w s.journal.events Do (first_desk (pieces_with s.journal.pieces s.journal.ending)) d d' with here step, shows')
+          (d', with-then (GoesSoFar g.asked s.journal.pieces s.ahead s.journal.ending) s.ahead w s.journal.events Do (first_desk (pieces_with s.journal.pieces s.journal.ending)) d d' with here step, shows')
 
-  pub goes_arrived : (name : List ℕ) (f : Fetched) (s' : Shown) → is_done s.desk.phase ≡ false → IsTrue (can_arrive name s.desk) → IsSentSoFar s.ahead s.journal.ending s.desk → s' ≡ with_fetch name f s → Goes asks s'
-  goes_arrived name f s' going can looks is = subst (Goes asks) (sym is) (record { requests = g.requests; told = g.told; count = g.count; sends = same-sends (Arrive name) refl; along = along })
+  pub goes_arrived : (name : List ℕ) (f : Fetched) (s' : Shown) → is_done s.desk.phase ≡ false → IsTrue (can_arrive name s.desk) → IsAwaitedIn name s.desk.phase → IsSentSoFar s.ahead s.journal.ending s.desk → s' ≡ with_fetch name f s → Goes asks s'
+  goes_arrived name f s' going can awaited looks is = subst (Goes asks) (sym is) (record { asked = g.asked; told = g.told; count = g.count; sends = same-sends (Arrive name) refl; arrived = ((s.journal.events, [], refl), arrived-more (Arrive name) (names_of s.journal.fetches) g.arrived); along = along })
     where
       along : (w : World) → w.entities ≡ s.entities → Knows ((name, f) ∷ s.journal.fetches) w →
-          (d : Desk) × MovesWith (GoesSoFar g.requests s.ahead s.journal.ending) s.ahead w (s.journal.events ++ Arrive name ∷ []) (first_desk (pieces_with s.journal.pieces s.journal.ending)) d × Shows d (with_fetch name f s).desk
+          (d : Desk) × MovesWith (GoesSoFar g.asked s.journal.pieces s.ahead s.journal.ending) s.ahead w (s.journal.events ++ Arrive name ∷ []) (first_desk (pieces_with s.journal.pieces s.journal.ending)) d × Shows d (with_fetch name f s).desk
       along w entities knows =
           let (d, with, shows) = g.along w entities knows.1 in
           let same : d ≡ s.desk = shown-going s.desk.phase d s.desk going shows in
           let after : Desk = (with_fetch name f s).desk in
-          let here : GoesSoFar g.requests s.ahead s.journal.ending (Arrive name) d = subst (λ e. GoesSoFar g.requests s.ahead s.journal.ending (Arrive name) e) (sym same) (tt, looks) in
+          let here : GoesSoFar g.asked s.journal.pieces s.ahead s.journal.ending (Arrive name) d = subst (λ e. GoesSoFar g.asked s.journal.pieces s.ahead s.journal.ending (Arrive name) e) (sym same) (tt, looks, awaited) in
           let step : Moves s.ahead w (Arrive name) d after = subst (λ e. Moves s.ahead w (Arrive name) e after) (sym same) (can, refl) in
-          (after, with-then (GoesSoFar g.requests s.ahead s.journal.ending) s.ahead w s.journal.events (Arrive name) (first_desk (pieces_with s.journal.pieces s.journal.ending)) d after with here step, shows-same after.phase after)
+          (after, with-then (GoesSoFar g.asked s.journal.pieces s.ahead s.journal.ending) s.ahead w s.journal.events (Arrive name) (first_desk (pieces_with s.journal.pieces s.journal.ending)) d after with here step, shows-same after.phase after)
+
+  abbrev Later : Shown → Event → Desk → Type 0
+  Later s' = GoesSoFar g.asked s'.journal.pieces s.ahead s'.journal.ending
 
   pub goes_read : (s' : Shown) → s.journal.ending ≡ None → Hands s s' → Goes asks s'
-  goes_read s' none h = subst (Goes asks) (sym h.others) (record { requests = g.requests; told = g.told; count = g.count ∙ sym (ap (λ (d : Desk). d.sent) h.desk); sends = g.sends; along = along })
+  goes_read s' none h = subst (Goes asks) (sym h.others) (record { asked = g.asked; told = g.told; count = g.count ∙ sym (ap (λ (d : Desk). d.sent) h.desk); sends = g.sends; arrived = g.arrived; along = along })
     where
+      longer : length (joined s'.journal.pieces) ≡ length (joined s.journal.pieces) + length (text_of h.pieces)
+      longer =
+          ap (λ t. length t)
+          (sym (text-pieces s'.journal.pieces s'.journal.ending) ∙ ap text_of h.page ∙ text-append (pieces_with s.journal.pieces None) h.pieces ∙ ap (λ t. t ++ text_of h.pieces) (text-pieces s.journal.pieces None))
+          ∙ length-append (joined s.journal.pieces) (text_of h.pieces)
+
       along : (w : World) → w.entities ≡ s.entities → Knows s.journal.fetches w →
-          (d : Desk) × MovesWith (GoesSoFar g.requests s.ahead s'.journal.ending) s.ahead w s.journal.events (first_desk (pieces_with s'.journal.pieces s'.journal.ending)) d × Shows d s'.desk
+          (d : Desk) × MovesWith (Later s') s.ahead w s.journal.events (first_desk (pieces_with s'.journal.pieces s'.journal.ending)) d × Shows d s'.desk
       along w entities knows =
           let (d, with, shows) = g.along w entities knows in
-          let open_ = subst (λ o. MovesWith (GoesSoFar g.requests s.ahead o) s.ahead w s.journal.events (first_desk (pieces_with s.journal.pieces o)) d) none with in
-          let more = with-more (GoesSoFar g.requests s.ahead None) (GoesSoFar g.requests s.ahead s'.journal.ending) s.ahead w h.pieces (λ v e p. (sends-more g.requests h.pieces v e p.0, looks-more s.ahead s'.journal.ending h.pieces v e p.1)) s.journal.events (first_desk (pieces_with s.journal.pieces None)) d open_ in (
+          let open_ = subst (λ o. MovesWith (Was o) s.ahead w s.journal.events (first_desk (pieces_with s.journal.pieces o)) d) none with in
+          let more = with-more (Was None) (Later s') s.ahead w h.pieces
+              (λ v e p. (asks-more g.asked s.journal.pieces s'.journal.pieces h.pieces longer v e p.0, looks-more s.ahead s'.journal.ending h.pieces v e p.1, awaited-more h.pieces v e p.2))
+              s.journal.events (first_desk (pieces_with s.journal.pieces None)) d open_ in (
             with_more h.pieces d,
-            subst (λ ps. MovesWith (GoesSoFar g.requests s.ahead s'.journal.ending) s.ahead w s.journal.events (first_desk ps) (with_more h.pieces d)) (sym h.page) more,
+            subst (λ ps. MovesWith (Later s') s.ahead w s.journal.events (first_desk ps) (with_more h.pieces d)) (sym h.page) more,
             subst (λ v. Shows (with_more h.pieces d) v) (sym h.desk) (shows-more s.desk.phase h.pieces d s.desk shows),
           )
 
   -- ---- in each run
 
-  abbrev Said : ℕ → Event → Desk → Type 0
-  Said ahead v d = SendsOf g.requests v d × LooksAhead ahead v d
+  abbrev Said : List (List ℕ) → ℕ → Event → Desk → Type 0
+  Said pieces ahead v d = AsksOf g.asked pieces v d × LooksAhead ahead v d × FetchesAwaited v d
 
-  goes-along : HoldsAlong (λ x. Said x.ahead) s.entities s.ahead s.journal
+  goes-along : HoldsAlong (λ x. Said x.pieces x.ahead) s.entities s.ahead s.journal
   goes-along x run = by s.journal.ending run.page (g.along x.world run.entities run.fetches).1
     where
       d : Desk
       d = (g.along x.world run.entities run.fetches).0
 
-      to-run : (d' : Desk) → MovesWith (Said s.ahead) s.ahead x.world s.journal.events (first_desk (pieces_with x.pieces (Some x.ending))) d' → (d' : Desk) × MovesWith (Said x.ahead) x.ahead x.world s.journal.events (first_desk (pieces_with x.pieces (Some x.ending))) d'
-      to-run d' with = (d', subst (λ n. MovesWith (Said n) n x.world s.journal.events (first_desk (pieces_with x.pieces (Some x.ending))) d') (sym run.credit) with)
+      to-run : (d' : Desk) → MovesWith (Said x.pieces s.ahead) s.ahead x.world s.journal.events (first_desk (pieces_with x.pieces (Some x.ending))) d'
+          → (d' : Desk) × MovesWith (Said x.pieces x.ahead) x.ahead x.world s.journal.events (first_desk (pieces_with x.pieces (Some x.ending))) d'
+      to-run d' with = (d', subst (λ n. MovesWith (Said x.pieces n) n x.world s.journal.events (first_desk (pieces_with x.pieces (Some x.ending))) d') (sym run.credit) with)
 
-      by : (o : Option Ending) → IsPageOf o s.journal.pieces x → MovesWith (GoesSoFar g.requests s.ahead o) s.ahead x.world s.journal.events (first_desk (pieces_with s.journal.pieces o)) d →
-          (d' : Desk) × MovesWith (Said x.ahead) x.ahead x.world s.journal.events (first_desk (pieces_with x.pieces (Some x.ending))) d'
+      by : (o : Option Ending) → IsPageOf o s.journal.pieces x → MovesWith (Was o) s.ahead x.world s.journal.events (first_desk (pieces_with s.journal.pieces o)) d →
+          (d' : Desk) × MovesWith (Said x.pieces x.ahead) x.ahead x.world s.journal.events (first_desk (pieces_with x.pieces (Some x.ending))) d'
       by None (more, all) with =
           let behind : List Piece = pieces_with more (Some x.ending) in
           let whole : pieces_with s.journal.pieces None ++ behind ≡ pieces_with x.pieces (Some x.ending) = pieces-more s.journal.pieces more x.ending ∙ ap (λ ts. pieces_with ts (Some x.ending)) (sym all) in
+          let longer : length (joined x.pieces) ≡ length (joined s.journal.pieces) + length (text_of behind) =
+          ap (λ t. length t) (ap joined all ∙ joined-append s.journal.pieces more ∙ ap (λ t. joined s.journal.pieces ++ t) (sym (text-pieces more (Some x.ending)))) ∙ length-append (joined s.journal.pieces) (text_of behind) in
           to-run (with_more behind d)
-          (subst (λ ps. MovesWith (Said s.ahead) s.ahead x.world s.journal.events (first_desk ps) (with_more behind d)) whole
-          (with-more (GoesSoFar g.requests s.ahead None) (Said s.ahead) s.ahead x.world behind (λ v e p. (sends-more g.requests behind v e p.0, looks-behind s.ahead behind v e p.1)) s.journal.events (first_desk (pieces_with s.journal.pieces None)) d with))
+          (subst (λ ps. MovesWith (Said x.pieces s.ahead) s.ahead x.world s.journal.events (first_desk ps) (with_more behind d)) whole
+          (with-more (Was None) (Said x.pieces s.ahead) s.ahead x.world behind (λ v e p. (asks-more g.asked s.journal.pieces x.pieces behind longer v e p.0, looks-behind s.ahead behind v e p.1, awaited-more behind v e p.2)) s.journal.events
+          (first_desk (pieces_with s.journal.pieces None)) d with))
       by (Some e) (all, end) with =
           let whole : pieces_with s.journal.pieces (Some e) ≡ pieces_with x.pieces (Some x.ending) = ap (λ ts. pieces_with ts (Some e)) (sym all) ∙ ap (λ y. pieces_with x.pieces (Some y)) (sym end) in
           to-run d
-          (subst (λ ps. MovesWith (Said s.ahead) s.ahead x.world s.journal.events (first_desk ps) d) whole
-          (with-weaker (GoesSoFar g.requests s.ahead (Some e)) (Said s.ahead) s.ahead x.world (λ v z p. (p.0, looks-whole s.ahead (Some e) v z p.1)) s.journal.events (first_desk (pieces_with s.journal.pieces (Some e))) d with))
+          (subst (λ ps. MovesWith (Said x.pieces s.ahead) s.ahead x.world s.journal.events (first_desk ps) d) whole
+          (with-weaker (Was (Some e)) (Said x.pieces s.ahead) s.ahead x.world (λ v z p. (subst (λ ts. AsksOf g.asked ts v z) (sym all) p.0, looks-whole s.ahead (Some e) v z p.1, p.2)) s.journal.events
+          (first_desk (pieces_with s.journal.pieces (Some e))) d with))
+
+  along-as : (P : Setup → Event → Desk → Type 0) → ((x : Setup) (v : Event) (e : Desk) → Said x.pieces x.ahead v e → P x v e) → HoldsAlong P s.entities s.ahead s.journal
+  along-as P weaker x run =
+      let (d, with) = goes-along x run in
+      (d, with-weaker (Said x.pieces x.ahead) (P x) x.ahead x.world (weaker x) s.journal.events (first_desk (pieces_with x.pieces (Some x.ending))) d with)
 
   pub looks_along : HoldsAlong (λ x. LooksAhead x.ahead) s.entities s.ahead s.journal
-  looks_along x run = let (d, with) = goes-along x run in (d, with-weaker (Said x.ahead) (LooksAhead x.ahead) x.ahead x.world (λ v e p. p.1) s.journal.events (first_desk (pieces_with x.pieces (Some x.ending))) d with)
+  looks_along = along-as (λ x. LooksAhead x.ahead) (λ x v e p. p.1)
 
-  pub sends_along : HoldsAlong (λ x. SendsOf g.requests) s.entities s.ahead s.journal
-  sends_along x run = let (d, with) = goes-along x run in (d, with-weaker (Said x.ahead) (SendsOf g.requests) x.ahead x.world (λ v e p. p.0) s.journal.events (first_desk (pieces_with x.pieces (Some x.ending))) d with)
+  pub asks_along : HoldsAlong (λ x. AsksOf g.asked x.pieces) s.entities s.ahead s.journal
+  asks_along = along-as (λ x. AsksOf g.asked x.pieces) (λ x v e p. p.0)
+
+  pub awaited_along : HoldsAlong (λ x. FetchesAwaited) s.entities s.ahead s.journal
+  awaited_along = along-as (λ x. FetchesAwaited) (λ x v e p. p.2)
+
+  pub sends_along : HoldsAlong (λ x. SendsOf (requests_of g.asked)) s.entities s.ahead s.journal
+  sends_along = along-as (λ x. SendsOf (requests_of g.asked)) (λ x v e p. asks-send g.asked x.pieces v e p.0)

@@ -71,7 +71,7 @@ concluded-keeps held (tag_ended i s) d d' is = absurd is
 concluded-keeps held (awaits name s) d d' is = subst (Keeps d) (sym is) (record { arrived = refl; sent = refl; taken = refl; asked = omega arith; to_send = omega arith })
 concluded-keeps held (over o) d d' is = subst (Keeps d) (sym is) (record { arrived = refl; sent = refl; taken = refl; asked = omega arith; to_send = omega arith })
 
-does-keeps : (w : World) (p : Phase) (d d' : Desk) → DoesIn w p d d' → Keeps d d'
+pub does-keeps : (w : World) (p : Phase) (d d' : Desk) → DoesIn w p d d' → Keeps d d'
 does-keeps w free d d' is = subst (Keeps d) (sym is) (executes-keeps d.hand d)
 does-keeps w (tagged i held) d d' (m, settles, c) = concluded-keeps held m d d' c
 does-keeps w (waits name held) d d' (m, settles, c) = concluded-keeps held m d d' c
@@ -156,7 +156,7 @@ sends-left d = sends-first-left d.to_send d refl
 pub arrives-left : (name : List ℕ) (d : Desk) → left_to_do (arrives name d) ≡ left_to_do d
 arrives-left name d = in-left d.phase d (arrives name d) refl refl
 
-text-append : (xs ys : List Piece) → text_of (xs ++ ys) ≡ text_of xs ++ text_of ys
+pub text-append : (xs ys : List Piece) → text_of (xs ++ ys) ≡ text_of xs ++ text_of ys
 text-append [] ys = refl
 text-append (x ∷ xs) ys = ap (λ t. x.text ++ t) (text-append xs ys) ∙ sym (append_assoc x.text (text_of xs) (text_of ys))
 

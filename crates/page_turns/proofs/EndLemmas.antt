@@ -1,5 +1,5 @@
 -- What the run of a page comes to, by its journal.
-use Rattle.std.proofs.Common.{◌≡◌, ℕ, Bool, List, ◌++◌, Option, Ok, Err, OnErr, flat_map, sym, ap, subst, ◌∙◌, inl, inr, append_assoc}
+use Rattle.std.proofs.Common.{◌≡◌, ℕ, Bool, List, ◌++◌, Option, None, Ok, Err, OnErr, flat_map, sym, ap, subst, ◌∙◌, inl, inr, append_assoc}
 use Rattle.std.specs.Prelude.{Result, IfOk}
 use Rattle.std.proofs.lemmas.Grind.{flat_map-append}
 use Rattle.outside.specs.Outside.{Seen}
@@ -16,7 +16,9 @@ use Rattle.core_steps.specs.Sides.{Shown, ShowsIn, IsReplayed}
 use Rattle.page_turns.specs.declared.outcome.Outcome.{Outcome as Told}
 use Rattle.page_turns.specs.Taken.{Took, TookFront}
 use Rattle.page_turns.specs.Shown.{result_of}
-use Rattle.page_turns.specs.Pages.{PageRead, page_at, world_of, ComesTo, EndsWithScripts, FrontWithScripts}
+use Rattle.speculation.specs.Asking.{Asked}
+use Rattle.page_turns.specs.Along.{Goes}
+use Rattle.page_turns.specs.Pages.{PageRead, page_at, world_of, ComesTo, BeginsAwaited, EndsWithScripts, FrontWithScripts}
 use Rattle.page_turns.specs.Turns.{LeavesAlone, Leaves, GivesUp, RunsOut}
 use Rattle.page_turns.specs.WrittenInPart.{IsDue, WritesInPart}
 use Rattle.page_turns.proofs.PageTakenLemmas.{front_longer}
@@ -25,6 +27,7 @@ use Rattle.page_turns.proofs.SameWorlds.{serial-same, serial-back}
 use Rattle.page_turns.proofs.ReachLemmas.{scripts_with, knows-met, IsRun, is_run}
 use Rattle.page_turns.proofs.WorldLemmas.{HasWorld, has_world}
 use Rattle.page_turns.proofs.StopLemmas.{stops_there}
+use Rattle.page_turns.proofs.AwaitLemmas.{all_awaited}
 
 pub shown-lines : (p : Phase) (d v : Desk) → ShowsIn p d v → d.own.side.lines ≡ v.own.side.lines
 shown-lines free d v is = ap (λ (z : Desk). z.own.side.lines) is
@@ -66,13 +69,24 @@ module _ (es : Entities) (ahead : ℕ) (dir : List ℕ) (before after : Seen) (s
   begins o comes =
       subst (λ l. GoesOnFrom l o.last.side.lines) lines_are (lines-begin run.run s.journal.events run.desk o run.reached (in_run o (serial-same w (scripts_with s.journal.fetches has.scripts) has.alike (page_at page) o comes)))
 
-  pub front_here : (t t' : Option (List ℕ)) → TookFront t t' (flat_map line_text s.desk.own.side.lines) → FrontWithScripts es dir before after t t'
+  -- each script that was begun is awaited
+  pub begins_here : (asks : Option (List Asked)) → Goes asks s → BeginsAwaited w (page_at page) dir before after
+  begins_here asks goes =
+      let begins = leaves.fetches.begins in
+      record {
+        names = begins.which.names;
+        begun = begins.which.begun;
+        awaited = all_awaited (page_at page) es has.scripts s leaves.page.is leaves.entities leaves.known has.alike replayed asks goes leaves.unmet begins.which.names begins.met leaves.awaited;
+      }
+
+  pub front_here : (t t' : Option (List ℕ)) → BeginsAwaited w (page_at page) dir before after → TookFront t t' (flat_map line_text s.desk.own.side.lines) → FrontWithScripts es dir before after t t'
   unfolding output_with
-  front_here t t' front = record {
+  front_here t t' begins front = record {
     scripts = has.scripts;
     are_scripts = has.are_scripts;
     page = page;
     read_from = leaves.page.read_from;
+    begins = begins;
     front = front_of;
   }
     where
@@ -112,15 +126,16 @@ left_behind es ahead dir before after t t' s (Err e) out gives = gives.left
 
 -- the sink took a front
 pub gave_up : (es : Entities) (ahead : ℕ) (dir : List ℕ) (before after : Seen) (t t' : Option (List ℕ)) (s : Shown) → IsReplayed s → GivesUp es ahead dir before after t t' s → FrontWithScripts es dir before after t t'
-gave_up es ahead dir before after t t' s replayed gives = front_here es ahead dir before after gives.shown (gives.replayed replayed) gives.leaves t t' gives.front
+gave_up es ahead dir before after t t' s replayed gives = front_here es ahead dir before after gives.shown (gives.replayed replayed) gives.leaves t t' (begins_here es ahead dir before after gives.shown (gives.replayed replayed) gives.leaves None gives.goes) gives.front
 
 -- all lines of the events before the refused one, and a front of what that one was to write
 pub gave_part : (es : Entities) (ahead : ℕ) (dir : List ℕ) (before after : Seen) (t t' : Option (List ℕ)) (s : Shown) → IsReplayed s → GivesUp es ahead dir before after t t' s → WritesInPart es ahead t t' (IsDue s)
 gave_part es ahead dir before after t t' s replayed gives = gives.part replayed
 
 -- or all
-pub ran_out : (es : Entities) (ahead : ℕ) (dir : List ℕ) (before after : Seen) (t t' : Option (List ℕ)) (s : Shown) (o : Told) → IsReplayed s → RunsOut es ahead dir before after t t' s o → EndsWithScripts es dir before after s.desk.own.side.doc t t' o
-ran_out es ahead dir before after t t' s o replayed out =
+pub ran_out : (es : Entities) (ahead : ℕ) (dir : List ℕ) (before after : Seen) (t t' : Option (List ℕ)) (s : Shown) (o : Told) (asks : Option (List Asked)) → IsReplayed s → Goes asks s → RunsOut es ahead dir before after t t' s o
+    → EndsWithScripts es dir before after s.desk.own.side.doc s.desk.own.side.lines t t' o
+ran_out es ahead dir before after t t' s o asks replayed goes out =
     let there = has es ahead dir before after s replayed out.leaves in
     let end = same_end es ahead dir before after s replayed out.leaves (result_of o) out.phase in
     let last = outcome es ahead dir before after s replayed out.leaves (result_of o) out.phase in
@@ -134,10 +149,12 @@ ran_out es ahead dir before after t t' s o replayed out =
         comes = comes es ahead dir before after s replayed out.leaves (result_of o) out.phase;
         result = sym end.0;
         tree = sym end.2 ∙ ap (λ d. d.tree) (doc_is es ahead dir before after s replayed out.leaves (result_of o) out.phase);
+        lines = sym end.1 ∙ lines_are es ahead dir before after s replayed out.leaves;
         took = subst (λ l. Took t t' (flat_map line_text l)) (sym (lines_are es ahead dir before after s replayed out.leaves) ∙ end.1) out.took;
       };
       faults = elim out.faults [
         | inl none ↦ inl none
         | inr stop ↦ inr (stops_there (page_at out.leaves.page.page) es there.scripts s out.leaves.page.is out.leaves.entities out.leaves.known there.alike stop last.0 (comes es ahead dir before after s replayed out.leaves (result_of o) out.phase))
       ];
+      begins = begins_here es ahead dir before after s replayed out.leaves asks goes;
     }

@@ -3,6 +3,7 @@ use Rattle.std.proofs.Common.{◌≡◌, ℕ, suc, ◌≤◌, ◌<◌, ◌+◌, 
 use Rattle.std.specs.Prelude.{IsTrue, not, ◌&&◌, ◌||◌, is_none, is_some}
 use Rattle.std.proofs.lemmas.Bool.{and_parts, lt-ltb, ltb-false, ltb-true}
 use Rattle.std.proofs.lemmas.Grind.{flat_map-append}
+use Rattle.std.specs.List.{AllByRecursion}
 use Rattle.html_types.specs.declared.ending.Ending.{Ending}
 use Rattle.serial.specs.declared.script.Line.{Line}
 use Rattle.outside.specs.Outside.{Seen, KeepsOthers}
@@ -26,18 +27,18 @@ use Rattle.page_turns.specs.Taken.{Took, TookFront}
 use Rattle.page_turns.specs.Scripts.{Met, Fetches, AreKnown}
 use Rattle.page_turns.specs.Shown.{result_of}
 use Rattle.page_turns.specs.Pages.{PageFor}
-use Rattle.page_turns.specs.Turns.{Load, under_way, weight_of, Asks, Answers, while_open, while_awaiting, ReadsPiece, ReadsInPart, StaysRead, RunsOn, RunsInPart, unwritten, part_written, Arrives, BeginsAwaited, StopsIn, Holds, text_to_come, steps_to_come, turns_to_come, Leaves, LeavesAlone, GivesUp, RunsOut}
+use Rattle.page_turns.specs.Turns.{Load, under_way, weight_of, Asks, Answers, while_open, while_awaiting, ReadsPiece, ReadsInPart, StaysRead, RunsOn, RunsInPart, unwritten, part_written, Arrives, BeginsTheAwaited, StopsIn, Holds, text_to_come, steps_to_come, turns_to_come, Leaves, LeavesAlone, GivesUp, RunsOut}
 use Rattle.page_turns.proofs.KeepsLemmas.{later-others, later-entities, entities-then, entities-others}
 use Rattle.page_turns.specs.WrittenInPart.{HasDone, IsDue, no_line, lines_of_do, WritesInPart}
 use Rattle.page_turns.proofs.PageTakenLemmas.{front_nothing, front_of_all, front_then, with_front, with_none}
 use Rattle.page_turns.proofs.ReplayLemmas.{replays-to}
-use Rattle.page_turns.proofs.MeetLemmas.{fetches_as, fetches-then, fetches-past, fetch_cut}
+use Rattle.page_turns.proofs.MeetLemmas.{fetches-then, fetches-past, fetch_cut}
 use Rattle.page_turns.proofs.TextLemmas.{same-refl, none-found}
 use Rattle.page_turns.proofs.DeskLemmas as desk
 use Rattle.page_turns.proofs.ReachLemmas.{reached_whole, knows-met, scripts_with}
 use Rattle.page_turns.proofs.ReadLemmas.{page_for, for_past}
 use Rattle.page_turns.proofs.Stuck.{never-free}
-use Rattle.page_turns.specs.Along.{IsSentSoFar, Stays, Did, MayDo, Goes}
+use Rattle.page_turns.specs.Along.{IsSentSoFar, IsAwaitedIn, Stays, Did, MayDo, Goes}
 use Rattle.page_turns.proofs.AlongLemmas.{stays_read, goes_stays, goes_did, goes_arrived}
 use Rattle.page_turns.proofs.TurnLemmas.{holds_open, holds_sent, holds_answered, holds_took, holds_ran, holds_arrived, awaits-in, not-arrived, keeps-desk, more-lines, took-desk}
 
@@ -47,31 +48,40 @@ none-left n taken sent count quiet = let le = ltb-false 0 (sent - taken) quiet i
 module _ (es : Entities) (ahead : ℕ) (dir : List ℕ) (before : Seen) (t : Option (List ℕ)) where
   -- ---- giving up
 
-  alone-of : (after : Seen) (met : Met) (ps : List (List ℕ)) (o : Option Ending) → KeepsEntities before after → after.begun port.Page ≡ before.begun port.Page → PageFor before after ps o → Fetches false dir before after [] met → LeavesAlone dir before after
-  alone-of after met ps o keeps begun for fetches = record { keeps = keeps; read = for.read; begun = begun; scripts = fetches.no_further; names = fetches.begins.which }
-
-  unmet : (now : Seen) (met : Met) → Fetches true dir before now [] met → Fetches false dir before now [] met
-  unmet now met fetches = fetches_as true false dir before now [] met (λ e. refl) fetches
+  alone-of : (after : Seen) (met : Met) (ps : List (List ℕ)) (o : Option Ending) → KeepsEntities before after → after.begun port.Page ≡ before.begun port.Page → after.open_at port.Page ≡ before.open_at port.Page
+      → PageFor before after ps o → {unmet : List (List ℕ)} → Fetches unmet dir before after [] met → LeavesAlone dir before after
+  alone-of after met ps o keeps begun opened for fetches = record {
+    keeps = keeps;
+    read = for.read;
+    begun = begun;
+    open_at = opened;
+    within = for.within;
+    scripts = fetches.no_further;
+    scripts_within = fetches.within;
+    names = fetches.begins.which;
+  }
 
   front-of : (t' : Option (List ℕ)) (s : Shown) → s.desk.own.side.lines ≡ s.given → Took t t' (flat_map line_text s.given) → TookFront t t' (flat_map line_text s.desk.own.side.lines)
   front-of t' s lines took = subst (λ l. TookFront t t' (flat_map line_text l)) (sym lines) (front_of_all t t' (flat_map line_text s.given) took)
 
-  left-stays : (after : Seen) (s s' : Shown) → StaysRead s s' → Leaves es ahead dir before after s → Leaves es ahead dir before after s'
-  left-stays after s s' stays left =
-      subst (λ z. Leaves es ahead dir before after z) (sym stays) (record { entities = left.entities; ahead_is = left.ahead_is; page = left.page; fetches = left.fetches; known = left.known })
+  left-stays : (after : Seen) (s s' : Shown) → StaysRead s s' → (left : Leaves es ahead dir before after s) → AllByRecursion (λ name. standing_of s'.desk ≡ awaiting name) left.unmet → Leaves es ahead dir before after s'
+  left-stays after s s' stays left awaited =
+      subst (λ z. Leaves es ahead dir before after z) (sym stays) (record { entities = left.entities; ahead_is = left.ahead_is; page = left.page; unmet = left.unmet; fetches = left.fetches; awaited = awaited; known = left.known })
 
   module _ (now : Seen) (t' : Option (List ℕ)) (reader : PageReader) (l : Load) (s : Shown) (h : Holds es ahead dir before now t t' reader l s) where
-    pub leaves_now : Leaves es ahead dir before now s
+    abbrev pub leaves_now : Leaves es ahead dir before now s
     leaves_now = record {
       entities = h.inside.entities;
       ahead_is = h.inside.ahead_is;
       page = page_for before now reader s.journal.pieces s.journal.ending h.outside.page;
-      fetches = unmet now s.journal.fetches h.outside.fetches;
+      unmet = [];
+      fetches = h.outside.fetches;
+      awaited = tt;
       known = h.inside.known;
     }
 
     pub alone_now : LeavesAlone dir before now
-    alone_now = alone-of now s.journal.fetches s.journal.pieces s.journal.ending h.outside.keeps h.outside.begun leaves_now.page leaves_now.fetches
+    alone_now = alone-of now s.journal.fetches s.journal.pieces s.journal.ending h.outside.keeps h.outside.begun h.outside.open_at leaves_now.page leaves_now.fetches
 
     -- ---- the end
 
@@ -107,25 +117,27 @@ module _ (es : Entities) (ahead : ℕ) (dir : List ℕ) (before : Seen) (t : Opt
       }
 
       -- whatever else the document's side has become
-      gives_up_as : (s' : Shown) → StaysRead s s' → (IsReplayed s' → WritesInPart es ahead t t' (IsDue s')) → GivesUp es ahead dir before now t t' s'
-      gives_up_as s' stays part = record { left = left-stays now s s' stays leaves_now; shown = s; replayed = λ _. replayed; leaves = leaves_now; alone = alone_now; front = front-of t' s h.inside.lines h.took; part = part }
+      gives_up_as : Goes None s → (s' : Shown) → StaysRead s s' → (IsReplayed s' → WritesInPart es ahead t t' (IsDue s')) → GivesUp es ahead dir before now t t' s'
+      gives_up_as goes s' stays part = record { left = left-stays now s s' stays leaves_now tt; shown = s; replayed = λ _. replayed; leaves = leaves_now; goes = goes; alone = alone_now; front = front-of t' s h.inside.lines h.took; part = part }
 
       -- with no line more
-      pub gives_up : (s' : Shown) → StaysRead s s' → s'.desk.own.side.lines ≡ s.desk.own.side.lines → GivesUp es ahead dir before now t t' s'
-      gives_up s' stays same = gives_up_as s' stays (part_none s' (ap (λ (z : Shown). z.entities) stays ∙ h.inside.entities) (ap (λ (z : Shown). z.ahead) stays ∙ h.inside.ahead_is) same)
+      pub gives_up : Goes None s → (s' : Shown) → StaysRead s s' → s'.desk.own.side.lines ≡ s.desk.own.side.lines → GivesUp es ahead dir before now t t' s'
+      gives_up goes s' stays same = gives_up_as goes s' stays (part_none s' (ap (λ (z : Shown). z.entities) stays ∙ h.inside.entities) (ap (λ (z : Shown). z.ahead) stays ∙ h.inside.ahead_is) same)
 
       -- while the page was read on
-      pub gives_up_reading : (after : Seen) (s' : Shown) → s.journal.ending ≡ None → ReadsInPart now after reader s s' → KeepsOthers port.Page now after → after.begun ≡ now.begun → GivesUp es ahead dir before after t t' s'
-      gives_up_reading after s' none part keeps begun =
+      pub gives_up_reading : (after : Seen) (s' : Shown) → Goes None s' → s.journal.ending ≡ None → ReadsInPart now after reader s s' → KeepsOthers port.Page now after → after.begun ≡ now.begun → after.open_at ≡ now.open_at → GivesUp es ahead dir before after t t' s'
+      gives_up_reading after s' goes none part keeps begun opened =
           let o = part.others in
           let fetched : s'.journal.fetches ≡ s.journal.fetches = ap (λ (z : Shown). z.journal.fetches) o in
-          let fetches : Fetches false dir before after [] s.journal.fetches =
-          fetches-then before now after (later-entities before now h.outside.keeps) (later-others port.Page now after keeps) true false dir [] s.journal.fetches s.journal.fetches refl h.outside.fetches (fetches-past false dir port.Page now after s.journal.fetches (λ e. cc e) keeps) in
+          let fetches : Fetches [] dir before after [] s.journal.fetches =
+          fetches-then before now after (later-entities before now h.outside.keeps) (later-others port.Page now after keeps) [] dir [] s.journal.fetches s.journal.fetches h.outside.fetches (fetches-past [] dir port.Page now after s.journal.fetches (λ e. cc e) keeps) in
           let left : Leaves es ahead dir before after s' = record {
             entities = ap (λ (z : Shown). z.entities) o ∙ h.inside.entities;
             ahead_is = ap (λ (z : Shown). z.ahead) o ∙ h.inside.ahead_is;
             page = subst (λ e. PageFor before after s'.journal.pieces e) (sym (ap (λ (z : Shown). z.journal.ending) o ∙ none)) (part.at before (holds_open es ahead dir before t now t' reader l s none h));
-            fetches = subst (λ m. Fetches false dir before after [] m) (sym fetched) fetches;
+            unmet = [];
+            fetches = subst (λ m. Fetches [] dir before after [] m) (sym fetched) fetches;
+            awaited = tt;
             known = subst AreKnown (sym fetched) h.inside.known;
           } in
           record {
@@ -133,47 +145,50 @@ module _ (es : Entities) (ahead : ℕ) (dir : List ℕ) (before : Seen) (t : Opt
             shown = s';
             replayed = λ r. r;
             leaves = left;
-            alone = alone-of after s'.journal.fetches s'.journal.pieces s'.journal.ending (entities-then before now after h.outside.keeps (entities-others port.Page now after (λ e. cc e) keeps)) (ap (λ b. b port.Page) begun ∙ h.outside.begun) left.page left.fetches;
+            goes = goes;
+            alone = alone-of after s'.journal.fetches s'.journal.pieces s'.journal.ending (entities-then before now after h.outside.keeps (entities-others port.Page now after (λ e. cc e) keeps)) (ap (λ b. b port.Page) begun ∙ h.outside.begun) (ap (λ b. b port.Page) opened ∙ h.outside.open_at) left.page left.fetches;
             front = subst (λ (x : Serial). TookFront t t' (flat_map line_text x.side.lines)) (sym part.own) (front-of t' s h.inside.lines h.took);
             part = part_none s' left.entities left.ahead_is (ap (λ (x : Serial). x.side.lines) part.own);
           }
 
       -- while a script was fetched
-      pub gives_up_fetching : (after : Seen) (s' : Shown) → Stays s s' → BeginsAwaited dir now after s.desk → KeepsOthers port.Script now after → GivesUp es ahead dir before after t t' s'
-      gives_up_fetching after s' stays (name, awaits, begins) keeps =
+      pub gives_up_fetching : Goes None s → (after : Seen) (s' : Shown) → Stays s s' → BeginsTheAwaited dir now after s.desk → KeepsOthers port.Script now after → GivesUp es ahead dir before after t t' s'
+      gives_up_fetching goes after s' stays (name, awaits, begins) keeps =
           let waits_for = awaits-in es ahead dir before t s.desk.phase s.desk name awaits in
           let parts : (is_lawful name ≡ true) × (is_among name s.desk.arrived ≡ false) = not-arrived es ahead dir before t (is_lawful name) (is_among name s.desk.arrived) waits_for.2 in
           let none = none-found name s.journal.fetches (subst (λ names. is_among name names ≡ false) h.inside.arrived parts.1) in
           let for : PageFor before after s.journal.pieces s.journal.ending = for_past before now after s.journal.pieces s.journal.ending keeps leaves_now.page in
-          let fetches : Fetches false dir before after [] s.journal.fetches =
-          fetches-then before now after (later-entities before now h.outside.keeps) (later-others port.Script now after keeps) true false dir [] s.journal.fetches s.journal.fetches refl h.outside.fetches (fetch_cut dir name now after parts.0 s.journal.fetches none begins) in
-          let leaves : Leaves es ahead dir before after s = record { entities = h.inside.entities; ahead_is = h.inside.ahead_is; page = for; fetches = fetches; known = h.inside.known } in
-          let left = left-stays after s s' (stays_read s s' stays) leaves in
+          let fetches : Fetches (name ∷ []) dir before after [] s.journal.fetches =
+          fetches-then before now after (later-entities before now h.outside.keeps) (later-others port.Script now after keeps) (name ∷ []) dir [] s.journal.fetches s.journal.fetches h.outside.fetches (fetch_cut dir name now after parts.0 s.journal.fetches none begins) in
+          let leaves : Leaves es ahead dir before after s = record { entities = h.inside.entities; ahead_is = h.inside.ahead_is; page = for; unmet = name ∷ []; fetches = fetches; awaited = (awaits, tt); known = h.inside.known } in
+          let left : Leaves es ahead dir before after s' = left-stays after s s' (stays_read s s' stays) leaves (ap (λ (z : Shown). standing_of z.desk) stays ∙ awaits, tt) in
           record {
             left = left;
             shown = s;
             replayed = λ _. replayed;
             leaves = leaves;
-            alone = alone-of after s.journal.fetches s.journal.pieces s.journal.ending (entities-then before now after h.outside.keeps (entities-others port.Script now after (λ e. cc e) keeps)) (keeps.begun port.Page (λ e. cc e) ∙ h.outside.begun) for fetches;
+            goes = goes;
+            alone = alone-of after s.journal.fetches s.journal.pieces s.journal.ending (entities-then before now after h.outside.keeps (entities-others port.Script now after (λ e. cc e) keeps)) (keeps.begun port.Page (λ e. cc e) ∙ h.outside.begun) (keeps.open_at port.Page (λ e. cc e) ∙ h.outside.open_at) for fetches;
             front = front-of t' s h.inside.lines h.took;
             part = part_none s' left.entities left.ahead_is (ap (λ (z : Shown). z.desk.own.side.lines) stays);
           }
 
       -- before the lines of a Do were taken
-      gives_up_unwritten : (s' : Shown) → StaysRead s s' → MayDo s s' → GivesUp es ahead dir before now t t' s'
-      gives_up_unwritten s' stays (inl none) = gives_up s' stays (ap (λ (z : Shown). z.desk.own.side.lines) none)
-      gives_up_unwritten s' stays (inr did) =
+      gives_up_unwritten : Goes None s → (s' : Shown) → StaysRead s s' → MayDo s s' → GivesUp es ahead dir before now t t' s'
+      gives_up_unwritten goes s' stays (inl none) = gives_up goes s' stays (ap (λ (z : Shown). z.desk.own.side.lines) none)
+      gives_up_unwritten goes s' stays (inr did) =
           let (more, lines) = more-lines es ahead dir before t l s s' h.inside did.does in
-          gives_up_as s' stays (λ _. part_done t' s' more (record { journal = ap (λ (z : Shown). z.journal) did.others; lines = lines }) (front_nothing t' (flat_map line_text more)))
+          gives_up_as goes s' stays (λ _. part_done t' s' more (record { journal = ap (λ (z : Shown). z.journal) did.others; lines = lines }) (front_nothing t' (flat_map line_text more)))
 
       -- while lines were written
-      pub gives_up_running : (t'' : Option (List ℕ)) (s' : Shown) → StaysRead s s' → MayDo s s' → RunsInPart t' t'' s s' → GivesUp es ahead dir before now t t'' s'
-      gives_up_running t'' s' stays may (unwritten same) = subst (λ z. GivesUp es ahead dir before now t z s') (sym same) (gives_up_unwritten s' stays may)
-      gives_up_running t'' s' stays may (part_written more o lines took) = record {
-        left = left-stays now s s' stays leaves_now;
+      pub gives_up_running : Goes None s → (t'' : Option (List ℕ)) (s' : Shown) → Goes None s' → StaysRead s s' → MayDo s s' → RunsInPart t' t'' s s' → GivesUp es ahead dir before now t t'' s'
+      gives_up_running goes t'' s' goes' stays may (unwritten same) = subst (λ z. GivesUp es ahead dir before now t z s') (sym same) (gives_up_unwritten goes s' stays may)
+      gives_up_running goes t'' s' goes' stays may (part_written more o lines took) = record {
+        left = left-stays now s s' stays leaves_now tt;
         shown = s';
         replayed = λ r. r;
-        leaves = left-stays now s s' stays leaves_now;
+        leaves = left-stays now s s' stays leaves_now tt;
+        goes = goes';
         alone = alone_now;
         front = subst (λ x. TookFront t t'' x) (sym (ap (flat_map line_text) lines ∙ flat_map-append line_text s.given more)) (front_then t t' t'' (flat_map line_text s.given) (flat_map line_text more) h.took took);
         part = λ _. part_done t'' s' more (record { journal = ap (λ (z : Shown). z.journal) o; lines = lines ∙ ap (λ ls. ls ++ more) (sym h.inside.lines) }) took;
@@ -398,7 +413,7 @@ module _ (es : Entities) (ahead : ℕ) (dir : List ℕ) (before : Seen) (t : Opt
         let waits_for = awaits-in es ahead dir before t s.desk.phase s.desk arr.name arr.awaits in
         let parts : (is_lawful arr.name ≡ true) × (is_among arr.name s.desk.arrived ≡ false) = not-arrived es ahead dir before t (is_lawful arr.name) (is_among arr.name s.desk.arrived) waits_for.2 in
         let can : can_arrive arr.name s.desk ≡ true = ap (λ b. b && not (is_among arr.name s.desk.arrived)) parts.0 ∙ ap not parts.1 in
-        goes_arrived asks s g arr.name arr.fetch s' going can looks arr.arrived
+        goes_arrived asks s g arr.name arr.fetch s' going can (subst (λ p. IsAwaitedIn arr.name p) (sym waits_for.1) refl) looks arr.arrived
 
     pub after_ran : (t'' : Option (List ℕ)) (s' : Shown) → IsReplayed s → IsTrue (can_do s.desk) → RunsOn t' t'' s s' → Holds es ahead dir before now t t'' reader m s'
     after_ran t'' s' replayed can ran = holds_ran es ahead dir before t now t' t'' reader m s s' replayed can ran with_same
@@ -411,7 +426,7 @@ module _ (es : Entities) (ahead : ℕ) (dir : List ℕ) (before : Seen) (t : Opt
         subst (λ n. turns_to_come reader m s' < n) same-turns
         (ran_less t' t'' reader m s s' ran (keeps-desk es ahead dir before t m s s' i ran.does) (omega (arith, asked, credit, few)))
 
-    pub after_arrived : (after : Seen) (s' : Shown) → Arrives dir now after s s' → BeginsAwaited dir now after s.desk → KeepsOthers port.Script now after → Holds es ahead dir before after t t' reader m s'
+    pub after_arrived : (after : Seen) (s' : Shown) → Arrives dir now after s s' → BeginsTheAwaited dir now after s.desk → KeepsOthers port.Script now after → Holds es ahead dir before after t t' reader m s'
     after_arrived after s' arr begins keeps = holds_arrived es ahead dir before t now after t' reader m s s' arr begins keeps with_same
 
     pub after_arrived_less : (after : Seen) (s' : Shown) → Arrives dir now after s s' → turns_to_come reader m s' < turns_to_come reader l s

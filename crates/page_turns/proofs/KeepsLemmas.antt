@@ -58,17 +58,18 @@ later-entities before after keeps = record { files = keeps.files; faults = keeps
 -- ---- the port of the entities
 
 pub entities-same : (s : Seen) → KeepsEntities s s
-entities-same s = record { files = refl; left = refl; begun = refl; no_fault = refl; faults = λ p. omega arith; absences = λ p. omega arith }
+entities-same s = record { files = refl; left = refl; begun = refl; calls = refl; no_fault = refl; faults = λ p. omega arith; absences = λ p. omega arith }
 
 pub entities-then : (before now after : Seen) → KeepsEntities before now → KeepsEntities now after → KeepsEntities before after
 entities-then before now after a b = record {
   files = b.files ∙ a.files;
   left = b.left ∙ a.left;
   begun = b.begun ∙ a.begun;
+  calls = b.calls ∙ a.calls;
   no_fault = b.no_fault ∙ a.no_fault;
   faults = λ p. let first = a.faults p in let second = b.faults p in omega arith;
   absences = λ p. let first = a.absences p in let second = b.absences p in omega arith;
 }
 
 pub entities-others : (port : Port) (before after : Seen) → (Entities ≡ port → ⊥) → KeepsOthers port before after → KeepsEntities before after
-entities-others port before after other keeps = record { files = keeps.files; left = keeps.left Entities other; begun = keeps.begun Entities other; no_fault = keeps.other_faults Entities other; faults = keeps.faults; absences = keeps.absences }
+entities-others port before after other keeps = record { files = keeps.files; left = keeps.left Entities other; begun = keeps.begun Entities other; calls = keeps.calls Entities other; no_fault = keeps.other_faults Entities other; faults = keeps.faults; absences = keeps.absences }

@@ -1,4 +1,5 @@
 pub mod WriteLemmas
+pub mod CallLemmas
 pub mod KeepsLemmas
 pub mod FetchLemmas
 pub mod TextLemmas
@@ -13,11 +14,14 @@ pub mod WorldLemmas
 pub mod ReadLemmas
 pub mod LineLemmas
 pub mod StepLemmas
+pub mod CutLemmas
 pub mod StopLemmas
+pub mod AwaitLemmas
 pub mod EndLemmas
 pub mod DoLines
 pub mod AlongLemmas
 pub mod MessageLemmas
+pub mod InPlaceLemmas
 pub mod TurnLemmas
 pub mod GiveLemmas
 pub mod ReplayLemmas

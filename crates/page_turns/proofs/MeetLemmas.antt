@@ -5,7 +5,7 @@ use Rattle.std.specs.List.{AllByRecursion}
 use Rattle.std.proofs.lemmas.List.{map-append}
 use Rattle.std.specs.Option.{option_map}
 use Rattle.html_types.specs.Text.{same_text}
-use Rattle.outside.specs.Outside.{Seen, Paths, Begun, KeepsOthers}
+use Rattle.outside.specs.Outside.{Seen, Call, Paths, Begun, KeepsOthers}
 use Rattle.outside.specs.declared.traits.Port.{Port}
 use Rattle.outside.specs.declared.traits.Port.TheVariants as port
 use Rattle.serial.specs.Scripts.{Fetched, got, missing, faulted, is_lawful, file_statements}
@@ -16,8 +16,11 @@ use Rattle.core_steps.specs.Fetches.{fetched_of, names_of}
 use Rattle.core_steps.specs.Journals.{found}
 use Rattle.core_steps.proofs.FileLemmas.{cut-statements}
 use Rattle.page_turns.specs.declared.scripts.TheConstants.{SCRIPT_LIMIT}
+use Rattle.page_turns.specs.Calls.{CallsAt, EachWithin}
 use Rattle.page_turns.specs.Given.{given_of, NoFault, AbsencesRose, file_at, MayGive, AreRead, ReadTo, untouched, unbegun, begun}
-use Rattle.page_turns.specs.Scripts.{Met, path_of, IsAbsent, MayFetch, ReadScriptsTo, none_begun, last, MayMeet, AreDistinct, NamesOnce, BeginsFile, left_alone, begun_once, BeginsNew, Fetches, AreKnown}
+use Rattle.page_turns.specs.Scripts.{Met, path_of, IsAbsent, MayFetch, ReadScriptsTo, none_begun, last, MayMeet, AreDistinct, NamesOnce, IsOneOf, BeginsFile, left_alone, begun_once, BeginsNew, Fetches, AreKnown}
+use Rattle.page_turns.proofs.CallLemmas.{each_none, failed_stays, failed_since}
+use Rattle.page_turns.proofs.CallLemmas as calls
 use Rattle.page_turns.proofs.KeepsLemmas.{begun_none, begun_then, rose-on, rose-stays, Later}
 use Rattle.page_turns.proofs.TextLemmas.{same-text, same-refl, none-there}
 
@@ -60,49 +63,43 @@ each_still P Q (x ∷ xs) on all = (on x all.0, each_still P Q xs on all.1)
 abbrev pub names_none : (dir : List ℕ) (b a : Paths) → a ≡ b → NamesOnce dir b a
 names_none dir b a e = record { names = []; begun = begun_none b a e; lawful = tt; once = tt }
 
-begins_none : (done : Bool) (dir : List ℕ) (b a : Paths) (old new : Met) → a ≡ b → BeginsNew done dir b a old new
-begins_none done dir b a old new e = record { which = names_none dir b a e; fresh = tt; met = λ _. tt }
+begins_none : (unmet : List (List ℕ)) (dir : List ℕ) (b a : Paths) (old new : Met) → a ≡ b → BeginsNew unmet dir b a old new
+begins_none unmet dir b a old new e = record { which = names_none dir b a e; fresh = tt; met = tt }
 
-pub begins_one : (done : Bool) (dir : List ℕ) (b a : Paths) (old new : Met) (name : List ℕ) → Begun b a (path_of dir name ∷ []) → is_lawful name ≡ true → found name old ≡ None → (done ≡ true → IsSome (found name new))
-    → BeginsNew done dir b a old new
-begins_one done dir b a old new name paths lawful fresh met = record {
+pub begins_one : (unmet : List (List ℕ)) (dir : List ℕ) (b a : Paths) (old new : Met) (name : List ℕ) → Begun b a (path_of dir name ∷ []) → is_lawful name ≡ true → found name old ≡ None → IsSome (found name new) ⊎ IsOneOf name unmet
+    → BeginsNew unmet dir b a old new
+begins_one unmet dir b a old new name paths lawful fresh met = record {
   which = record { names = name ∷ []; begun = paths; lawful = (lawful, tt); once = (tt, tt) };
   fresh = (fresh, tt);
-  met = λ e. (met e, tt);
+  met = (met, tt);
 }
 
 -- nothing is met anew
-pub fetches_none : (done : Bool) (dir : List ℕ) (before after : Seen) (s : Met) → after.begun port.Script ≡ before.begun port.Script → ReadScriptsTo SCRIPT_LIMIT dir before after → Fetches done dir before after s s
-fetches_none done dir before after s same reads = record {
+pub fetches_none : (unmet : List (List ℕ)) (dir : List ℕ) (before after : Seen) (s : Met) → after.begun port.Script ≡ before.begun port.Script → ReadScriptsTo SCRIPT_LIMIT dir before after
+    → EachWithin SCRIPT_LIMIT port.Script before after → Fetches unmet dir before after s s
+fetches_none unmet dir before after s same reads within = record {
   kept = λ name script is. is;
   fresh = λ name script is. inl is;
   no_further = reads;
-  begins = begins_none done dir _ _ s s same;
+  within = within;
+  begins = begins_none unmet dir _ _ s s same;
 }
 
-pub fetches_same : (done : Bool) (dir : List ℕ) (before : Seen) (s : Met) → Fetches done dir before before s s
-fetches_same done dir before s = fetches_none done dir before before s refl (none_begun refl)
-
--- where it is done is what counts
-pub fetches_as : (done done' : Bool) (dir : List ℕ) (before after : Seen) (old new : Met) → (done' ≡ true → done ≡ true) → Fetches done dir before after old new → Fetches done' dir before after old new
-fetches_as done done' dir before after old new on fetches = record {
-  kept = fetches.kept;
-  fresh = fetches.fresh;
-  no_further = fetches.no_further;
-  begins = record { which = fetches.begins.which; fresh = fetches.begins.fresh; met = λ e. fetches.begins.met (on e) };
-}
+pub fetches_same : (unmet : List (List ℕ)) (dir : List ℕ) (before : Seen) (s : Met) → Fetches unmet dir before before s s
+fetches_same unmet dir before s = fetches_none unmet dir before before s refl (none_begun refl) (each_none SCRIPT_LIMIT port.Script before before refl)
 
 -- ---- a file was begun
 
 module _ (dir name : List ℕ) (before after : Seen) (lawful : is_lawful name ≡ true) (met : Met) (fresh : found name met ≡ None) where
   -- and memory ran out before it was met
-  pub fetch_cut : BeginsFile dir name before after → Fetches false dir before after met met
-  fetch_cut (left_alone same) = subst (λ z. Fetches false dir before z met met) (sym same) (fetches_same false dir before met)
-  fetch_cut (begun_once paths reads) = record {
+  pub fetch_cut : BeginsFile dir name before after → Fetches (name ∷ []) dir before after met met
+  fetch_cut (left_alone same) = subst (λ z. Fetches (name ∷ []) dir before z met met) (sym same) (fetches_same (name ∷ []) dir before met)
+  fetch_cut (begun_once paths reads within) = record {
     kept = λ n f is. is;
     fresh = λ n f is. inl is;
     no_further = last name lawful reads;
-    begins = begins_one false dir _ _ met met name paths lawful fresh (λ e. absurd (true≢false (sym e)));
+    within = within;
+    begins = begins_one (name ∷ []) dir _ _ met met name paths lawful fresh (inr (inl refl));
   }
 
   abbrev more : Fetched → Met
@@ -121,21 +118,26 @@ module _ (dir name : List ℕ) (before after : Seen) (lawful : is_lawful name �
   found-more f = ap (λ b. is_some (cond b (Some f) (found name met))) (same-refl name)
 
   -- and it is met
-  pub fetch_one : (f : Fetched) → MayMeet dir before after name f → BeginsFile dir name before after → Fetches true dir before after met (more f)
+  pub fetch_one : (f : Fetched) → MayMeet dir before after name f → BeginsFile dir name before after → Fetches [] dir before after met (more f)
   fetch_one f may begins = record {
     kept = λ n g is. kept-by f n g is (same_text name n) refl;
     fresh = λ n g is. fresh-by f may n g (same_text name n) refl is;
     no_further = reads_to begins;
+    within = within_to begins;
     begins = begins_new begins;
   }
     where
       reads_to : BeginsFile dir name before after → ReadScriptsTo SCRIPT_LIMIT dir before after
       reads_to (left_alone same) = subst (λ z. ReadScriptsTo SCRIPT_LIMIT dir before z) (sym same) (none_begun refl)
-      reads_to (begun_once paths reads) = last name lawful reads
+      reads_to (begun_once paths reads within) = last name lawful reads
 
-      begins_new : BeginsFile dir name before after → BeginsNew true dir (before.begun port.Script) (after.begun port.Script) met (more f)
-      begins_new (left_alone same) = begins_none true dir _ _ met (more f) (ap (λ (z : Seen). z.begun port.Script) same)
-      begins_new (begun_once paths reads) = begins_one true dir _ _ met (more f) name paths lawful fresh (λ e. found-more f)
+      within_to : BeginsFile dir name before after → EachWithin SCRIPT_LIMIT port.Script before after
+      within_to (left_alone same) = each_none SCRIPT_LIMIT port.Script before after (ap (λ (z : Seen). z.calls port.Script) same)
+      within_to (begun_once paths reads within) = within
+
+      begins_new : BeginsFile dir name before after → BeginsNew [] dir (before.begun port.Script) (after.begun port.Script) met (more f)
+      begins_new (left_alone same) = begins_none [] dir _ _ met (more f) (ap (λ (z : Seen). z.begun port.Script) same)
+      begins_new (begun_once paths reads within) = begins_one [] dir _ _ met (more f) name paths lawful fresh (inl (found-more f))
 
 pub known_more : (name : List ℕ) (f : Fetched) (met : Met) → is_lawful name ≡ true → is_among name (names_of met) ≡ false → AreKnown met → AreKnown ((name, f) ∷ met)
 known_more name f met lawful none known = record { lawful = (lawful, known.lawful); once = (none-there name met none, known.once) }
@@ -152,16 +154,16 @@ module _ (before now after : Seen) (first : Later before now) (second : Later no
   absent-since (Some f) none = none
 
   -- what could be fetched before still can
-  fetch-stays : (dir name : List ℕ) (f : Fetched) → MayFetch dir before now name f → MayFetch dir before after name f
-  fetch-stays dir name (got bytes) may = may
-  fetch-stays dir name missing may = absent-stays (file_at before (path_of dir name)) may
-  fetch-stays dir name faulted may = rose-stays _ _ _ may (second.faults port.Script)
+  fetch-stays : (dir name : List ℕ) (f : Fetched) (ys : List Call) → CallsAt port.Script now after ys → MayFetch dir before now name f → MayFetch dir before after name f
+  fetch-stays dir name (got bytes) ys made may = may
+  fetch-stays dir name missing ys made may = absent-stays (file_at before (path_of dir name)) may
+  fetch-stays dir name faulted ys made may = (rose-stays _ _ _ may.0 (second.faults port.Script), failed_stays port.Script (path_of dir name) before now after ys made may.1)
 
   -- and what can be fetched later
-  pub fetch-since : (dir name : List ℕ) (f : Fetched) → MayFetch dir now after name f → MayFetch dir before after name f
-  fetch-since dir name (got bytes) may = subst (λ files. IfSome (option_map (λ map. map (path_of dir name)) files) (λ file. file ≡ Some bytes)) first.files may
-  fetch-since dir name missing may = absent-since (file_at before (path_of dir name)) (subst (λ files. IsAbsent (option_map (λ map. map (path_of dir name)) files) (AbsencesRose port.Script now after)) first.files may)
-  fetch-since dir name faulted may = rose-on _ _ _ (first.faults port.Script) may
+  fetch-since : (dir name : List ℕ) (f : Fetched) (xs : List Call) → CallsAt port.Script before now xs → MayFetch dir now after name f → MayFetch dir before after name f
+  fetch-since dir name (got bytes) xs made may = subst (λ files. IfSome (option_map (λ map. map (path_of dir name)) files) (λ file. file ≡ Some bytes)) first.files may
+  fetch-since dir name missing xs made may = absent-since (file_at before (path_of dir name)) (subst (λ files. IsAbsent (option_map (λ map. map (path_of dir name)) files) (AbsencesRose port.Script now after)) first.files may)
+  fetch-since dir name faulted xs made may = (rose-on _ _ _ (first.faults port.Script) may.0, failed_since port.Script (path_of dir name) before now after xs made may.1)
 
   -- how far scripts were read
   read-stays : (path : List ℕ) → after.left port.Script ≡ now.left port.Script → ReadTo SCRIPT_LIMIT port.Script path before now → ReadTo SCRIPT_LIMIT port.Script path before after
@@ -219,33 +221,40 @@ module _ (before now after : Seen) (first : Later before now) (second : Later no
     once = distinct-then files first.names second.names first.once second.once met fresh;
   }
 
-  begins-then : (da db : Bool) (dir : List ℕ) (b n a : Paths) (old mid new : Met) → da ≡ true → ((name : List ℕ) (s : Fetched) → found name old ≡ Some s → found name mid ≡ Some s)
-      → ((name : List ℕ) (s : Fetched) → found name mid ≡ Some s → found name new ≡ Some s) → BeginsNew da dir b n old mid → BeginsNew db dir n a mid new → BeginsNew db dir b a old new
-  begins-then da db dir b n a old mid new done kept kept' first second = record {
-    which = names-then dir b n a mid first.which second.which (first.met done) second.fresh;
-    fresh = each_then (λ name. found name old ≡ None) first.which.names second.which.names first.fresh
-        (each_still (λ name. found name mid ≡ None) (λ name. found name old ≡ None) second.which.names (λ name none. none-before old mid name (kept name) none) second.fresh);
-    met = λ e. each_then (λ name. IsSome (found name new)) first.which.names second.which.names
-        (each_still (λ name. IsSome (found name mid)) (λ name. IsSome (found name new)) first.which.names (λ name some. some-after mid new name (kept' name) some) (first.met done)) (second.met e);
-  }
+  all-met : (mid : Met) (names : List (List ℕ)) → AllByRecursion (λ name. IsSome (found name mid) ⊎ IsOneOf name []) names → AllByRecursion (λ name. IsSome (found name mid)) names
+  all-met mid names all = each_still (λ name. IsSome (found name mid) ⊎ IsOneOf name []) (λ name. IsSome (found name mid)) names (λ name one. elim one [ inl some ↦ some | inr none ↦ absurd none ]) all
 
-  pub fetches-then : (da db : Bool) (dir : List ℕ) (old mid new : Met) → da ≡ true → Fetches da dir before now old mid → Fetches db dir now after mid new → Fetches db dir before after old new
-  fetches-then da db dir old mid new done a b = record {
+  begins-then : (unmet : List (List ℕ)) (dir : List ℕ) (b n a : Paths) (old mid new : Met) → ((name : List ℕ) (s : Fetched) → found name old ≡ Some s → found name mid ≡ Some s)
+      → ((name : List ℕ) (s : Fetched) → found name mid ≡ Some s → found name new ≡ Some s) → BeginsNew [] dir b n old mid → BeginsNew unmet dir n a mid new → BeginsNew unmet dir b a old new
+  begins-then unmet dir b n a old mid new kept kept' first second =
+      let met = all-met mid first.which.names first.met in
+      record {
+        which = names-then dir b n a mid first.which second.which met second.fresh;
+        fresh = each_then (λ name. found name old ≡ None) first.which.names second.which.names first.fresh
+            (each_still (λ name. found name mid ≡ None) (λ name. found name old ≡ None) second.which.names (λ name none. none-before old mid name (kept name) none) second.fresh);
+        met = each_then (λ name. IsSome (found name new) ⊎ IsOneOf name unmet) first.which.names second.which.names
+            (each_still (λ name. IsSome (found name mid)) (λ name. IsSome (found name new) ⊎ IsOneOf name unmet) first.which.names (λ name some. inl (some-after mid new name (kept' name) some)) met) second.met;
+      }
+
+  pub fetches-then : (unmet : List (List ℕ)) (dir : List ℕ) (old mid new : Met) → Fetches [] dir before now old mid → Fetches unmet dir now after mid new → Fetches unmet dir before after old new
+  fetches-then unmet dir old mid new a b = record {
     kept = λ name script is. b.kept name script (a.kept name script is);
     fresh = λ name script is. fresh_of name script (b.fresh name script is);
     no_further = scripts-then dir a.no_further b.no_further;
-    begins = begins-then da db dir _ _ _ old mid new done a.kept b.kept a.begins b.begins;
+    within = calls.each_then SCRIPT_LIMIT port.Script before now after a.within b.within;
+    begins = begins-then unmet dir _ _ _ old mid new a.kept b.kept a.begins b.begins;
   }
     where
       stay_of : (name : List ℕ) (script : Fetched) → (found name old ≡ Some script) ⊎ MayMeet dir before now name script → (found name old ≡ Some script) ⊎ MayMeet dir before after name script
       stay_of name script (inl is) = inl is
-      stay_of name script (inr may) = inr (may.0, fetch-stays dir name may.0 may.1, may.2)
+      stay_of name script (inr may) = inr (may.0, fetch-stays dir name may.0 b.within.calls b.within.made may.1, may.2)
 
       fresh_of : (name : List ℕ) (script : Fetched) → (found name mid ≡ Some script) ⊎ MayMeet dir now after name script → (found name old ≡ Some script) ⊎ MayMeet dir before after name script
       fresh_of name script (inl is) = stay_of name script (a.fresh name script is)
       fresh_of name script (inr may) =
-          inr (may.0, fetch-since dir name may.0 may.1, may.2)
+          inr (may.0, fetch-since dir name may.0 a.within.calls a.within.made may.1, may.2)
 
 -- other ports were read
-pub fetches-past : (done : Bool) (dir : List ℕ) (p : Port) (before after : Seen) (s : Met) → (port.Script ≡ p → ⊥) → KeepsOthers p before after → Fetches done dir before after s s
-fetches-past done dir p before after s other keeps = fetches_none done dir before after s (keeps.begun port.Script other) (none_begun (keeps.left port.Script other))
+pub fetches-past : (unmet : List (List ℕ)) (dir : List ℕ) (p : Port) (before after : Seen) (s : Met) → (port.Script ≡ p → ⊥) → KeepsOthers p before after → Fetches unmet dir before after s s
+fetches-past unmet dir p before after s other keeps =
+    fetches_none unmet dir before after s (keeps.begun port.Script other) (none_begun (keeps.left port.Script other)) (each_none SCRIPT_LIMIT port.Script before after (keeps.calls port.Script other))

@@ -31,11 +31,12 @@ taken_same (Some ms) new vs us v none same is (rs, all, count) =
 
 -- a Take, whose reply was taken
 pub taken_one : (old new : Option (List Message)) (vs us : List Event) → TakesOne old new → us ≡ vs ++ Take ∷ [] → TakenSoFar old vs → TakenSoFar new us
-taken_one None new vs us (r, one) is h = subst (λ o. TakenSoFar o us) (sym one) tt
-taken_one (Some ms) new vs us (r, one) is (rs, all, count) =
+taken_one old None vs us (r, one) is h = tt
+taken_one None (Some ns) vs us (r, one) is h = absurd one
+taken_one (Some ms) (Some ns) vs us (r, one) is (rs, all, count) =
     let more = takes-then vs Take in
     let longer = length-append rs (r ∷ []) in
-    subst (λ o. TakenSoFar o us) (sym one) (subst (λ e. AreReplies (takes_in e) (ms ++ Some r ∷ [])) (sym is) (rs ++ r ∷ [], ap (λ l. l ++ Some r ∷ []) all ∙ sym (map-append Some rs (r ∷ [])), omega (arith, count, more, longer)))
+    subst (λ l. AreReplies (takes_in us) l) (sym one) (subst (λ e. AreReplies (takes_in e) (ms ++ Some r ∷ [])) (sym is) (rs ++ r ∷ [], ap (λ l. l ++ Some r ∷ []) all ∙ sym (map-append Some rs (r ∷ [])), omega (arith, count, more, longer)))
 
 pub taken_kept : (old new : Option (List Message)) (vs us : List Event) → new ≡ old → us ≡ vs → TakenSoFar old vs → TakenSoFar new us
 taken_kept old new vs us same is h = subst (λ o. TakenSoFar o us) (sym same) (subst (λ e. TakenSoFar old e) (sym is) h)
@@ -50,5 +51,6 @@ more_none None vs h = tt
 more_none (Some ms) vs h = inl h
 
 pub more_last : (old new : Option (List Message)) (vs us : List Event) → TakesLast old new → us ≡ vs → TakenSoFar old vs → MayTakeMore new us
-more_last None new vs us (last, one) is h = subst (λ o. MayTakeMore o us) (sym one) tt
-more_last (Some ms) new vs us (last, one) is h = subst (λ o. MayTakeMore o us) (sym one) (subst (λ e. MayTakeMore (Some (ms ++ last ∷ [])) e) (sym is) (inr (ms, last, refl, h)))
+more_last old None vs us (last, one) is h = tt
+more_last None (Some ns) vs us (last, one) is h = absurd one
+more_last (Some ms) (Some ns) vs us (last, one) is h = subst (λ e. MayTakeMore (Some ns) e) (sym is) (inr (ms, last, one, h))

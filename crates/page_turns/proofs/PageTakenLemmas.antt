@@ -5,7 +5,7 @@ use Rattle.outside.specs.Outside.{Seen}
 use Rattle.outside.specs.declared.traits.Port.TheVariants as port
 use Rattle.page_turns.specs.Given.{FaultsRose, NoFault}
 use Rattle.page_turns.specs.Taken.{Took, TookFront, TookWithFront}
-use Rattle.page_turns.specs.Pages.{AreTaken, IsReadFrom}
+use Rattle.page_turns.specs.Pages.{AreTaken, GivenFirst, IsReadFrom}
 
 -- ---- a sink
 
@@ -71,11 +71,12 @@ all_bytes (Some all) left read taken = (taken.so_far.0, taken.so_far.1)
 
 -- the whole page
 pub read_whole : (before after : Seen) (bytes : List ℕ) → IfSome (before.left port.Page) (λ all. all ≡ bytes) → NoFault port.Page before after → IsReadFrom before after (record { bytes = bytes; fault = false })
-read_whole before after bytes all none = record { all = λ _. all; no_fault = λ _. none; cut = λ e. absurd (cc e); cause = λ e. absurd (cc e) }
+read_whole before after bytes all none = record { all = λ _. all; no_fault = λ _. none; cut = λ e. absurd (cc e); cause = λ e. absurd (cc e); first = λ e. absurd (cc e) }
 
 -- the page up to a fault
-pub read_to_fault : (before after : Seen) (bytes : List ℕ) → AreTaken (before.left port.Page) (after.left port.Page) bytes → FaultsRose port.Page before after → IsReadFrom before after (record { bytes = bytes; fault = true })
-read_to_fault before after bytes taken cause = record { all = λ e. absurd (cc e); no_fault = λ e. absurd (cc e); cut = λ _. taken; cause = λ _. cause }
+pub read_to_fault : (before after : Seen) (bytes : List ℕ) → AreTaken (before.left port.Page) (after.left port.Page) bytes → FaultsRose port.Page before after → GivenFirst before after bytes
+    → IsReadFrom before after (record { bytes = bytes; fault = true })
+read_to_fault before after bytes taken cause first = record { all = λ e. absurd (cc e); no_fault = λ e. absurd (cc e); cut = λ _. taken; cause = λ _. cause; first = λ _. first }
 
 -- the page's end was read
 pub all_read : (whole left : Option (List ℕ)) (read : List ℕ) → AreTaken whole left read → IfSome left (λ rest. rest ≡ []) → IfSome whole (λ bytes. bytes ≡ read)

@@ -11,7 +11,7 @@ use Rattle.serial.specs.Serial.{World, fetched_if}
 use Rattle.core_definitions.specs.Batches.{Piece}
 use Rattle.core_definitions.specs.Core.{Setup, joined, whole_page}
 use Rattle.core_definitions.specs.Desk.{Desk, first_desk, pieces_with, with_more, MovesBy}
-use Rattle.core_definitions.specs.Journal.{Knows}
+use Rattle.core_definitions.specs.Journal.{Knows, IsPageOf, IsRunOf}
 use Rattle.core_laws.specs.DeskLaws.{IsReached}
 use Rattle.core_laws.proofs.Handing.{more-may_follow}
 use Rattle.core_steps.specs.Fetches.{names_of}
@@ -62,7 +62,7 @@ knows-met es met scripts known = knows-all es (scripts_with met scripts) met kno
 
 -- ---- the desk
 
-joined-append : (ts us : List (List ℕ)) → joined (ts ++ us) ≡ joined ts ++ joined us
+pub joined-append : (ts us : List (List ℕ)) → joined (ts ++ us) ≡ joined ts ++ joined us
 joined-append [] us = refl
 joined-append (t ∷ ts) us = ap (λ x. t ++ x) (joined-append ts us) ∙ sym (append_assoc t (joined ts) (joined us))
 
@@ -76,6 +76,7 @@ pub record IsRun (page : Page) (w : World) (ahead : ℕ) (s : Shown) : Type 0 wh
   pub world : run.world ≡ w
   pub credit : run.ahead ≡ ahead
   pub page_is : whole_page run ≡ page
+  pub is_of : IsRunOf s.entities ahead s.journal run
   pub desk : Desk
   pub reached : IsReached run s.journal.events desk
   -- but for the pieces to be sent it is that which is replayed
@@ -84,19 +85,28 @@ pub record IsRun (page : Page) (w : World) (ahead : ℕ) (s : Shown) : Type 0 wh
   pub shows : Shows replayed s.desk
 
 pub is_run : (page : Page) (w : World) (s : Shown) → IsPageBehind s.journal.ending s.journal.pieces page → w.entities ≡ s.entities → Knows s.journal.fetches w → IsReplayed s → IsRun page w s.ahead s
-is_run page w s behind entities knows replayed = by s.journal.ending behind (replayed w entities knows).1
+is_run page w s behind entities knows replayed = by s.journal.ending refl behind (replayed w entities knows).1
   where
     d : Desk
     d = (replayed w entities knows).0
 
-    by : (o : Option Ending) → IsPageBehind o s.journal.pieces page → MovesBy s.ahead w s.journal.events (first_desk (pieces_with s.journal.pieces o)) d → IsRun page w s.ahead s
-    by None (more, is) moves =
+    of : (run : Setup) (o : Option Ending) → s.journal.ending ≡ o → run.world ≡ w → run.ahead ≡ s.ahead → IsPageOf o s.journal.pieces run → IsRunOf s.entities s.ahead s.journal run
+    of run o q world credit page_of = record {
+      entities = ap (λ (x : World). x.entities) world ∙ entities;
+      fetches = subst (λ x. Knows s.journal.fetches x) (sym world) knows;
+      page = subst (λ e. IsPageOf e s.journal.pieces run) (sym q) page_of;
+      credit = credit;
+    }
+
+    by : (o : Option Ending) → s.journal.ending ≡ o → IsPageBehind o s.journal.pieces page → MovesBy s.ahead w s.journal.events (first_desk (pieces_with s.journal.pieces o)) d → IsRun page w s.ahead s
+    by None q (more, is) moves =
         let run : Setup = record { world = w; pieces = s.journal.pieces ++ more ∷ []; ending = page.ending; ahead = s.ahead } in
         let behind : List Piece = pieces_with (more ∷ []) (Some page.ending) in
         record {
           run = run;
           world = refl;
           credit = refl;
+          is_of = of run None q refl refl (more ∷ [], refl);
           page_is = ap (λ t. record { text = t; ending = page.ending }) (joined-append s.journal.pieces (more ∷ []) ∙ ap (λ t. joined s.journal.pieces ++ t) (append-nil more) ∙ sym is);
           desk = with_more behind d;
           reached = subst (λ ps. MovesBy s.ahead w s.journal.events (first_desk ps) (with_more behind d)) (pieces-more s.journal.pieces (more ∷ []) page.ending)
@@ -105,10 +115,11 @@ is_run page w s behind entities knows replayed = by s.journal.ending behind (rep
           same = (behind, refl);
           shows = (replayed w entities knows).2;
         }
-    by (Some e) is moves = record {
+    by (Some e) q is moves = record {
       run = record { world = w; pieces = s.journal.pieces; ending = e; ahead = s.ahead };
       world = refl;
       credit = refl;
+      is_of = of (record { world = w; pieces = s.journal.pieces; ending = e; ahead = s.ahead }) (Some e) q refl refl (refl, refl);
       page_is = sym is;
       desk = d;
       reached = moves;

@@ -1,6 +1,6 @@
 -- The page as it is read piece by piece.
-use Rattle.std.proofs.Common.{◌≡◌, ℕ, zero, suc, ◌≤◌, ◌<◌, ◌+◌, ◌-◌, ◌*◌, List, [], ◌∷◌, ◌++◌, length, take, Bool, true, false, Option, Some, None, IfSome, refl, sym, ap, subst, ◌∙◌, append_assoc, append-nil, length-append, length-take, min, arith}
-use Rattle.std.specs.Prelude.{nat_lt, if◌then◌else◌, ◌==◌}
+use Rattle.std.proofs.Common.{◌≡◌, ℕ, zero, suc, ◌≤◌, ◌<◌, ◌+◌, ◌-◌, ◌*◌, List, [], ◌∷◌, ◌++◌, length, take, Bool, true, false, Option, Some, None, Ok, IfSome, refl, sym, ap, subst, ◌∙◌, append_assoc, append-nil, length-append, length-take, min, arith}
+use Rattle.std.specs.Prelude.{nat_lt, if◌then◌else◌, ◌==◌, Result}
 use Rattle.std.specs.Str.{chars, chars_after, continuation_len, lead_bits}
 use Rattle.std.specs.Str.Lossy.{utf8_valid_len}
 use Rattle.std.proofs.lemmas.Bool.{ltb-false}
@@ -8,7 +8,8 @@ use Rattle.std.proofs.lemmas.List.{take_all}
 use Rattle.std.proofs.lemmas.Str.{IsUtf8-nil}
 use Rattle.html_types.specs.declared.ending.Ending.{Ending}
 use Rattle.html_types.specs.declared.ending.Ending.TheVariants as ending
-use Rattle.outside.specs.Outside.{Rose, Seen, KeepsOthers}
+use Rattle.outside.specs.Outside.{Rose, Seen, KeepsOthers, Call, reads}
+use Rattle.outside.specs.declared.traits.Failed.{Failed}
 use Rattle.outside.specs.declared.traits.Port.TheVariants as port
 use Rattle.serial.specs.Page.{Page, front, without_mark, text_of, ending_of, shown, is_text_so_far}
 use Rattle.utf8_pieces.specs.Decoder.{HasRead}
@@ -17,8 +18,10 @@ use Rattle.utf8_pieces.proofs.PageLaws.{text_of-nil, text_of-extends, shown-stay
 use Rattle.core_definitions.specs.Core.{joined}
 use Rattle.page_turns.specs.declared.page.TheConstants.{PAGE_LIMIT}
 use Rattle.page_turns.specs.declared.reader.PageReader.{PageReader}
+use Rattle.page_turns.specs.Calls.{CallsAt, AreReads, given_first, ReadWithin, has_failed, GaveNone}
 use Rattle.page_turns.specs.Given.{FaultsRose, NoFault}
-use Rattle.page_turns.specs.Pages.{PageRead, AreTaken, ReadsOn, IsReadFrom, ClosesAt, IsReading, IsUnread, PageOpen, PageFor, PageAt}
+use Rattle.page_turns.specs.Pages.{PageRead, AreTaken, ReadsOn, GivenFirst, IsReadFrom, ClosesAt, IsReading, IsUnread, PageOpen, PageFor, PageAt}
+use Rattle.page_turns.proofs.CallLemmas.{called_none, called_then, called_stays, within_all, within_last, reads_then, given_more, given_none}
 use Rattle.page_turns.proofs.PageTakenLemmas.{taken_none, taken_then, taken_nothing_more, all_bytes, read_whole, read_to_fault, all_read}
 
 -- ---- how long a text is
@@ -66,6 +69,10 @@ first_open before reader unread = record {
   };
   so_far = taken_none (before.left port.Page);
   quiet = refl;
+  calls = [];
+  made = called_none (before.calls port.Page) (before.calls port.Page) refl;
+  reads_all = tt;
+  count = refl;
 }
 
 -- ---- how much may be read
@@ -82,6 +89,10 @@ still_room limit room read open_yet is = by_test (is_text_so_far (take (limit + 
 pub has_room : (reader : PageReader) (pieces : List (List ℕ)) (room : List ℕ) (most : ℕ) → IsReading reader pieces → 0 < length room → most ≡ min (length room) reader.left → 0 < length (take most room)
 has_room reader pieces room most at some is = let still = still_room PAGE_LIMIT reader.left at.read at.open_yet at.left_is in omega (arith, length-take most room)
 
+-- and so many are asked for
+pub asked_is : (reader : PageReader) (room : List ℕ) (most : ℕ) → most ≡ min (length room) reader.left → length (take most room) ≡ min (length room) reader.left
+asked_is reader room most is = omega (arith, is, length-take most room)
+
 -- ---- the page so far
 
 module _ (before now : Seen) (reader : PageReader) (pieces : List (List ℕ)) where
@@ -95,6 +106,7 @@ module _ (before now : Seen) (reader : PageReader) (pieces : List (List ℕ)) wh
         read_from = read_whole before now (at.reading.read ++ rest.0) rest.1 at.quiet;
         is = (ext.0, ext.1 ∙ ap (λ t. t ++ ext.0) (sym at.reading.text));
         read = record { read = at.reading.read; taken = at.so_far; at_most = let is = at.reading.left_is in omega arith };
+        within = record { calls = at.calls; made = at.made; within = within_all PAGE_LIMIT 0 at.calls at.reads_all (let is = at.reading.left_is in let count = at.count in omega arith) };
       }
 
   pub page_for : (o : Option Ending) → PageAt before now reader pieces o → PageFor before now pieces o
@@ -102,7 +114,7 @@ module _ (before now : Seen) (reader : PageReader) (pieces : List (List ℕ)) wh
   page_for (Some e) at = at
 
 pub forget : (before now : Seen) (pieces : List (List ℕ)) (e : Ending) → PageFor before now pieces (Some e) → PageFor before now pieces None
-forget before now pieces e for = record { page = for.page; read_from = for.read_from; is = ([], ap (λ (p : Page). p.text) for.is ∙ sym (append-nil (joined pieces))); read = for.read }
+forget before now pieces e for = record { page = for.page; read_from = for.read_from; is = ([], ap (λ (p : Page). p.text) for.is ∙ sym (append-nil (joined pieces))); read = for.read; within = for.within }
 
 -- the port of the scripts was read
 read_from_past : (before now after : Seen) (page : PageRead) → KeepsOthers port.Script now after → IsReadFrom before now page → IsReadFrom before after page
@@ -111,7 +123,11 @@ read_from_past before now after page keeps from = record {
   no_fault = λ e. keeps.other_faults port.Page (λ e. cc e) ∙ from.no_fault e;
   cut = λ e. subst (λ left. AreTaken (before.left port.Page) left page.bytes) (sym (keeps.left port.Page (λ e. cc e))) (from.cut e);
   cause = λ e. subst (λ n. Rose (before.faults port.Page) n) (sym (keeps.other_faults port.Page (λ e. cc e))) (from.cause e);
+  first = λ e. first_past (from.first e);
 }
+  where
+    first_past : GivenFirst before now page.bytes → GivenFirst before after page.bytes
+    first_past g = record { calls = g.calls; made = called_stays _ _ _ g.calls g.made (keeps.calls port.Page (λ e. cc e)); count = g.count }
 
 pub for_past : (before now after : Seen) (pieces : List (List ℕ)) (o : Option Ending) → KeepsOthers port.Script now after → PageFor before now pieces o → PageFor before after pieces o
 for_past before now after pieces o keeps for = record {
@@ -123,6 +139,7 @@ for_past before now after pieces o keeps for = record {
     taken = subst (λ left. AreTaken (before.left port.Page) left for.read.read) (sym (keeps.left port.Page (λ e. cc e))) for.read.taken;
     at_most = for.read.at_most;
   };
+  within = record { calls = for.within.calls; made = called_stays _ _ _ for.within.calls for.within.made (keeps.calls port.Page (λ e. cc e)); within = for.within.within };
 }
 
 pub at_past : (before now after : Seen) (reader : PageReader) (pieces : List (List ℕ)) (o : Option Ending) → KeepsOthers port.Script now after → PageAt before now reader pieces o → PageAt before after reader pieces o
@@ -130,6 +147,10 @@ at_past before now after reader pieces None keeps at = record {
   reading = at.reading;
   so_far = subst (λ left. AreTaken (before.left port.Page) left at.reading.read) (sym (keeps.left port.Page (λ e. cc e))) at.so_far;
   quiet = keeps.other_faults port.Page (λ e. cc e) ∙ at.quiet;
+  calls = at.calls;
+  made = called_stays _ _ _ at.calls at.made (keeps.calls port.Page (λ e. cc e));
+  reads_all = at.reads_all;
+  count = at.count;
 }
 at_past before now after reader pieces (Some e) keeps for = for_past before now after pieces (Some e) keeps for
 
@@ -145,25 +166,57 @@ module _ (before now after : Seen) (reader : PageReader) (pieces : List (List �
 
   -- no more bytes came
   ends_here : (fault : Bool) → AreTaken (now.left port.Page) (after.left port.Page) [] → (fault ≡ false → IfSome (now.left port.Page) (λ rest. rest ≡ [])) → (fault ≡ false → NoFault port.Page now after) → (fault ≡ true → FaultsRose port.Page now after)
-      → IsReadFrom before after (record { bytes = read; fault = fault })
-  ends_here true nothing none quiet there = read_to_fault before after read (taken_nothing_more (before.left port.Page) (now.left port.Page) (after.left port.Page) read at.so_far nothing)
-      (subst (λ k. Rose k (after.faults port.Page)) at.quiet (there refl))
-  ends_here false nothing none quiet there = read_whole before after read (all_read (before.left port.Page) (now.left port.Page) read at.so_far (none refl)) (quiet refl ∙ at.quiet)
+      → GivenFirst before after read → IsReadFrom before after (record { bytes = read; fault = fault })
+  ends_here true nothing none quiet there first = read_to_fault before after read (taken_nothing_more (before.left port.Page) (now.left port.Page) (after.left port.Page) read at.so_far nothing)
+      (subst (λ k. Rose k (after.faults port.Page)) at.quiet (there refl)) first
+  ends_here false nothing none quiet there first = read_whole before after read (all_read (before.left port.Page) (now.left port.Page) read at.so_far (none refl)) (quiet refl ∙ at.quiet)
 
   pub closed : (e : Ending) → ClosesAt now after read e → PageFor before after pieces (Some e)
   closed e closes = record {
     page = record { bytes = read; fault = closes.fault };
-    read_from = ends_here closes.fault closes.nothing closes.end closes.no_fault closes.cause;
+    read_from = ends_here closes.fault closes.nothing closes.end closes.no_fault closes.cause (record {
+      calls = at.calls ++ reads closes.most closes.answer ∷ [];
+      made = made_all;
+      count = at.count ∙ sym (given_none at.calls closes.most closes.answer at.reads_all closes.gave_none);
+    });
     is = ap (λ t. record { text = t; ending = ending_of PAGE_LIMIT read closes.fault }) (sym at.reading.text) ∙ ap (λ x. record { text = joined pieces; ending = x }) (sym closes.ending);
     read = record {
       read = read;
       taken = taken_nothing_more (before.left port.Page) (now.left port.Page) (after.left port.Page) read at.so_far closes.nothing;
       at_most = let is = at.reading.left_is in omega arith;
     };
+    within = record {
+      calls = at.calls ++ reads closes.most closes.answer ∷ [];
+      made = made_all;
+      within = within_last PAGE_LIMIT 0 closes.most at.calls closes.answer at.reads_all (let is = at.reading.left_is in let count = at.count in omega arith) closes.gave_none;
+    };
   }
+    where
+      made_all : CallsAt port.Page before after (at.calls ++ reads closes.most closes.answer ∷ [])
+      made_all = called_then _ _ _ at.calls _ at.made closes.made
 
   -- a piece came
-  module _ (n : ℕ) (piece : List ℕ) (size : length piece ≡ n) (fits : n ≤ reader.left) (taken : AreTaken (now.left port.Page) (after.left port.Page) piece) (quiet : NoFault port.Page now after) where
+  module _ (n : ℕ) (piece : List ℕ) (size : length piece ≡ n) (fits : n ≤ reader.left) (taken : AreTaken (now.left port.Page) (after.left port.Page) piece) (quiet : NoFault port.Page now after)
+      (most : ℕ) (made : CallsAt port.Page now after (reads most (Ok n) ∷ [])) where
+    calls_now : List Call
+    calls_now = at.calls ++ reads most (Ok n) ∷ []
+
+    made_now : CallsAt port.Page before after calls_now
+    made_now = called_then _ _ _ at.calls _ at.made made
+
+    reads_now : AreReads calls_now
+    reads_now = reads_then at.calls (reads most (Ok n) ∷ []) at.reads_all tt
+
+    count_now : length (read ++ piece) ≡ given_first calls_now
+    count_now = let is = given_more at.calls most n at.reads_all in let count = at.count in omega (arith, is, count, size, length-append read piece)
+
+    within_now : ReadWithin PAGE_LIMIT 0 port.Page before after
+    within_now = record {
+      calls = calls_now;
+      made = made_now;
+      within = within_all PAGE_LIMIT 0 calls_now reads_now (let is = at.reading.left_is in let count = count_now in omega (arith, count, size, length-append read piece));
+    }
+
     more_read : AreTaken (before.left port.Page) (after.left port.Page) (read ++ piece)
     more_read = taken_then (before.left port.Page) (now.left port.Page) (after.left port.Page) read piece at.so_far taken
 
@@ -180,6 +233,7 @@ module _ (before now after : Seen) (reader : PageReader) (pieces : List (List �
           read_from = read_whole before after (read ++ (piece ++ rest.0)) (subst (λ bytes. IfSome (before.left port.Page) (λ all. all ≡ bytes)) (append_assoc read piece rest.0) rest.1) (quiet ∙ at.quiet);
           is = (ext.0, ext.1 ∙ ap (λ t. t ++ ext.0) (sym at.reading.text));
           read = reads_on;
+          within = within_now;
         }
 
     module _ (text : List ℕ) (gives : text_of PAGE_LIMIT (read ++ piece) ≡ text_of PAGE_LIMIT read ++ text) where
@@ -197,6 +251,10 @@ module _ (before now after : Seen) (reader : PageReader) (pieces : List (List �
         };
         so_far = more_read;
         quiet = quiet ∙ at.quiet;
+        calls = calls_now;
+        made = made_now;
+        reads_all = reads_now;
+        count = count_now;
       }
 
       pub piece_shut : (e : Ending) → shown PAGE_LIMIT (read ++ piece) ≡ Some e → PageFor before after (pieces ++ text ∷ []) (Some e)
@@ -209,4 +267,5 @@ module _ (before now after : Seen) (reader : PageReader) (pieces : List (List �
             read_from = read_whole before after ((read ++ piece) ++ rest.0) rest.1 (quiet ∙ at.quiet);
             is = ap (λ x. record { text = text_of PAGE_LIMIT ((read ++ piece) ++ rest.0); ending = x }) is ∙ ap (λ t. record { text = t; ending = e }) (stays.1 ∙ sym joined_is);
             read = reads_on;
+            within = within_now;
           }

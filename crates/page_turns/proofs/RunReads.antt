@@ -1,5 +1,5 @@
 -- What was read of a file, piece by piece.
-use Rattle.std.proofs.Common.{◌≡◌, ℕ, ◌≤◌, List, [], ◌++◌, length, take, drop, Option, Some, None, IfSome, refl, sym, ap, subst, ◌∙◌, append_assoc, append-nil, take-append-drop}
+use Rattle.std.proofs.Common.{◌≡◌, ℕ, ◌≤◌, List, [], ◌++◌, length, take, drop, Option, Some, None, IfSome, refl, sym, ap, subst, ◌∙◌, append_assoc, append-nil, take-append-drop, length-take, length-append, arith}
 use Rattle.std.proofs.lemmas.List.{take-append-le}
 use Rattle.page_turns.specs.Given.{AreRead}
 
@@ -23,5 +23,8 @@ pub read_failed : (file : Option (Option (List ℕ))) (left left' : Option (List
 read_failed file left left' read so_far same = subst (λ l. AreRead file l read) (sym same) so_far
 
 -- the front of the room is the piece
+pub piece_size : (into tail : List ℕ) (n : ℕ) → n ≤ length into → length (take n (into ++ tail)) ≡ n
+piece_size into tail n fits = omega (arith, fits, length-take n (into ++ tail), length-append into tail)
+
 pub piece_front : (into tail : List ℕ) (n : ℕ) → n ≤ length into → take n (into ++ tail) ≡ take n into
 piece_front into tail n fits = take-append-le n into tail fits

@@ -1,9 +1,9 @@
 -- What reading on and running on come to.
-use Rattle.std.proofs.Common.{◌≡◌, ℕ, ◌≤◌, ◌<◌, ◌+◌, List, [], ◌∷◌, ◌++◌, length, take, flat_map, Bool, true, Option, Some, None, refl, sym, ap, subst, ◌∙◌, append_assoc, append-nil, length-append, length-take, arith}
+use Rattle.std.proofs.Common.{◌≡◌, ℕ, ◌≤◌, ◌<◌, ◌+◌, List, [], ◌∷◌, ◌++◌, length, take, flat_map, Bool, true, Option, Some, None, Ok, refl, sym, ap, subst, ◌∙◌, append_assoc, append-nil, length-append, length-take, arith}
 use Rattle.std.proofs.lemmas.List.{take-append-le}
 use Rattle.html_types.specs.declared.ending.Ending.{Ending}
 use Rattle.serial.specs.declared.script.Line.{Line}
-use Rattle.outside.specs.Outside.{Seen}
+use Rattle.outside.specs.Outside.{Seen, reads}
 use Rattle.outside.specs.declared.traits.Port.TheVariants as port
 use Rattle.serial.specs.Output.{line_text}
 use Rattle.serial.specs.Page.{text_of, shown}
@@ -16,6 +16,7 @@ use Rattle.core_definitions.specs.Desk.{Desk}
 use Rattle.core_steps.specs.Sides.{Shown, with_piece, with_ending, journaled, DoesShow, left_to_do}
 use Rattle.page_turns.specs.declared.page.TheConstants.{PAGE_LIMIT}
 use Rattle.page_turns.specs.declared.reader.PageReader.{PageReader}
+use Rattle.page_turns.specs.Calls.{CallsAt}
 use Rattle.page_turns.specs.Given.{NoFault}
 use Rattle.page_turns.specs.Taken.{Took, TookFront}
 use Rattle.page_turns.specs.Pages.{AreTaken, ClosesAt, IsReading, PageOpen, PageFor, PageAt}
@@ -129,9 +130,10 @@ module _ (now after : Seen) (reader : PageReader) (old : Shown) (reading : IsRea
         none_handed true new is (λ before at. forget before after old.journal.pieces e (closed before now after reader old.journal.pieces at e (closes at.reading.read at.reading.decoded)))
 
   -- a piece came
-  module _ (n : ℕ) (piece : List ℕ) (some : 0 < n) (size : length piece ≡ n) (fits : n ≤ reader.left) (taken : AreTaken (now.left port.Page) (after.left port.Page) piece) (quiet : NoFault port.Page now after) where
+  module _ (n : ℕ) (piece : List ℕ) (some : 0 < n) (size : length piece ≡ n) (fits : n ≤ reader.left) (taken : AreTaken (now.left port.Page) (after.left port.Page) piece) (quiet : NoFault port.Page now after)
+      (most : ℕ) (made : CallsAt port.Page now after (reads most (Ok n) ∷ [])) where
     pub reads_cut : (spent : Bool) (new : Shown) → new ≡ record old { spent = spent } → ReadsInPart now after reader old new
-    reads_cut spent new is = none_handed spent new is (λ before at. piece_cut before now after reader old.journal.pieces at n piece size fits taken quiet)
+    reads_cut spent new is = none_handed spent new is (λ before at. piece_cut before now after reader old.journal.pieces at n piece size fits taken quiet most made)
 
     module _ (text : List ℕ) (gives : (limit : ℕ) (read : List ℕ) → HasRead limit reader.decoder read → text_of limit (read ++ piece) ≡ text_of limit read ++ text) where
       text_within : length (joined (old.journal.pieces ++ text ∷ [])) ≤ PAGE_LIMIT
@@ -151,14 +153,14 @@ module _ (now after : Seen) (reader : PageReader) (old : Shown) (reading : IsRea
         reads_open reader' new none has left open_ is = subst (λ z. ReadsPiece now after reader reader' old z) (sym is) (record {
           handed = handed_piece reader reader' old n text some left text_within;
           at = λ before at. subst (λ o. PageAt before after reader' (old.journal.pieces ++ text ∷ []) o) (sym open_)
-              (piece_open before now after reader old.journal.pieces at n piece size fits taken quiet text (gives PAGE_LIMIT at.reading.read at.reading.decoded) reader'
+              (piece_open before now after reader old.journal.pieces at n piece size fits taken quiet most made text (gives PAGE_LIMIT at.reading.read at.reading.decoded) reader'
               (has PAGE_LIMIT at.reading.read at.reading.decoded) (sym (shows PAGE_LIMIT at.reading.read at.reading.decoded) ∙ none) left);
         })
 
         pub reads_shut : (reader' : PageReader) (new : Shown) (ending : Ending) → e ≡ Some ending → reader'.left + n ≡ reader.left → new ≡ with_ending ending (with_piece text old) → ReadsPiece now after reader reader' old new
         reads_shut reader' new ending some_ left is = subst (λ z. ReadsPiece now after reader reader' old z) (sym is) (record {
           handed = handed_both reader reader' old n text some left text_within ending;
-          at = λ before at. piece_shut before now after reader old.journal.pieces at n piece size fits taken quiet text (gives PAGE_LIMIT at.reading.read at.reading.decoded) ending
+          at = λ before at. piece_shut before now after reader old.journal.pieces at n piece size fits taken quiet most made text (gives PAGE_LIMIT at.reading.read at.reading.decoded) ending
               (sym (shows PAGE_LIMIT at.reading.read at.reading.decoded) ∙ some_);
         })
 
@@ -166,7 +168,7 @@ module _ (now after : Seen) (reader : PageReader) (old : Shown) (reading : IsRea
         pub reads_shut_cut : (new : Shown) (ending : Ending) → e ≡ Some ending → new ≡ record (with_piece text old) { spent = true } → ReadsInPart now after reader old new
         reads_shut_cut new ending some_ is = subst (λ z. ReadsInPart now after reader old z) (sym is) (record {
           at = λ before at. forget before after (old.journal.pieces ++ text ∷ []) ending
-              (piece_shut before now after reader old.journal.pieces at n piece size fits taken quiet text (gives PAGE_LIMIT at.reading.read at.reading.decoded) ending
+              (piece_shut before now after reader old.journal.pieces at n piece size fits taken quiet most made text (gives PAGE_LIMIT at.reading.read at.reading.decoded) ending
               (sym (shows PAGE_LIMIT at.reading.read at.reading.decoded) ∙ some_));
           own = refl;
           others = refl;

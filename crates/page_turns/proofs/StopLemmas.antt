@@ -27,7 +27,7 @@ alike-faulted missing same = absurd same
 alike-faulted faulted same = refl
 
 -- a desk that waits for a script stands for a moment that awaits it
-waits-stands : (r : NodeId → NodeId) (left : List ℕ) (name : List ℕ) (own : Serial) (m : Moment) → CarriesMoment r left m (awaits name own) → (last : Serial) × (m ≡ awaits name last)
+pub waits-stands : (r : NodeId → NodeId) (left : List ℕ) (name : List ℕ) (own : Serial) (m : Moment) → CarriesMoment r left m (awaits name own) → (last : Serial) × (m ≡ awaits name last)
 waits-stands r left name own (reading s) carries = absurd carries
 waits-stands r left name own (tag_ended i s) carries = absurd carries
 waits-stands r left name own (awaits n s) (same, carries) = (s, ap (λ x. awaits x s) (sym same))

@@ -26,7 +26,7 @@ use Rattle.page_turns.specs.Given.{NoFault}
 use Rattle.page_turns.specs.Taken.{Took}
 use Rattle.page_turns.specs.Scripts.{BeginsFile, Fetches, AreKnown}
 use Rattle.page_turns.specs.Pages.{IsUnread, PageOpen, PageAt}
-use Rattle.page_turns.specs.Turns.{Load, no_load, under_way, ReadsPiece, RunsOn, Arrives, BeginsAwaited, earlier, StoppedAt, StopsIn, Inside, Holds}
+use Rattle.page_turns.specs.Turns.{Load, no_load, under_way, ReadsPiece, RunsOn, Arrives, BeginsTheAwaited, earlier, StoppedAt, StopsIn, Inside, Holds}
 use Rattle.page_turns.proofs.KeepsLemmas.{later-others, later-entities, entities-same, entities-then, entities-others}
 use Rattle.page_turns.proofs.PageTakenLemmas.{took_nothing, took_then}
 use Rattle.page_turns.proofs.TextLemmas.{none-found, found-first, lawful-found}
@@ -42,7 +42,7 @@ use Rattle.page_turns.proofs.ReadLemmas.{first_open, at_past}
 pub holds_first : (es : Entities) (ahead : ℕ) (dir : List ℕ) (before : Seen) (t : Option (List ℕ)) (reader : PageReader) (l : Load) (s : Shown) → s ≡ first_shown es ahead → l ≡ no_load → IsUnread reader → Holds es ahead dir before before t t reader l s
 holds_first es ahead dir before t reader l s is none unread =
     subst (λ z. Holds es ahead dir before before t t reader l z) (sym is) (subst (λ z. Holds es ahead dir before before t t reader z (first_shown es ahead)) (sym none) (record {
-      outside = record { page = first_open before reader unread; begun = refl; fetches = fetches_same true dir before []; keeps = entities-same before };
+      outside = record { page = first_open before reader unread; begun = refl; open_at = refl; fetches = fetches_same [] dir before []; keeps = entities-same before };
       inside = record {
         entities = refl;
         ahead_is = refl;
@@ -81,7 +81,7 @@ module _ (es : Entities) (ahead : ℕ) (dir : List ℕ) (before : Seen) (t : Opt
       let count = i.count in
       let asked = i.asked in
       record {
-        outside = record { page = h.outside.page; begun = h.outside.begun; fetches = h.outside.fetches; keeps = h.outside.keeps };
+        outside = record { page = h.outside.page; begun = h.outside.begun; open_at = h.outside.open_at; fetches = h.outside.fetches; keeps = h.outside.keeps };
         inside = record {
           entities = i.entities;
           ahead_is = i.ahead_is;
@@ -123,9 +123,9 @@ module _ (es : Entities) (ahead : ℕ) (dir : List ℕ) (before : Seen) (t : Opt
   pub holds_open : (now : Seen) (t' : Option (List ℕ)) (reader : PageReader) (l : Load) (s : Shown) → s.journal.ending ≡ None → Holds es ahead dir before now t t' reader l s → PageOpen before now reader s.journal.pieces
   holds_open now t' reader l s none h = open-page now reader s.journal.pieces s.journal.ending none h.outside.page
 
-  pub holds_read : (now after : Seen) (t' : Option (List ℕ)) (reader reader' : PageReader) (l : Load) (s s' : Shown) → is_done s.desk.phase ≡ false → s.journal.ending ≡ None → ReadsPiece now after reader reader' s s' → KeepsOthers port.Page now after → after.begun ≡ now.begun
+  pub holds_read : (now after : Seen) (t' : Option (List ℕ)) (reader reader' : PageReader) (l : Load) (s s' : Shown) → is_done s.desk.phase ≡ false → s.journal.ending ≡ None → ReadsPiece now after reader reader' s s' → KeepsOthers port.Page now after → after.begun ≡ now.begun → after.open_at ≡ now.open_at
       → Holds es ahead dir before now t t' reader l s → Holds es ahead dir before after t t' reader' l s'
-  holds_read now after t' reader reader' l s s' going none reads keeps begun h =
+  holds_read now after t' reader reader' l s s' going none reads keeps begun opened h =
       let i = h.inside in
       let x = reads.handed in
       let o = x.others in
@@ -136,8 +136,9 @@ module _ (es : Entities) (ahead : ℕ) (dir : List ℕ) (before : Seen) (t : Opt
         outside = record {
           page = reads.at before (holds_open now t' reader l s none h);
           begun = ap (λ b. b port.Page) begun ∙ h.outside.begun;
-          fetches = subst (λ m. Fetches true dir before after [] m) (sym fetches_eq)
-              (fetches-then before now after later (later-others port.Page now after keeps) true true dir [] s.journal.fetches s.journal.fetches refl h.outside.fetches (fetches-past true dir port.Page now after s.journal.fetches (λ e. cc e) keeps));
+          open_at = ap (λ b. b port.Page) opened ∙ h.outside.open_at;
+          fetches = subst (λ m. Fetches [] dir before after [] m) (sym fetches_eq)
+              (fetches-then before now after later (later-others port.Page now after keeps) [] dir [] s.journal.fetches s.journal.fetches h.outside.fetches (fetches-past [] dir port.Page now after s.journal.fetches (λ e. cc e) keeps));
           keeps = entities-then before now after h.outside.keeps (entities-others port.Page now after (λ e. cc e) keeps);
         };
         inside = record {
@@ -208,7 +209,7 @@ module _ (es : Entities) (ahead : ℕ) (dir : List ℕ) (before : Seen) (t : Opt
       let taken = k.taken in
       let asked = k.asked in
       record {
-        outside = record { page = h.outside.page; begun = h.outside.begun; fetches = h.outside.fetches; keeps = h.outside.keeps };
+        outside = record { page = h.outside.page; begun = h.outside.begun; open_at = h.outside.open_at; fetches = h.outside.fetches; keeps = h.outside.keeps };
         inside = record {
           entities = i.entities;
           ahead_is = i.ahead_is;
@@ -269,7 +270,8 @@ module _ (es : Entities) (ahead : ℕ) (dir : List ℕ) (before : Seen) (t : Opt
         outside = record {
           page = subst (λ ps. PageAt before now reader ps s'.journal.ending) (sym pieces_eq) (subst (λ e. PageAt before now reader s.journal.pieces e) (sym ending_eq) h.outside.page);
           begun = h.outside.begun;
-          fetches = subst (λ m. Fetches true dir before now [] m) (sym fetches_eq) h.outside.fetches;
+          open_at = h.outside.open_at;
+          fetches = subst (λ m. Fetches [] dir before now [] m) (sym fetches_eq) h.outside.fetches;
           keeps = h.outside.keeps;
         };
         inside = record {
@@ -334,7 +336,7 @@ module _ (es : Entities) (ahead : ℕ) (dir : List ℕ) (before : Seen) (t : Opt
   awaiting-same : (a b : List ℕ) → awaiting a ≡ awaiting b → a ≡ b
   awaiting-same a b e = cc
 
-  pub holds_arrived : (now after : Seen) (t' : Option (List ℕ)) (reader : PageReader) (l : Load) (s s' : Shown) → Arrives dir now after s s' → BeginsAwaited dir now after s.desk → KeepsOthers port.Script now after
+  pub holds_arrived : (now after : Seen) (t' : Option (List ℕ)) (reader : PageReader) (l : Load) (s s' : Shown) → Arrives dir now after s s' → BeginsTheAwaited dir now after s.desk → KeepsOthers port.Script now after
       → Holds es ahead dir before now t t' reader l s → Holds es ahead dir before after t t' reader l s'
   holds_arrived now after t' reader l s s' arr begins keeps h = subst (λ z. Holds es ahead dir before after t t' reader l z) (sym arr.arrived) here
     where
@@ -372,7 +374,8 @@ module _ (es : Entities) (ahead : ℕ) (dir : List ℕ) (before : Seen) (t : Opt
         outside = record {
           page = at_past before now after reader s.journal.pieces s.journal.ending keeps h.outside.page;
           begun = keeps.begun port.Page (λ e. cc e) ∙ h.outside.begun;
-          fetches = fetches-then before now after (later-entities before now h.outside.keeps) (later-others port.Script now after keeps) true true dir [] s.journal.fetches ((name, arr.fetch) ∷ s.journal.fetches) refl
+          open_at = keeps.open_at port.Page (λ e. cc e) ∙ h.outside.open_at;
+          fetches = fetches-then before now after (later-entities before now h.outside.keeps) (later-others port.Script now after keeps) [] dir [] s.journal.fetches ((name, arr.fetch) ∷ s.journal.fetches)
               h.outside.fetches (fetch_one dir name now after parts.0 s.journal.fetches none arr.fetch arr.given begun_here);
           keeps = entities-then before now after h.outside.keeps (entities-others port.Script now after (λ e. cc e) keeps);
         };

@@ -46,7 +46,7 @@ pub record HasWorld (dir : List ℕ) (before after : Seen) (met : Met) : Type 0 
   pub are_scripts : AreScriptsOf dir before after scripts
   pub alike : (name : List ℕ) → Alike (scripts name) (scripts_with met scripts name)
 
-pub has_world : {done : Bool} (dir : List ℕ) (before after : Seen) (met : Met) → Fetches done dir before after [] met → HasWorld dir before after met
+pub has_world : {unmet : List (List ℕ)} (dir : List ℕ) (before after : Seen) (met : Met) → Fetches unmet dir before after [] met → HasWorld dir before after met
 has_world dir before after met fetches = record {
   scripts = λ name. (at name).given;
   are_scripts = record { each = λ name. (at name).may };

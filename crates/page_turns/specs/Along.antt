@@ -1,15 +1,18 @@
 -- What is known of a journal's events while the page is read.
-use Rattle.std.specs.Prelude.{◌≡◌, ◌⊎◌, ℕ, nat_lt, false, List, [], ◌++◌, length, map, Option, None, IfSome, IsSome}
+use Rattle.std.specs.Prelude.{◌≡◌, ◌⊎◌, ℕ, ◌-◌, nat_lt, false, List, [], ◌∷◌, ◌++◌, length, map, Option, Some, None, IfSome, IsSome, slice_get}
+use Rattle.std.specs.List.{AllByRecursion}
 use Rattle.html_types.specs.declared.ending.Ending.{Ending}
 use Rattle.serial.specs.Serial.{World}
 use Rattle.core_definitions.specs.declared.event.Event.{Event}
-use Rattle.core_definitions.specs.declared.event.Event.TheVariants.{Do, Arrive}
+use Rattle.core_definitions.specs.declared.event.Event.TheVariants.{Send, Do, Arrive}
 use Rattle.core_definitions.specs.Batches.{Piece}
-use Rattle.core_definitions.specs.Core.{Request}
-use Rattle.core_definitions.specs.Desk.{Desk, first_desk, pieces_with, with_more, outstanding}
+use Rattle.core_definitions.specs.Core.{Request, joined}
+use Rattle.core_definitions.specs.Desk.{Phase, waits, Desk, first_desk, pieces_with, with_more, outstanding}
 use Rattle.core_definitions.specs.Journal.{Knows}
-use Rattle.run_laws.specs.Along.{MovesWith, sends_in, SendsOf}
+use Rattle.core_definitions.specs.StandsFor.{text_of}
+use Rattle.run_laws.specs.Along.{MovesWith, sends_in, IsForFirst}
 use Rattle.speculation.specs.Asking.{Asked}
+use Rattle.core_steps.specs.Fetches.{names_of}
 use Rattle.core_steps.specs.Sides.{Shown, Shows, DoesShow, journaled}
 
 -- nothing of desk and journal was changed
@@ -41,17 +44,38 @@ LooksSoFar ahead ending Do d = IsSentSoFar ahead ending d
 LooksSoFar ahead ending (Arrive name) d = IsSentSoFar ahead ending d
 LooksSoFar ahead ending _ d = Unit {0}
 
-abbrev pub GoesSoFar : List Request → ℕ → Option Ending → Event → Desk → Type 0
-GoesSoFar requests ahead ending v d = SendsOf requests v d × LooksSoFar ahead ending v d
+-- A Send sends the request that stands at its place among these, which says where in the page its piece begins.
+abbrev pub AsksOf : List Asked → List (List ℕ) → Event → Desk → Type 0
+AsksOf asks pieces Send d =
+    (a : Asked) × (slice_get asks d.sent ≡ Some a) × IsForFirst d.to_send d a.request × (a.from ≡ length (joined pieces) - length (text_of d.to_send))
+AsksOf asks pieces _ d = Unit {0}
+
+abbrev pub IsAwaitedIn : List ℕ → Phase → Type 0
+IsAwaitedIn name (waits n held) = n ≡ name
+IsAwaitedIn name _ = ⊥
+
+-- A script arrives where it is awaited, and no other does.
+abbrev pub FetchesAwaited : Event → Desk → Type 0
+FetchesAwaited (Arrive name) d = IsAwaitedIn name d.phase
+FetchesAwaited _ d = Unit {0}
+
+abbrev pub GoesSoFar : List Asked → List (List ℕ) → ℕ → Option Ending → Event → Desk → Type 0
+GoesSoFar asks pieces ahead ending v d = AsksOf asks pieces v d × LooksSoFar ahead ending v d × FetchesAwaited v d
 
 abbrev pub requests_of : List Asked → List Request
 requests_of asks = map (λ a. a.request) asks
 
--- The journal's Sends are those of the requests that were put, where they are told, and its Does and arrivals look ahead.
+abbrev pub HasArrived : List ℕ → List Event → Type 0
+HasArrived name events = (earlier : List Event) × (later : List Event) × (events ≡ earlier ++ Arrive name ∷ later)
+
+-- The journal's Sends are those of the requests that were put, where they are told, its Does and arrivals look ahead, and no script
+-- arrives that isn't awaited; each that was fetched has arrived.
 pub record Goes (asks : Option (List Asked)) (s : Shown) : Type 0 where
-  pub requests : List Request
-  pub told : IfSome asks (λ all. requests_of all ≡ requests)
-  pub count : length requests ≡ s.desk.sent
-  pub sends : length requests ≡ sends_in s.journal.events
+  pub asked : List Asked
+  pub told : IfSome asks (λ all. all ≡ asked)
+  pub count : length asked ≡ s.desk.sent
+  pub sends : length asked ≡ sends_in s.journal.events
+  pub arrived : AllByRecursion (λ name. HasArrived name s.journal.events) (names_of s.journal.fetches)
   pub along : (w : World) → w.entities ≡ s.entities → Knows s.journal.fetches w →
-      (d : Desk) × MovesWith (GoesSoFar requests s.ahead s.journal.ending) s.ahead w s.journal.events (first_desk (pieces_with s.journal.pieces s.journal.ending)) d × Shows d s.desk
+      (d : Desk) × MovesWith (GoesSoFar asked s.journal.pieces s.ahead s.journal.ending) s.ahead w s.journal.events (first_desk (pieces_with s.journal.pieces s.journal.ending)) d
+      × Shows d s.desk

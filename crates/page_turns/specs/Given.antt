@@ -6,6 +6,7 @@ use Rattle.outside.specs.declared.traits.Port.{Port}
 use Rattle.outside.specs.declared.traits.Port.TheVariants.{Entities}
 use Rattle.core_steps.specs.declared.fetch.Fetch.{Fetch}
 use Rattle.core_steps.specs.declared.fetch.Fetch.TheVariants as fetches
+use Rattle.page_turns.specs.Calls.{HasFailed}
 
 -- What came of a file that was begun and read. `unmet`: memory ran out before that was known.
 pub data Given (A : Type 0) : Type 0 where
@@ -33,11 +34,12 @@ AbsencesRose port before after = Rose (before.absences port) (after.absences por
 abbrev pub file_at : Seen → List ℕ → Option (Option (List ℕ))
 file_at before path = option_map (λ map. map path) before.files
 
--- Of a file one byte past the limit is read at most. Its bytes, and that there is none, are known only where every call succeeded.
+-- Of a file one byte past the limit is read at most. Its bytes, and that there is none, are known only where every call succeeded; and
+-- it counts as faulted only where a call for this file failed.
 abbrev pub MayGive : ℕ → Port → List ℕ → Seen → Seen → Given (List ℕ) → Type 0
 MayGive limit port path before after unmet = Unit {0}
 MayGive limit port path before after missing = AbsencesRose port before after × IfSome (file_at before path) (λ file. file ≡ None) × NoFault port before after
-MayGive limit port path before after faulted = FaultsRose port before after
+MayGive limit port path before after faulted = FaultsRose port before after × HasFailed port path before after
 MayGive limit port path before after (got bytes) = IfSome (file_at before path) (λ file. IsSomeAnd file (λ whole. bytes ≡ take (limit + 1) whole)) × NoFault port before after
 
 -- Where the file is told, these bytes were read of it, and the port has left the rest.
@@ -60,6 +62,7 @@ pub record KeepsEntities (before after : Seen) : Type 0 where
   pub files : after.files ≡ before.files
   pub left : after.left Entities ≡ before.left Entities
   pub begun : after.begun Entities ≡ before.begun Entities
+  pub calls : after.calls Entities ≡ before.calls Entities
   pub no_fault : NoFault Entities before after
   pub faults : NeverFall before.faults after.faults
   pub absences : NeverFall before.absences after.absences

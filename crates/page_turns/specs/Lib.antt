@@ -1,10 +1,13 @@
 pub mod Taken
+pub mod Calls
 pub mod Given
 pub mod Scripts
 pub mod Shown
 pub mod Pages
+pub mod Cuts
 pub mod Turns
 pub mod Along
 pub mod Messages
+pub mod InPlaces
 pub mod Replaying
 pub mod WrittenInPart

@@ -1,8 +1,9 @@
 -- A page as it is read, and what its parse comes to.
-use Rattle.std.specs.Prelude.{◌≡◌, ◌≤◌, ◌+◌, ◌⊎◌, ℕ, Bool, true, false, List, [], ◌++◌, length, flat_map, Option, Some, None, IfSome}
+use Rattle.std.specs.Prelude.{◌≡◌, ◌≤◌, ◌+◌, ◌⊎◌, ℕ, Bool, true, false, List, [], ◌++◌, length, map, flat_map, Option, Some, None, IfSome, Result}
+use Rattle.std.specs.List.{AllByRecursion}
 use Rattle.html_types.specs.declared.ending.Ending.{Ending}
 use Rattle.html_types.specs.declared.ending.Why.TheVariants as why
-use Rattle.outside.specs.Outside.{Seen}
+use Rattle.outside.specs.Outside.{Seen, Begun}
 use Rattle.outside.specs.declared.traits.Port.TheVariants as port
 use Rattle.standard.specs.Entities.{Entities}
 use Rattle.serial.specs.Page.{Page, page_of, text_of, ending_of, shown}
@@ -10,14 +11,18 @@ use Rattle.serial.specs.Scripts.{Fetched, faulted}
 use Rattle.standard.specs.Act.{Doc}
 use Rattle.serial.specs.Serial.{World, fetched, Serial, Outcome, refusal, awaits, IsSerial, Passes}
 use Rattle.serial.specs.Output.{line_text, output_with}
+use Rattle.serial.specs.declared.script.Line.{Line}
 use Rattle.utf8_pieces.specs.Decoder.{HasRead}
 use Rattle.core_definitions.specs.Core.{joined}
 use Rattle.page_turns.specs.declared.page.TheConstants.{PAGE_LIMIT}
 use Rattle.page_turns.specs.declared.outcome.Outcome.{Outcome as Told}
 use Rattle.page_turns.specs.declared.reader.PageReader.{PageReader}
+use Rattle.outside.specs.Outside.{Call, reads}
+use Rattle.outside.specs.declared.traits.Failed.{Failed}
+use Rattle.page_turns.specs.Calls.{CallsAt, AreReads, given_first, ReadWithin, has_failed, GaveNone}
 use Rattle.page_turns.specs.Given.{FaultsRose, NoFault}
 use Rattle.page_turns.specs.Taken.{Took, TookFront}
-use Rattle.page_turns.specs.Scripts.{AreScriptsOf}
+use Rattle.page_turns.specs.Scripts.{AreScriptsOf, path_of}
 use Rattle.page_turns.specs.Shown.{result_of}
 
 -- what the reads of a page gave, and whether a read behind that failed
@@ -48,12 +53,19 @@ pub record ReadsOn (most : ℕ) (whole left : Option (List ℕ)) : Type 0 where
   pub taken : AreTaken whole left read
   pub at_most : length read ≤ most
 
--- The page is all that the port of the page had, where no read of it failed, or where one did what it gave.
+-- So many bytes were given before a read of the page failed: what was given behind that counts for nothing.
+pub record GivenFirst (before after : Seen) (bytes : List ℕ) : Type 0 where
+  pub calls : List Call
+  pub made : CallsAt port.Page before after calls
+  pub count : length bytes ≡ given_first calls
+
+-- The page is all that the port of the page had, where no read of it failed, or where one did what it gave before.
 pub record IsReadFrom (before after : Seen) (page : PageRead) : Type 0 where
   pub all : page.fault ≡ false → IfSome (before.left port.Page) (λ bytes. bytes ≡ page.bytes)
   pub no_fault : page.fault ≡ false → NoFault port.Page before after
   pub cut : page.fault ≡ true → AreTaken (before.left port.Page) (after.left port.Page) page.bytes
   pub cause : page.fault ≡ true → FaultsRose port.Page before after
+  pub first : page.fault ≡ true → GivenFirst before after page.bytes
 
 -- The serial parse of the page awaits a script whose fetch failed, and is refused there.
 pub record StopsAtScript (w : World) (page : Page) (o : Outcome) : Type 0 where
@@ -70,22 +82,30 @@ MeetsFaults w page o before after = NoFault port.Script before after ⊎ StopsAt
 
 -- ---- what a parse comes to
 
--- The serial parse of the page ended so, with the tree of this document, and the sink took its lines.
-pub record Ended (w : World) (page : PageRead) (doc : Doc) (taken taken' : Option (List ℕ)) (told : Told) : Type 0 where
+-- The serial parse of the page ended so, with the tree of this document and these lines, and the sink took them.
+pub record Ended (w : World) (page : PageRead) (doc : Doc) (lines : List Line) (taken taken' : Option (List ℕ)) (told : Told) : Type 0 where
   pub outcome : Outcome
   pub comes : ComesTo w page outcome
   pub result : outcome.result ≡ result_of told
   pub tree : outcome.last.side.doc.tree ≡ doc.tree
+  pub lines : outcome.last.side.lines ≡ lines
   pub took : Took taken taken' (flat_map line_text outcome.last.side.lines)
 
+-- The scripts of these names were begun, and nothing else at their port; and each of them the serial parse of the page awaits.
+pub record BeginsAwaited (w : World) (page : Page) (dir : List ℕ) (before after : Seen) : Type 0 where
+  pub names : List (List ℕ)
+  pub begun : Begun (before.begun port.Script) (after.begun port.Script) (map (path_of dir) names)
+  pub awaited : AllByRecursion (λ name. (last : Serial) × Passes page w (awaits name last)) names
+
 -- So ended the page that was read at its port, with the scripts of the folder.
-pub record EndsWithScripts (es : Entities) (dir : List ℕ) (before after : Seen) (doc : Doc) (taken taken' : Option (List ℕ)) (told : Told) : Type 0 where
+pub record EndsWithScripts (es : Entities) (dir : List ℕ) (before after : Seen) (doc : Doc) (lines : List Line) (taken taken' : Option (List ℕ)) (told : Told) : Type 0 where
   pub scripts : List ℕ → Fetched
   pub are_scripts : AreScriptsOf dir before after scripts
   pub page : PageRead
   pub read_from : IsReadFrom before after page
-  pub ended : Ended (world_of es scripts) page doc taken taken' told
+  pub ended : Ended (world_of es scripts) page doc lines taken taken' told
   pub faults : MeetsFaults (world_of es scripts) page ended.outcome before after
+  pub begins : BeginsAwaited (world_of es scripts) (page_at page) dir before after
 
 -- The sink took a front of what is written of it.
 pub record FrontWithScripts (es : Entities) (dir : List ℕ) (before after : Seen) (taken taken' : Option (List ℕ)) : Type 0 where
@@ -93,6 +113,7 @@ pub record FrontWithScripts (es : Entities) (dir : List ℕ) (before after : See
   pub are_scripts : AreScriptsOf dir before after scripts
   pub page : PageRead
   pub read_from : IsReadFrom before after page
+  pub begins : BeginsAwaited (world_of es scripts) (page_at page) dir before after
   pub front : (dump : Bool) (o : Outcome) → ComesTo (world_of es scripts) page o → TookFront taken taken' (output_with dump o)
 
 -- ---- reading on
@@ -105,6 +126,12 @@ pub record ClosesAt (now after : Seen) (read : List ℕ) (e : Ending) : Type 0 w
   pub end : fault ≡ false → IfSome (now.left port.Page) (λ rest. rest ≡ [])
   pub no_fault : fault ≡ false → NoFault port.Page now after
   pub cause : fault ≡ true → FaultsRose port.Page now after
+  -- by one read more
+  pub most : ℕ
+  pub answer : Result ℕ Failed
+  pub made : CallsAt port.Page now after (reads most answer ∷ [])
+  pub gave_none : GaveNone answer
+  pub failed : fault ≡ has_failed answer
 
 -- The reader has read these bytes, which show no ending, and the pieces are their text.
 pub record IsReading (reader : PageReader) (pieces : List (List ℕ)) : Type 0 where
@@ -124,6 +151,10 @@ pub record PageOpen (before now : Seen) (reader : PageReader) (pieces : List (Li
   pub reading : IsReading reader pieces
   pub so_far : AreTaken (before.left port.Page) (now.left port.Page) reading.read
   pub quiet : NoFault port.Page before now
+  pub calls : List Call
+  pub made : CallsAt port.Page before now calls
+  pub reads_all : AreReads calls
+  pub count : length reading.read ≡ given_first calls
 
 -- The page goes on from the pieces, where its ending wasn't read, and is theirs where it was.
 abbrev pub IsPageBehind : Option Ending → List (List ℕ) → Page → Type 0
@@ -136,6 +167,7 @@ pub record PageFor (before now : Seen) (pieces : List (List ℕ)) (ending : Opti
   pub read_from : IsReadFrom before now page
   pub is : IsPageBehind ending pieces (page_at page)
   pub read : ReadsOn (PAGE_LIMIT + 1) (before.left port.Page) (now.left port.Page)
+  pub within : ReadWithin PAGE_LIMIT 0 port.Page before now
 
 -- what was read, as the pieces and the ending tell it
 abbrev pub PageAt : Seen → Seen → PageReader → List (List ℕ) → Option Ending → Type 0

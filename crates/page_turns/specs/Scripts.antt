@@ -1,5 +1,5 @@
 -- The files of external scripts, as a run meets them.
-use Rattle.std.specs.Prelude.{◌≡◌, ◌≢◌, ◌⊎◌, ℕ, Bool, true, List, [], ◌∷◌, ◌++◌, map, Option, Some, None, IfSome, IsSome}
+use Rattle.std.specs.Prelude.{◌≡◌, ◌≢◌, ◌⊎◌, ℕ, true, List, [], ◌∷◌, ◌++◌, map, Option, Some, None, IfSome, IsSome}
 use Rattle.std.specs.List.{AllByRecursion}
 use Rattle.outside.specs.Outside.{Files, Paths, Begun, Seen}
 use Rattle.outside.specs.declared.traits.Port.TheVariants.{Script as script_port}
@@ -9,6 +9,7 @@ use Rattle.serial.specs.Serial.{World}
 use Rattle.core_steps.specs.Journals.{found}
 use Rattle.core_steps.specs.Fetches.{names_of}
 use Rattle.page_turns.specs.declared.scripts.TheConstants.{SCRIPT_LIMIT}
+use Rattle.page_turns.specs.Calls.{EachWithin, HasFailed}
 use Rattle.page_turns.specs.Given.{FaultsRose, AbsencesRose, file_at, ReadTo}
 
 -- the path of a script's file: the folder, `/`, the name
@@ -26,7 +27,7 @@ IsAbsent (Some file) rose = file ≡ None
 abbrev pub MayFetch : List ℕ → Seen → Seen → List ℕ → Fetched → Type 0
 MayFetch dir before after name (got bytes) = IfSome (file_at before (path_of dir name)) (λ file. file ≡ Some bytes)
 MayFetch dir before after name missing = IsAbsent (file_at before (path_of dir name)) (AbsencesRose script_port before after)
-MayFetch dir before after name faulted = FaultsRose script_port before after
+MayFetch dir before after name faulted = FaultsRose script_port before after × HasFailed script_port (path_of dir name) before after
 
 -- These are the scripts of the folder: one thing comes of each name, however often it is awaited.
 pub record AreScriptsOf (dir : List ℕ) (before after : Seen) (scripts : List ℕ → Fetched) : Type 0 where
@@ -80,20 +81,26 @@ MayMeet dir before after name f = (g : Fetched) × MayFetch dir before after nam
 -- Nothing was done, or the file of that name was begun and read.
 pub data BeginsFile (dir name : List ℕ) (before after : Seen) : Type 0 where
   left_alone : after ≡ before → BeginsFile dir name before after
-  begun_once : Begun (before.begun script_port) (after.begun script_port) (path_of dir name ∷ []) → ReadTo SCRIPT_LIMIT script_port (path_of dir name) before after → BeginsFile dir name before after
+  begun_once : Begun (before.begun script_port) (after.begun script_port) (path_of dir name ∷ []) → ReadTo SCRIPT_LIMIT script_port (path_of dir name) before after
+      → EachWithin SCRIPT_LIMIT script_port before after → BeginsFile dir name before after
 
--- No script was begun whose name was fetched before, and where the fetching is done, all that were begun are among those that were.
-pub record BeginsNew (done : Bool) (dir : List ℕ) (before after : Paths) (old new : Met) : Type 0 where
+abbrev pub IsOneOf : List ℕ → List (List ℕ) → Type 0
+IsOneOf name [] = ⊥
+IsOneOf name (n ∷ names) = (n ≡ name) ⊎ IsOneOf name names
+
+-- No script was begun whose name was fetched before, and all that were begun are among those that were, or are `unmet`.
+pub record BeginsNew (unmet : List (List ℕ)) (dir : List ℕ) (before after : Paths) (old new : Met) : Type 0 where
   pub which : NamesOnce dir before after
   pub fresh : AllByRecursion (λ name. found name old ≡ None) which.names
-  pub met : done ≡ true → AllByRecursion (λ name. IsSome (found name new)) which.names
+  pub met : AllByRecursion (λ name. IsSome (found name new) ⊎ IsOneOf name unmet) which.names
 
--- Scripts were fetched: more names are met, and what was met stays. It is done, or memory ran out.
-pub record Fetches (done : Bool) (dir : List ℕ) (before after : Seen) (old new : Met) : Type 0 where
+-- Scripts were fetched: more names are met, and what was met stays. From fetching those that are `unmet` nothing came: memory ran out.
+pub record Fetches (unmet : List (List ℕ)) (dir : List ℕ) (before after : Seen) (old new : Met) : Type 0 where
   pub kept : (name : List ℕ) (f : Fetched) → found name old ≡ Some f → found name new ≡ Some f
   pub fresh : (name : List ℕ) (f : Fetched) → found name new ≡ Some f → (found name old ≡ Some f) ⊎ MayMeet dir before after name f
   pub no_further : ReadScriptsTo SCRIPT_LIMIT dir before after
-  pub begins : BeginsNew done dir (before.begun script_port) (after.begun script_port) old new
+  pub within : EachWithin SCRIPT_LIMIT script_port before after
+  pub begins : BeginsNew unmet dir (before.begun script_port) (after.begun script_port) old new
 
 -- Each name that was fetched is lawful, and none twice.
 pub record AreKnown (met : Met) : Type 0 where

@@ -1,5 +1,6 @@
 -- The run of a page on one thread: what is under way, and what holds between two turns.
 use Rattle.std.specs.Prelude.{◌≡◌, ◌≤◌, ◌<◌, ◌+◌, ◌-◌, ◌*◌, ◌⊎◌, ℕ, suc, Bool, true, false, List, [], ◌++◌, length, flat_map, Option, Some, None}
+use Rattle.std.specs.List.{AllByRecursion}
 use Rattle.html_types.specs.declared.ending.Ending.{Ending}
 use Rattle.serial.specs.declared.script.Line.{Line}
 use Rattle.outside.specs.Outside.{Seen}
@@ -22,10 +23,12 @@ use Rattle.page_turns.specs.declared.page.TheConstants.{PAGE_LIMIT}
 use Rattle.page_turns.specs.declared.outcome.Outcome.{Outcome as Told}
 use Rattle.page_turns.specs.declared.scripts.TheConstants.{SCRIPT_LIMIT}
 use Rattle.page_turns.specs.declared.reader.PageReader.{PageReader}
+use Rattle.page_turns.specs.Calls.{ReadWithin, EachWithin}
 use Rattle.page_turns.specs.Given.{NoFault, KeepsEntities}
 use Rattle.page_turns.specs.Taken.{Took, TookFront}
 use Rattle.page_turns.specs.Scripts.{MayMeet, BeginsFile, Fetches, AreKnown, ReadScriptsTo, NamesOnce}
 use Rattle.page_turns.specs.Shown.{result_of}
+use Rattle.page_turns.specs.Along.{Goes}
 use Rattle.page_turns.specs.Pages.{PageOpen, PageFor, PageAt, ReadsOn}
 use Rattle.page_turns.specs.WrittenInPart.{IsDue, WritesInPart}
 
@@ -109,8 +112,8 @@ pub data RunsInPart (taken taken' : Option (List ℕ)) (old new : Shown) : Type 
       → TookFront taken taken' (flat_map line_text more) → RunsInPart taken taken' old new
 
 -- Nothing was begun but the script that is awaited.
-abbrev pub BeginsAwaited : List ℕ → Seen → Seen → Desk → Type 0
-BeginsAwaited dir before after d = (name : List ℕ) × (standing_of d ≡ awaiting name) × BeginsFile dir name before after
+abbrev pub BeginsTheAwaited : List ℕ → Seen → Seen → Desk → Type 0
+BeginsTheAwaited dir before after d = (name : List ℕ) × (standing_of d ≡ awaiting name) × BeginsFile dir name before after
 
 -- A script that was awaited has arrived.
 pub record Arrives (dir : List ℕ) (before after : Seen) (old new : Shown) : Type 0 where
@@ -148,7 +151,8 @@ StopsIn (done r) s = StoppedAt s
 pub record Outside (dir : List ℕ) (before now : Seen) (reader : PageReader) (j : Journal) : Type 0 where
   pub page : PageAt before now reader j.pieces j.ending
   pub begun : now.begun port.Page ≡ before.begun port.Page
-  pub fetches : Fetches true dir before now [] j.fetches
+  pub open_at : now.open_at port.Page ≡ before.open_at port.Page
+  pub fetches : Fetches [] dir before now [] j.fetches
   pub keeps : KeepsEntities before now
 
 -- what the document's side and the parser's side have
@@ -195,7 +199,10 @@ pub record Leaves (es : Entities) (ahead : ℕ) (dir : List ℕ) (before after :
   pub entities : s.entities ≡ es
   pub ahead_is : s.ahead ≡ ahead
   pub page : PageFor before after s.journal.pieces s.journal.ending
-  pub fetches : Fetches false dir before after [] s.journal.fetches
+  -- a script that was begun and whose fetch didn't return is the one that is awaited
+  pub unmet : List (List ℕ)
+  pub fetches : Fetches unmet dir before after [] s.journal.fetches
+  pub awaited : AllByRecursion (λ name. standing_of s.desk ≡ awaiting name) unmet
   pub known : AreKnown s.journal.fetches
 
 -- what reading a page and its scripts leaves alone, and how far it went
@@ -203,7 +210,10 @@ pub record LeavesAlone (dir : List ℕ) (before after : Seen) : Type 0 where
   pub keeps : KeepsEntities before after
   pub read : ReadsOn (PAGE_LIMIT + 1) (before.left port.Page) (after.left port.Page)
   pub begun : after.begun port.Page ≡ before.begun port.Page
+  pub open_at : after.open_at port.Page ≡ before.open_at port.Page
+  pub within : ReadWithin PAGE_LIMIT 0 port.Page before after
   pub scripts : ReadScriptsTo SCRIPT_LIMIT dir before after
+  pub scripts_within : EachWithin SCRIPT_LIMIT port.Script before after
   pub names : NamesOnce dir (before.begun port.Script) (after.begun port.Script)
 
 -- The sink took a front of the lines of what is shown, or was before the last events: all lines of the events before the refused one, and a front
@@ -213,6 +223,7 @@ pub record GivesUp (es : Entities) (ahead : ℕ) (dir : List ℕ) (before after 
   pub shown : Shown
   pub replayed : IsReplayed s → IsReplayed shown
   pub leaves : Leaves es ahead dir before after shown
+  pub goes : Goes None shown
   pub alone : LeavesAlone dir before after
   pub front : TookFront taken taken' (flat_map line_text shown.desk.own.side.lines)
   pub part : IsReplayed s → WritesInPart es ahead taken taken' (IsDue s)

@@ -1,7 +1,7 @@
 // The parser's side, as the document's side has it.
-ghost use Rattle.std.specs.Prelude.{◌≡◌, ◌≤◌, ◌<◌, ◌∷◌, ◌++◌, [], List, Option, Some, suc, nat_lt, IfOk, OnOk, OnErr};
-ghost use Rattle.std.specs.Option.{option_map};
+ghost use Rattle.std.specs.Prelude.{◌≡◌, ◌≤◌, ◌<◌, List, Option, Some, suc, nat_lt, IfOk, OnOk, OnErr};
 ghost use Rattle.speculation.specs.Asking.{Asked, Told};
+ghost use Rattle.page_turns.specs.Messages.{Adds};
 ghost use Rattle.page_turns.specs.Turns.{Load, under_way, Asks, Answers};
 
 use entity_table::Table;
@@ -28,7 +28,7 @@ pub trait Counterpart<E: InForce> {
     fn ask(&mut self, request: Request) -> Result<(), NoMemory>
         requires { under_way (load self.old) ≤ 64 }
         ensures load { OnOk result (Asks (load self.old) (load self.new)) }
-        ensures put { put self.new ≡ option_map (λ asks. asks ++ request ∷ []) (put self.old) }
+        ensures put { Adds (put self.old) (put self.new) request }
         ensures taken { taken self.new ≡ taken self.old };
 
     /// Where the parser's side is in this thread, it makes one event: says whether there was one to make.
@@ -43,7 +43,9 @@ pub trait Counterpart<E: InForce> {
         requires { 0 < (load self.old).replies }
         ensures load { OnOk result (load self.old ≡ record (load self.new) { replies = suc (load self.new).replies }) }
         ensures put { put self.new ≡ put self.old }
-        ensures taken { IfOk result (λ reply. taken self.new ≡ option_map (λ all. all ++ Some reply.said ∷ []) (taken self.old)) }
-        // Want of memory is the last that is taken.
-        ensures refused { OnErr result ((last : Option Told) × (taken self.new ≡ option_map (λ all. all ++ last ∷ []) (taken self.old))) };
+        ensures taken { IfOk result (λ reply. Adds (taken self.old) (taken self.new)
+            (Some reply.said)) }
+        // Want of memory is the last that is taken, or a reply that came to nothing.
+        ensures refused { OnErr result ((last : Option Told)
+            × Adds (taken self.old) (taken self.new) last) };
 }

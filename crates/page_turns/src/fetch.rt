@@ -1,6 +1,7 @@
 // A whole file, up to a limit.
 ghost use Rattle.std.specs.Prelude.{◌<◌, ◌^◌, [], ◌∷◌, IfOk};
 ghost use Rattle.outside.specs.Outside.{Begun, KeepsOthers};
+ghost use Rattle.page_turns.specs.Calls.{EachWithin};
 ghost use Rattle.page_turns.specs.Given.{MayGive, given_of, ReadTo};
 
 use core_steps::Fetch;
@@ -23,6 +24,7 @@ pub fn read_whole<F: Outside>(
     ensures given { IfOk result (λ fetch. MayGive limit port path.now (F.seen files.old) (F.seen files.new) (given_of fetch)) }
     ensures begun { Begun ((F.seen files.old).begun port) ((F.seen files.new).begun port) (path.now ∷ []) }
     ensures no_further { ReadTo limit port path.now (F.seen files.old) (F.seen files.new) }
+    ensures within { EachWithin limit port (F.seen files.old) (F.seen files.new) }
     ensures others { KeepsOthers port (F.seen files.old) (F.seen files.new) }
 {
     match files.begin(port, path) {

@@ -1,5 +1,5 @@
 // A page is parsed: its document's side takes turns with the parser's side, which is in this thread or in one of its own.
-ghost use Rattle.std.specs.Prelude.{◌≡◌, ◌<◌, ◌≤◌, [], length, suc, nat_lt, ◌&&◌, is_none, false, IfOk, IfSome, IfNone, OnOk, OnErr, IsErrOf, IsTrue};
+ghost use Rattle.std.specs.Prelude.{◌≡◌, ◌<◌, ◌≤◌, [], length, suc, nat_lt, ◌&&◌, is_none, false, true, IfOk, IfSome, IfNone, OnOk, OnErr, IsErrOf, IsTrue};
 ghost use Rattle.std.specs.String.{string_bytes};
 ghost use Rattle.outside.specs.Outside.{Rose, KeepsOthers};
 ghost use Rattle.core_definitions.specs.declared.event.Event.TheVariants as event;
@@ -8,9 +8,10 @@ ghost use Rattle.core_steps.specs.Sides.{first_shown, journaled, IsReplayed, awa
 ghost use Rattle.page_turns.specs.declared.page.Failure.TheVariants as failures;
 ghost use Rattle.page_turns.specs.Shown.{result_of};
 ghost use Rattle.page_turns.specs.Pages.{IsUnread};
+ghost use Rattle.page_turns.specs.Cuts.{IsCut};
 ghost use Rattle.page_turns.specs.Along.{Stays, MayDo, Goes};
 ghost use Rattle.page_turns.specs.Messages.{TakesOne, TakesLast, TakenSoFar, MayTakeMore};
-ghost use Rattle.page_turns.specs.Turns.{no_load, under_way, StaysRead, RunsOn, RunsInPart, Arrives, BeginsAwaited, GivesUp, RunsOut};
+ghost use Rattle.page_turns.specs.Turns.{no_load, under_way, StaysRead, RunsOn, RunsInPart, Arrives, BeginsTheAwaited, GivesUp, RunsOut};
 
 use crate::counterpart::Counterpart;
 use crate::job::Job;
@@ -141,7 +142,7 @@ fn fetch_awaited<F: Outside>(
     requires awaits { (name : _) × (standing_of doc.old.desk ≡ awaiting name) }
     ensures arrives { OnOk result (Arrives dir.now (F.seen files.old) (F.seen files.new) doc.old doc.new) }
     ensures stays { OnErr result (Stays doc.old doc.new) }
-    ensures begins { BeginsAwaited dir.now (F.seen files.old) (F.seen files.new) doc.old.desk }
+    ensures begins { BeginsTheAwaited dir.now (F.seen files.old) (F.seen files.new) doc.old.desk }
     ensures others { KeepsOthers Port.Script (F.seen files.old) (F.seen files.new) }
 {
     let name = awaited_name(alloc, doc)?;
@@ -172,6 +173,12 @@ pub(crate) fn take_turns<E: InForce, L: Counterpart<E>, F: Outside, K: Sink>(
     requires few { job.now.ahead ≤ 64 }
     ensures ok { IfOk result (λ o. RunsOut job.now.table.now job.now.ahead (string_bytes job.now.dir) (F.seen files.old) (F.seen files.new) (K.taken out.old) (K.taken out.new) doc.new o) }
     ensures err { OnErr result (GivesUp job.now.table.now job.now.ahead (string_bytes job.now.dir) (F.seen files.old) (F.seen files.new) (K.taken out.old) (K.taken out.new) doc.new) }
+    ensures cut { OnOk result (IsCut (length room.old) false (F.seen files.old) (F.seen files.new)
+        doc.new.journal.pieces) }
+    ensures cut_short { OnErr result (IsCut (length room.old) true (F.seen files.old) (F.seen files.new)
+        doc.new.journal.pieces) }
+    ensures write_cut { IsErrOf result Failure.Write → IsCut (length room.old) false
+        (F.seen files.old) (F.seen files.new) doc.new.journal.pieces }
     ensures goes { Goes (L.put lanes.new) doc.new }
     ensures taken { OnOk result (TakenSoFar (L.taken lanes.new) doc.new.journal.events) }
     ensures write_taken { IsErrOf result Failure.Write → TakenSoFar (L.taken lanes.new) doc.new.journal.events }

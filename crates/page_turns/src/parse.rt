@@ -1,9 +1,10 @@
 // A page is parsed from where it is begun.
-ghost use Rattle.std.specs.Prelude.{◌≡◌, ◌<◌, ◌≤◌, [], length, IfOk, IfSome, OnOk, OnErr, IsErrOf};
+ghost use Rattle.std.specs.Prelude.{◌≡◌, ◌<◌, ◌≤◌, [], false, true, length, IfOk, IfSome, OnOk, OnErr, IsErrOf};
 ghost use Rattle.std.specs.String.{string_bytes};
 ghost use Rattle.outside.specs.Outside.{Rose};
 ghost use Rattle.core_steps.specs.Sides.{first_shown};
 ghost use Rattle.page_turns.specs.Pages.{EndsWithScripts, FrontWithScripts};
+ghost use Rattle.page_turns.specs.Cuts.{IsCut};
 ghost use Rattle.page_turns.specs.Turns.{no_load, LeavesAlone, Leaves, RunsOut};
 ghost use Rattle.page_turns.specs.Along.{Goes};
 ghost use Rattle.page_turns.specs.Messages.{TakenSoFar, MayTakeMore};
@@ -41,7 +42,8 @@ pub fn parse_page<E: InForce, L: Counterpart<E>, F: Outside, K: Sink>(
     requires some { 0 < job.now.ahead }
     requires few { job.now.ahead ≤ 64 }
     ensures ok { IfOk result (λ outcome. EndsWithScripts job.now.table.now (string_bytes job.now.dir) (F.seen files.old) (F.seen files.new)
-        doc.new.desk.own.side.doc (K.taken out.old) (K.taken out.new) outcome) }
+        doc.new.desk.own.side.doc doc.new.desk.own.side.lines (K.taken out.old) (K.taken out.new)
+        outcome) }
     ensures err { OnErr result (FrontWithScripts job.now.table.now (string_bytes job.now.dir) (F.seen files.old) (F.seen files.new)
         (K.taken out.old) (K.taken out.new)) }
     ensures part { OnErr result (WritesInPart job.now.table.now job.now.ahead (K.taken out.old) (K.taken out.new) (IsDue doc.new)) }
@@ -50,6 +52,12 @@ pub fn parse_page<E: InForce, L: Counterpart<E>, F: Outside, K: Sink>(
     ensures replays { ReplaysTo job.now.table.now job.now.ahead doc.new }
     ensures left { Leaves job.now.table.now job.now.ahead (string_bytes job.now.dir) (F.seen files.old) (F.seen files.new) doc.new }
     ensures alone { LeavesAlone (string_bytes job.now.dir) (F.seen files.old) (F.seen files.new) }
+    ensures cut { OnOk result (IsCut (length room.old) false (F.seen files.old) (F.seen files.new)
+        doc.new.journal.pieces) }
+    ensures cut_short { OnErr result (IsCut (length room.old) true (F.seen files.old) (F.seen files.new)
+        doc.new.journal.pieces) }
+    ensures write_cut { IsErrOf result Failure.Write → IsCut (length room.old) false
+        (F.seen files.old) (F.seen files.new) doc.new.journal.pieces }
     ensures goes { Goes (L.put lanes.new) doc.new }
     ensures taken { OnOk result (TakenSoFar (L.taken lanes.new) doc.new.journal.events) }
     ensures write_taken { IsErrOf result Failure.Write → TakenSoFar (L.taken lanes.new) doc.new.journal.events }

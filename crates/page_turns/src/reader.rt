@@ -1,10 +1,12 @@
 // The page is read piece by piece.
-ghost use Rattle.std.specs.Prelude.{◌≡◌, ◌<◌, ◌≤◌, ℕ, List, length, take, None, IfOk, IfErr, OnOk, OnErr};
-ghost use Rattle.outside.specs.Outside.{KeepsOthers};
+ghost use Rattle.std.specs.Prelude.{◌≡◌, ◌<◌, ◌≤◌, ◌∷◌, [], ℕ, List, length, take, None, Ok, IfOk, IfErr, OnOk, OnErr};
+ghost use Rattle.outside.specs.Outside.{reads, KeepsOthers};
 ghost use Rattle.utf8_pieces.specs.Decoder.{HasRead};
 ghost use Rattle.page_turns.specs.declared.page.TheConstants.{PAGE_LIMIT};
+ghost use Rattle.page_turns.specs.Calls.{CallsAt};
 ghost use Rattle.page_turns.specs.Given.{NoFault};
 ghost use Rattle.page_turns.specs.Pages.{AreTaken, ClosesAt, IsReading, IsUnread};
+ghost use Rattle.page_turns.specs.Cuts.{CutsOn, CutsShort};
 ghost use Rattle.page_turns.specs.Along.{Hands};
 ghost use Rattle.page_turns.specs.Turns.{ReadsPiece, ReadsInPart};
 
@@ -34,7 +36,10 @@ fn read_piece<F: Outside>(
     ensures ending { IfErr result (λ ending. 0 < length room.old → (read : List ℕ) → HasRead PAGE_LIMIT decoder.now read
         → ClosesAt (F.seen files.old) (F.seen files.new) read ending) }
     ensures no_fault { OnOk result (NoFault Port.Page (F.seen files.old) (F.seen files.new)) }
+    ensures call { IfOk result (λ n. CallsAt Port.Page (F.seen files.old) (F.seen files.new)
+        (reads (length room.old) (Ok n) ∷ [])) }
     ensures begun { (F.seen files.new).begun ≡ (F.seen files.old).begun }
+    ensures open_at { (F.seen files.new).open_at ≡ (F.seen files.old).open_at }
     ensures others { KeepsOthers Port.Page (F.seen files.old) (F.seen files.new) }
 {
     match files.read(Port::Page, room) {
@@ -68,8 +73,13 @@ impl PageReader {
         requires no_ending { doc.old.journal.ending ≡ None }
         ensures ok { OnOk result (ReadsPiece (F.seen files.old) (F.seen files.new) self.old self.new doc.old doc.new) }
         ensures err { OnErr result (ReadsInPart (F.seen files.old) (F.seen files.new) self.old doc.old doc.new) }
+        ensures cut { OnOk result (CutsOn (length room.old) (F.seen files.old) (F.seen files.new)
+            self.old self.new doc.old doc.new) }
+        ensures cut_short { OnErr result (CutsShort (length room.old) (F.seen files.old)
+            (F.seen files.new) self.old doc.old doc.new) }
         ensures handed { Hands doc.old doc.new }
         ensures begun { (F.seen files.new).begun ≡ (F.seen files.old).begun }
+        ensures open_at { (F.seen files.new).open_at ≡ (F.seen files.old).open_at }
         ensures others { KeepsOthers Port.Page (F.seen files.old) (F.seen files.new) }
     {
         let most = room.len().min(self.left);

@@ -1,6 +1,6 @@
 //! The parser's side at work, as the document's side sees it.
 
-ghost use Rattle.std.specs.Prelude.{◌≡◌, ◌≤◌, ◌∷◌, ◌++◌, [], IfOk};
+ghost use Rattle.std.specs.Prelude.{◌≡◌, ◌≤◌, ◌+◌, ◌∷◌, ◌++◌, [], IfOk};
 ghost use mathlib.Core.List.{IsPrefix};
 ghost use Rattle.parser_thread.specs.declared.messages.ToParser.TheVariants as message;
 ghost use Rattle.parser_thread.specs.Answers.{Worked};
@@ -59,6 +59,7 @@ pub(crate) fn begin<E: InForce, G: Gate + Drop>(
     ensures table { IfOk result (λ b. (b.table ≡ E.entities) × (b.outfit.table ≡ E.entities)) }
     ensures asked { IfOk result (λ b. (b.ask.put ≡ []) × (b.outfit.lanes.asked.taken ≡ []) × (b.outfit.lanes.asked.lane ≡ b.ask.lane)) }
     ensures answers { IfOk result (λ b. (b.replies.taken ≡ []) × (b.outfit.lanes.answers.put ≡ []) × (b.outfit.lanes.answers.lane ≡ b.replies.lane)) }
+    ensures room { IfOk result (λ b. (b.ask.room ≡ ahead + 1) × (b.replies.room ≡ ahead + 1)) }
 {
     let (ask, asked) = lane(alloc, ahead + 1)?;
     let (answers, replies) = lane(alloc, ahead + 1)?;
@@ -84,7 +85,8 @@ pub(crate) fn begin<E: InForce, G: Gate + Drop>(
 }
 
 /// Starts the parser's side, with the named character references of `table`, which are those in force. `ahead` is how many requests are at most
-/// sent whose replies weren't taken: then no put waits. All memory that it needs itself is taken here.
+/// sent whose replies weren't taken. Each lane holds one more: so many replies, or so many requests and the word to stop. All memory that it
+/// needs itself is taken here.
 pub fn start<
     R: Threads + Wait + Copy + Send + Sync + 'static,
     E: InForce + Send + 'static,
@@ -101,6 +103,7 @@ pub fn start<
     ensures running { IfOk result (λ t. IsRunning E.InForce t) }
     ensures asked { IfOk result (λ t. t.ask.put ≡ []) }
     ensures taken { IfOk result (λ t. t.replies.taken ≡ []) }
+    ensures room { IfOk result (λ t. (t.ask.room ≡ ahead + 1) × (t.replies.room ≡ ahead + 1)) }
 {
     let Beginning {
         ask,
@@ -133,6 +136,7 @@ pub fn start_here<E: InForce, G: Gate + Drop>(
     ensures running { IfOk result (λ t. IsRunning E.InForce t) }
     ensures asked { IfOk result (λ t. t.ask.put ≡ []) }
     ensures taken { IfOk result (λ t. t.replies.taken ≡ []) }
+    ensures room { IfOk result (λ t. (t.ask.room ≡ ahead + 1) × (t.replies.room ≡ ahead + 1)) }
 {
     let Beginning {
         ask,
@@ -166,6 +170,8 @@ impl<E: InForce, G: Gate + Drop> ParserThread<E, G> {
         ensures running { IsRunning E.InForce self.new }
         ensures asked { self.new.ask.put ≡ self.old.ask.put ++ message.Ask request ∷ [] }
         ensures taken { self.new.replies.taken ≡ self.old.replies.taken }
+        ensures room { (self.new.ask.room ≡ self.old.ask.room)
+            × (self.new.replies.room ≡ self.old.replies.room) }
     {
         self.ask.put(rt, ToParser::Ask(request));
         self.seat.step(rt, self.alloc, &self.table, &*self.gate);
@@ -177,6 +183,8 @@ impl<E: InForce, G: Gate + Drop> ParserThread<E, G> {
         ensures running { IsRunning E.InForce self.new }
         ensures asked { self.new.ask.put ≡ self.old.ask.put }
         ensures taken { self.new.replies.taken ≡ self.old.replies.taken ++ result ∷ [] }
+        ensures room { (self.new.ask.room ≡ self.old.ask.room)
+            × (self.new.replies.room ≡ self.old.replies.room) }
     {
         self.replies.take(rt)
     }

@@ -15,7 +15,7 @@ pub returns-in-Err-clause-no_further : goal.returns-in-Err-clause-no_further
 returns-in-Err-clause-no_further g c =
     let at = g.F.Outside.seen in
     stops_early (shown c.args.words) (at c.args.files.now) (at c.read_entities.new.files)
-    (read_to_is ENTITIES_LIMIT Entities _ (string_bytes c.args.words.entities) _ _ c.as_str.ensures.value c.read_entities.ensures.no_further) c.read_entities.ensures.others
+    (read_to_is ENTITIES_LIMIT Entities _ (string_bytes c.args.words.entities) _ _ c.as_str.ensures.value c.read_entities.ensures.no_further) c.read_entities.ensures.within c.read_entities.ensures.others
 
 pub returns-in-Err-clause-begins : goal.returns-in-Err-clause-begins
 returns-in-Err-clause-begins g c =
@@ -32,8 +32,8 @@ returns-in-Ok-clause-answer g c =
 pub returns-in-Ok-clause-no_further : goal.returns-in-Ok-clause-no_further
 returns-in-Ok-clause-no_further g c =
     let at = g.F.Outside.seen in
-    stops_on (shown c.args.words) _ (at c.args.files.now) (at c.read_entities.new.files) (at c.run_page.new.files)
-    (read_to_is ENTITIES_LIMIT Entities _ (string_bytes c.args.words.entities) _ _ c.as_str.ensures.value c.read_entities.ensures.no_further) c.read_entities.ensures.others c.run_page.ensures.reads
+    stops_on (shown c.args.words) (at c.args.files.now) (at c.read_entities.new.files) (at c.run_page.new.files)
+    (read_to_is ENTITIES_LIMIT Entities _ (string_bytes c.args.words.entities) _ _ c.as_str.ensures.value c.read_entities.ensures.no_further) c.read_entities.ensures.within c.read_entities.ensures.others c.run_page.ensures.reads
 
 pub returns-in-Ok-clause-begins : goal.returns-in-Ok-clause-begins
 returns-in-Ok-clause-begins g c =

@@ -1,4 +1,5 @@
 use Rattle.page_runner.proofs.RunLemmas.{page_no_memory, reads_nothing}
+use Rattle.page_runner.proofs.OnTwoLemmas.{is_looking_ahead, is_fetching_awaited}
 use Rattle.page_runner.proofs.in_place.run_begun.Goals as goal
 
 pub returns-in-Err-clause-answer : goal.returns-in-Err-clause-answer
@@ -6,3 +7,13 @@ returns-in-Err-clause-answer g c = page_no_memory _ _ _ _ _ _ _
 
 pub returns-in-Err-clause-reads : goal.returns-in-Err-clause-reads
 returns-in-Err-clause-reads g c = reads_nothing _ _ _
+
+pub returns-clause-looks_ahead : goal.returns-clause-looks_ahead
+returns-clause-looks_ahead g c =
+    let ran = c.run_with-outcome in
+    is_looking_ahead _ _ ran.new.doc _ ran.ensures.goes ran.ensures.reports.entities ran.ensures.reports.ahead_is
+
+pub returns-clause-fetches : goal.returns-clause-fetches
+returns-clause-fetches g c =
+    let ran = c.run_with-outcome in
+    is_fetching_awaited _ _ ran.new.doc _ ran.ensures.goes ran.ensures.reports.entities ran.ensures.reports.ahead_is

@@ -1,12 +1,13 @@
-use Rattle.std.proofs.Common.{Some}
-use Rattle.page_runner.proofs.OnTwoLemmas.{is_journaled, drops_failed, is_looking_ahead}
+use Rattle.std.proofs.Common.{Some, subst}
+use Rattle.page_turns.specs.Cuts.{IsCut}
+use Rattle.page_runner.proofs.OnTwoLemmas.{is_journaled, drops_failed, is_looking_ahead, is_fetching_awaited}
 use Rattle.page_runner.proofs.on_two.run_on_two.Goals as goal
 
 pub returns-clause-journaled : goal.returns-clause-journaled
 returns-clause-journaled g c =
     let ran = c.run_with-outcome in
     is_journaled g.E.InForce _ _ ran.new.doc _ ran.new.lanes.asks ran.ensures.goes ran.ensures.reports.entities ran.ensures.reports.ahead_is c.finish-ends.ensures.stopped
-    ran.result ran.new.lanes.messages c.finish-ends.ensures.messages ran.ensures.messages
+    c.requires.table c.finish-ends.ensures.in_order c.finish-ends.ensures.answered ran.result ran.new.lanes.messages c.finish-ends.ensures.messages ran.ensures.messages
 
 pub returns-clause-dropped : goal.returns-clause-dropped
 returns-clause-dropped g c =
@@ -17,3 +18,11 @@ pub returns-clause-looks_ahead : goal.returns-clause-looks_ahead
 returns-clause-looks_ahead g c =
     let ran = c.run_with-outcome in
     is_looking_ahead _ _ ran.new.doc (Some ran.new.lanes.asks) ran.ensures.goes ran.ensures.reports.entities ran.ensures.reports.ahead_is
+
+pub returns-clause-fetches : goal.returns-clause-fetches
+returns-clause-fetches g c =
+    let ran = c.run_with-outcome in
+    is_fetching_awaited _ _ ran.new.doc (Some ran.new.lanes.asks) ran.ensures.goes ran.ensures.reports.entities ran.ensures.reports.ahead_is
+
+pub returns-clause-cut : goal.returns-clause-cut
+returns-clause-cut g c = subst (λ k. IsCut k _ _ _ _) c.in-Ok.ensures.room c.run_with-outcome.ensures.cut

@@ -1,8 +1,10 @@
-use Rattle.std.proofs.Common.{◌≤◌, ◌+◌, ◌++◌, length, take, drop, arith, refl, ap, ◌∙◌, length-take, length-append}
+use Rattle.std.proofs.Common.{◌≡◌, ◌≤◌, ◌+◌, ◌++◌, Ok, true, length, take, drop, vec_len, arith, rules, refl, sym, ap, subst, ◌∙◌, length-take, length-append}
+use Rattle.page_turns.specs.Calls.{EachWithin, HasFailed}
 use Rattle.page_turns.specs.Given.{AreRead, file_at, begun}
 use Rattle.outside.proofs.KeepsLemmas.{keeps-then}
-use Rattle.page_turns.proofs.KeepsLemmas.{begun_stays}
-use Rattle.page_turns.proofs.RunReads.{read_more, read_none, read_failed, piece_front}
+use Rattle.page_turns.proofs.CallLemmas.{IsReadOn, read_on_first, read_on_more, read_on_failed, read_on_within, read_on_each, unbegun_each, unbegun_failed}
+use Rattle.page_turns.proofs.KeepsLemmas.{begun_stays, rose-on}
+use Rattle.page_turns.proofs.RunReads.{read_more, read_none, read_failed, piece_size, piece_front}
 use Rattle.page_turns.proofs.fetch.read_whole.Goals as goal
 use Rattle.page_turns.proofs.fetch.read_whole.Goals.{else-reads-test, then-reads-test+in-Ok-eq0}
 
@@ -15,11 +17,15 @@ reads-preserved g c =
     let len = c.in_ok-extend_from_slice.ensures.len in
     let most = length-take c.in-Ok.n (c.read.new.into ++ drop c.min-room.result c.reads.piece) in
     let room = length-take c.min-room.result c.reads.piece in
+    let size = piece_size c.read.new.into (drop c.min-room.result c.reads.piece) c.in-Ok.n fits in
+    let more : vec_len c.extend_from_slice.new.self ≡ vec_len c.reads.bytes + c.in-Ok.n = omega (arith, len, size) in
     record {
       bound = omega (arith, len, most, room, c.read.auto.into, c.in-Ok.ensures.count, c.min-room.ensures, c.len-in-reads.ensures);
       others = keeps-then _ _ _ _ c.reads.invariant.others c.read.ensures.others;
       begun = begun_stays _ _ _ _ c.reads.invariant.begun (ap (λ begun. begun c.args.port) c.read.ensures.begun);
       no_fault = c.in-Ok.ensures.no_fault ∙ c.reads.invariant.no_fault;
+      calls = subst (λ k. IsReadOn c.args.port c.args.path.now (g.F.Outside.seen c.args.files.now) (g.F.Outside.seen c.read.new.self) k) (sym more)
+          (read_on_more _ _ _ _ _ _ c.reads.invariant.calls _ _ c.read.ensures.calls c.in-Ok.n c.in-Ok.is);
       read = rw c.in_ok-extend_from_slice.ensures.items
           (read_more _ _ _ c.reads.bytes.items c.read.new.into (take c.in-Ok.n (c.read.new.into ++ drop c.min-room.result c.reads.piece)) c.in-Ok.n c.reads.invariant.read c.in-Ok.ensures.moved
           (piece_front c.read.new.into (drop c.min-room.result c.reads.piece) c.in-Ok.n fits));
@@ -53,3 +59,42 @@ returns-clause-begun g c = elim c.reads-test.branch [
   | else-reads-test w ↦ rw w.files-is c.reads.invariant.begun
   | then-reads-test+in-Ok-eq0 w ↦ rw w.files-is (begun_stays _ _ _ _ c.reads.invariant.begun (ap (λ begun. begun c.args.port) w.read.ensures.begun))
 ]
+
+-- ---- the calls
+
+pub returns-in-Err-clause-given : goal.returns-in-Err-clause-given
+returns-in-Err-clause-given g c = (c.in-Err.ensures.faults_rose, unbegun_failed _ _ _ _ c.begin.result _ c.in-Err.is c.begin.ensures.calls)
+
+pub returns-in-Err-clause-within : goal.returns-in-Err-clause-within
+returns-in-Err-clause-within g c = unbegun_each _ _ _ _ _ c.begin.result c.begin.ensures.calls
+
+pub returns-in-Ok-false-clause-within : goal.returns-in-Ok-false-clause-within
+returns-in-Ok-false-clause-within g c = unbegun_each _ _ _ _ _ c.begin.result c.begin.ensures.calls
+
+pub returns-in-Err-read-clause-given : goal.returns-in-Err-read-clause-given
+returns-in-Err-read-clause-given g c = (
+  rose-on _ _ _ (c.reads.invariant.others.faults c.args.port) c.in-Err-read.ensures.faults_rose,
+  read_on_failed _ _ _ _ _ _ c.reads.invariant.calls _ _ c.read.ensures.calls _ c.in-Err-read.is,
+)
+
+pub returns-in-Err-read-clause-within : goal.returns-in-Err-read-clause-within
+returns-in-Err-read-clause-within g c =
+    let small : vec_len c.reads.bytes ≤ c.args.limit + 1 = c.reads.invariant.bound in
+    read_on_within _ _ _ _ _ _ c.reads.invariant.calls _ _ c.read.ensures.calls c.args.limit (rw c.in-Err-read.is (omega arith))
+
+pub returns-in_err-extend_from_slice-clause-within : goal.returns-in_err-extend_from_slice-clause-within
+returns-in_err-extend_from_slice-clause-within g c =
+    let bound : vec_len c.reads.bytes ≤ c.args.limit + 1 = c.reads.invariant.bound in
+    let room = length-take c.min-room.result c.reads.piece in
+    read_on_within _ _ _ _ _ _ c.reads.invariant.calls _ _ c.read.ensures.calls c.args.limit
+    (rw c.in-Ok.is (omega (arith, bound, room, c.read.auto.into, c.in-Ok.ensures.count, c.min-room.ensures, c.len-in-reads.ensures)))
+
+pub returns-clause-within : goal.returns-clause-within
+returns-clause-within g c =
+    let at = g.F.Outside.seen in
+    let on = c.reads.invariant.calls in
+    let small : vec_len c.reads.bytes ≤ c.args.limit + 1 = c.reads.invariant.bound in
+    elim c.reads-test.branch [
+      | else-reads-test w ↦ rw w.files-is (read_on_each _ _ _ _ _ _ on small)
+      | then-reads-test+in-Ok-eq0 w ↦ rw w.files-is (read_on_within _ _ _ _ _ _ on _ _ w.read.ensures.calls c.args.limit (rw (w.in-Ok-eq0.is, w.in-Ok-eq0.field-0-test) (omega arith)))
+    ]

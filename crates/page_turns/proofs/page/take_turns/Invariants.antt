@@ -1,6 +1,7 @@
-use Rattle.std.proofs.Common.{◌≤◌}
+use Rattle.std.proofs.Common.{◌≡◌, ◌≤◌, length}
 use Rattle.std.specs.String.{string_bytes}
 use Rattle.page_turns.specs.Along.{Goes}
+use Rattle.page_turns.specs.Cuts.{CutAt}
 use Rattle.page_turns.specs.Messages.{TakenSoFar}
 use Rattle.page_turns.specs.Turns.{Holds, turns_to_come}
 use Rattle.page_turns.proofs.page.take_turns.Given as goal
@@ -12,6 +13,8 @@ invariant-turns g l =
     let other = g.L.Counterpart in
     record {
       holds : Holds l.job.table.now l.job.ahead (string_bytes l.job.dir) (now l.fn.files) (now l.files) (sink.taken l.fn.out) (sink.taken l.out) l.reader (other.load l.lanes) l.doc;
+      cuts : CutAt (length l.fn.room) (now l.fn.files) (now l.files) l.reader l.doc.journal.pieces l.doc.journal.ending;
+      room : length l.room ≡ length l.fn.room;
       goes : Goes (other.put l.lanes) l.doc;
       taken : TakenSoFar (other.taken l.lanes) l.doc.journal.events;
       faults : sink.faults l.fn.out ≤ sink.faults l.out;

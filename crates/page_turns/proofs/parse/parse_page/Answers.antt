@@ -4,7 +4,7 @@ use Rattle.page_turns.proofs.ReplayLemmas.{replays-to}
 use Rattle.page_turns.proofs.parse.parse_page.Goals as goal
 
 pub returns-clause-ok : goal.returns-clause-ok
-returns-clause-ok g c = if_ok _ (λ o out. ran_out _ _ _ _ _ _ _ _ o c.journal-journal.ensures.replayed out) c.take_turns-ended.ensures.ok
+returns-clause-ok g c = if_ok _ (λ o out. ran_out _ _ _ _ _ _ _ _ o _ c.journal-journal.ensures.replayed c.take_turns-ended.ensures.goes out) c.take_turns-ended.ensures.ok
 
 pub returns-clause-err : goal.returns-clause-err
 returns-clause-err g c = err_weaker _ _ _ (λ gives. gave_up _ _ _ _ _ _ _ _ c.journal-journal.ensures.replayed gives) c.take_turns-ended.ensures.err

@@ -18,4 +18,4 @@ returns-clause-begins g c =
     let after = g.F.Outside.seen c.read_whole.new.files in
     let is = script-path c.as_str.result.now c.args.dir.now c.args.name.now c.utf8.name c.requires (c.as_str.ensures.value ∙ c.in_ok-path.ensures.ok) in
     begun_once (subst (λ p. Begun (before.begun port.Script) (after.begun port.Script) (p ∷ [])) is c.read_whole.ensures.begun)
-    (subst (λ p. ReadTo SCRIPT_LIMIT port.Script p before after) is c.read_whole.ensures.no_further)
+    (subst (λ p. ReadTo SCRIPT_LIMIT port.Script p before after) is c.read_whole.ensures.no_further) c.read_whole.ensures.within

@@ -11,4 +11,4 @@ invariant-loop g l = (l.self-inside.pass.table_id ≡ l.initial.self-inside.pass
     × IsPassOf (arc_value l.self-inside.line) l.self-inside.pass × MayTake l.self-inside.pass
     × (l.self-inside.teller.table_id ≡ l.initial.self-inside.teller.table_id) × IsPrefix l.initial.self-inside.teller.me.0.looks l.self-inside.teller.me.0.looks
     × IsTellerOf (arc_value l.self-inside.count) l.self-inside.teller
-    × (l.self-inside.counted ≤ length (view l.self-inside.pass).taken)
+    × (l.self-inside.counted ≤ length (view l.self-inside.pass).taken) × (l.self-inside.line ≡ l.initial.self-inside.line)

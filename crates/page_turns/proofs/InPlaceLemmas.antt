@@ -1,0 +1,70 @@
+-- The parser's side in the calling thread answers each request once, in order.
+use Rattle.std.proofs.Common.{◌≡◌, List, [], ◌∷◌, ◌++◌, map, Option, Some, None, refl, sym, ap, subst, ◌∙◌, append_assoc, append-nil}
+use Rattle.std.proofs.lemmas.List.{map-append}
+use Rattle.standard.specs.Entities.{Entities}
+use Rattle.standard.specs.Parser.{Parser}
+use Rattle.core_definitions.specs.Core.{Request, Reply, WorkSide, first_work, answer_to, reply_to}
+use Rattle.speculation.specs.Asking.{Asked, Told}
+use Rattle.core_steps.specs.Working.{replies_to, behind}
+use Rattle.page_turns.specs.Along.{requests_of}
+use Rattle.page_turns.specs.Messages.{Message}
+use Rattle.page_turns.specs.InPlaces.{in_hand, IsAnswering}
+
+replies-more : (es : Entities) (last : Option Parser) (rs : List Request) (r : Request) → replies_to es last (rs ++ r ∷ []) ≡ replies_to es last rs ++ reply_to r (answer_to es (behind es last rs) r).batches ∷ []
+replies-more es last [] r = refl
+replies-more es last (x ∷ rs) r = ap (λ l. reply_to x (answer_to es last x).batches ∷ l) (replies-more es (answer_to es last x).parser rs r)
+
+behind-more : (es : Entities) (last : Option Parser) (rs : List Request) (r : Request) → behind es last (rs ++ r ∷ []) ≡ (answer_to es (behind es last rs) r).parser
+behind-more es last [] r = refl
+behind-more es last (x ∷ rs) r = behind-more es (answer_to es last x).parser rs r
+
+module _ (es : Entities) (asked : List Asked) (given : List Message) (work : WorkSide) (requests : List Asked) (a : IsAnswering es asked given work requests) where
+  -- one more stands
+  pub asks_one : (q : Asked) → IsAnswering es (asked ++ q ∷ []) given work (requests ++ q ∷ [])
+  asks_one q = record {
+    answered = a.answered;
+    asked_are = map-append (λ (x : Asked). x.request) asked (q ∷ [])
+        ∙ ap (λ l. l ++ q.request ∷ []) a.asked_are
+        ∙ append_assoc (a.answered ++ in_hand work.hand) (requests_of requests) (q.request ∷ [])
+        ∙ ap (λ l. (a.answered ++ in_hand work.hand) ++ l) (sym (map-append (λ (x : Asked). x.request) requests (q ∷ [])));
+    said = a.said;
+    given_are = a.given_are;
+    replies_are = a.replies_are;
+    parser_is = a.parser_is;
+  }
+
+  -- the first of those that stand is picked
+  pub picks_one : (q : Asked) (rest : List Asked) (work' : WorkSide) → requests ≡ q ∷ rest → work.hand ≡ None → work' ≡ record work { hand = Some q.request } → IsAnswering es asked given work' rest
+  picks_one q rest work' first none picked = subst (λ w. IsAnswering es asked given w rest) (sym picked) (record {
+    answered = a.answered;
+    asked_are = a.asked_are
+        ∙ ap (λ h. (a.answered ++ in_hand h) ++ requests_of requests) none
+        ∙ ap (λ l. l ++ requests_of requests) (append-nil a.answered)
+        ∙ ap (λ rs. a.answered ++ requests_of rs) first
+        ∙ sym (append_assoc a.answered (q.request ∷ []) (requests_of rest));
+    said = a.said;
+    given_are = a.given_are;
+    replies_are = a.replies_are;
+    parser_is = a.parser_is;
+  })
+
+  -- the one that was picked is answered
+  pub gives_one : (r : Request) (t : Told) (work' : WorkSide) → work.hand ≡ Some r → t.reply ≡ reply_to r (answer_to es work.parser r).batches → work' ≡ record { hand = None; parser = (answer_to es work.parser r).parser }
+      → IsAnswering es asked (given ++ Some t ∷ []) work' requests
+  gives_one r t work' hand reply then = subst (λ w. IsAnswering es asked (given ++ Some t ∷ []) w requests) (sym then) (record {
+    answered = a.answered ++ r ∷ [];
+    asked_are = a.asked_are
+        ∙ ap (λ h. (a.answered ++ in_hand h) ++ requests_of requests) hand
+        ∙ ap (λ l. l ++ requests_of requests) (sym (append-nil (a.answered ++ r ∷ [])));
+    said = a.said ++ t ∷ [];
+    given_are = ap (λ l. l ++ Some t ∷ []) a.given_are ∙ sym (map-append Some a.said (t ∷ []));
+    replies_are = map-append (λ (x : Told). x.reply) a.said (t ∷ [])
+        ∙ ap (λ l. l ++ t.reply ∷ []) a.replies_are
+        ∙ ap (λ x. replies_to es first_work.parser a.answered ++ x ∷ []) (reply ∙ ap (λ p. reply_to r (answer_to es p r).batches) a.parser_is)
+        ∙ sym (replies-more es first_work.parser a.answered r);
+    parser_is = ap (λ p. (answer_to es p r).parser) a.parser_is ∙ sym (behind-more es first_work.parser a.answered r);
+  })
+
+  -- the same replies, of which one more was taken
+  pub takes_one : (given' : List Message) → given' ≡ given → IsAnswering es asked given' work requests
+  takes_one given' same = subst (λ l. IsAnswering es asked l work requests) (sym same) a
