@@ -342,7 +342,7 @@ no-child t tree c p other = elim (cases_lt 0 (count_of c (children_of t p))) [
 abbrev host_in : Node → Option ℕ
 host_in x = x.host
 
-leads : (o : Option ℕ) (p : ℕ) → leads_to o p ≡ true → o ≡ Some p
+pub leads : (o : Option ℕ) (p : ℕ) → leads_to o p ≡ true → o ≡ Some p
 leads None p is = absurd (cc)
 leads (Some q) p is = elim (cases_eq q p) [
   | inl same ↦ ap Some same

@@ -6,3 +6,6 @@ pub mod Pairs
 pub mod Children
 pub mod Sets
 pub mod Unnamed
+mod Sorts
+mod Visits
+mod Whole

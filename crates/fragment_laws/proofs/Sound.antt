@@ -80,7 +80,7 @@ IsTree-put_of t n p before tree plain below = (IsPut-of t n p before tree plain 
 pub Keeps-put_of : (t : Nodes) (n p : ℕ) (before : Option ℕ) → IsTree t → IsPlain t n → p < length t → Keeps t (put_of t n p before)
 Keeps-put_of t n p before tree plain below = (IsPut-of t n p before tree plain below).keeps
 
-IsTree-all_put : (cs : List ℕ) (t : Nodes) (p : ℕ) → IsTree t → ((c : ℕ) → 0 < count_of c cs → IsPlain t c) → p < length t → IsTree (all_put t cs p)
+pub IsTree-all_put : (cs : List ℕ) (t : Nodes) (p : ℕ) → IsTree t → ((c : ℕ) → 0 < count_of c cs → IsPlain t c) → p < length t → IsTree (all_put t cs p)
 IsTree-all_put [] t p tree plain below = tree
 IsTree-all_put (c ∷ cs) t p tree plain below =
     let here : IsPlain t c = plain c (first-of c cs) in

@@ -40,7 +40,7 @@ fragments-unnamed d n form ops binds m past below = record {
 -- ---- operations
 
 -- a change of the tree
-longer : (d : Doc) (t : Nodes) (m : ℕ) → Stays d.tree t → IsUnnamed d m → IsUnnamed (record d { tree = t }) m
+pub longer : (d : Doc) (t : Nodes) (m : ℕ) → Stays d.tree t → IsUnnamed d m → IsUnnamed (record d { tree = t }) m
 longer d t m stays u = record { here = omega (arith, stays.nodes, u.here); unnamed = u.unnamed }
 
 unnamed-act : (d : Doc) (op : Op) (m : ℕ) → IsUnnamed d m → IsUnnamed (act d op) m
@@ -157,7 +157,7 @@ module _ (P : Moment → Type 0) (e : Ending) (w : World) (one : (n : ℕ) (a b 
       by None rest first is = absurd (none-some b is)
       by (Some c) rest first is = rest c is (first c refl)
 
-  all : (a b : Moment) → Leads e w a b → P a → P b
+  pub all : (a b : Moment) → Leads e w a b → P a → P b
   all a b (k, n, q) h = some k n a b q h
 
 pub moments-unnamed : MomentsKeepUnnamed
@@ -166,7 +166,7 @@ moments-unnamed e w a b leads m u = all (IsAt m) e w (λ n a' b' q h. moment-unn
 -- ---- the scripts that run
 
 -- the node of an id is none for which no id stands
-named-other : (d : Doc) (i : NodeId) (m : ℕ) → IsTrue (is_bound d.bound i) → IsUnnamed d m → node_of d.bound i ≢ m
+pub named-other : (d : Doc) (i : NodeId) (m : ℕ) → IsTrue (is_bound d.bound i) → IsUnnamed d m → node_of d.bound i ≢ m
 named-other d i m bound u = by (bound_to d.bound i) refl bound
   where
     by : (o : Option ℕ) → bound_to d.bound i ≡ o → is_some o ≡ true → unwrap_or o 0 ≢ m
@@ -180,7 +180,7 @@ stops-named d es p text i m serves at u =
     named-other (acts d r.ops) i m (subst (IsStopBound (is_bound (acts d r.ops).bound)) at bound) (unnamed-acts d r.ops m u)
 
 -- at each moment all ids that the parser holds are bound, and so is that of a script whose end tag was met
-record IsSound (a : Moment) : Type 0 where
+pub record IsSound (a : Moment) : Type 0 where
   pub served : IsServedAt AreFresh a
   pub tag : IsTagNamed a
 
@@ -217,7 +217,7 @@ moment-tag n e w (over o) b q h = subst IsTagNamed (same_Some _ b q) tt
 one-leads : (n : ℕ) (e : Ending) (w : World) (a b : Moment) → moment_after n e w a ≡ Some b → Leads e w a b
 one-leads n e w a b q = (1, n, ap (option_and_then (λ c. moments_on 0 n e w c)) q)
 
-sound-next : (e : Ending) (w : World) (n : ℕ) (a b : Moment) → moment_after n e w a ≡ Some b → IsSound a → IsSound b
+pub sound-next : (e : Ending) (w : World) (n : ℕ) (a b : Moment) → moment_after n e w a ≡ Some b → IsSound a → IsSound b
 sound-next e w n a b q sound = record {
   served = moments-served AreFresh fresh-follows e w a b (one-leads n e w a b q) sound.served;
   tag = moment-tag n e w a b q sound.served;

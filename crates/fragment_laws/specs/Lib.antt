@@ -1,2 +1,4 @@
 pub mod Laws
 pub mod Unnamed
+pub mod Visits
+pub mod Whole

@@ -4,6 +4,7 @@
 
 ghost use Rattle.fragment_laws.specs.Laws.{NodesStay, OthersStand, MadeAsAlone, TargetHolds, SetsChildren, SetsTree, SetsTooDeep};
 ghost use Rattle.fragment_laws.specs.Unnamed.{FragmentsAreUnnamed, OperationsKeepUnnamed, ScriptsKeepUnnamed, StatementsKeepUnnamed, MomentsKeepUnnamed, StopsAreNamed, MomentsRunOthers};
+ghost use Rattle.fragment_laws.specs.Whole.{MomentsAreWhole, ScriptsAreWhole, StatementsSet, TagsAreOthers, StatementsStayUnnamed, MomentsStayUnnamed};
 
 /// A fragment's nodes are made behind those that there were, which stay as they are. Once its
 /// nodes are an element's children (a template's: its contents' children), each node that there
@@ -43,4 +44,23 @@ pub fn no_script_of_a_fragment_runs()
     ensures moments { MomentsKeepUnnamed }
     ensures stops { StopsAreNamed }
     ensures runs { MomentsRunOthers }
+{}
+
+/// Whatever the page and its scripts are: at each moment of the serial parse, and wherever a
+/// script of it runs, the document's nodes are a tree whose first node is the one Document, ids
+/// stand for elements, and those that the parser holds are bound.
+pub fn serial_states_are_whole()
+    ensures moments { MomentsAreWhole }
+    ensures scripts { ScriptsAreWhole }
+{}
+
+/// So the statement that sets an element's children does as `statement_sets_the_tree` says
+/// wherever the serial parse runs it, and no node of the fragment has an id. A node without one
+/// is none whose script's end tag is met, in the page or in a text that was written, and it stays
+/// one: no script of a fragment is ever executed.
+pub fn fragments_are_set_in_every_parse()
+    ensures sets { StatementsSet }
+    ensures scripts { TagsAreOthers }
+    ensures statements { StatementsStayUnnamed }
+    ensures moments { MomentsStayUnnamed }
 {}
