@@ -43,11 +43,13 @@ KINDS = {
     "removed": ("", '<i id=e{n}>x</i><script>document.getElementById("e{n}").remove();</script>', ""),
     # one fragment of a long text, and many short ones
     "inner": ('<div id=e></div><script>document.getElementById("e").innerHTML = "', "<p class='a b' id=x1>" + WORDS, '";</script>'),
+    # the same text written
+    "written": ('<div id=e></div><script>document.write("', "<p class='a b' id=x1>" + WORDS, '");</script>'),
     "inners": ("", '<p id=e{n}></p><script>document.getElementById("e{n}").innerHTML = "<i>x</i>y";</script>', ""),
     "writer": ("<body>", '<script>document.write("' + "<i>x</i>" * 100 + '");</script>', ""),
 }
 # as many as the characters that scripts may write allow
-MOST = {"scripts": 100000, "kept": 130000, "failing": 340000, "writer": 1300}
+MOST = {"scripts": 100000, "kept": 130000, "failing": 340000, "writer": 1300, "written": 13500}
 
 
 def write(kind, size, path, refused=False):
