@@ -379,8 +379,8 @@ module _ (asks : Option (List Asked)) (s : Shown) (g : Goes asks s) where
           let (d, with, shows) = g.along w entities knows in
           let open_ = subst (λ o. MovesWith (Was o) s.ahead w s.journal.events (first_desk (pieces_with s.journal.pieces o)) d) none with in
           let more = with-more (Was None) (Later s') s.ahead w h.pieces
-              (λ v e p. (asks-more g.asked s.journal.pieces s'.journal.pieces h.pieces longer v e p.0, looks-more s.ahead s'.journal.ending h.pieces v e p.1, awaited-more h.pieces v e p.2))
-              s.journal.events (first_desk (pieces_with s.journal.pieces None)) d open_ in (
+          (λ v e p. (asks-more g.asked s.journal.pieces s'.journal.pieces h.pieces longer v e p.0, looks-more s.ahead s'.journal.ending h.pieces v e p.1, awaited-more h.pieces v e p.2))
+          s.journal.events (first_desk (pieces_with s.journal.pieces None)) d open_ in (
             with_more h.pieces d,
             subst (λ ps. MovesWith (Later s') s.ahead w s.journal.events (first_desk ps) (with_more h.pieces d)) (sym h.page) more,
             subst (λ v. Shows (with_more h.pieces d) v) (sym h.desk) (shows-more s.desk.phase h.pieces d s.desk shows),
