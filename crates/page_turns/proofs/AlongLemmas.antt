@@ -94,6 +94,38 @@ awaited-more xs Take d s = s
 awaited-more xs Do d s = s
 awaited-more xs (Arrive name) d s = s
 
+full-of : (ahead : ℕ) (d : Desk) → IsSentSoFar ahead None d → nat_lt (outstanding d) ahead ≡ false
+full-of ahead d (inl full) = full
+full-of ahead d (inr (some, nil)) = absurd (true≢false (sym some))
+
+looks-more : (ahead : ℕ) (o : Option Ending) (xs : List Piece) (v : Event) (d : Desk) → LooksSoFar ahead None v d → LooksSoFar ahead o v (with_more xs d)
+looks-more ahead o xs Send d l = tt
+looks-more ahead o xs Pick d l = tt
+looks-more ahead o xs Give d l = tt
+looks-more ahead o xs Take d l = tt
+looks-more ahead o xs Do d l = inl (full-of ahead d l)
+looks-more ahead o xs (Arrive name) d l = inl (full-of ahead d l)
+
+looks-behind : (ahead : ℕ) (xs : List Piece) (v : Event) (d : Desk) → LooksSoFar ahead None v d → LooksAhead ahead v (with_more xs d)
+looks-behind ahead xs Send d l = tt
+looks-behind ahead xs Pick d l = tt
+looks-behind ahead xs Give d l = tt
+looks-behind ahead xs Take d l = tt
+looks-behind ahead xs Do d l = inl (full-of ahead d l)
+looks-behind ahead xs (Arrive name) d l = inl (full-of ahead d l)
+
+ahead-of : (ahead : ℕ) (o : Option Ending) (d : Desk) → IsSentSoFar ahead o d → IsSentAhead ahead d
+ahead-of ahead o d (inl full) = inl full
+ahead-of ahead o d (inr (some, nil)) = inr nil
+
+looks-whole : (ahead : ℕ) (o : Option Ending) (v : Event) (d : Desk) → LooksSoFar ahead o v d → LooksAhead ahead v d
+looks-whole ahead o Send d l = tt
+looks-whole ahead o Pick d l = tt
+looks-whole ahead o Give d l = tt
+looks-whole ahead o Take d l = tt
+looks-whole ahead o Do d l = ahead-of ahead o d l
+looks-whole ahead o (Arrive name) d l = ahead-of ahead o d l
+
 text-pieces : (ts : List (List ℕ)) (o : Option Ending) → text_of (pieces_with ts o) ≡ joined ts
 text-pieces [] None = refl
 text-pieces [] (Some e) = refl

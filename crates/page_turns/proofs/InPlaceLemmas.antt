@@ -1,14 +1,33 @@
 -- The parser's side in the calling thread answers each request once, in order.
-use Rattle.std.proofs.Common.{◌≡◌, List, [], ◌∷◌, ◌++◌, map, Option, Some, None, refl, sym, ap, subst, ◌∙◌, append_assoc, append-nil}
+use Rattle.std.proofs.Common.{◌≡◌, Bool, true, false, List, [], ◌∷◌, ◌++◌, map, Option, Some, None, refl, sym, ap, subst, ◌∙◌, append_assoc, append-nil}
+use Rattle.std.specs.Prelude.{option_to_list}
+use Rattle.std.specs.declared.snapshot.Snapshot.{Snapshot}
 use Rattle.std.proofs.lemmas.List.{map-append}
 use Rattle.standard.specs.Entities.{Entities}
 use Rattle.standard.specs.Parser.{Parser}
-use Rattle.core_definitions.specs.Core.{Request, Reply, WorkSide, first_work, answer_to, reply_to}
+use Rattle.core_definitions.specs.Core.{Request, WorkSide, first_work, answer_to, reply_to}
+use Rattle.speculation.specs.declared.in_force.InForce as InForce
+use Rattle.speculation.specs.declared.reply.Reply.{Reply}
 use Rattle.speculation.specs.Asking.{Asked, Told}
 use Rattle.core_steps.specs.Working.{replies_to, behind}
 use Rattle.page_turns.specs.Along.{requests_of}
-use Rattle.page_turns.specs.Messages.{Message}
-use Rattle.page_turns.specs.InPlaces.{in_hand, IsAnswering}
+use Rattle.page_turns.specs.Messages.{Message, Adds}
+use Rattle.page_turns.specs.InPlaces.{told_of, asked_in, taken_in, replies_in, in_hand, IsAnswering}
+
+-- ---- what is told
+
+-- one more went through
+pub told_more : {A : Type 0} (tells : Bool) (xs ys : List A) (x : A) → ys ≡ xs ++ x ∷ [] → Adds (told_of tells xs) (told_of tells ys) x
+told_more true xs ys x is = is
+told_more false xs ys x is = tt
+
+pub asked_more : (xs ys : List (Snapshot Asked)) (x : Snapshot Asked) (q : Asked) → ys ≡ xs ++ x ∷ [] → x.value ≡ q → asked_in ys ≡ asked_in xs ++ q ∷ []
+asked_more xs ys x q is value = ap asked_in is ∙ map-append (λ (s : Snapshot Asked). s.value) xs (x ∷ []) ∙ ap (λ v. asked_in xs ++ v ∷ []) value
+
+pub taken_more : (xs ys : List (Snapshot Told)) (x : Snapshot Told) (t : Told) → ys ≡ xs ++ x ∷ [] → x.value ≡ t → taken_in ys ≡ taken_in xs ++ Some t ∷ []
+taken_more xs ys x t is value = ap taken_in is ∙ map-append (λ (s : Snapshot Told). Some s.value) xs (x ∷ []) ∙ ap (λ v. taken_in xs ++ Some v ∷ []) value
+
+-- ---- the answers
 
 replies-more : (es : Entities) (last : Option Parser) (rs : List Request) (r : Request) → replies_to es last (rs ++ r ∷ []) ≡ replies_to es last rs ++ reply_to r (answer_to es (behind es last rs) r).batches ∷ []
 replies-more es last [] r = refl
@@ -68,3 +87,29 @@ module _ (es : Entities) (asked : List Asked) (given : List Message) (work : Wor
   -- the same replies, of which one more was taken
   pub takes_one : (given' : List Message) → given' ≡ given → IsAnswering es asked given' work requests
   takes_one given' same = subst (λ l. IsAnswering es asked l work requests) (sym same) a
+
+-- before any request
+pub answers_none : (es : Entities) (asked : List Asked) (given : List Message) (work : WorkSide) (requests : List Asked) → asked ≡ [] → given ≡ [] → work ≡ first_work → requests ≡ [] → IsAnswering es asked given work requests
+answers_none es asked given work requests none nothing first empty =
+    subst (λ w. IsAnswering es asked given w requests) (sym first) (record {
+      answered = [];
+      asked_are = ap requests_of none ∙ ap requests_of (sym empty);
+      said = [];
+      given_are = nothing;
+      replies_are = refl;
+      parser_is = refl;
+    })
+
+-- g: the entities in force
+module _ {E : Type 0} {g : InForce.Ghosts E} where
+  -- a reply more stands
+  pub given_more : (ts : List (Snapshot Told)) (xs ys : List (Reply E g)) (r : Reply E g) → ys ≡ xs ++ r ∷ [] → taken_in ts ++ replies_in ys ≡ (taken_in ts ++ replies_in xs) ++ Some r.said ∷ []
+  given_more ts xs ys r is = ap (λ rs. taken_in ts ++ replies_in rs) is ∙ ap (λ ms. taken_in ts ++ ms) (map-append (λ (r : Reply E g). Some r.said) xs (r ∷ [])) ∙ sym (append_assoc (taken_in ts) (replies_in xs) (Some r.said ∷ []))
+
+  -- the first that stood was taken
+  pub given_same : (ts us : List (Snapshot Told)) (xs ys : List (Reply E g)) (o : Option (Reply E g)) (r : Reply E g) → o ≡ Some r → xs ≡ option_to_list o ++ ys → taken_in us ≡ taken_in ts ++ Some r.said ∷ []
+      → taken_in us ++ replies_in ys ≡ taken_in ts ++ replies_in xs
+  given_same ts us xs ys o r one all more =
+      ap (λ ms. ms ++ replies_in ys) more
+      ∙ append_assoc (taken_in ts) (Some r.said ∷ []) (replies_in ys)
+      ∙ ap (λ rs. taken_in ts ++ replies_in rs) (sym (all ∙ ap (λ x. option_to_list x ++ ys) one))
