@@ -56,11 +56,11 @@ standing-waits (done r) d name is = absurd (cc is)
 -- what was fetched has arrived
 arrived-of : (P : List ℕ → Type 0) (met : Met) (name : List ℕ) (f : Fetched) → AllByRecursion P (names_of met) → found name met ≡ Some f → P name
 arrived-of P [] name f all is = absurd (cc is)
-arrived-of P ((n, g) ∷ met) name f all is = by (same_text n name) refl is
+arrived-of P ((n, g) ∷ met) name f all is = by (λ e. arrived-of P met name f all.1 e) (same_text n name) refl is
   where
-    by : (b : Bool) → same_text n name ≡ b → (if b then Some g else found name met) ≡ Some f → P name
-    by true q e = subst P (same-text n name q) all.0
-    by false q e = arrived-of P met name f all.1 e
+    by : (found name met ≡ Some f → P name) → (b : Bool) → same_text n name ≡ b → (if b then Some g else found name met) ≡ Some f → P name
+    by behind true q e = subst P (same-text n name q) all.0
+    by behind false q e = behind e
 
 module _ (page : Page) (es : Entities) (scripts : List ℕ → Fetched) (s : Shown) (behind : IsPageBehind s.journal.ending s.journal.pieces page) (entities : s.entities ≡ es) (known : AreKnown s.journal.fetches)
     (alike : (name : List ℕ) → Alike (scripts name) (scripts_with s.journal.fetches scripts name)) (replayed : IsReplayed s) (asks : Option (List Asked)) (goes : Goes asks s) where

@@ -198,7 +198,7 @@ module _ (before now after : Seen) (reader : PageReader) (pieces : List (List �
   -- a piece came
   module _ (n : ℕ) (piece : List ℕ) (size : length piece ≡ n) (fits : n ≤ reader.left) (taken : AreTaken (now.left port.Page) (after.left port.Page) piece) (quiet : NoFault port.Page now after)
       (most : ℕ) (made : CallsAt port.Page now after (reads most (Ok n) ∷ [])) where
-    calls_now : List Call
+    abbrev calls_now : List Call
     calls_now = at.calls ++ reads most (Ok n) ∷ []
 
     made_now : CallsAt port.Page before after calls_now
