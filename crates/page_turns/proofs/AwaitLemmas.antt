@@ -3,17 +3,15 @@ use Rattle.std.proofs.Common.{◌≡◌, ℕ, Bool, true, false, List, [], ◌�
 use Rattle.std.specs.Prelude.{◌⊎◌, IsSome, if◌then◌else◌}
 use Rattle.std.specs.List.{AllByRecursion}
 use Rattle.html_types.specs.Text.{same_text}
-use Rattle.html_types.specs.declared.operation.NodeId.{NodeId}
 use Rattle.standard.specs.Entities.{Entities}
 use Rattle.standard.specs.Parser.{Parser}
 use Rattle.serial.specs.Page.{Page}
 use Rattle.serial.specs.Scripts.{Fetched}
-use Rattle.serial.specs.Serial.{World, Serial, Moment, awaits, Passes}
+use Rattle.serial.specs.Serial.{World, Serial, awaits, Passes}
 use Rattle.core_definitions.specs.declared.event.Event.{Event}
 use Rattle.core_definitions.specs.declared.event.Event.TheVariants.{Arrive}
-use Rattle.core_definitions.specs.Core.{Setup, whole_page}
+use Rattle.core_definitions.specs.Core.{whole_page}
 use Rattle.core_definitions.specs.Desk.{Phase, free, tagged, waits, done, Desk, first_desk, pieces_with, has_arrived, MovesBy}
-use Rattle.core_definitions.specs.Journal.{IsRunOf}
 use Rattle.core_definitions.specs.StandsFor.{CarriesMoment, own_moment, page_left}
 use Rattle.core_laws.specs.DeskLaws.{IsReached}
 use Rattle.core_laws.proofs.Standing.{always-stands_for}
