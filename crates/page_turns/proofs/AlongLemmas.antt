@@ -1,8 +1,7 @@
 -- What holds along the events so far holds along one more, and in each run.
-use Rattle.std.proofs.Common.{◌≡◌, ℕ, zero, suc, ◌+◌, nat_lt, Bool, true, false, true≢false, List, [], ◌∷◌, ◌++◌, length, map, Option, Some, None, Ok, Err, refl, sym, ◌∙◌, ap, subst, inl, inr, append-nil, append_assoc, length-append, arith}
-use Rattle.std.specs.Prelude.{◌⊎◌, Result, OnOk, OnErr, IsTrue, IfSome, not, ◌&&◌, slice_get}
+use Rattle.std.proofs.Common.{◌≡◌, ℕ, zero, suc, ◌+◌, nat_lt, Bool, true, false, true≢false, List, [], ◌∷◌, ◌++◌, length, Option, Some, None, Ok, Err, refl, sym, ◌∙◌, ap, subst, inl, inr, append-nil, append_assoc, length-append, arith}
+use Rattle.std.specs.Prelude.{Result, OnOk, OnErr, IsTrue, IfSome, not, slice_get}
 use Rattle.std.specs.List.{AllByRecursion}
-use Rattle.std.proofs.lemmas.List.{map-append}
 use Rattle.std.proofs.lemmas.Bool.{and_parts}
 use Rattle.html_types.specs.declared.ending.Ending.{Ending}
 use Rattle.serial.specs.declared.script.Line.{Line}
@@ -12,11 +11,10 @@ use Rattle.serial.specs.Serial.{World}
 use Rattle.core_definitions.specs.declared.event.Event.{Event}
 use Rattle.core_definitions.specs.declared.event.Event.TheVariants.{Send, Pick, Give, Take, Do, Arrive}
 use Rattle.core_definitions.specs.Batches.{Piece, of_text, of_ending}
-use Rattle.core_definitions.specs.Core.{Setup, Request, request_for, joined}
+use Rattle.core_definitions.specs.Core.{Setup, Request, joined}
 use Rattle.core_definitions.specs.Desk.{Phase, free, tagged, waits, done, Desk, first_desk, pieces_with, with_more, outstanding, is_done, is_free, can_send, wants_reply, can_do, can_do_in, can_arrive, sends_first, sends, takes, Moves}
-use Rattle.core_definitions.specs.Settling.{is_empty}
 use Rattle.core_definitions.specs.StandsFor.{text_of}
-use Rattle.core_definitions.specs.Journal.{Journal, Knows, IsPageOf, IsRunOf}
+use Rattle.core_definitions.specs.Journal.{Knows, IsPageOf}
 use Rattle.core_laws.proofs.Handing.{more-may_follow}
 use Rattle.speculation.specs.Asking.{Asked}
 use Rattle.core_steps.specs.Fetches.{names_of}
