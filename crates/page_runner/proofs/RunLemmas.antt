@@ -481,7 +481,9 @@ reads_nothing path dir before = record {
   within = record { calls = []; made = called_none _ _ refl; within = tt };
   scripts = none_begun refl;
   scripts_within = each_none SCRIPT_LIMIT Script before before refl;
-  begun = begun_none _ _ refl; names = names_none dir _ _ refl }
+  begun = begun_none _ _ refl;
+  names = names_none dir _ _ refl;
+}
 
 pub page_no_memory : (es : Table) (dump : Bool) (path dir : List ℕ) (before : Seen) (k : ℕ) (t : Option (List ℕ)) → PageAnswers es dump path dir before before k k t t status.NoMemory
 page_no_memory es dump path dir before k t = record { page = unmet; may = tt; faults = λ _. refl; awaited = begun_none _ _ refl; parsed = tt; gives = front_nothing t [] }
@@ -540,9 +542,11 @@ makes_made asked a before k k' t t' result is makes = subst (λ o. MakesTo o bef
 -- the file that was begun is there
 pub found_there : (b : Bool) (before now : Seen) (path path' : List ℕ) → b ≡ true → path ≡ path' → OnTrue b (IfSome before.files (λ map. IsSome (map path) × (now.left Page ≡ map path))) → now.open_at Page ≡ b → KeepsOthers Page before now → IsBegun path' now
 found_there b before now path path' is same found opened keeps =
-    let there = subst (λ b. OnTrue b (IfSome before.files (λ map. IsSome (map path) × (now.left Page ≡ map path)))) is found in
-    (opened ∙ is, subst (λ files. IfSome files (λ map. IsSome (map path') × (now.left Page ≡ map path'))) (sym keeps.files)
-    (subst (λ p. IfSome before.files (λ map. IsSome (map p) × (now.left Page ≡ map p))) same there))
+    let there = subst (λ b. OnTrue b (IfSome before.files (λ map. IsSome (map path) × (now.left Page ≡ map path)))) is found in (
+      opened ∙ is,
+      subst (λ files. IfSome files (λ map. IsSome (map path') × (now.left Page ≡ map path'))) (sym keeps.files)
+          (subst (λ p. IfSome before.files (λ map. IsSome (map p) × (now.left Page ≡ map p))) same there),
+    )
 
 pub read_to_is : (limit : ℕ) (port : Port) (path path' : List ℕ) (before after : Seen) → path ≡ path' → ReadTo limit port path before after → ReadTo limit port path' before after
 read_to_is limit port path path' before after same reads = subst (λ p. ReadTo limit port p before after) same reads
