@@ -327,22 +327,22 @@ module _ (x : Setup) (pieces : List (List ℕ)) (asks : List Asked) where
 abbrev IsNoReply : List (Option Told) → Type 0
 IsNoReply tail = (tail ≡ []) ⊎ (tail ≡ None ∷ [])
 
-nothing-said : (a : Told) (as : List (Option Told)) (tail : List (Option Told)) → IsNoReply tail → Some a ∷ as ≡ tail → ⊥
-nothing-said a as tail (inl is) q = nil (q ∙ is)
+nothing-said : (a : Told) (these : List (Option Told)) (tail : List (Option Told)) → IsNoReply tail → Some a ∷ these ≡ tail → ⊥
+nothing-said a these tail (inl is) q = nil (q ∙ is)
   where
-    nil : Some a ∷ as ≡ [] → ⊥
+    nil : Some a ∷ these ≡ [] → ⊥
     nil e = cc e
-nothing-said a as tail (inr is) q = none (head-same (Some a) None as [] (q ∙ is))
+nothing-said a these tail (inr is) q = none (head-same (Some a) None these [] (q ∙ is))
   where
     none : Some a ≡ None → ⊥
     none e = cc e
 
-replies-front : (as bs : List Told) (more tail : List (Option Told)) → IsNoReply tail → map Some as ++ more ≡ map Some bs ++ tail → IsPrefix as bs
+replies-front : (these bs : List Told) (more tail : List (Option Told)) → IsNoReply tail → map Some these ++ more ≡ map Some bs ++ tail → IsPrefix these bs
 replies-front [] bs more tail none q = (bs, refl)
-replies-front (a ∷ as) [] more tail none q = absurd (nothing-said a (map Some as ++ more) tail none q)
-replies-front (a ∷ as) (b ∷ bs) more tail none q =
-    let (t, is) = replies-front as bs more tail none (tail-same (Some a) (Some b) (map Some as ++ more) (map Some bs ++ tail) q) in
-    let same : a ≡ b = some-same a b (head-same (Some a) (Some b) (map Some as ++ more) (map Some bs ++ tail) q) in
+replies-front (a ∷ these) [] more tail none q = absurd (nothing-said a (map Some these ++ more) tail none q)
+replies-front (a ∷ these) (b ∷ bs) more tail none q =
+    let (t, is) = replies-front these bs more tail none (tail-same (Some a) (Some b) (map Some these ++ more) (map Some bs ++ tail) q) in
+    let same : a ≡ b = some-same a b (head-same (Some a) (Some b) (map Some these ++ more) (map Some bs ++ tail) q) in
     (t, ap (λ l. a ∷ l) is ∙ ap (λ z. z ∷ bs) same)
 
 no-stop : (q : Asked) → Ask q ≡ Stop → ⊥
@@ -351,13 +351,13 @@ no-stop q e = cc e
 ask-same : (a b : Asked) → Ask a ≡ Ask b → a ≡ b
 ask-same a b e = cc e
 
-asks-front : (qs as : List Asked) (more : List ToParser) → map Ask qs ++ more ≡ map Ask as ++ Stop ∷ [] → IsPrefix qs as
-asks-front [] as more q = (as, refl)
+asks-front : (qs these : List Asked) (more : List ToParser) → map Ask qs ++ more ≡ map Ask these ++ Stop ∷ [] → IsPrefix qs these
+asks-front [] these more q = (these, refl)
 asks-front (z ∷ qs) [] more q = absurd (no-stop z (head-same (Ask z) Stop (map Ask qs ++ more) [] q))
-asks-front (z ∷ qs) (a ∷ as) more q =
-    let (t, is) = asks-front qs as more (tail-same (Ask z) (Ask a) (map Ask qs ++ more) (map Ask as ++ Stop ∷ []) q) in
-    let same : z ≡ a = ask-same z a (head-same (Ask z) (Ask a) (map Ask qs ++ more) (map Ask as ++ Stop ∷ []) q) in
-    (t, ap (λ l. z ∷ l) is ∙ ap (λ y. y ∷ as) same)
+asks-front (z ∷ qs) (a ∷ these) more q =
+    let (t, is) = asks-front qs these more (tail-same (Ask z) (Ask a) (map Ask qs ++ more) (map Ask these ++ Stop ∷ []) q) in
+    let same : z ≡ a = ask-same z a (head-same (Ask z) (Ask a) (map Ask qs ++ more) (map Ask these ++ Stop ∷ []) q) in
+    (t, ap (λ l. z ∷ l) is ∙ ap (λ y. y ∷ these) same)
 
 -- so many replies, and then perhaps more
 replies-of : (outcome : Status) (n : ℕ) (messages : List Message) → AreRepliesAt outcome n messages → (rs : List Told) × (more : List Message) × (messages ≡ map Some rs ++ more) × (length rs ≡ n)
