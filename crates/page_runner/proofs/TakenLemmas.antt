@@ -169,7 +169,7 @@ module _ (x : Setup) (pieces : List (List ℕ)) (asks : List Asked) where
       let none : length s.waiting ≡ 0 = ap (λ l. length l) q in
       let sent = s.sent in
       let taken = s.taken in
-      absurd (none-waits c.desk.sent c.desk.taken (omega (arith, none, sent, taken)) (and_parts _ _ can).1)
+      absurd (none-waits c.desk.sent c.desk.taken (omega (arith, none, sent, taken)) (and_parts (is_free c.desk.phase && is_empty c.desk.hand) (nat_lt 0 (outstanding c.desk)) can).1)
   took-next c (a ∷ ws) s q can = (c3, is, stands, (told_to es (after es first_work.parser s.done) a, place, taken_by), rose)
     where
       d : Desk
@@ -203,7 +203,7 @@ module _ (x : Setup) (pieces : List (List ℕ)) (asks : List Asked) where
       t2 = (steps-together x Give c1 c2 refl (ap (λ rs. record c2 { replies = rs ++ reply ∷ [] }) (sym s.replies)) t1).1
 
       idle : IsTrue (is_free d.phase && is_empty d.hand)
-      idle = (and_parts _ _ can).0
+      idle = (and_parts (is_free d.phase && is_empty d.hand) (nat_lt 0 (outstanding d)) can).0
 
       can3 : IsTrue (enabled x Take c2)
       can3 = both x (is_free d.phase && is_empty d.hand) true idle refl
@@ -218,7 +218,7 @@ module _ (x : Setup) (pieces : List (List ℕ)) (asks : List Asked) where
       t3 = (steps-together x Take c2 c3 can3 refl t2).1
 
       counts : ((takes es d).taken ≡ suc d.taken) × ((takes es d).sent ≡ d.sent)
-      counts = took-count d.asked d refl (and_parts _ _ can).1 (nat_lt 0 (stale d)) refl
+      counts = took-count d.asked d refl (and_parts (is_free d.phase && is_empty d.hand) (nat_lt 0 (outstanding d)) can).1 (nat_lt 0 (stale d)) refl
 
       rose : (takes es d).taken ≡ d.taken + counted Take
       rose = let one = counts.0 in omega (arith, one)
@@ -300,12 +300,12 @@ module _ (x : Setup) (pieces : List (List ℕ)) (asks : List Asked) where
     takes-of (Arrive name) d h le = tt
 
     takes-more : (v : Event) (vs : List Event) → takes_in (v ∷ vs) ≡ counted v + takes_in vs
-    takes-more Send vs = refl
-    takes-more Pick vs = refl
-    takes-more Give vs = refl
-    takes-more Take vs = refl
-    takes-more Do vs = refl
-    takes-more (Arrive name) vs = refl
+    takes-more Send vs = omega arith
+    takes-more Pick vs = omega arith
+    takes-more Give vs = omega arith
+    takes-more Take vs = omega arith
+    takes-more Do vs = omega arith
+    takes-more (Arrive name) vs = omega arith
 
     takes-with : (vs : List Event) (c : Core) (d d' : Desk) → c.desk ≡ d → Stands c → d.taken + takes_in vs ≤ n → MovesWith (AsksOf asks pieces) x.ahead x.world vs d d' → MovesWith (TakesOf messages x) x.ahead x.world vs d d'
     takes-with [] c d d' q s le is = is
