@@ -22,12 +22,13 @@ fn paragraph(alloc: Global, characters: usize) -> Result<Text, NoMemory> {
 // The first request of a page that isn't long.
 fn first_request(alloc: Global, text: &Text) -> Result<Request, NoMemory> {
     let length = text.len();
-    if length > 10_000 {
+    if length > 4096 {
         return Err(NoMemory);
     }
     let string = String::from_str(alloc, text.as_str())?;
     let whole = SharedText::of(alloc, string)?;
-    Ok(Request::new(1, 1, None, Piece::new(whole, None), 0))
+    let piece = Piece::new(whole, None);
+    Ok(Request::new(1, 1, None, piece, 0))
 }
 
 fn batches_in_force<E: InForce>(

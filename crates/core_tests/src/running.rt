@@ -142,25 +142,49 @@ struct PageRun<E: InForce> {
     dropped: u64,
 }
 
+// What the pair promises is long, and nothing behind it needs that: so it is made alone here.
+fn pair_of<E: InForce>(alloc: Global, setup: Setup<'_>) -> Result<Pair<E>, NoMemory>
+    requires entities { setup.table.now ≡ E.entities }
+    requires some { 0 < setup.ahead }
+    requires few { setup.ahead ≤ 64 }
+    requires within { length (joined setup.pieces.items) ≤ page_limit }
+{
+    Pair::new(alloc, setup)
+}
+
+// Both sides before any event, where the page is short.
+fn begin_page<E: InForce>(
+    alloc: Global,
+    table: &Table,
+    page: Page<'_>,
+    pieces: Vec<Text>,
+    scripts: Scripts,
+) -> Result<Pair<E>, NoMemory>
+    requires { table.now ≡ E.entities }
+{
+    if page.ahead == 0 || page.ahead > 64 || !is_short(pieces.as_slice()) {
+        return Err(NoMemory);
+    }
+    let setup = Setup {
+        table,
+        pieces,
+        ending: page.ending,
+        scripts,
+        ahead: page.ahead,
+    };
+    pair_of::<E>(alloc, setup)
+}
+
 impl<E: InForce> PageRun<E> {
     fn new(alloc: Global, table: &Table, page: Page<'_>) -> Result<PageRun<E>, NoMemory>
         requires { table.now ≡ E.entities }
     {
         let pieces = cut_page(alloc, page)?;
         let scripts = script_files(alloc)?;
-        if page.ahead == 0 || page.ahead > 64 || !is_short(pieces.as_slice()) {
-            return Err(NoMemory);
-        }
-        let setup = Setup {
-            table,
-            pieces,
-            ending: page.ending,
-            scripts,
-            ahead: page.ahead,
-        };
+        let pair = begin_page::<E>(alloc, table, page, pieces, scripts)?;
         Ok(PageRun {
             alloc,
-            pair: Pair::new(alloc, setup)?,
+            pair,
             events: 0,
             others: 0,
             sent: 0,

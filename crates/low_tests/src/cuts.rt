@@ -1,5 +1,8 @@
 //! A text read in pieces, against the whole of it.
 
+ghost use Rattle.std.specs.Prelude.{IfOk};
+ghost use Rattle.std.specs.Str.{IsCharBoundary};
+
 use crate::spelling::{MANY, spelling};
 use entity_table::Table;
 use html_types::{NoMemory, RawText, TextState, TokState, Tokens, Word, char_at};
@@ -16,6 +19,16 @@ pub enum Start {
     Style,
     /// Script data, in a script.
     Script,
+}
+
+/// In how many pieces a text is read.
+#[derive(Clone, Copy)]
+pub enum Cuts {
+    /// In one, character by character, which is to give the tokens that are written.
+    One,
+    /// In two, wherever it is cut, which are to give what the whole gives.
+    Two,
+    Three,
 }
 
 /// Where the tokenizer begins, whether the adjusted current node isn't an HTML element, a text, and its tokens as `spelling`
@@ -73,10 +86,29 @@ impl Reader {
         Ok(())
     }
 
-    // Takes what the state only adds to what it holds, or drops, and gives the rest of the text.
+    // Takes what the state only adds to what it holds, or drops: up to where.
+    fn append(&mut self, text: &str) -> Result<usize, NoMemory>
+        ensures { IfOk result (λ end. IsCharBoundary text.now end) }
+    {
+        self.tokenizer.append(text, 0)
+    }
+
+    // The same, and gives the rest of the text.
     fn take_run<'a>(&mut self, text: &'a str) -> Result<&'a str, NoMemory> {
-        let end = self.tokenizer.append(text, 0)?;
+        let end = self.append(text)?;
         Ok(&text[end..])
+    }
+
+    // Reads a character. What that promises is long, and what stands behind it needs none of it.
+    fn read_one(
+        &mut self,
+        alloc: Global,
+        table: &Table,
+        foreign: bool,
+        c: char,
+    ) -> Result<(), NoMemory> {
+        self.tokenizer.read_character(alloc, table, foreign, c)?;
+        self.take_waiting()
     }
 
     // Reads the first character of a text, and gives the rest; none where there is no character.
@@ -90,8 +122,7 @@ impl Reader {
         let Some((c, behind)) = char_at(text, 0) else {
             return Ok(None);
         };
-        self.tokenizer.read_character(alloc, table, foreign, c)?;
-        self.take_waiting()?;
+        self.read_one(alloc, table, foreign, c)?;
         Ok(Some(&text[behind..]))
     }
 
@@ -158,8 +189,8 @@ fn read_whole(alloc: Global, table: &Table, row: &Row) -> Result<Given, NoMemory
     read_pieces(alloc, table, row, Way::ByCharacter, &[row.text])
 }
 
-/// Whether the whole text gives the row's tokens.
-pub fn gives(alloc: Global, table: &Table, row: &Row) -> Result<bool, NoMemory> {
+// Whether the whole text gives the row's tokens.
+fn gives_tokens(alloc: Global, table: &Table, row: &Row) -> Result<bool, NoMemory> {
     let mut whole = read_whole(alloc, table, row)?;
     let spelled = spelling(alloc, &mut whole.reader.tokens)?;
     Ok(spelled.as_str() == row.tokens)
@@ -177,8 +208,8 @@ fn agrees(
     Ok(parts.same(whole))
 }
 
-/// Whether the text gives the same in two pieces, wherever it is cut.
-pub fn gives_in_two(alloc: Global, table: &Table, row: &Row) -> Result<bool, NoMemory> {
+// Whether the text gives the same in two pieces, wherever it is cut.
+fn gives_in_two(alloc: Global, table: &Table, row: &Row) -> Result<bool, NoMemory> {
     let whole = read_whole(alloc, table, row)?;
     for place in 0..=row.text.len() {
         if let Some((front, back)) = row.text.split_at_checked(place) {
@@ -209,8 +240,8 @@ fn agrees_behind(
     Ok(true)
 }
 
-/// Whether the text gives the same in three pieces, wherever it is cut.
-pub fn gives_in_three(alloc: Global, table: &Table, row: &Row) -> Result<bool, NoMemory> {
+// Whether the text gives the same in three pieces, wherever it is cut.
+fn gives_in_three(alloc: Global, table: &Table, row: &Row) -> Result<bool, NoMemory> {
     let whole = read_whole(alloc, table, row)?;
     for place in 0..=row.text.len() {
         if let Some((front, rest)) = row.text.split_at_checked(place) {
@@ -220,4 +251,13 @@ pub fn gives_in_three(alloc: Global, table: &Table, row: &Row) -> Result<bool, N
         }
     }
     Ok(true)
+}
+
+/// Whether the text, cut so, gives what it is to give.
+pub fn gives(alloc: Global, table: &Table, row: &Row, cuts: Cuts) -> Result<bool, NoMemory> {
+    match cuts {
+        Cuts::One => gives_tokens(alloc, table, row),
+        Cuts::Two => gives_in_two(alloc, table, row),
+        Cuts::Three => gives_in_three(alloc, table, row),
+    }
 }

@@ -1,22 +1,42 @@
 //! Operations are executed on a document.
 
+ghost use Rattle.std.specs.Prelude.{IfOk, IsTrue};
+ghost use Rattle.standard.specs.Act.{is_bound};
+
 use crate::nodes::attribute;
 use html_types::{Attributes, Name, NoMemory, NodeId, Op, Ops, Place, Space};
 use op_exec::{Doc, Put, ScriptKind};
+use std::alloc::Global;
 
-#[test]
+// A document with an element that stands nowhere yet, under the id.
 #[tactic(auto, unfolding(standard::specs::Act::act, standard::specs::Act::acts))]
-fn a_script_that_stands_nowhere_is_still(rt: HostRuntime) -> Result<(), NoMemory> {
-    let alloc = rt.alloc();
-    let id = NodeId { realm: 1, n: 0 };
+fn made(alloc: Global, id: NodeId, name: Name, attributes: Attributes) -> Result<Doc, NoMemory>
+    ensures { IfOk result (λ doc. IsTrue (is_bound doc.bound id)) }
+{
     let mut doc = Doc::new(alloc)?;
-    let name = Name::of(alloc, "script")?;
-    let attributes = Attributes::new(alloc);
     doc.apply(Op::Make {
         id,
         name,
         attributes,
     })?;
+    Ok(doc)
+}
+
+fn put(doc: &mut Doc, node: NodeId) -> Result<(), NoMemory>
+    requires { IsTrue (is_bound doc.old.bound node) }
+{
+    doc.apply(Op::Put {
+        node,
+        place: Place::Page,
+    })
+}
+
+#[test]
+fn a_script_that_stands_nowhere_is_still(rt: HostRuntime) -> Result<(), NoMemory> {
+    let alloc = rt.alloc();
+    let id = NodeId { realm: 1, n: 0 };
+    let name = Name::of(alloc, "script")?;
+    let doc = made(alloc, id, name, Attributes::new(alloc))?;
     assert!(rt; doc.script_kind(id) == ScriptKind::Still);
     assert!(rt; doc.script_text(id)?.is_empty());
     assert!(rt; doc.script_src(id)?.is_none());
@@ -26,12 +46,9 @@ fn a_script_that_stands_nowhere_is_still(rt: HostRuntime) -> Result<(), NoMemory
 #[test]
 fn a_template_has_contents(rt: HostRuntime) -> Result<(), NoMemory> {
     let alloc = rt.alloc();
-    let mut doc = Doc::new(alloc)?;
-    doc.apply(Op::Make {
-        id: NodeId { realm: 1, n: 0 },
-        name: Name::of(alloc, "template")?,
-        attributes: Attributes::new(alloc),
-    })?;
+    let id = NodeId { realm: 1, n: 0 };
+    let name = Name::of(alloc, "template")?;
+    let doc = made(alloc, id, name, Attributes::new(alloc))?;
     assert!(rt; doc.tree().len() == 3);
     assert_eq!(rt; doc.tree().contents(1), Some(2));
     Ok(())
@@ -40,32 +57,21 @@ fn a_template_has_contents(rt: HostRuntime) -> Result<(), NoMemory> {
 #[test]
 fn a_foreign_template_has_no_contents(rt: HostRuntime) -> Result<(), NoMemory> {
     let alloc = rt.alloc();
-    let mut doc = Doc::new(alloc)?;
-    doc.apply(Op::Make {
-        id: NodeId { realm: 1, n: 0 },
-        name: Name::other(alloc, Space::Svg, "template")?,
-        attributes: Attributes::new(alloc),
-    })?;
+    let id = NodeId { realm: 1, n: 0 };
+    let name = Name::other(alloc, Space::Svg, "template")?;
+    let doc = made(alloc, id, name, Attributes::new(alloc))?;
     assert!(rt; doc.tree().len() == 2);
     assert_eq!(rt; doc.tree().contents(1), None);
     Ok(())
 }
 
 #[test]
-#[tactic(auto, unfolding(standard::specs::Act::act, standard::specs::Act::acts))]
 fn an_element_does_not_move_into_itself(rt: HostRuntime) -> Result<(), NoMemory> {
     let alloc = rt.alloc();
     let id = NodeId { realm: 1, n: 0 };
-    let mut doc = Doc::new(alloc)?;
-    doc.apply(Op::Make {
-        id,
-        name: Name::of(alloc, "div")?,
-        attributes: attribute(alloc, "id", "a")?,
-    })?;
-    doc.apply(Op::Put {
-        node: id,
-        place: Place::Page,
-    })?;
+    let name = Name::of(alloc, "div")?;
+    let mut doc = made(alloc, id, name, attribute(alloc, "id", "a")?)?;
+    put(&mut doc, id)?;
     let Some(found) = doc.find_id("a") else {
         return Err(NoMemory);
     };

@@ -1,12 +1,24 @@
 //! A made page and its scripts, worked out.
 
-use page_maker::make;
+ghost use Rattle.std.specs.Prelude.{◌<◌, ◌≤◌, ◌^◌};
+
+use html_types::NoMemory;
+use page_maker::{Made, make};
+use std::alloc::Global;
 use std::test::Fail;
+
+// The page isn't to be worked out in the test: so it doesn't know by which numbers it was made.
+fn made(alloc: Global, number: u32, count: u32) -> Result<Made, NoMemory>
+    requires in_31_bits { number < 2 ^ 31 }
+    requires at_most_50000 { count ≤ 50000 }
+{
+    make(alloc, number, count)
+}
 
 #[test]
 fn four_items(rt: HostRuntime) -> Result<(), Fail> {
     let alloc = rt.alloc();
-    let made = make(alloc, 1, 4)?;
+    let made = made(alloc, 1, 4)?;
     assert_eq!(rt;
         made.page.as_str(),
         "<!DOCTYPE html><body><table><tr><td>1</table><table><tr><td>2</table><div>3</div><p><script>document.write(\"<i>4</i>\");</script>"

@@ -1,10 +1,25 @@
 //! Pages in two pieces: their texts, and how they end.
 
-use html_types::Text;
+use html_types::{NoMemory, Text};
 use std::alloc::Global;
 use std::process::Abort;
 use std::test::Fail;
 use utf8_pieces::{Decoder, Ending};
+
+// Reads a piece, and puts its text behind that of the pieces before.
+fn feed(
+    decoder: &mut Decoder,
+    alloc: Global,
+    text: &mut Text,
+    piece: &[u8],
+) -> Result<(), NoMemory> {
+    let fed = decoder.feed(alloc, piece)?;
+    text.push_str(fed.text.as_str())
+}
+
+fn close(decoder: &Decoder, fault: bool) -> Ending {
+    decoder.close(fault)
+}
 
 // Reads two pieces of a page of at most 4 bytes, and compares its text and ending.
 fn expect<R: Abort>(
@@ -16,10 +31,10 @@ fn expect<R: Abort>(
 ) -> Result<(), Fail> {
     let mut decoder = Decoder::new(alloc, 4);
     let mut text = Text::new(alloc);
-    text.push_str(decoder.feed(alloc, pieces.0)?.text.as_str())?;
-    text.push_str(decoder.feed(alloc, pieces.1)?.text.as_str())?;
+    feed(&mut decoder, alloc, &mut text, pieces.0)?;
+    feed(&mut decoder, alloc, &mut text, pieces.1)?;
     assert_eq!(rt; text.as_str(), wanted.0);
-    assert!(rt; decoder.close(fault) == wanted.1, "{}", wanted.0);
+    assert!(rt; close(&decoder, fault) == wanted.1, "{}", wanted.0);
     Ok(())
 }
 

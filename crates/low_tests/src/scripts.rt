@@ -56,13 +56,14 @@ fn form_feed(rt: HostRuntime) -> Result<(), Fail> {
 }
 
 #[test]
-fn six_statements(rt: HostRuntime) -> Result<(), Fail> {
+fn seven_statements(rt: HostRuntime) -> Result<(), Fail> {
     let text =
         "document.write(\"\");document.writeln(\"\");document.getElementById(\"a\").remove();\
         document.getElementById(\"a\").append(document.getElementById(\"b\"));\
+        document.getElementById(\"a\").innerHTML = \"<b>\";\
         console.log(document.documentElement.outerHTML);\
         console.log(document.getElementById(\"a\").outerHTML);";
-    assert_eq!(rt; count(rt.alloc(), text)?, Some(6));
+    assert_eq!(rt; count(rt.alloc(), text)?, Some(7));
     Ok(())
 }
 

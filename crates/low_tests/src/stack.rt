@@ -64,6 +64,40 @@ fn takes(stack: &mut SharedStack<Letter>, letter: u8) -> Result<bool, AllocError
     }
 }
 
+// Edits at a place, each alone; what they make of the list isn't to be worked out. False where there is no such place.
+fn take_out(stack: &mut SharedStack<Letter>, place: usize) -> Result<bool, AllocError> {
+    if place >= stack.len() {
+        return Ok(false);
+    }
+    stack.take_out(place)?;
+    Ok(true)
+}
+
+fn put_in(stack: &mut SharedStack<Letter>, place: usize, letter: u8) -> Result<bool, AllocError> {
+    if place >= stack.len() {
+        return Ok(false);
+    }
+    stack.put_in(place, Letter(letter))?;
+    Ok(true)
+}
+
+fn replace(stack: &mut SharedStack<Letter>, place: usize, letter: u8) -> Result<bool, AllocError> {
+    if place >= stack.len() {
+        return Ok(false);
+    }
+    stack.replace(place, Letter(letter))?;
+    Ok(true)
+}
+
+// The letter at a place, if there is one.
+fn letter_at(stack: &SharedStack<Letter>, place: usize) -> Option<u8> {
+    if place < stack.len() {
+        Some(stack.at(place).0)
+    } else {
+        None
+    }
+}
+
 #[test]
 fn a_copy_stays_as_it_is(rt: HostRuntime) -> Result<(), Fail> {
     let mut stack = stack_of(rt.alloc(), b"ab")?;
@@ -105,12 +139,9 @@ fn takes_own_and_shared_entries(rt: HostRuntime) -> Result<(), Fail> {
 #[test]
 fn edits_at_a_place_of_its_own(rt: HostRuntime) -> Result<(), Fail> {
     let mut stack = shared(rt.alloc())?;
-    assert!(rt; 20 < stack.len());
-    stack.put_in(20, Letter(b'v'))?;
-    assert!(rt; 21 < stack.len());
-    stack.take_out(21)?;
-    assert!(rt; 20 < stack.len());
-    stack.replace(20, Letter(b'w'))?;
+    assert!(rt; put_in(&mut stack, 20, b'v')?);
+    assert!(rt; take_out(&mut stack, 21)?);
+    assert!(rt; replace(&mut stack, 20, b'w')?);
     assert!(rt; has(&stack, b"abcdefghijklmnopqrstw"));
     Ok(())
 }
@@ -119,12 +150,9 @@ fn edits_at_a_place_of_its_own(rt: HostRuntime) -> Result<(), Fail> {
 fn edits_at_a_shared_place(rt: HostRuntime) -> Result<(), Fail> {
     let mut stack = shared(rt.alloc())?;
     let copy = stack.copy(rt.alloc())?;
-    assert!(rt; 17 < stack.len());
-    stack.take_out(17)?;
-    assert!(rt; 15 < stack.len());
-    stack.put_in(15, Letter(b'v'))?;
-    assert!(rt; 0 < stack.len());
-    stack.replace(0, Letter(b'w'))?;
+    assert!(rt; take_out(&mut stack, 17)?);
+    assert!(rt; put_in(&mut stack, 15, b'v')?);
+    assert!(rt; replace(&mut stack, 0, b'w')?);
     assert!(rt; has(&stack, b"wbcdefghijklmnovpqstu"));
     assert!(rt; has(&copy, b"abcdefghijklmnopqrstu"));
     Ok(())
@@ -134,8 +162,7 @@ fn edits_at_a_shared_place(rt: HostRuntime) -> Result<(), Fail> {
 fn entries_at_places(rt: HostRuntime) -> Result<(), Fail> {
     let stack = shared(rt.alloc())?;
     for (place, letter) in b"abcdefghijklmnopqrstu".iter().enumerate() {
-        assert!(rt; place < stack.len());
-        assert_eq!(rt; stack.at(place).0, *letter);
+        assert_eq!(rt; letter_at(&stack, place), Some(*letter));
     }
     let rest = stack.walk().copy();
     assert_eq!(rt; rest.len(), 21);

@@ -255,13 +255,13 @@ may_since port path dir before now after (got page) other keeps quiet first may 
 -- the scripts that were begun
 awaits_over : (table : Option Table) (dir : List ℕ) (before now after : Seen) (page : PageMet) → now.begun Script ≡ before.begun Script → AwaitsOver table dir page now after → AwaitsOver table dir page before after
 awaits_over None dir before now after page same none = begun_since _ _ _ [] same none
-awaits_over (Some es) dir before now after page same begins = record { names = begins.names; begun = begun_since _ _ _ _ same begins.begun; awaited = begins.awaited }
+awaits_over (Some es) dir before now after page same awaits = record { names = awaits.names; begun = begun_since _ _ _ _ same awaits.begun; awaited = awaits.awaited }
 
 awaits_since : (table : Option Table) (dir : List ℕ) (before now after : Seen) (page : Given PageMet) → now.begun Script ≡ before.begun Script → AwaitsEach table dir page now after → AwaitsEach table dir page before after
 awaits_since table dir before now after unmet same none = begun_since _ _ _ [] same none
 awaits_since table dir before now after missing same none = begun_since _ _ _ [] same none
 awaits_since table dir before now after faulted same none = begun_since _ _ _ [] same none
-awaits_since table dir before now after (got page) same begins = awaits_over table dir before now after page same begins
+awaits_since table dir before now after (got page) same awaits = awaits_over table dir before now after page same awaits
 
 faults_over : (table : Option Table) (before now after : Seen) (page : PageMet) → NoFault Script before now → FaultsOver table page now after → FaultsOver table page before after
 faults_over None before now after page quiet met = met ∙ quiet
@@ -481,7 +481,9 @@ reads_nothing path dir before = record {
   within = record { calls = []; made = called_none _ _ refl; within = tt };
   scripts = none_begun refl;
   scripts_within = each_none SCRIPT_LIMIT Script before before refl;
-  begun = begun_none _ _ refl; names = names_none dir _ _ refl }
+  begun = begun_none _ _ refl;
+  names = names_none dir _ _ refl;
+}
 
 pub page_no_memory : (es : Table) (dump : Bool) (path dir : List ℕ) (before : Seen) (k : ℕ) (t : Option (List ℕ)) → PageAnswers es dump path dir before before k k t t status.NoMemory
 page_no_memory es dump path dir before k t = record { page = unmet; may = tt; faults = λ _. refl; awaited = begun_none _ _ refl; parsed = tt; gives = front_nothing t [] }
@@ -505,7 +507,7 @@ begins_nothing (Some (for_make asked)) before = refl
 begins_nothing (Some (for_page asked)) before = record { entities = inl (begun_none _ _ refl); page = inl (begun_none _ _ refl); scripts = names_none asked.dir _ _ refl }
 
 pub begins_asked : (asked : Option Asked) (a : Asked) (before after : Seen) → Some a ≡ asked → BeginsOnce (Some a) before after → BeginsOnce asked before after
-begins_asked asked a before after is begins = subst (λ o. BeginsOnce o before after) is begins
+begins_asked asked a before after is once = subst (λ o. BeginsOnce o before after) is once
 
 pub stops_at_once : (asked : Option Asked) (before : Seen) → StopsAtLimits asked before before
 stops_at_once None before = (refl, refl)
@@ -540,9 +542,11 @@ makes_made asked a before k k' t t' result is makes = subst (λ o. MakesTo o bef
 -- the file that was begun is there
 pub found_there : (b : Bool) (before now : Seen) (path path' : List ℕ) → b ≡ true → path ≡ path' → OnTrue b (IfSome before.files (λ map. IsSome (map path) × (now.left Page ≡ map path))) → now.open_at Page ≡ b → KeepsOthers Page before now → IsBegun path' now
 found_there b before now path path' is same found opened keeps =
-    let there = subst (λ b. OnTrue b (IfSome before.files (λ map. IsSome (map path) × (now.left Page ≡ map path)))) is found in
-    (opened ∙ is, subst (λ files. IfSome files (λ map. IsSome (map path') × (now.left Page ≡ map path'))) (sym keeps.files)
-    (subst (λ p. IfSome before.files (λ map. IsSome (map p) × (now.left Page ≡ map p))) same there))
+    let there = subst (λ b. OnTrue b (IfSome before.files (λ map. IsSome (map path) × (now.left Page ≡ map path)))) is found in (
+      opened ∙ is,
+      subst (λ files. IfSome files (λ map. IsSome (map path') × (now.left Page ≡ map path'))) (sym keeps.files)
+          (subst (λ p. IfSome before.files (λ map. IsSome (map p) × (now.left Page ≡ map p))) same there),
+    )
 
 pub read_to_is : (limit : ℕ) (port : Port) (path path' : List ℕ) (before after : Seen) → path ≡ path' → ReadTo limit port path before after → ReadTo limit port path' before after
 read_to_is limit port path path' before after same reads = subst (λ p. ReadTo limit port p before after) same reads

@@ -1,5 +1,5 @@
 -- The faults that a double counts beside those of what it holds.
-use Rattle.std.specs.Prelude.{ℕ, ◌+◌}
+use Rattle.std.specs.Prelude.{ℕ, ◌+◌, None}
 use Rattle.outside.specs.declared.traits.Port.{Port}
 use Rattle.outside.specs.declared.traits.Port.TheVariants.{Entities, Page, Script}
 use Rattle.outside.specs.Outside.{Seen}
@@ -10,6 +10,9 @@ of_scripts count Entities = 0
 of_scripts count Page = 0
 of_scripts count Script = count
 
--- so many faults of scripts more
+-- so many faults of scripts more; the calls aren't told, since those that failed so were never made of what it holds
 abbrev pub with_faults : ℕ → Seen → Seen
-with_faults count seen = record seen { faults = λ port. seen.faults port + of_scripts count port }
+with_faults count seen = record seen {
+  calls = λ _. None;
+  faults = λ port. seen.faults port + of_scripts count port;
+}

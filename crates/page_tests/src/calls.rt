@@ -3,12 +3,44 @@
 
 ghost use Rattle.std.specs.Prelude.{◌≡◌, ◌<◌, ◌≤◌};
 
+use entity_table::Table;
+use html_types::NoMemory;
 use outside::{Gate, Outside, Sink};
 use page_runner::{Job, Report, Status, page_in_place, page_on_two, run};
 use speculation::InForce;
 use std::alloc::Global;
 use std::sync::{Arc, Wait};
 use std::thread::Threads;
+
+// A number of bytes that a read may have.
+fn piece_of(piece: usize) -> usize
+    ensures some { 0 < result }
+    ensures few { result ≤ 65536 }
+{
+    piece.max(1).min(65_536)
+}
+
+/// A page with the scripts of a folder, in reads of so many bytes: 1 for 0, and 65,536 at most.
+pub fn job_of<'a>(page: String, dir: String, table: &'a Table, piece: usize, dump: bool) -> Job<'a>
+    ensures table { result.table.now ≡ table.now }
+    ensures piece { (0 < result.piece) × (result.piece ≤ 65536) }
+    ensures ahead { (0 < result.ahead) × (result.ahead ≤ 64) }
+{
+    let piece = piece_of(piece);
+    Job {
+        page,
+        dir,
+        table,
+        piece,
+        ahead: 8,
+        dump,
+    }
+}
+
+/// A path, as a job has it.
+pub fn path_of(alloc: Global, path: &str) -> Result<String, NoMemory> {
+    Ok(String::from_str(alloc, path)?)
+}
 
 /// Runs the words' page on two threads.
 pub fn status_on_two<

@@ -2,12 +2,12 @@
 
 ghost use Rattle.std.specs.Prelude.{◌≡◌, [], IfOk};
 
-use crate::calls::report_on_two;
+use crate::calls::{job_of, path_of, report_on_two};
 use crate::running::{ROOM, files_of};
 use entity_table::Table;
 use html_types::NoMemory;
 use outside::{MemSink, OpenGate};
-use page_runner::{Job, Report, Status};
+use page_runner::{Report, Status};
 use speculation::InForce;
 use std::alloc::Global;
 use std::marker::Brand;
@@ -47,14 +47,9 @@ fn count_in_force<R: Threads + Wait + Copy + Send + Sync + 'static, E: InForce +
 ) -> Result<Count, NoMemory>
     requires table { table.now ≡ E.entities }
 {
-    let job = Job {
-        page: String::from_str(alloc, "p")?,
-        dir: String::from_str(alloc, "d")?,
-        table,
-        piece: 1 + piece % 4096,
-        ahead: 8,
-        dump: false,
-    };
+    let path = path_of(alloc, "p")?;
+    let folder = path_of(alloc, "d")?;
+    let job = job_of(path, folder, table, piece, false);
     let mut files = files_of(alloc, page)?;
     let mut sink = MemSink::new(alloc, ROOM)?;
     let gate = Arc::new(alloc, OpenGate)?;
@@ -87,7 +82,7 @@ fn count_without<R: Threads + Wait + Copy + Send + Sync + 'static>(
     count_in_force::<R, Brand>(rt, alloc, table, page, piece)
 }
 
-/// What the page comes to on two threads, with no entities, and with reads of `piece` + 1 bytes, up to 4,096. A run that isn't done is want of memory.
+/// What the page comes to on two threads, with no entities, and with reads of `piece` bytes. A run that isn't done is want of memory.
 pub fn count_page<R: Threads + Wait + Copy + Send + Sync + 'static>(
     rt: &R,
     alloc: Global,

@@ -68,6 +68,28 @@ fn batches_in<E: InForce>(message: FromParser<E>) -> Option<usize> {
     }
 }
 
+// Each call alone: what it promises is long, and what stands behind it needs one fact of that.
+fn send<R: Wait, E: InForce>(rt: &R, running: &mut ParserThread<E, LastGiven>, request: Request)
+    requires { IsRunning E.InForce running.old }
+    ensures { IsRunning E.InForce running.new }
+{
+    running.send(rt, request);
+}
+
+// How many batches the next reply has.
+fn take<R: Wait, E: InForce>(rt: &R, running: &mut ParserThread<E, LastGiven>) -> Option<usize>
+    requires { IsRunning E.InForce running.old }
+    ensures { IsRunning E.InForce running.new }
+{
+    batches_in(running.take(rt))
+}
+
+fn finish<R: Threads + Wait, E: InForce>(rt: &R, running: ParserThread<E, LastGiven>)
+    requires { IsRunning E.InForce running }
+{
+    let _lanes = running.finish(rt);
+}
+
 // How many batches both replies have.
 fn both<R: Threads + Wait + Sync, E: InForce>(
     rt: &R,
@@ -76,11 +98,11 @@ fn both<R: Threads + Wait + Sync, E: InForce>(
 ) -> (Option<usize>, Option<usize>)
     requires { IsRunning E.InForce running }
 {
-    running.send(rt, requests.first);
-    running.send(rt, requests.second);
-    let one = batches_in(running.take(rt));
-    let two = batches_in(running.take(rt));
-    let _lanes = running.finish(rt);
+    send(rt, &mut running, requests.first);
+    send(rt, &mut running, requests.second);
+    let one = take(rt, &mut running);
+    let two = take(rt, &mut running);
+    finish(rt, running);
     (one, two)
 }
 

@@ -1,10 +1,10 @@
 //! A run over files and a sink in memory.
 
-use crate::calls::{status_in_place, status_on_two};
+use crate::calls::{job_of, path_of, status_in_place, status_on_two};
 use entity_table::{Table, TableFault};
 use html_types::NoMemory;
 use outside::{MemFiles, MemSink, OpenGate, Port};
-use page_runner::{Job, Status};
+use page_runner::Status;
 use std::alloc::Global;
 use std::sync::{Arc, Wait};
 use std::thread::Threads;
@@ -170,14 +170,9 @@ fn run_in_place(
     let Ok(table) = read_table(alloc, row.entities) else {
         return Err(NoMemory);
     };
-    let job = Job {
-        page: String::from_str(alloc, "p")?,
-        dir: String::from_str(alloc, "d")?,
-        table: &table,
-        piece: piece.max(1).min(65_536),
-        ahead: 8,
-        dump: row.dump,
-    };
+    let path = path_of(alloc, "p")?;
+    let folder = path_of(alloc, "d")?;
+    let job = job_of(path, folder, &table, piece, row.dump);
     Ok(status_in_place(alloc, &job, files, sink))
 }
 

@@ -1,12 +1,12 @@
 //! Pages that are run on two threads, or on one.
 
-use crate::calls::{status_in_place, status_on_two};
+use crate::calls::{job_of, path_of, status_in_place, status_on_two};
 use crate::delays::{SlowFiles, SlowGate, SlowSink};
 use crate::thread_pages::{ENTITIES, SCRIPTS};
 use entity_table::{Table, TableFault};
 use html_types::NoMemory;
 use outside::{MemFiles, MemSink, Outside, Sink};
-use page_runner::{Job, Status};
+use page_runner::Status;
 use std::alloc::Global;
 use std::sync::{Arc, Wait};
 use std::thread::Threads;
@@ -85,14 +85,9 @@ pub fn run_in_place<F: Outside, K: Sink>(
     files: &mut F,
     out: &mut K,
 ) -> Result<Status, NoMemory> {
-    let job = Job {
-        page: String::from_str(alloc, "p")?,
-        dir: String::from_str(alloc, "d")?,
-        table,
-        piece: 4096,
-        ahead: 8,
-        dump: false,
-    };
+    let path = path_of(alloc, "p")?;
+    let folder = path_of(alloc, "d")?;
+    let job = job_of(path, folder, table, 4096, false);
     Ok(status_in_place(alloc, &job, files, out))
 }
 

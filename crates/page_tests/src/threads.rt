@@ -83,7 +83,7 @@ fn a_held_write_meets_the_second_reply(rt: HostRuntime) -> Result<(), Fail> {
 // contract sees.
 #[test]
 fn the_other_side_parses_all_where_no_script_fails(rt: HostRuntime) -> Result<(), Fail> {
-    for piece in [0, 6, 4095] {
+    for piece in [1, 7, 4096] {
         let all = count_pages(&rt, rt.alloc(), &STEADY, piece)?;
         assert_eq!(rt; all.failed, 0, "{piece}");
         assert_eq!(rt; all.parsed, 0, "{piece}");
@@ -96,7 +96,7 @@ fn the_other_side_parses_all_where_no_script_fails(rt: HostRuntime) -> Result<()
 #[test]
 fn a_long_comment_is_parsed_here(rt: HostRuntime) -> Result<(), Fail> {
     let page = long_comment(rt.alloc())?;
-    let count = count_page(&rt, rt.alloc(), page.as_str(), 4095)?;
+    let count = count_page(&rt, rt.alloc(), page.as_str(), 4096)?;
     assert!(rt; count.parsed > 0);
     Ok(())
 }

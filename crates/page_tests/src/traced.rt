@@ -4,6 +4,7 @@ ghost use Rattle.std.specs.Prelude.{◌≡◌, ◌<◌, ◌≤◌, [], None, IfO
 ghost use Rattle.core_steps.specs.Sides.{first_shown};
 ghost use Rattle.page_turns.specs.Turns.{no_load};
 
+use crate::calls::path_of;
 use crate::exchange::{Noted, Notes, note_all};
 use crate::trace::{Row, rows_of};
 use core_steps::{DocSide, Fetch};
@@ -70,9 +71,13 @@ pub struct Paths<'a> {
     pub entities: &'a str,
 }
 
+// The entities file. What its reading promises is long.
+fn fetch<F: Outside>(alloc: Global, files: &mut F, path: &str) -> Result<Fetch, NoMemory> {
+    read_whole(alloc, files, Port::Entities, path, ENTITIES_LIMIT)
+}
+
 fn read_table<F: Outside>(alloc: Global, files: &mut F, path: &str) -> Result<Table, Untraced> {
-    let fetch = read_whole(alloc, files, Port::Entities, path, ENTITIES_LIMIT)?;
-    let Fetch::Got(bytes) = fetch else {
+    let Fetch::Got(bytes) = fetch(alloc, files, path)? else {
         return Err(Untraced::Unread);
     };
     match Table::read(alloc, &bytes) {
@@ -173,6 +178,25 @@ fn run_by_table<F: Outside>(
     run_begun::<Brand, F>(alloc, job, files)
 }
 
+// Whether there is that page, which is begun. What a begin promises is long.
+fn is_begun<F: Outside>(files: &mut F, path: &str) -> bool {
+    files.begin(Port::Page, path) == Ok(true)
+}
+
+fn job_of<'a>(page: String, dir: String, table: &'a Table, piece: usize, ahead: usize) -> Job<'a>
+    ensures piece { result.piece ≡ piece }
+    ensures ahead { result.ahead ≡ ahead }
+{
+    Job {
+        page,
+        dir,
+        table,
+        piece,
+        ahead,
+        dump: false,
+    }
+}
+
 /// The rows of a run over these files, with reads of so many bytes and so many requests ahead at most.
 pub fn trace<F: Outside>(
     alloc: Global,
@@ -186,16 +210,11 @@ pub fn trace<F: Outside>(
     requires few { ahead ≤ 64 }
 {
     let table = read_table(alloc, files, paths.entities)?;
-    if files.begin(Port::Page, paths.page) != Ok(true) {
+    if !is_begun(files, paths.page) {
         return Err(Untraced::Unread);
     }
-    let job = Job {
-        page: String::from_str(alloc, paths.page)?,
-        dir: String::from_str(alloc, paths.dir)?,
-        table: &table,
-        piece,
-        ahead,
-        dump: false,
-    };
+    let page = path_of(alloc, paths.page)?;
+    let dir = path_of(alloc, paths.dir)?;
+    let job = job_of(page, dir, &table, piece, ahead);
     run_by_table(alloc, &job, files)
 }

@@ -1,8 +1,7 @@
 -- What holds along the events so far holds along one more, and in each run.
-use Rattle.std.proofs.Common.{◌≡◌, ℕ, zero, suc, ◌+◌, nat_lt, Bool, true, false, true≢false, List, [], ◌∷◌, ◌++◌, length, map, Option, Some, None, Ok, Err, refl, sym, ◌∙◌, ap, subst, inl, inr, append-nil, append_assoc, length-append, arith}
-use Rattle.std.specs.Prelude.{◌⊎◌, Result, OnOk, OnErr, IsTrue, IfSome, not, ◌&&◌, slice_get}
+use Rattle.std.proofs.Common.{◌≡◌, ℕ, zero, suc, ◌+◌, nat_lt, Bool, true, false, true≢false, List, [], ◌∷◌, ◌++◌, length, Option, Some, None, Ok, Err, refl, sym, ◌∙◌, ap, subst, inl, inr, append-nil, append_assoc, length-append, arith}
+use Rattle.std.specs.Prelude.{Result, OnOk, OnErr, IsTrue, IfSome, not, slice_get}
 use Rattle.std.specs.List.{AllByRecursion}
-use Rattle.std.proofs.lemmas.List.{map-append}
 use Rattle.std.proofs.lemmas.Bool.{and_parts}
 use Rattle.html_types.specs.declared.ending.Ending.{Ending}
 use Rattle.serial.specs.declared.script.Line.{Line}
@@ -12,11 +11,10 @@ use Rattle.serial.specs.Serial.{World}
 use Rattle.core_definitions.specs.declared.event.Event.{Event}
 use Rattle.core_definitions.specs.declared.event.Event.TheVariants.{Send, Pick, Give, Take, Do, Arrive}
 use Rattle.core_definitions.specs.Batches.{Piece, of_text, of_ending}
-use Rattle.core_definitions.specs.Core.{Setup, Request, request_for, joined}
+use Rattle.core_definitions.specs.Core.{Setup, Request, joined}
 use Rattle.core_definitions.specs.Desk.{Phase, free, tagged, waits, done, Desk, first_desk, pieces_with, with_more, outstanding, is_done, is_free, can_send, wants_reply, can_do, can_do_in, can_arrive, sends_first, sends, takes, Moves}
-use Rattle.core_definitions.specs.Settling.{is_empty}
 use Rattle.core_definitions.specs.StandsFor.{text_of}
-use Rattle.core_definitions.specs.Journal.{Journal, Knows, IsPageOf, IsRunOf}
+use Rattle.core_definitions.specs.Journal.{Knows, IsPageOf}
 use Rattle.core_laws.proofs.Handing.{more-may_follow}
 use Rattle.speculation.specs.Asking.{Asked}
 use Rattle.core_steps.specs.Fetches.{names_of}
@@ -93,6 +91,38 @@ awaited-more xs Give d s = s
 awaited-more xs Take d s = s
 awaited-more xs Do d s = s
 awaited-more xs (Arrive name) d s = s
+
+full-of : (ahead : ℕ) (d : Desk) → IsSentSoFar ahead None d → nat_lt (outstanding d) ahead ≡ false
+full-of ahead d (inl full) = full
+full-of ahead d (inr (some, nil)) = absurd (true≢false (sym some))
+
+looks-more : (ahead : ℕ) (o : Option Ending) (xs : List Piece) (v : Event) (d : Desk) → LooksSoFar ahead None v d → LooksSoFar ahead o v (with_more xs d)
+looks-more ahead o xs Send d l = tt
+looks-more ahead o xs Pick d l = tt
+looks-more ahead o xs Give d l = tt
+looks-more ahead o xs Take d l = tt
+looks-more ahead o xs Do d l = inl (full-of ahead d l)
+looks-more ahead o xs (Arrive name) d l = inl (full-of ahead d l)
+
+looks-behind : (ahead : ℕ) (xs : List Piece) (v : Event) (d : Desk) → LooksSoFar ahead None v d → LooksAhead ahead v (with_more xs d)
+looks-behind ahead xs Send d l = tt
+looks-behind ahead xs Pick d l = tt
+looks-behind ahead xs Give d l = tt
+looks-behind ahead xs Take d l = tt
+looks-behind ahead xs Do d l = inl (full-of ahead d l)
+looks-behind ahead xs (Arrive name) d l = inl (full-of ahead d l)
+
+ahead-of : (ahead : ℕ) (o : Option Ending) (d : Desk) → IsSentSoFar ahead o d → IsSentAhead ahead d
+ahead-of ahead o d (inl full) = inl full
+ahead-of ahead o d (inr (some, nil)) = inr nil
+
+looks-whole : (ahead : ℕ) (o : Option Ending) (v : Event) (d : Desk) → LooksSoFar ahead o v d → LooksAhead ahead v d
+looks-whole ahead o Send d l = tt
+looks-whole ahead o Pick d l = tt
+looks-whole ahead o Give d l = tt
+looks-whole ahead o Take d l = tt
+looks-whole ahead o Do d l = ahead-of ahead o d l
+looks-whole ahead o (Arrive name) d l = ahead-of ahead o d l
 
 text-pieces : (ts : List (List ℕ)) (o : Option Ending) → text_of (pieces_with ts o) ≡ joined ts
 text-pieces [] None = refl
@@ -379,8 +409,8 @@ module _ (asks : Option (List Asked)) (s : Shown) (g : Goes asks s) where
           let (d, with, shows) = g.along w entities knows in
           let open_ = subst (λ o. MovesWith (Was o) s.ahead w s.journal.events (first_desk (pieces_with s.journal.pieces o)) d) none with in
           let more = with-more (Was None) (Later s') s.ahead w h.pieces
-              (λ v e p. (asks-more g.asked s.journal.pieces s'.journal.pieces h.pieces longer v e p.0, looks-more s.ahead s'.journal.ending h.pieces v e p.1, awaited-more h.pieces v e p.2))
-              s.journal.events (first_desk (pieces_with s.journal.pieces None)) d open_ in (
+          (λ v e p. (asks-more g.asked s.journal.pieces s'.journal.pieces h.pieces longer v e p.0, looks-more s.ahead s'.journal.ending h.pieces v e p.1, awaited-more h.pieces v e p.2))
+          s.journal.events (first_desk (pieces_with s.journal.pieces None)) d open_ in (
             with_more h.pieces d,
             subst (λ ps. MovesWith (Later s') s.ahead w s.journal.events (first_desk ps) (with_more h.pieces d)) (sym h.page) more,
             subst (λ v. Shows (with_more h.pieces d) v) (sym h.desk) (shows-more s.desk.phase h.pieces d s.desk shows),

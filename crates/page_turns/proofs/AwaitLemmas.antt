@@ -3,17 +3,15 @@ use Rattle.std.proofs.Common.{◌≡◌, ℕ, Bool, true, false, List, [], ◌�
 use Rattle.std.specs.Prelude.{◌⊎◌, IsSome, if◌then◌else◌}
 use Rattle.std.specs.List.{AllByRecursion}
 use Rattle.html_types.specs.Text.{same_text}
-use Rattle.html_types.specs.declared.operation.NodeId.{NodeId}
 use Rattle.standard.specs.Entities.{Entities}
 use Rattle.standard.specs.Parser.{Parser}
 use Rattle.serial.specs.Page.{Page}
 use Rattle.serial.specs.Scripts.{Fetched}
-use Rattle.serial.specs.Serial.{World, Serial, Moment, awaits, Passes}
+use Rattle.serial.specs.Serial.{World, Serial, awaits, Passes}
 use Rattle.core_definitions.specs.declared.event.Event.{Event}
 use Rattle.core_definitions.specs.declared.event.Event.TheVariants.{Arrive}
-use Rattle.core_definitions.specs.Core.{Setup, whole_page}
+use Rattle.core_definitions.specs.Core.{whole_page}
 use Rattle.core_definitions.specs.Desk.{Phase, free, tagged, waits, done, Desk, first_desk, pieces_with, has_arrived, MovesBy}
-use Rattle.core_definitions.specs.Journal.{IsRunOf}
 use Rattle.core_definitions.specs.StandsFor.{CarriesMoment, own_moment, page_left}
 use Rattle.core_laws.specs.DeskLaws.{IsReached}
 use Rattle.core_laws.proofs.Standing.{always-stands_for}
@@ -56,11 +54,11 @@ standing-waits (done r) d name is = absurd (cc is)
 -- what was fetched has arrived
 arrived-of : (P : List ℕ → Type 0) (met : Met) (name : List ℕ) (f : Fetched) → AllByRecursion P (names_of met) → found name met ≡ Some f → P name
 arrived-of P [] name f all is = absurd (cc is)
-arrived-of P ((n, g) ∷ met) name f all is = by (same_text n name) refl is
+arrived-of P ((n, g) ∷ met) name f all is = by (λ e. arrived-of P met name f all.1 e) (same_text n name) refl is
   where
-    by : (b : Bool) → same_text n name ≡ b → (if b then Some g else found name met) ≡ Some f → P name
-    by true q e = subst P (same-text n name q) all.0
-    by false q e = arrived-of P met name f all.1 e
+    by : (found name met ≡ Some f → P name) → (b : Bool) → same_text n name ≡ b → (if b then Some g else found name met) ≡ Some f → P name
+    by behind true q e = subst P (same-text n name q) all.0
+    by behind false q e = behind e
 
 module _ (page : Page) (es : Entities) (scripts : List ℕ → Fetched) (s : Shown) (behind : IsPageBehind s.journal.ending s.journal.pieces page) (entities : s.entities ≡ es) (known : AreKnown s.journal.fetches)
     (alike : (name : List ℕ) → Alike (scripts name) (scripts_with s.journal.fetches scripts name)) (replayed : IsReplayed s) (asks : Option (List Asked)) (goes : Goes asks s) where

@@ -1,11 +1,11 @@
 -- Calls at a port, one behind another.
-use Rattle.std.proofs.Common.{◌≡◌, ℕ, ◌≤◌, ◌+◌, true, List, [], ◌∷◌, ◌++◌, Option, Some, None, Ok, Err, IfSome, refl, sym, ap, subst, ◌∙◌, append_assoc, append-nil, arith}
+use Rattle.std.proofs.Common.{◌≡◌, ℕ, ◌≤◌, ◌+◌, true, List, [], ◌∷◌, ◌++◌, Some, None, Ok, Err, refl, sym, ap, subst, ◌∙◌, append_assoc, append-nil, arith}
 use Rattle.std.specs.Prelude.{Bool, Result}
 use Rattle.outside.specs.Outside.{Call, Calls, Called, Seen, KeepsOthers}
 use Rattle.outside.specs.Outside as call
 use Rattle.outside.specs.declared.traits.Port.{Port}
 use Rattle.outside.specs.declared.traits.Failed.{Failed}
-use Rattle.page_turns.specs.Calls.{CallsAt, AreReads, given_first, AreWithin, ReadWithin, EachWithin, EndInFault, AreOfFailed, HasFailed, has_failed, GaveNone}
+use Rattle.page_turns.specs.Calls.{CallsAt, AreReads, given_first, AreWithin, EachWithin, EndInFault, AreOfFailed, HasFailed, GaveNone}
 
 -- ---- calls that were made
 

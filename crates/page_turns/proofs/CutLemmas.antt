@@ -1,17 +1,15 @@
 -- Each read of the page gives a piece.
-use Rattle.std.proofs.Common.{◌≡◌, ◌<◌, ◌≤◌, ℕ, ◌+◌, ◌-◌, min, Bool, true, false, List, [], ◌∷◌, ◌++◌, length, take, Option, Some, None, Ok, IfSome, refl, sym, ap, subst, ◌∙◌, append_assoc, append-nil, length-append, length-take, arith}
-use Rattle.std.specs.Prelude.{Result}
+use Rattle.std.proofs.Common.{◌≡◌, ◌<◌, ℕ, ◌+◌, ◌-◌, min, Bool, true, false, List, [], ◌∷◌, ◌++◌, length, Option, Some, None, Ok, IfSome, refl, sym, ap, subst, ◌∙◌, append_assoc, append-nil, length-append, arith}
 use Rattle.html_types.specs.declared.ending.Ending.{Ending}
 use Rattle.outside.specs.Outside.{Call, reads, Seen, KeepsOthers}
 use Rattle.outside.specs.declared.traits.Port.TheVariants as port
-use Rattle.outside.specs.declared.traits.Failed.{Failed}
-use Rattle.serial.specs.Page.{text_of, shown}
+use Rattle.serial.specs.Page.{text_of}
 use Rattle.utf8_pieces.specs.Decoder.{HasRead}
 use Rattle.core_definitions.specs.Core.{joined}
 use Rattle.core_steps.specs.Sides.{Shown, with_piece, with_ending}
 use Rattle.page_turns.specs.declared.page.TheConstants.{PAGE_LIMIT}
 use Rattle.page_turns.specs.declared.reader.PageReader.{PageReader}
-use Rattle.page_turns.specs.Calls.{CallsAt, GaveNone}
+use Rattle.page_turns.specs.Calls.{CallsAt}
 use Rattle.page_turns.specs.Pages.{AreTaken, ClosesAt, IsUnread}
 use Rattle.page_turns.specs.Cuts.{GivesPiece, AreCut, IsLast, IsCut, IsCutSoFar, CutAt, CutsOn, CutsShort}
 use Rattle.page_turns.proofs.CallLemmas.{called_none, called_then, called_stays}

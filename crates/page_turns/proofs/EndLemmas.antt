@@ -81,12 +81,12 @@ module _ (es : Entities) (ahead : ℕ) (dir : List ℕ) (before after : Seen) (s
 
   pub front_here : (t t' : Option (List ℕ)) → BeginsAwaited w (page_at page) dir before after → TookFront t t' (flat_map line_text s.desk.own.side.lines) → FrontWithScripts es dir before after t t'
   unfolding output_with
-  front_here t t' begins front = record {
+  front_here t t' awaited front = record {
     scripts = has.scripts;
     are_scripts = has.are_scripts;
     page = page;
     read_from = leaves.page.read_from;
-    begins = begins;
+    begins = awaited;
     front = front_of;
   }
     where

@@ -38,7 +38,7 @@ use Rattle.page_turns.proofs.DeskLemmas as desk
 use Rattle.page_turns.proofs.ReachLemmas.{reached_whole, knows-met, scripts_with}
 use Rattle.page_turns.proofs.ReadLemmas.{page_for, for_past}
 use Rattle.page_turns.proofs.Stuck.{never-free}
-use Rattle.page_turns.specs.Along.{IsSentSoFar, IsAwaitedIn, Stays, Did, MayDo, Goes}
+use Rattle.page_turns.specs.Along.{IsSentSoFar, IsAwaitedIn, Stays, MayDo, Goes}
 use Rattle.page_turns.proofs.AlongLemmas.{stays_read, goes_stays, goes_did, goes_arrived}
 use Rattle.page_turns.proofs.TurnLemmas.{holds_open, holds_sent, holds_answered, holds_took, holds_ran, holds_arrived, awaits-in, not-arrived, keeps-desk, more-lines, took-desk}
 

@@ -1,6 +1,6 @@
 -- The page as it is read piece by piece.
 use Rattle.std.proofs.Common.{◌≡◌, ℕ, zero, suc, ◌≤◌, ◌<◌, ◌+◌, ◌-◌, ◌*◌, List, [], ◌∷◌, ◌++◌, length, take, Bool, true, false, Option, Some, None, Ok, IfSome, refl, sym, ap, subst, ◌∙◌, append_assoc, append-nil, length-append, length-take, min, arith}
-use Rattle.std.specs.Prelude.{nat_lt, if◌then◌else◌, ◌==◌, Result}
+use Rattle.std.specs.Prelude.{nat_lt, if◌then◌else◌, ◌==◌}
 use Rattle.std.specs.Str.{chars, chars_after, continuation_len, lead_bits}
 use Rattle.std.specs.Str.Lossy.{utf8_valid_len}
 use Rattle.std.proofs.lemmas.Bool.{ltb-false}
@@ -9,7 +9,6 @@ use Rattle.std.proofs.lemmas.Str.{IsUtf8-nil}
 use Rattle.html_types.specs.declared.ending.Ending.{Ending}
 use Rattle.html_types.specs.declared.ending.Ending.TheVariants as ending
 use Rattle.outside.specs.Outside.{Rose, Seen, KeepsOthers, Call, reads}
-use Rattle.outside.specs.declared.traits.Failed.{Failed}
 use Rattle.outside.specs.declared.traits.Port.TheVariants as port
 use Rattle.serial.specs.Page.{Page, front, without_mark, text_of, ending_of, shown, is_text_so_far}
 use Rattle.utf8_pieces.specs.Decoder.{HasRead}
@@ -18,7 +17,7 @@ use Rattle.utf8_pieces.proofs.PageLaws.{text_of-nil, text_of-extends, shown-stay
 use Rattle.core_definitions.specs.Core.{joined}
 use Rattle.page_turns.specs.declared.page.TheConstants.{PAGE_LIMIT}
 use Rattle.page_turns.specs.declared.reader.PageReader.{PageReader}
-use Rattle.page_turns.specs.Calls.{CallsAt, AreReads, given_first, ReadWithin, has_failed, GaveNone}
+use Rattle.page_turns.specs.Calls.{CallsAt, AreReads, given_first, ReadWithin}
 use Rattle.page_turns.specs.Given.{FaultsRose, NoFault}
 use Rattle.page_turns.specs.Pages.{PageRead, AreTaken, ReadsOn, GivenFirst, IsReadFrom, ClosesAt, IsReading, IsUnread, PageOpen, PageFor, PageAt}
 use Rattle.page_turns.proofs.CallLemmas.{called_none, called_then, called_stays, within_all, within_last, reads_then, given_more, given_none}
@@ -198,7 +197,7 @@ module _ (before now after : Seen) (reader : PageReader) (pieces : List (List �
   -- a piece came
   module _ (n : ℕ) (piece : List ℕ) (size : length piece ≡ n) (fits : n ≤ reader.left) (taken : AreTaken (now.left port.Page) (after.left port.Page) piece) (quiet : NoFault port.Page now after)
       (most : ℕ) (made : CallsAt port.Page now after (reads most (Ok n) ∷ [])) where
-    calls_now : List Call
+    abbrev calls_now : List Call
     calls_now = at.calls ++ reads most (Ok n) ∷ []
 
     made_now : CallsAt port.Page before after calls_now

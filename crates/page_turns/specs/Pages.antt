@@ -1,5 +1,5 @@
 -- A page as it is read, and what its parse comes to.
-use Rattle.std.specs.Prelude.{◌≡◌, ◌≤◌, ◌+◌, ◌⊎◌, ℕ, Bool, true, false, List, [], ◌++◌, length, map, flat_map, Option, Some, None, IfSome, Result}
+use Rattle.std.specs.Prelude.{◌≡◌, ◌≤◌, ◌+◌, ◌⊎◌, ℕ, Bool, true, false, List, [], ◌∷◌, ◌++◌, length, map, flat_map, Option, Some, None, IfSome, Result}
 use Rattle.std.specs.List.{AllByRecursion}
 use Rattle.html_types.specs.declared.ending.Ending.{Ending}
 use Rattle.html_types.specs.declared.ending.Why.TheVariants as why
@@ -83,12 +83,12 @@ MeetsFaults w page o before after = NoFault port.Script before after ⊎ StopsAt
 -- ---- what a parse comes to
 
 -- The serial parse of the page ended so, with the tree of this document and these lines, and the sink took them.
-pub record Ended (w : World) (page : PageRead) (doc : Doc) (lines : List Line) (taken taken' : Option (List ℕ)) (told : Told) : Type 0 where
+pub record Ended (w : World) (page : PageRead) (doc : Doc) (written : List Line) (taken taken' : Option (List ℕ)) (told : Told) : Type 0 where
   pub outcome : Outcome
   pub comes : ComesTo w page outcome
   pub result : outcome.result ≡ result_of told
   pub tree : outcome.last.side.doc.tree ≡ doc.tree
-  pub lines : outcome.last.side.lines ≡ lines
+  pub lines : outcome.last.side.lines ≡ written
   pub took : Took taken taken' (flat_map line_text outcome.last.side.lines)
 
 -- The scripts of these names were begun, and nothing else at their port; and each of them the serial parse of the page awaits.

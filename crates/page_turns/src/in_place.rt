@@ -37,8 +37,11 @@ impl<E: InForce> Model for InPlace<E> {
     ghost Value = { Place };
 
     ghost view = { λ l. record {
-      load = record { requests = length l.requests.items; hand = in_hand l.work.hand;
-          replies = length l.replies.items };
+      load = record {
+        requests = length l.requests.items;
+        hand = in_hand l.work.hand;
+        replies = length l.replies.items;
+      };
       asked = told_of l.tells_asked (asked_in l.asked.items);
       taken = told_of l.tells_taken (taken_in l.taken.items);
     } };

@@ -1,8 +1,7 @@
-use Rattle.std.proofs.Common.{◌≡◌, ◌≤◌, ◌+◌, ◌++◌, Ok, true, length, take, drop, vec_len, arith, rules, refl, sym, ap, subst, ◌∙◌, length-take, length-append}
-use Rattle.page_turns.specs.Calls.{EachWithin, HasFailed}
+use Rattle.std.proofs.Common.{◌≡◌, ◌≤◌, ◌+◌, ◌++◌, length, take, drop, vec_len, arith, refl, sym, ap, subst, ◌∙◌, length-take, length-append}
 use Rattle.page_turns.specs.Given.{AreRead, file_at, begun}
 use Rattle.outside.proofs.KeepsLemmas.{keeps-then}
-use Rattle.page_turns.proofs.CallLemmas.{IsReadOn, read_on_first, read_on_more, read_on_failed, read_on_within, read_on_each, unbegun_each, unbegun_failed}
+use Rattle.page_turns.proofs.CallLemmas.{IsReadOn, read_on_more, read_on_failed, read_on_within, read_on_each, unbegun_each, unbegun_failed}
 use Rattle.page_turns.proofs.KeepsLemmas.{begun_stays, rose-on}
 use Rattle.page_turns.proofs.RunReads.{read_more, read_none, read_failed, piece_size, piece_front}
 use Rattle.page_turns.proofs.fetch.read_whole.Goals as goal

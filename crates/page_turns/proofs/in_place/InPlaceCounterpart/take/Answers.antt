@@ -1,7 +1,14 @@
-use Rattle.std.proofs.Common.{ap}
-use Rattle.page_turns.specs.InPlaces.{Place}
+use Rattle.std.proofs.Common.{Some, ap, subst}
+use Rattle.page_turns.specs.InPlaces.{Place, told_of, taken_in}
+use Rattle.page_turns.specs.Messages.{Adds}
 use Rattle.page_turns.proofs.LineLemmas.{took_one}
+use Rattle.page_turns.proofs.InPlaceLemmas.{pushed, told_more, taken_more}
 use Rattle.page_turns.proofs.in_place.InPlaceCounterpart.take.Goals as goal
 
 pub returns-clause-load : goal.returns-clause-load
 returns-clause-load g c = took_one _ _ _ _ _ _ _ (ap (λ (p : Place). p.load) c.self.view_is) c.pop_front.ensures.items c.in-Some.is
+
+pub returns-clause-taken : goal.returns-clause-taken
+returns-clause-taken g c =
+    subst (λ o. Adds o (told_of c.self.inside.tells_taken (taken_in c.push.new.self.items)) (Some c.in-Some.reply.said)) (ap (λ (p : Place). p.taken) c.self.view_is)
+    (told_more _ _ _ _ (taken_more _ _ c.of-taken.result c.in-Some.reply.said (pushed _ c.is_err.result _ _ _ c.push.ensures.items c.is_err.ensures.negation (cc)) c.of-taken.ensures))
