@@ -38,7 +38,7 @@ Held I (goes t) = I t
 Held I (refuses w t) = I t
 
 module _ (I : Serial → Type 0) (T : NodeId → Serial → Type 0) (r : Steps I T) (P : Visit → Type 0) (here : (k : ℕ) (list : List Statement) (s : Serial) → I s → P (statements_at k list s))
-  (tag : (i : NodeId) (s : Serial) → I s → T i s → P (tag_at i s)) where
+    (tag : (i : NodeId) (s : Serial) → I s → T i s → P (tag_at i s)) where
   -- both: at each, and in the state that is reached
   abbrev Both : Type 0 → Course → Type 0
   Both A f = A × Held I f

@@ -1,27 +1,24 @@
 -- The states that the serial parse passes through.
-use Rattle.std.proofs.Common.{◌≡◌, ◌≢◌, ◌<◌, ◌≤◌, ◌-◌, ◌∙◌, refl, sym, ap, subst, arith, ℕ, zero, suc, Bool, true, false, List, [], ◌∷◌, ◌++◌, length, Option, Some, None, if◌then◌else◌, inl, inr, true≢false}
+use Rattle.std.proofs.Common.{◌≡◌, ◌<◌, ◌-◌, ◌∙◌, refl, sym, ap, subst, arith, ℕ, zero, suc, Bool, true, false, List, [], ◌∷◌, ◌++◌, length, Option, Some, None, if◌then◌else◌}
 use Rattle.std.specs.Prelude.{◌==◌, ⊤, IsTrue, unwrap_or}
 use Rattle.std.specs.Option.{option_or}
-use Rattle.std.proofs.lemmas.Bool.{cases_eq, ne_eqb, eq-eqb}
+use Rattle.std.proofs.lemmas.Bool.{ne_eqb, eq-eqb}
 use Rattle.std.proofs.lemmas.Option.{none-some, same_Some}
 use Rattle.html_types.specs.Numbers.{count_of}
 use Rattle.html_types.specs.declared.ending.Ending.{Ending}
 use Rattle.html_types.specs.declared.ending.Ending.TheVariants as ending
 use Rattle.html_types.specs.declared.instruction.Finish.{Finish}
 use Rattle.html_types.specs.declared.instruction.Finish.TheVariants as finale
-use Rattle.html_types.specs.declared.instruction.Stop.{Stop}
 use Rattle.html_types.specs.declared.instruction.Stop.TheVariants as stop
 use Rattle.html_types.specs.declared.operation.NodeId.{NodeId}
 use Rattle.html_types.specs.declared.operation.Op.{Op}
-use Rattle.html_types.specs.declared.open.Context.{Context}
-use Rattle.html_types.specs.declared.open.Open.{Open}
 use Rattle.html_types.specs.declared.tree.Kind.{Kind}
 use Rattle.html_types.specs.declared.tree.Kind.TheVariants as kind
 use Rattle.standard.specs.Entities.{Entities}
-use Rattle.standard.specs.Tree.{Nodes, IsTree, new_tree, node_at, kind_of, parent_of, children_of, host_of, contents_of, above_of, leads_to, is_document, is_element, is_element_at, lies_in, detached, moved, appended, all_put, all_out, emptied, find_id}
+use Rattle.standard.specs.Tree.{Nodes, IsTree, new_tree, kind_of, parent_of, children_of, host_of, contents_of, leads_to, is_document, is_element, is_element_at, lies_in, detached, moved, appended, all_out, emptied, find_id}
 use Rattle.standard.specs.Act.{Doc, new_doc, is_bound, node_of, end_of, act, acts, AreOpsBound}
 use Rattle.standard.specs.Parser.{Parser, Took, took, take_character, Finished, finish, parse}
-use Rattle.standard.specs.Fragment.{root_id, fragment, context_at, roots_made, all_in_root, with_fragment, exchanged, filled, setting, set_by, inner_set}
+use Rattle.standard.specs.Fragment.{root_id, fragment, context_at, roots_made, all_in_root, with_fragment, filled, setting, set_by, inner_set}
 use Rattle.serial.specs.declared.script.Statement.{Statement}
 use Rattle.serial.specs.declared.script.Statement.TheVariants as statement
 use Rattle.serial.specs.Page.{Page}
@@ -47,9 +44,9 @@ use Rattle.standard_laws.specs.Laws.{outcome_at}
 use Rattle.standard_laws.proofs.Parse.{advance-parse}
 use Rattle.standard_laws.proofs.Passing.{finished-at}
 use Rattle.moment_laws.specs.Served.{state_at}
-use Rattle.fragment_laws.specs.Laws.{target_of, AreOwn, IsSet}
-use Rattle.fragment_laws.specs.Unnamed.{IsUnnamed, IsTagNamed}
-use Rattle.fragment_laws.specs.Visits.{Visit, statements_at, tag_at, InText, InFile, InMoment, AtEach}
+use Rattle.fragment_laws.specs.Laws.{target_of, AreOwn}
+use Rattle.fragment_laws.specs.Unnamed.{IsUnnamed}
+use Rattle.fragment_laws.specs.Visits.{Visit, statements_at, tag_at, InFile, InMoment, AtEach}
 use Rattle.fragment_laws.specs.Whole.{IsWhole, IsWholeAt, MomentsAreWhole, IsWholeThere, ScriptsAreWhole, SetsThere, SetsWell, StatementsSet, RunsOther, TagsAreOthers, IsUnnamedThere, StatementsStayUnnamed, MomentsStayUnnamed}
 use Rattle.fragment_laws.proofs.Apart.{roots-bound}
 use Rattle.fragment_laws.proofs.Children.{length-all_out, sets-children}
@@ -155,11 +152,11 @@ module _ (t : Nodes) (n : ℕ) (form : Bool) (ops : List Op) (tree : IsTree t) (
   r = node_of d.bound (root_id 0)
 
   pub filled-tree : IsTree (filled t n form ops)
-  unfolding filled emptied
+  unfolding filled emptied r
   filled-tree = IsTree-all_put (children_of v r) v p v-tree (λ c among. plain-child v v-tree r c among) p-below
 
   pub filled-sorted : AreSorted (filled t n form ops)
-  unfolding filled emptied
+  unfolding filled emptied r
   filled-sorted = sorted-all_put v (children_of v r) p (sorted-all_out d.tree (children_of d.tree p) made.1)
 
 -- which tree the statement leaves

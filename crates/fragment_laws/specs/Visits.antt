@@ -10,7 +10,7 @@ use Rattle.serial.specs.declared.script.Statement.TheVariants as statement
 use Rattle.serial.specs.Page.{Page}
 use Rattle.serial.specs.Scripts.{Fetched, got, missing, faulted, file_statements}
 use Rattle.serial.specs.Statements.{statements}
-use Rattle.serial.specs.Serial.{World, Serial, Course, goes, refuses, starved, Advanced, advanced, advance, before_point, moved, tree_of, inside, insert, with_line_feed, may_write, with_tree, remove, read, one_more_executed, prepared, write, end_of_script, Moment, reading, tag_ended, awaits, over, fetched, Passes}
+use Rattle.serial.specs.Serial.{World, Serial, Course, goes, Advanced, advanced, advance, before_point, moved, tree_of, inside, insert, with_line_feed, may_write, with_tree, remove, read, one_more_executed, prepared, write, end_of_script, Moment, reading, tag_ended, awaits, over, fetched, Passes}
 
 pub data Visit : Type 0 where
   -- the script of that number is at these statements, of which the first runs now

@@ -1,6 +1,6 @@
 -- The states that the serial parse passes through: their documents are trees, and what their ids stand for. So the laws of the statement that sets
 -- an element's children hold wherever it runs.
-use Rattle.std.specs.Prelude.{◌≡◌, ◌≢◌, ◌<◌, ◌≤◌, ◌-◌, ◌==◌, ℕ, Bool, true, List, ◌∷◌, length, Some, None}
+use Rattle.std.specs.Prelude.{◌≡◌, ◌≢◌, ◌<◌, ◌≤◌, ◌-◌, ◌==◌, ℕ, true, List, ◌∷◌, length, Some, None}
 use Rattle.standard.specs.Tree.{Nodes, IsTree, kind_of, host_of, is_document, is_element_at, find_id}
 use Rattle.standard.specs.Act.{Doc, node_of, is_bound}
 use Rattle.standard.specs.Fragment.{setting, inner_set}
