@@ -242,7 +242,7 @@ fn take_all<E: InForce>(
     Ok(())
 }
 
-fn told<E: InForce>(alloc: Global, pair: &mut Pair<E>, counts: Counts) -> Result<Told, NoMemory> {
+fn tell<E: InForce>(alloc: Global, pair: &mut Pair<E>, counts: Counts) -> Result<Told, NoMemory> {
     let written = written_of(alloc, pair)?;
     Ok(Told {
         written,
@@ -269,7 +269,7 @@ fn run_pair<E: InForce>(
         dropped: 0,
     };
     take_all(alloc, pair, &mut counts, order)?;
-    told(alloc, pair, counts)
+    tell(alloc, pair, counts)
 }
 
 fn run_in_force<E: InForce>(
