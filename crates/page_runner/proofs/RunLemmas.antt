@@ -255,13 +255,13 @@ may_since port path dir before now after (got page) other keeps quiet first may 
 -- the scripts that were begun
 awaits_over : (table : Option Table) (dir : List ℕ) (before now after : Seen) (page : PageMet) → now.begun Script ≡ before.begun Script → AwaitsOver table dir page now after → AwaitsOver table dir page before after
 awaits_over None dir before now after page same none = begun_since _ _ _ [] same none
-awaits_over (Some es) dir before now after page same begins = record { names = begins.names; begun = begun_since _ _ _ _ same begins.begun; awaited = begins.awaited }
+awaits_over (Some es) dir before now after page same awaits = record { names = awaits.names; begun = begun_since _ _ _ _ same awaits.begun; awaited = awaits.awaited }
 
 awaits_since : (table : Option Table) (dir : List ℕ) (before now after : Seen) (page : Given PageMet) → now.begun Script ≡ before.begun Script → AwaitsEach table dir page now after → AwaitsEach table dir page before after
 awaits_since table dir before now after unmet same none = begun_since _ _ _ [] same none
 awaits_since table dir before now after missing same none = begun_since _ _ _ [] same none
 awaits_since table dir before now after faulted same none = begun_since _ _ _ [] same none
-awaits_since table dir before now after (got page) same begins = awaits_over table dir before now after page same begins
+awaits_since table dir before now after (got page) same awaits = awaits_over table dir before now after page same awaits
 
 faults_over : (table : Option Table) (before now after : Seen) (page : PageMet) → NoFault Script before now → FaultsOver table page now after → FaultsOver table page before after
 faults_over None before now after page quiet met = met ∙ quiet
@@ -507,7 +507,7 @@ begins_nothing (Some (for_make asked)) before = refl
 begins_nothing (Some (for_page asked)) before = record { entities = inl (begun_none _ _ refl); page = inl (begun_none _ _ refl); scripts = names_none asked.dir _ _ refl }
 
 pub begins_asked : (asked : Option Asked) (a : Asked) (before after : Seen) → Some a ≡ asked → BeginsOnce (Some a) before after → BeginsOnce asked before after
-begins_asked asked a before after is begins = subst (λ o. BeginsOnce o before after) is begins
+begins_asked asked a before after is once = subst (λ o. BeginsOnce o before after) is once
 
 pub stops_at_once : (asked : Option Asked) (before : Seen) → StopsAtLimits asked before before
 stops_at_once None before = (refl, refl)

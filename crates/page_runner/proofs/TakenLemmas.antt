@@ -169,7 +169,7 @@ module _ (x : Setup) (pieces : List (List ℕ)) (asks : List Asked) where
       let none : length s.waiting ≡ 0 = ap (λ l. length l) q in
       let sent = s.sent in
       let taken = s.taken in
-      absurd (none-waits c.desk.sent c.desk.taken (omega (arith, none, sent, taken)) (and_parts _ _ can).1)
+      absurd (none-waits c.desk.sent c.desk.taken (omega (arith, none, sent, taken)) (and_parts (is_free c.desk.phase && is_empty c.desk.hand) (nat_lt 0 (outstanding c.desk)) can).1)
   took-next c (a ∷ ws) s q can = (c3, is, stands, (told_to es (after es first_work.parser s.done) a, place, taken_by), rose)
     where
       d : Desk
@@ -203,7 +203,7 @@ module _ (x : Setup) (pieces : List (List ℕ)) (asks : List Asked) where
       t2 = (steps-together x Give c1 c2 refl (ap (λ rs. record c2 { replies = rs ++ reply ∷ [] }) (sym s.replies)) t1).1
 
       idle : IsTrue (is_free d.phase && is_empty d.hand)
-      idle = (and_parts _ _ can).0
+      idle = (and_parts (is_free d.phase && is_empty d.hand) (nat_lt 0 (outstanding d)) can).0
 
       can3 : IsTrue (enabled x Take c2)
       can3 = both x (is_free d.phase && is_empty d.hand) true idle refl
@@ -218,7 +218,7 @@ module _ (x : Setup) (pieces : List (List ℕ)) (asks : List Asked) where
       t3 = (steps-together x Take c2 c3 can3 refl t2).1
 
       counts : ((takes es d).taken ≡ suc d.taken) × ((takes es d).sent ≡ d.sent)
-      counts = took-count d.asked d refl (and_parts _ _ can).1 (nat_lt 0 (stale d)) refl
+      counts = took-count d.asked d refl (and_parts (is_free d.phase && is_empty d.hand) (nat_lt 0 (outstanding d)) can).1 (nat_lt 0 (stale d)) refl
 
       rose : (takes es d).taken ≡ d.taken + counted Take
       rose = let one = counts.0 in omega (arith, one)
@@ -300,12 +300,12 @@ module _ (x : Setup) (pieces : List (List ℕ)) (asks : List Asked) where
     takes-of (Arrive name) d h le = tt
 
     takes-more : (v : Event) (vs : List Event) → takes_in (v ∷ vs) ≡ counted v + takes_in vs
-    takes-more Send vs = refl
-    takes-more Pick vs = refl
-    takes-more Give vs = refl
-    takes-more Take vs = refl
-    takes-more Do vs = refl
-    takes-more (Arrive name) vs = refl
+    takes-more Send vs = omega arith
+    takes-more Pick vs = omega arith
+    takes-more Give vs = omega arith
+    takes-more Take vs = omega arith
+    takes-more Do vs = omega arith
+    takes-more (Arrive name) vs = omega arith
 
     takes-with : (vs : List Event) (c : Core) (d d' : Desk) → c.desk ≡ d → Stands c → d.taken + takes_in vs ≤ n → MovesWith (AsksOf asks pieces) x.ahead x.world vs d d' → MovesWith (TakesOf messages x) x.ahead x.world vs d d'
     takes-with [] c d d' q s le is = is
@@ -327,22 +327,22 @@ module _ (x : Setup) (pieces : List (List ℕ)) (asks : List Asked) where
 abbrev IsNoReply : List (Option Told) → Type 0
 IsNoReply tail = (tail ≡ []) ⊎ (tail ≡ None ∷ [])
 
-nothing-said : (a : Told) (as : List (Option Told)) (tail : List (Option Told)) → IsNoReply tail → Some a ∷ as ≡ tail → ⊥
-nothing-said a as tail (inl is) q = nil (q ∙ is)
+nothing-said : (a : Told) (these : List (Option Told)) (tail : List (Option Told)) → IsNoReply tail → Some a ∷ these ≡ tail → ⊥
+nothing-said a these tail (inl is) q = nil (q ∙ is)
   where
-    nil : Some a ∷ as ≡ [] → ⊥
+    nil : Some a ∷ these ≡ [] → ⊥
     nil e = cc e
-nothing-said a as tail (inr is) q = none (head-same (Some a) None as [] (q ∙ is))
+nothing-said a these tail (inr is) q = none (head-same (Some a) None these [] (q ∙ is))
   where
     none : Some a ≡ None → ⊥
     none e = cc e
 
-replies-front : (as bs : List Told) (more tail : List (Option Told)) → IsNoReply tail → map Some as ++ more ≡ map Some bs ++ tail → IsPrefix as bs
+replies-front : (these bs : List Told) (more tail : List (Option Told)) → IsNoReply tail → map Some these ++ more ≡ map Some bs ++ tail → IsPrefix these bs
 replies-front [] bs more tail none q = (bs, refl)
-replies-front (a ∷ as) [] more tail none q = absurd (nothing-said a (map Some as ++ more) tail none q)
-replies-front (a ∷ as) (b ∷ bs) more tail none q =
-    let (t, is) = replies-front as bs more tail none (tail-same (Some a) (Some b) (map Some as ++ more) (map Some bs ++ tail) q) in
-    let same : a ≡ b = some-same a b (head-same (Some a) (Some b) (map Some as ++ more) (map Some bs ++ tail) q) in
+replies-front (a ∷ these) [] more tail none q = absurd (nothing-said a (map Some these ++ more) tail none q)
+replies-front (a ∷ these) (b ∷ bs) more tail none q =
+    let (t, is) = replies-front these bs more tail none (tail-same (Some a) (Some b) (map Some these ++ more) (map Some bs ++ tail) q) in
+    let same : a ≡ b = some-same a b (head-same (Some a) (Some b) (map Some these ++ more) (map Some bs ++ tail) q) in
     (t, ap (λ l. a ∷ l) is ∙ ap (λ z. z ∷ bs) same)
 
 no-stop : (q : Asked) → Ask q ≡ Stop → ⊥
@@ -351,13 +351,13 @@ no-stop q e = cc e
 ask-same : (a b : Asked) → Ask a ≡ Ask b → a ≡ b
 ask-same a b e = cc e
 
-asks-front : (qs as : List Asked) (more : List ToParser) → map Ask qs ++ more ≡ map Ask as ++ Stop ∷ [] → IsPrefix qs as
-asks-front [] as more q = (as, refl)
+asks-front : (qs these : List Asked) (more : List ToParser) → map Ask qs ++ more ≡ map Ask these ++ Stop ∷ [] → IsPrefix qs these
+asks-front [] these more q = (these, refl)
 asks-front (z ∷ qs) [] more q = absurd (no-stop z (head-same (Ask z) Stop (map Ask qs ++ more) [] q))
-asks-front (z ∷ qs) (a ∷ as) more q =
-    let (t, is) = asks-front qs as more (tail-same (Ask z) (Ask a) (map Ask qs ++ more) (map Ask as ++ Stop ∷ []) q) in
-    let same : z ≡ a = ask-same z a (head-same (Ask z) (Ask a) (map Ask qs ++ more) (map Ask as ++ Stop ∷ []) q) in
-    (t, ap (λ l. z ∷ l) is ∙ ap (λ y. y ∷ as) same)
+asks-front (z ∷ qs) (a ∷ these) more q =
+    let (t, is) = asks-front qs these more (tail-same (Ask z) (Ask a) (map Ask qs ++ more) (map Ask these ++ Stop ∷ []) q) in
+    let same : z ≡ a = ask-same z a (head-same (Ask z) (Ask a) (map Ask qs ++ more) (map Ask these ++ Stop ∷ []) q) in
+    (t, ap (λ l. z ∷ l) is ∙ ap (λ y. y ∷ these) same)
 
 -- so many replies, and then perhaps more
 replies-of : (outcome : Status) (n : ℕ) (messages : List Message) → AreRepliesAt outcome n messages → (rs : List Told) × (more : List Message) × (messages ≡ map Some rs ++ more) × (length rs ≡ n)

@@ -1,4 +1,4 @@
-use Rattle.std.proofs.Common.{◌≡◌, [], ◌∷◌, ◌++◌, map, Some, sym, ap, subst, ◌∙◌}
+use Rattle.std.proofs.Common.{◌≡◌, [], ◌∷◌, ◌++◌, map, sym, ap, subst, ◌∙◌}
 use Rattle.parser_thread.specs.declared.messages.ToParser.TheVariants.{Ask}
 use Rattle.page_runner.specs.Exchanges.{Exchange}
 use Rattle.page_runner.specs.OnTwo.{asks_in}
@@ -10,4 +10,4 @@ invariant_of-self g c = (c.send.ensures.running, subst (λ ms. ms ≡ map Ask (a
 
 pub returns-clause-put : goal.returns-clause-put
 returns-clause-put g c =
-    ap Some (ap asks_in c.send.ensures.asked ∙ (asks_then c.self.inside.running.ask.put c.args.request ∙ ap (λ (e : Exchange). e.asks ++ c.args.request ∷ []) c.self.view_is))
+    ap asks_in c.send.ensures.asked ∙ (asks_then c.self.inside.running.ask.put c.args.request ∙ ap (λ (e : Exchange). e.asks ++ c.args.request ∷ []) c.self.view_is)
