@@ -6,7 +6,7 @@ use crate::running::entities;
 use entity_table::Table;
 use html_types::{NoMemory, Text};
 use page_pieces::{Piece, SharedText};
-use speculation::{Batches, InForce, Request, Worker};
+use speculation::{Batch, Batches, InForce, Reply, Request, Worker};
 use std::alloc::Global;
 use std::marker::Brand;
 use std::test::Fail;
@@ -31,6 +31,22 @@ fn first_request(alloc: Global, text: &Text) -> Result<Request, NoMemory> {
     Ok(Request::new(1, 1, None, piece, 0))
 }
 
+// What an answer promises is long, and nothing behind it needs that.
+fn answer<E: InForce>(
+    alloc: Global,
+    table: &Table,
+    mut worker: Worker,
+    request: Request,
+) -> Result<Reply<E>, NoMemory>
+    requires { table.now ≡ E.entities }
+{
+    worker.answer::<E>(alloc, table, request)
+}
+
+fn worker(alloc: Global) -> Worker {
+    Worker::new(alloc)
+}
+
 fn batches_in_force<E: InForce>(
     alloc: Global,
     table: &Table,
@@ -38,7 +54,7 @@ fn batches_in_force<E: InForce>(
 ) -> Result<Batches, NoMemory>
     requires { table.now ≡ E.entities }
 {
-    let reply = Worker::new(alloc).answer::<E>(alloc, table, request)?;
+    let reply = answer::<E>(alloc, table, worker(alloc), request)?;
     Ok(reply.said.into_batches())
 }
 
@@ -46,17 +62,34 @@ fn batches_of(alloc: Global, table: &Table, request: Request) -> Result<Batches,
     batches_in_force::<Brand>(alloc, table, request)
 }
 
+// What a paragraph of so many characters comes to.
+fn paragraph_batches(alloc: Global, table: &Table, characters: usize) -> Result<Batches, NoMemory> {
+    let text = paragraph(alloc, characters)?;
+    let request = first_request(alloc, &text)?;
+    batches_of(alloc, table, request)
+}
+
+fn operations_in(batch: Batch) -> usize {
+    let (operations, _after) = batch.into_parts();
+    operations.as_slice().len()
+}
+
+// How many batches there are, and how many operations the first has.
+fn counts_of(mut batches: Batches) -> (usize, usize) {
+    let all = batches.len();
+    match batches.pop() {
+        Some(batch) => (all, operations_in(batch)),
+        None => (all, 0),
+    }
+}
+
 #[test]
 fn a_long_text_is_one_operation(rt: HostRuntime) -> Result<(), Fail> {
     let alloc = rt.alloc();
-    let request = first_request(alloc, &paragraph(alloc, 4000)?)?;
-    let mut batches = batches_of(alloc, &entities(alloc)?, request)?;
-    assert!(rt; batches.len() == 1);
-    let Some(batch) = batches.pop() else {
-        return Ok(());
-    };
-    let (operations, _after) = batch.into_parts();
+    let table = entities(alloc)?;
+    let (batches, operations) = counts_of(paragraph_batches(alloc, &table, 4000)?);
+    assert_eq!(rt; batches, 1);
     // One that makes and one that puts html, head, body and p each, and the text.
-    assert!(rt; operations.as_slice().len() == 9);
+    assert_eq!(rt; operations, 9);
     Ok(())
 }

@@ -3,11 +3,61 @@
 use builder_state::{Builder, Pushed};
 use char_class::is_space;
 use html_types::{
-    Attributes, Flow, Instr, Mode, Name, Next, NodeId, OpenElement, Ops, Place, Tag, Token, Word,
+    Attributes, Flow, Instr, Mode, Name, Next, NoMemory, NodeId, OpenElement, Ops, Place, Tag,
+    Token, Word,
 };
 use insertion_modes::row;
 use std::alloc::Global;
 use std::test::Fail;
+
+// The calls, each alone: what they promise would be worked out over the rows.
+fn run(
+    alloc: Global,
+    builder: &mut Builder,
+    row: &[Instr],
+    token: &Token,
+    ops: &mut Ops,
+) -> Result<Flow, NoMemory> {
+    builder.run(alloc, row, token, ops)
+}
+
+fn answer(
+    alloc: Global,
+    builder: &mut Builder,
+    mode: Mode,
+    token: &Token,
+    ops: &mut Ops,
+) -> Result<Next, NoMemory> {
+    builder.answer_row(alloc, row(mode, token), token, ops)
+}
+
+fn reconstruct(alloc: Global, builder: &mut Builder, ops: &mut Ops) -> Result<Flow, NoMemory> {
+    builder.reconstruct(alloc, ops)
+}
+
+fn push(builder: &mut Builder, element: OpenElement) -> Result<Pushed, NoMemory> {
+    builder.push(element)
+}
+
+fn new_builder(alloc: Global, realm: u32) -> Builder {
+    Builder::new(alloc, realm)
+}
+
+fn copy(alloc: Global, builder: &Builder) -> Result<Builder, NoMemory> {
+    builder.copy(alloc)
+}
+
+fn renew(builder: &mut Builder, realm: u32) {
+    builder.renew(realm);
+}
+
+fn same(builder: &Builder, other: &Builder) -> bool {
+    builder.same(other)
+}
+
+fn take_skip(builder: &mut Builder) -> bool {
+    builder.take_skip()
+}
 
 fn tag(alloc: Global, word: Word) -> Tag {
     Tag {
@@ -20,25 +70,25 @@ fn tag(alloc: Global, word: Word) -> Tag {
 #[test]
 fn opens_elements(rt: HostRuntime) -> Result<(), Fail> {
     let alloc = rt.alloc();
-    let mut builder = Builder::new(alloc, 7);
+    let mut builder = new_builder(alloc, 7);
     let mut ops = Ops::new(alloc);
     let token = Token::StartTag(tag(alloc, Word::Li));
     let row = [Instr::InsertRootA, Instr::Insert, Instr::SkipLineFeed];
-    assert!(rt; matches!(builder.run(alloc, &row, &token, &mut ops)?, Flow::On));
-    assert!(rt; matches!(builder.reconstruct(alloc, &mut ops)?, Flow::On));
+    assert!(rt; matches!(run(alloc, &mut builder, &row, &token, &mut ops)?, Flow::On));
+    assert!(rt; matches!(reconstruct(alloc, &mut builder, &mut ops)?, Flow::On));
     assert_eq!(rt; ops.as_slice().len(), 4);
     assert!(rt; builder.place() == Place::Inside(NodeId { realm: 7, n: 1 }));
     assert!(rt; builder.next_id() == NodeId { realm: 7, n: 2 });
     assert!(rt; builder.mode() == Mode::Initial);
-    assert!(rt; builder.take_skip());
-    assert!(rt; !builder.take_skip());
+    assert!(rt; take_skip(&mut builder));
+    assert!(rt; !take_skip(&mut builder));
     Ok(())
 }
 
 #[test]
 fn inserts_pending_text(rt: HostRuntime) -> Result<(), Fail> {
     let alloc = rt.alloc();
-    let mut builder = Builder::new(alloc, 7);
+    let mut builder = new_builder(alloc, 7);
     let mut ops = Ops::new(alloc);
     let row = [
         Instr::InsertRootA,
@@ -46,7 +96,7 @@ fn inserts_pending_text(rt: HostRuntime) -> Result<(), Fail> {
         Instr::InsertPending,
     ];
     let token = Token::Character('x');
-    assert!(rt; matches!(builder.run(alloc, &row, &token, &mut ops)?, Flow::On));
+    assert!(rt; matches!(run(alloc, &mut builder, &row, &token, &mut ops)?, Flow::On));
     assert_eq!(rt; ops.as_slice().len(), 3);
     Ok(())
 }
@@ -54,10 +104,10 @@ fn inserts_pending_text(rt: HostRuntime) -> Result<(), Fail> {
 #[test]
 fn copies_are_the_same(rt: HostRuntime) -> Result<(), Fail> {
     let alloc = rt.alloc();
-    let builder = Builder::new(alloc, 7);
-    let mut copied = builder.copy(alloc)?;
-    copied.renew(8);
-    assert!(rt; copied.same(&builder));
+    let builder = new_builder(alloc, 7);
+    let mut copied = copy(alloc, &builder)?;
+    renew(&mut copied, 8);
+    assert!(rt; same(&copied, &builder));
     let id = copied.next_id();
     let name = Name::Known(Word::Html);
     let html = OpenElement {
@@ -65,8 +115,8 @@ fn copies_are_the_same(rt: HostRuntime) -> Result<(), Fail> {
         name,
         html_point: false,
     };
-    assert!(rt; matches!(copied.push(html)?, Pushed::Done));
-    assert!(rt; !copied.same(&builder));
+    assert!(rt; matches!(push(&mut copied, html)?, Pushed::Done));
+    assert!(rt; !same(&copied, &builder));
     Ok(())
 }
 
@@ -80,10 +130,10 @@ fn a_carriage_return_is_white_space(rt: HostRuntime) -> Result<(), Fail> {
 #[test]
 fn no_doctype(rt: HostRuntime) -> Result<(), Fail> {
     let alloc = rt.alloc();
-    let mut builder = Builder::new(alloc, 0);
+    let mut builder = new_builder(alloc, 0);
     let mut ops = Ops::new(alloc);
     let token = Token::Character('a');
-    let next = builder.answer_row(alloc, row(Mode::Initial, &token), &token, &mut ops)?;
+    let next = answer(alloc, &mut builder, Mode::Initial, &token, &mut ops)?;
     assert!(rt; matches!(next, Next::Reprocess));
     assert!(rt; builder.mode() == Mode::BeforeHtml);
     assert_eq!(rt; ops.as_slice().len(), 0);
@@ -94,10 +144,10 @@ fn no_doctype(rt: HostRuntime) -> Result<(), Fail> {
 #[test]
 fn a_lone_end_tag_of_p(rt: HostRuntime) -> Result<(), Fail> {
     let alloc = rt.alloc();
-    let mut builder = Builder::new(alloc, 0);
+    let mut builder = new_builder(alloc, 0);
     let mut ops = Ops::new(alloc);
     let token = Token::EndTag(tag(alloc, Word::P));
-    let next = builder.answer_row(alloc, row(Mode::InBody, &token), &token, &mut ops)?;
+    let next = answer(alloc, &mut builder, Mode::InBody, &token, &mut ops)?;
     assert!(rt; matches!(next, Next::Done));
     assert_eq!(rt; ops.as_slice().len(), 2);
     Ok(())
@@ -107,10 +157,10 @@ fn a_lone_end_tag_of_p(rt: HostRuntime) -> Result<(), Fail> {
 #[test]
 fn space_waits(rt: HostRuntime) -> Result<(), Fail> {
     let alloc = rt.alloc();
-    let mut builder = Builder::new(alloc, 0);
+    let mut builder = new_builder(alloc, 0);
     let mut ops = Ops::new(alloc);
     let token = Token::Character(' ');
-    let next = builder.answer_row(alloc, row(Mode::InTableText, &token), &token, &mut ops)?;
+    let next = answer(alloc, &mut builder, Mode::InTableText, &token, &mut ops)?;
     assert!(rt; matches!(next, Next::Done));
     assert_eq!(rt; ops.as_slice().len(), 0);
     Ok(())
@@ -119,10 +169,10 @@ fn space_waits(rt: HostRuntime) -> Result<(), Fail> {
 #[test]
 fn frameset_ends(rt: HostRuntime) -> Result<(), Fail> {
     let alloc = rt.alloc();
-    let mut builder = Builder::new(alloc, 0);
+    let mut builder = new_builder(alloc, 0);
     let mut ops = Ops::new(alloc);
     let token = Token::EndOfFile;
-    let next = builder.answer_row(alloc, row(Mode::InFrameset, &token), &token, &mut ops)?;
+    let next = answer(alloc, &mut builder, Mode::InFrameset, &token, &mut ops)?;
     assert!(rt; matches!(next, Next::Finished));
     assert_eq!(rt; ops.as_slice().len(), 0);
     Ok(())

@@ -131,11 +131,9 @@ fn written_of<E: InForce>(alloc: Global, pair: &mut Pair<E>) -> Result<Written, 
     Written::new(alloc, pair.doc(), &lines)
 }
 
-// A page that is run.
-#[derive(Drop)]
-struct PageRun<E: InForce> {
-    alloc: Global,
-    pair: Pair<E>,
+// What was counted so far.
+#[derive(Clone, Copy)]
+struct Counts {
     events: u64,
     others: u64,
     sent: u64,
@@ -175,75 +173,103 @@ fn begin_page<E: InForce>(
     pair_of::<E>(alloc, setup)
 }
 
-impl<E: InForce> PageRun<E> {
-    fn new(alloc: Global, table: &Table, page: Page<'_>) -> Result<PageRun<E>, NoMemory>
-        requires { table.now ≡ E.entities }
-    {
-        let pieces = cut_page(alloc, page)?;
-        let scripts = script_files(alloc)?;
-        let pair = begin_page::<E>(alloc, table, page, pieces, scripts)?;
-        Ok(PageRun {
-            alloc,
-            pair,
-            events: 0,
-            others: 0,
-            sent: 0,
-            dropped: 0,
-        })
-    }
+// The pieces and the scripts are made, and then both sides.
+fn begin<E: InForce>(alloc: Global, table: &Table, page: Page<'_>) -> Result<Pair<E>, NoMemory>
+    requires { table.now ≡ E.entities }
+{
+    let pieces = cut_page(alloc, page)?;
+    let scripts = script_files(alloc)?;
+    begin_page::<E>(alloc, table, page, pieces, scripts)
+}
 
-    // Takes an event of that kind where it is enabled, and says whether it is.
-    fn take(&mut self, kind: Kind) -> Result<bool, NoMemory> {
-        let event = event_of(self.alloc, kind)?;
-        if !step(&mut self.pair, event)? {
-            return Ok(false);
-        }
+impl Counts {
+    fn count<E: InForce>(&mut self, kind: Kind, pair: &Pair<E>) {
         self.events = self.events.saturating_add(1);
         match kind {
             Kind::Send => self.sent = self.sent.saturating_add(1),
             // Behind a reply that wasn't dropped there is something to do.
-            Kind::Take if !can_do(&self.pair) => self.dropped = self.dropped.saturating_add(1),
+            Kind::Take if !can_do(pair) => self.dropped = self.dropped.saturating_add(1),
             _ => {}
         }
-        Ok(true)
     }
+}
 
-    // Takes the first event that is enabled, and says whether any is.
-    fn take_first(&mut self) -> Result<bool, NoMemory> {
-        for kind in &KINDS {
-            if self.take(*kind)? {
-                self.others = self.others.saturating_add(1);
-                return Ok(true);
-            }
+// Takes an event of that kind where it is enabled, and says whether it is.
+fn take<E: InForce>(
+    alloc: Global,
+    pair: &mut Pair<E>,
+    counts: &mut Counts,
+    kind: Kind,
+) -> Result<bool, NoMemory> {
+    let event = event_of(alloc, kind)?;
+    let taken = step(pair, event)?;
+    if taken {
+        counts.count(kind, pair);
+    }
+    Ok(taken)
+}
+
+// Takes the first event that is enabled, and says whether any is.
+fn take_first<E: InForce>(
+    alloc: Global,
+    pair: &mut Pair<E>,
+    counts: &mut Counts,
+) -> Result<bool, NoMemory> {
+    for kind in &KINDS {
+        if take(alloc, pair, counts, *kind)? {
+            counts.others = counts.others.saturating_add(1);
+            return Ok(true);
         }
-        Ok(false)
     }
+    Ok(false)
+}
 
-    // Takes the events of `order` over and over, in the place of one that isn't enabled the first that is, until none is.
-    fn take_all(&mut self, order: &[Kind]) -> Result<(), NoMemory> {
-        let mut rest = order;
-        for _ in 0..MANY {
-            let (kind, behind) = rest.split_first().unwrap_or((&Kind::Send, order));
-            rest = behind;
-            if !self.take(*kind)? && !self.take_first()? {
-                break;
-            }
+// Takes the events of `order` over and over, in the place of one that isn't enabled the first that is, until none is.
+fn take_all<E: InForce>(
+    alloc: Global,
+    pair: &mut Pair<E>,
+    counts: &mut Counts,
+    order: &[Kind],
+) -> Result<(), NoMemory> {
+    let mut rest = order;
+    for _ in 0..MANY {
+        let (kind, behind) = rest.split_first().unwrap_or((&Kind::Send, order));
+        rest = behind;
+        if !take(alloc, pair, counts, *kind)? && !take_first(alloc, pair, counts)? {
+            break;
         }
-        Ok(())
     }
+    Ok(())
+}
 
-    fn told(mut self) -> Result<Told, NoMemory> {
-        Ok(Told {
-            written: written_of(self.alloc, &mut self.pair)?,
-            events: self.events,
-            others: self.others,
-            sent: self.sent,
-            dropped: self.dropped,
-            pieces: count_pieces(&self.pair),
-            done: is_done(&self.pair),
-            refused: why_refused(&self.pair),
-        })
-    }
+fn tell<E: InForce>(alloc: Global, pair: &mut Pair<E>, counts: Counts) -> Result<Told, NoMemory> {
+    let written = written_of(alloc, pair)?;
+    Ok(Told {
+        written,
+        events: counts.events,
+        others: counts.others,
+        sent: counts.sent,
+        dropped: counts.dropped,
+        pieces: count_pieces(pair),
+        done: is_done(pair),
+        refused: why_refused(pair),
+    })
+}
+
+// Both sides stand in the caller, so that they are let go in one place alone.
+fn run_pair<E: InForce>(
+    alloc: Global,
+    pair: &mut Pair<E>,
+    order: &[Kind],
+) -> Result<Told, NoMemory> {
+    let mut counts = Counts {
+        events: 0,
+        others: 0,
+        sent: 0,
+        dropped: 0,
+    };
+    take_all(alloc, pair, &mut counts, order)?;
+    tell(alloc, pair, counts)
 }
 
 fn run_in_force<E: InForce>(
@@ -254,9 +280,8 @@ fn run_in_force<E: InForce>(
 ) -> Result<Told, NoMemory>
     requires { table.now ≡ E.entities }
 {
-    let mut run = PageRun::<E>::new(alloc, table, page)?;
-    run.take_all(order)?;
-    run.told()
+    let mut pair = begin::<E>(alloc, table, page)?;
+    run_pair(alloc, &mut pair, order)
 }
 
 /// Runs a page until no event is enabled, each time taking the next event of `order`, behind whose last the first comes again, or where that one

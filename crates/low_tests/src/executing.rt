@@ -22,6 +22,25 @@ fn made(alloc: Global, id: NodeId, name: Name, attributes: Attributes) -> Result
     Ok(doc)
 }
 
+// The readings of a script, each alone.
+fn is_still(doc: &Doc, id: NodeId) -> bool
+    requires { IsTrue (is_bound doc.now.bound id) }
+{
+    doc.script_kind(id) == ScriptKind::Still
+}
+
+fn has_no_text(doc: &Doc, id: NodeId) -> Result<bool, NoMemory>
+    requires { IsTrue (is_bound doc.now.bound id) }
+{
+    Ok(doc.script_text(id)?.is_empty())
+}
+
+fn has_no_src(doc: &Doc, id: NodeId) -> Result<bool, NoMemory>
+    requires { IsTrue (is_bound doc.now.bound id) }
+{
+    Ok(doc.script_src(id)?.is_none())
+}
+
 fn put(doc: &mut Doc, node: NodeId) -> Result<(), NoMemory>
     requires { IsTrue (is_bound doc.old.bound node) }
 {
@@ -37,9 +56,9 @@ fn a_script_that_stands_nowhere_is_still(rt: HostRuntime) -> Result<(), NoMemory
     let id = NodeId { realm: 1, n: 0 };
     let name = Name::of(alloc, "script")?;
     let doc = made(alloc, id, name, Attributes::new(alloc))?;
-    assert!(rt; doc.script_kind(id) == ScriptKind::Still);
-    assert!(rt; doc.script_text(id)?.is_empty());
-    assert!(rt; doc.script_src(id)?.is_none());
+    assert!(rt; is_still(&doc, id));
+    assert!(rt; has_no_text(&doc, id)?);
+    assert!(rt; has_no_src(&doc, id)?);
     Ok(())
 }
 

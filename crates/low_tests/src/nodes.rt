@@ -1,5 +1,6 @@
-//! Nodes that the tests make.
+//! Nodes that the tests make, and trees of them. What is made of a tree isn't to be worked out behind the calls: so they promise nothing.
 
+use doc_tree::Tree;
 use html_types::{Attribute, Attributes, Kind, Name, NoMemory, Text};
 use std::alloc::Global;
 
@@ -17,4 +18,17 @@ pub fn attribute(alloc: Global, name: &str, value: &str) -> Result<Attributes, N
     let value = Text::from_str(alloc, value)?;
     attributes.push(Attribute { name, value })?;
     Ok(attributes)
+}
+
+/// The Document alone.
+pub fn new_tree(alloc: Global) -> Result<Tree, NoMemory> {
+    Tree::new(alloc)
+}
+
+/// A new last child of the node, if there is that node.
+pub fn add(tree: &mut Tree, parent: usize, kind: Kind) -> Result<(), NoMemory> {
+    if parent < tree.len() {
+        tree.add(parent, None, kind)?;
+    }
+    Ok(())
 }

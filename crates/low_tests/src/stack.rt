@@ -25,7 +25,7 @@ impl Entry for Letter {
 fn stack_of(alloc: Global, letters: &[u8]) -> Result<SharedStack<Letter>, AllocError> {
     let mut stack = SharedStack::new(alloc);
     for letter in letters {
-        stack.push(Letter(*letter))?;
+        push(&mut stack, *letter)?;
     }
     Ok(stack)
 }
@@ -42,18 +42,48 @@ fn has(stack: &SharedStack<Letter>, letters: &[u8]) -> bool {
     walk.next().is_none()
 }
 
+// The calls, each alone: what they make of a list isn't to be worked out.
+fn share(alloc: Global, stack: &mut SharedStack<Letter>) -> Result<(), AllocError> {
+    stack.share(alloc)
+}
+
+fn push(stack: &mut SharedStack<Letter>, letter: u8) -> Result<(), AllocError> {
+    stack.push(Letter(letter))
+}
+
+fn pop(stack: &mut SharedStack<Letter>) -> bool {
+    stack.pop()
+}
+
+fn copy(alloc: Global, stack: &SharedStack<Letter>) -> Result<SharedStack<Letter>, AllocError> {
+    stack.copy(alloc)
+}
+
+fn can_be_copied(alloc: Global, stack: &SharedStack<Letter>) -> bool {
+    copy(alloc, stack).is_ok()
+}
+
+fn are_same(stack: &SharedStack<Letter>, other: &SharedStack<Letter>) -> bool {
+    stack.same(other) && other.same(stack)
+}
+
+// These letters, all of which are to be shared, and one behind them.
+fn shared_of(alloc: Global, letters: &[u8], behind: u8) -> Result<SharedStack<Letter>, AllocError> {
+    let mut stack = stack_of(alloc, letters)?;
+    share(alloc, &mut stack)?;
+    push(&mut stack, behind)?;
+    Ok(stack)
+}
+
 // Twenty letters, all of which are shared, and one behind them.
 fn shared(alloc: Global) -> Result<SharedStack<Letter>, AllocError> {
-    let mut stack = stack_of(alloc, b"abcdefghijklmnopqrst")?;
-    stack.share(alloc)?;
-    stack.push(Letter(b'u'))?;
-    Ok(stack)
+    shared_of(alloc, b"abcdefghijklmnopqrst", b'u')
 }
 
 // Whether a list of these letters, none of which is shared, is the same.
 fn is_same(alloc: Global, stack: &SharedStack<Letter>, letters: &[u8]) -> Result<bool, AllocError> {
     let other = stack_of(alloc, letters)?;
-    Ok(stack.same(&other) && other.same(stack))
+    Ok(are_same(stack, &other))
 }
 
 // Whether the latest entry, which is taken off, is that letter.
@@ -89,6 +119,22 @@ fn replace(stack: &mut SharedStack<Letter>, place: usize, letter: u8) -> Result<
     Ok(true)
 }
 
+// How long a copy of a walk is, and its latest entry.
+fn rest_of(stack: &SharedStack<Letter>) -> (usize, Option<u8>) {
+    let rest = stack.walk().copy();
+    match rest.latest() {
+        Some(entry) => (rest.len(), Some(entry.0)),
+        None => (rest.len(), None),
+    }
+}
+
+fn latest(stack: &SharedStack<Letter>) -> Option<u8> {
+    match stack.latest() {
+        Some(entry) => Some(entry.0),
+        None => None,
+    }
+}
+
 // The letter at a place, if there is one.
 fn letter_at(stack: &SharedStack<Letter>, place: usize) -> Option<u8> {
     if place < stack.len() {
@@ -101,9 +147,9 @@ fn letter_at(stack: &SharedStack<Letter>, place: usize) -> Option<u8> {
 #[test]
 fn a_copy_stays_as_it_is(rt: HostRuntime) -> Result<(), Fail> {
     let mut stack = stack_of(rt.alloc(), b"ab")?;
-    let copy = stack.copy(rt.alloc())?;
-    assert!(rt; stack.pop());
-    stack.push(Letter(b'c'))?;
+    let copy = copy(rt.alloc(), &stack)?;
+    assert!(rt; pop(&mut stack));
+    push(&mut stack, b'c')?;
     assert!(rt; has(&stack, b"ac"));
     assert!(rt; has(&copy, b"ab"));
     Ok(())
@@ -111,27 +157,31 @@ fn a_copy_stays_as_it_is(rt: HostRuntime) -> Result<(), Fail> {
 
 // Shared entries need no copies of their own: only then a list of capital letters can be copied.
 #[test]
-fn only_many_entries_become_shared(rt: HostRuntime) -> Result<(), Fail> {
+fn a_few_entries_stay_a_list_s_own(rt: HostRuntime) -> Result<(), Fail> {
     let mut few = stack_of(rt.alloc(), b"Abcdefghijklmnop")?;
-    few.share(rt.alloc())?;
-    assert!(rt; few.copy(rt.alloc()).is_err());
-    let mut many = stack_of(rt.alloc(), b"ABCDEFGHIJKLMNOPQRST")?;
-    many.share(rt.alloc())?;
-    many.push(Letter(b'u'))?;
-    assert!(rt; many.copy(rt.alloc()).is_ok());
-    many.push(Letter(b'V'))?;
-    assert!(rt; many.copy(rt.alloc()).is_err());
+    share(rt.alloc(), &mut few)?;
+    assert!(rt; !can_be_copied(rt.alloc(), &few));
+    Ok(())
+}
+
+#[test]
+fn many_entries_become_shared(rt: HostRuntime) -> Result<(), Fail> {
+    let mut many = shared_of(rt.alloc(), b"ABCDEFGHIJKLMNOPQRST", b'u')?;
+    assert!(rt; can_be_copied(rt.alloc(), &many));
+    push(&mut many, b'V')?;
+    assert!(rt; !can_be_copied(rt.alloc(), &many));
     Ok(())
 }
 
 #[test]
 fn takes_own_and_shared_entries(rt: HostRuntime) -> Result<(), Fail> {
     let mut stack = shared(rt.alloc())?;
-    let copy = stack.copy(rt.alloc())?;
+    let copy = copy(rt.alloc(), &stack)?;
     assert!(rt; takes(&mut stack, b'u')?);
     assert!(rt; takes(&mut stack, b't')?);
-    assert!(rt; stack.pop());
-    assert!(rt; matches!(stack.latest(), Some(Letter(b'r'))));
+    assert!(rt; pop(&mut stack));
+    assert!(rt; has(&stack, b"abcdefghijklmnopqr"));
+    assert_eq!(rt; latest(&stack), Some(b'r'));
     assert!(rt; has(&copy, b"abcdefghijklmnopqrstu"));
     Ok(())
 }
@@ -149,7 +199,7 @@ fn edits_at_a_place_of_its_own(rt: HostRuntime) -> Result<(), Fail> {
 #[test]
 fn edits_at_a_shared_place(rt: HostRuntime) -> Result<(), Fail> {
     let mut stack = shared(rt.alloc())?;
-    let copy = stack.copy(rt.alloc())?;
+    let copy = copy(rt.alloc(), &stack)?;
     assert!(rt; take_out(&mut stack, 17)?);
     assert!(rt; put_in(&mut stack, 15, b'v')?);
     assert!(rt; replace(&mut stack, 0, b'w')?);
@@ -164,9 +214,7 @@ fn entries_at_places(rt: HostRuntime) -> Result<(), Fail> {
     for (place, letter) in b"abcdefghijklmnopqrstu".iter().enumerate() {
         assert_eq!(rt; letter_at(&stack, place), Some(*letter));
     }
-    let rest = stack.walk().copy();
-    assert_eq!(rt; rest.len(), 21);
-    assert!(rt; matches!(rest.latest(), Some(Letter(b'u'))));
+    assert_eq!(rt; rest_of(&stack), (21, Some(b'u')));
     Ok(())
 }
 
@@ -183,8 +231,8 @@ fn lists_that_differ(rt: HostRuntime) -> Result<(), Fail> {
 #[test]
 fn copies_go_in_any_order(rt: HostRuntime) -> Result<(), Fail> {
     let first = shared(rt.alloc())?;
-    let second = first.copy(rt.alloc())?;
-    let third = second.copy(rt.alloc())?;
+    let second = copy(rt.alloc(), &first)?;
+    let third = copy(rt.alloc(), &second)?;
     drop(first);
     assert!(rt; has(&second, b"abcdefghijklmnopqrstu"));
     drop(second);

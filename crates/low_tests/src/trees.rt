@@ -1,20 +1,52 @@
 //! Nodes are put in a tree, moved and found.
 
-use crate::nodes::{attribute, element};
+use crate::nodes::{add, attribute, element, new_tree};
 use doc_tree::{Put, Tree};
 use html_types::{Kind, NoMemory, Text};
+use std::alloc::Global;
+
+// A text in the parent before that child, if there is that parent.
+fn add_text(
+    alloc: Global,
+    tree: &mut Tree,
+    parent: usize,
+    before: usize,
+    text: &str,
+) -> Result<(), NoMemory> {
+    let text = Text::from_str(alloc, text)?;
+    if parent < tree.len() {
+        tree.add_text(parent, Some(before), text)?;
+    }
+    Ok(())
+}
+
+// Whether that text stands right in the node.
+fn has_text(tree: &Tree, node: usize, text: &str) -> Result<bool, NoMemory> {
+    if node < tree.len() {
+        Ok(tree.child_text(node)?.as_str() == text)
+    } else {
+        Ok(false)
+    }
+}
+
+fn previous(tree: &Tree, node: usize) -> Option<usize> {
+    if node < tree.len() {
+        tree.previous(node)
+    } else {
+        None
+    }
+}
 
 #[test]
 fn text_joins_before_an_element(rt: HostRuntime) -> Result<(), NoMemory> {
     let alloc = rt.alloc();
-    let mut tree = Tree::new(alloc)?;
-    let body = tree.make(element(alloc, "body")?)?;
-    let table = tree.make(element(alloc, "table")?)?;
-    tree.put_last(table, body)?;
-    tree.add_text(body, Some(table), Text::from_str(alloc, "a")?)?;
-    tree.add_text(body, Some(table), Text::from_str(alloc, "b")?)?;
-    assert_eq!(rt; tree.child_text(body)?.as_str(), "ab");
-    assert_eq!(rt; tree.previous(table), Some(3));
+    let mut tree = new_tree(alloc)?;
+    add(&mut tree, 0, element(alloc, "body")?)?;
+    add(&mut tree, 1, element(alloc, "table")?)?;
+    add_text(alloc, &mut tree, 1, 2, "a")?;
+    add_text(alloc, &mut tree, 1, 2, "b")?;
+    assert!(rt; has_text(&tree, 1, "ab")?);
+    assert_eq!(rt; previous(&tree, 2), Some(3));
     Ok(())
 }
 

@@ -3,6 +3,7 @@ use Rattle.std.proofs.Common.{◌≡◌, ℕ, ◌≤◌, ◌+◌, List, [], ◌�
 use Rattle.std.specs.Prelude.{◌⊎◌, IsSome, IsSomeAnd, IsTrue, Result}
 use Rattle.serial.specs.declared.script.Line.{Line}
 use Rattle.std.specs.Bool.{OnTrue, OnFalse}
+use Rattle.std.proofs.lemmas.Bool.{OnFalse_at}
 use Rattle.std.specs.Option.{option_map}
 use Rattle.html_types.specs.declared.ending.Why.TheVariants as why
 use Rattle.outside.specs.Outside.{Rose, Files, Begun, begins, Seen, KeepsOthers}
@@ -321,6 +322,11 @@ module _ (es : Table) (dump : Bool) (path dir : List ℕ) (before after : Seen) 
     begun = begun_is _ _ path' path same paths;
     names = names_none dir _ _ (keeps.begun Script (λ e. cc e));
   }
+
+  -- there is no such file
+  pub page_absent_reads : (b : Bool) (path' : List ℕ) → b ≡ false → path' ≡ path → OnFalse b (IfSome (after.left Page) (λ rest. rest ≡ [])) → OnFalse b (Rose (before.absences Page) (after.absences Page))
+      → Begun (before.begun Page) (after.begun Page) (path' ∷ []) → (answer : Result Bool Failed) → CallsAt Page before after (begins path' answer ∷ []) → ReadsPage path dir (path ∷ []) before after
+  page_absent_reads b path' is same none rose paths answer made = page_unbegun path' same (OnFalse_at is none) (inl (OnFalse_at is rose)) paths answer made
 
 pub answers_on : (asked : PageAsked) (before now after : Seen) (k k' : ℕ) (t t' : Option (List ℕ)) (result : Status) (es : Table) → ReadsTable asked.entities before now es → KeepsOthers Entities before now
     → PageAnswers es asked.dump asked.page asked.dir now after k k' t t' result → KeepsEntities now after → Answers asked before after k k' t t' result

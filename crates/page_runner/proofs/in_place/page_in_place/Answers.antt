@@ -1,6 +1,6 @@
-use Rattle.std.proofs.Common.{◌≡◌, true, Ok, refl, ap, ◌∙◌, inr}
+use Rattle.std.proofs.Common.{◌≡◌, true, None, Ok, refl, ap, ◌∙◌, inr}
 use Rattle.std.specs.String.{string_bytes}
-use Rattle.page_runner.proofs.RunLemmas.{page_since, first_begun, page_faulted, page_absent, page_unbegun, reads_since, found_there}
+use Rattle.page_runner.proofs.RunLemmas.{page_since, first_begun, page_faulted, page_absent, page_unbegun, page_absent_reads, reads_since, found_there}
 use Rattle.page_turns.proofs.LineLemmas.{if_some}
 use Rattle.page_runner.proofs.ReportLemmas.{reports_since, cut_since, side_since, no_side}
 use Rattle.page_runner.proofs.in_place.page_in_place.Goals as goal
@@ -23,6 +23,12 @@ returns-in-Ok-false-clause-answer g c =
     page_absent c.args.job.now.table.now c.args.job.now.dump (string_bytes c.args.job.now.page) (string_bytes c.args.job.now.dir) (at c.args.files.now) (at c.begin.new.self) c.begin.ensures.others _ _ _ _
     _ _ c.in-Ok-false.field-0-test c.as_str.ensures.value c.in-Ok-false.ensures.absences_rose c.in-Ok-false.ensures.absent c.in-Ok-false.ensures.no_fault c.in-Ok-false.ensures.opened refl
 
+pub returns-in-Ok-false-clause-reads : goal.returns-in-Ok-false-clause-reads
+returns-in-Ok-false-clause-reads g c =
+    let at = g.F.Outside.seen in
+    page_absent_reads c.args.job.now.table.now c.args.job.now.dump (string_bytes c.args.job.now.page) (string_bytes c.args.job.now.dir) (at c.args.files.now) (at c.begin.new.self) c.begin.ensures.others 0 0 (g.K.Sink.taken c.args.out.now)
+    (g.K.Sink.taken c.args.out.now) _ _ c.in-Ok-false.field-0-test c.as_str.ensures.value c.in-Ok-false.ensures.none_left c.in-Ok-false.ensures.absences_rose c.begin.ensures.begun c.begin.result c.begin.ensures.calls
+
 pub returns-in-Ok-true-clause-answer : goal.returns-in-Ok-true-clause-answer
 returns-in-Ok-true-clause-answer g c =
     let at = g.F.Outside.seen in
@@ -44,10 +50,10 @@ returns-in-Ok-true-clause-reports g c =
     c.begin.ensures.others c.in-Ok-true.ensures.no_fault (first_begun _ c.begin.result (at c.args.files.now) (at c.begin.new.self) _ c.begin.ensures.calls) reports) c.run_begun-outcome.ensures.reports
 
 pub returns-in-Err-clause-side : goal.returns-in-Err-clause-side
-returns-in-Err-clause-side g c = no_side _ _ _ _ _ _ _ c.in-Err.ensures.not_opened
+returns-in-Err-clause-side g c = no_side _ _ _ _ _ _ None c.in-Err.ensures.not_opened
 
 pub returns-in-Ok-false-clause-side : goal.returns-in-Ok-false-clause-side
-returns-in-Ok-false-clause-side g c = no_side _ _ _ _ _ _ _ (c.in-Ok-false.ensures.opened ∙ c.in-Ok-false.field-0-test)
+returns-in-Ok-false-clause-side g c = no_side _ _ _ _ _ _ None (c.in-Ok-false.ensures.opened ∙ c.in-Ok-false.field-0-test)
 
 pub returns-in-Ok-true-clause-side : goal.returns-in-Ok-true-clause-side
 returns-in-Ok-true-clause-side g c =

@@ -1,3 +1,5 @@
+use Rattle.std.proofs.Common.{length, ap, subst, ◌∙◌}
+use Rattle.page_turns.specs.Cuts.{IsCut}
 use Rattle.page_runner.proofs.RunLemmas.{page_no_memory, reads_nothing}
 use Rattle.page_runner.proofs.OnTwoLemmas.{is_looking_ahead, is_fetching_awaited}
 use Rattle.page_runner.proofs.in_place.run_begun.Goals as goal
@@ -17,3 +19,6 @@ pub returns-clause-fetches : goal.returns-clause-fetches
 returns-clause-fetches g c =
     let ran = c.run_with-outcome in
     is_fetching_awaited _ _ ran.new.doc _ ran.ensures.goes ran.ensures.reports.entities ran.ensures.reports.ahead_is
+
+pub returns-clause-cut : goal.returns-clause-cut
+returns-clause-cut g c = subst (λ k. IsCut k _ _ _ _) (ap length c.deref_mut.ensures.value ∙ c.in-Ok.ensures.room) c.run_with-outcome.ensures.cut
