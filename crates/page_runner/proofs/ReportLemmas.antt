@@ -208,3 +208,7 @@ cut_at_ok most now after pieces r c = run_out_as most now after pieces (has_run_
 pub cut_at_err : (most : ℕ) (now after : Seen) (pieces : List (List ℕ)) (f : Failure) → (f ≡ failures.Write → IsCut most false now after pieces) → IsCut most true now after pieces → IsCut most (has_run_out (status_for f)) now after pieces
 cut_at_err most now after pieces failures.Memory write short = short
 cut_at_err most now after pieces failures.Write write short = write refl
+
+-- with the room for a read that was asked for
+pub cut_as_asked : (most most' : ℕ) (b : Bool) (now after : Seen) (pieces : List (List ℕ)) → most ≡ most' → IsCut most b now after pieces → IsCut most' b now after pieces
+cut_as_asked most most' b now after pieces same c = subst (λ k. IsCut k b now after pieces) same c

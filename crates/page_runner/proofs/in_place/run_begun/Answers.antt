@@ -1,6 +1,6 @@
-use Rattle.std.proofs.Common.{length, ap, subst, ◌∙◌}
-use Rattle.page_turns.specs.Cuts.{IsCut}
+use Rattle.std.proofs.Common.{length, ap, ◌∙◌}
 use Rattle.page_runner.proofs.RunLemmas.{page_no_memory, reads_nothing}
+use Rattle.page_runner.proofs.ReportLemmas.{cut_as_asked}
 use Rattle.page_runner.proofs.OnTwoLemmas.{is_looking_ahead, is_fetching_awaited}
 use Rattle.page_runner.proofs.in_place.run_begun.Goals as goal
 
@@ -21,4 +21,4 @@ returns-clause-fetches g c =
     is_fetching_awaited _ _ ran.new.doc _ ran.ensures.goes ran.ensures.reports.entities ran.ensures.reports.ahead_is
 
 pub returns-clause-cut : goal.returns-clause-cut
-returns-clause-cut g c = subst (λ k. IsCut k _ _ _ _) (ap length c.deref_mut.ensures.value ∙ c.in-Ok.ensures.room) c.run_with-outcome.ensures.cut
+returns-clause-cut g c = cut_as_asked _ _ _ _ _ _ (ap length c.deref_mut.ensures.value ∙ c.in-Ok.ensures.room) c.run_with-outcome.ensures.cut

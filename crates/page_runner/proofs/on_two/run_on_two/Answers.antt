@@ -1,5 +1,6 @@
-use Rattle.std.proofs.Common.{length, Some, ap, subst, ◌∙◌}
-use Rattle.page_turns.specs.Cuts.{IsCut}
+use Rattle.std.proofs.Common.{length, Some, ap, ◌∙◌}
+use Rattle.page_runner.proofs.RunLemmas.{reads_nothing}
+use Rattle.page_runner.proofs.ReportLemmas.{cut_as_asked}
 use Rattle.page_runner.proofs.OnTwoLemmas.{is_journaled, drops_failed, is_looking_ahead, is_fetching_awaited}
 use Rattle.page_runner.proofs.on_two.run_on_two.Goals as goal
 
@@ -25,4 +26,7 @@ returns-clause-fetches g c =
     is_fetching_awaited _ _ ran.new.doc (Some ran.new.lanes.asks) ran.ensures.goes ran.ensures.reports.entities ran.ensures.reports.ahead_is
 
 pub returns-clause-cut : goal.returns-clause-cut
-returns-clause-cut g c = subst (λ k. IsCut k _ _ _ _) (ap length c.deref_mut.ensures.value ∙ c.in-Ok.ensures.room) c.run_with-outcome.ensures.cut
+returns-clause-cut g c = cut_as_asked _ _ _ _ _ _ (ap length c.deref_mut.ensures.value ∙ c.in-Ok.ensures.room) c.run_with-outcome.ensures.cut
+
+pub returns-in_default-clause-reads : goal.returns-in_default-clause-reads
+returns-in_default-clause-reads g c = reads_nothing _ _ _
