@@ -1,13 +1,13 @@
 //! How much of a page the document's side parses itself.
 
-ghost use Rattle.std.specs.Prelude.{◌≡◌, [], IfOk};
+ghost use Rattle.std.specs.Prelude.{◌≡◌, ◌<◌, ◌≤◌, [], IfOk};
 
 use crate::calls::{job_of, path_of, report_on_two};
 use crate::running::{ROOM, files_of};
 use entity_table::Table;
 use html_types::NoMemory;
-use outside::{MemSink, OpenGate};
-use page_runner::{Report, Status};
+use outside::{MemFiles, MemSink, OpenGate};
+use page_runner::{Job, Report, Status};
 use speculation::InForce;
 use std::alloc::Global;
 use std::marker::Brand;
@@ -37,6 +37,23 @@ fn count_of<E: InForce>(report: &Report<E>) -> Option<Count> {
     }
 }
 
+// What the run comes to. Of what it needs nothing is dropped here: what it promises is long.
+fn count_of_run<R: Threads + Wait + Copy + Send + Sync + 'static, E: InForce + Send + 'static>(
+    rt: &R,
+    alloc: Global,
+    job: &Job<'_>,
+    files: &mut MemFiles,
+    sink: &mut MemSink,
+    gate: &Arc<OpenGate, Global>,
+) -> Option<Count>
+    requires table { job.now.table.now ≡ E.entities }
+    requires piece { (0 < job.now.piece) × (job.now.piece ≤ 65536) }
+    requires ahead { (0 < job.now.ahead) × (job.now.ahead ≤ 64) }
+{
+    let report = report_on_two::<R, E, _, _, OpenGate>(rt, alloc, job, files, sink, gate);
+    count_of(&report)
+}
+
 // Runs the page, the entities of the table being those in force.
 fn count_in_force<R: Threads + Wait + Copy + Send + Sync + 'static, E: InForce + Send + 'static>(
     rt: &R,
@@ -53,10 +70,7 @@ fn count_in_force<R: Threads + Wait + Copy + Send + Sync + 'static, E: InForce +
     let mut files = files_of(alloc, page)?;
     let mut sink = MemSink::new(alloc, ROOM)?;
     let gate = Arc::new(alloc, OpenGate)?;
-    let report = report_on_two::<R, E, _, _, OpenGate>(
-        rt, alloc, &job, &mut files, &mut sink, &gate,
-    );
-    count_of(&report).ok_or(NoMemory)
+    count_of_run::<R, E>(rt, alloc, &job, &mut files, &mut sink, &gate).ok_or(NoMemory)
 }
 
 /// The table of a file that lists no entity.

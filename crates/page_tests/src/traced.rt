@@ -128,6 +128,51 @@ fn rows_in(alloc: Global, side: &DocSide, notes: &Notes) -> Result<Vec<Row>, Unt
     Ok(rows_of(alloc, side.journal().events(), steps)?)
 }
 
+// The page that was begun, as rows. Nothing is dropped here: what the parse promises is long.
+fn rows_of_parse<E: InForce, L: Counterpart<E> + Drop, F: Outside>(
+    alloc: Global,
+    job: &Job<'_>,
+    files: &mut F,
+    side: &mut DocSide,
+    noted: &mut Noted<L>,
+    room: &mut [u8],
+) -> Result<Vec<Row>, Untraced>
+    requires table { job.now.table.now ≡ E.entities }
+    requires first { side.old ≡ first_shown job.now.table.now job.now.ahead }
+    requires load { L.load noted.old.counterpart ≡ no_load }
+    requires put { IfSome (L.put noted.old.counterpart) (λ asks. asks ≡ []) }
+    requires taken { IfSome (L.taken noted.old.counterpart) (λ messages. messages ≡ []) }
+    requires room { 0 < length room.old }
+    requires some { 0 < job.now.ahead }
+    requires few { job.now.ahead ≤ 64 }
+{
+    match parse::<E, Noted<L>, F>(alloc, job, files, side, noted, room) {
+        Err(Failure::Memory) | Err(Failure::Write) => Err(Untraced::NoMemory),
+        Ok(_) => rows_in(alloc, side, &noted.notes),
+    }
+}
+
+// The same, with what a run begins with.
+fn run_noted<E: InForce, L: Counterpart<E> + Drop, F: Outside>(
+    alloc: Global,
+    job: &Job<'_>,
+    files: &mut F,
+    mut noted: Noted<L>,
+    mut side: DocSide,
+    mut room: Vec<u8>,
+) -> Result<Vec<Row>, Untraced>
+    requires table { job.now.table.now ≡ E.entities }
+    requires first { side ≡ first_shown job.now.table.now job.now.ahead }
+    requires load { L.load noted.counterpart ≡ no_load }
+    requires put { IfSome (L.put noted.counterpart) (λ asks. asks ≡ []) }
+    requires taken { IfSome (L.taken noted.counterpart) (λ messages. messages ≡ []) }
+    requires room { 0 < length room.items }
+    requires some { 0 < job.now.ahead }
+    requires few { job.now.ahead ≤ 64 }
+{
+    rows_of_parse::<E, L, F>(alloc, job, files, &mut side, &mut noted, &mut room)
+}
+
 // Runs the page that was begun, with this counterpart. Its lines go nowhere.
 fn run_with<E: InForce, L: Counterpart<E> + Drop, F: Outside>(
     alloc: Global,
@@ -143,12 +188,9 @@ fn run_with<E: InForce, L: Counterpart<E> + Drop, F: Outside>(
     requires some { 0 < job.now.ahead }
     requires few { job.now.ahead ≤ 64 }
 {
-    let (mut room, mut side) = begin_run(alloc, job)?;
-    let mut noted = note_all::<E, L>(alloc, lanes);
-    match parse::<E, Noted<L>, F>(alloc, job, files, &mut side, &mut noted, &mut room) {
-        Err(Failure::Memory) | Err(Failure::Write) => Err(Untraced::NoMemory),
-        Ok(_) => rows_in(alloc, &side, &noted.notes),
-    }
+    let (room, side) = begin_run(alloc, job)?;
+    let noted = note_all::<E, L>(alloc, lanes);
+    run_noted::<E, L, F>(alloc, job, files, noted, side, room)
 }
 
 // The parser's side is in this thread.
