@@ -282,3 +282,7 @@ first-run es files pieces e ahead some = record {
   own = refl;
   reached = (first_core (setup_from es files pieces e ahead), refl, core-shows-itself (first_core (setup_from es files pieces e ahead)));
 }
+
+-- that was just made
+pub first-made : (es table : Entities) (files : List (List ℕ × Fetched)) (pieces : List (List ℕ)) (e : Ending) (ahead : ℕ) (p : Paired) → table ≡ es → 0 < ahead → p ≡ first_paired table files pieces e ahead → IsRun es p
+first-made es table files pieces e ahead p same some is = subst (IsRun es) (sym is) (subst (λ t. IsRun t (first_paired table files pieces e ahead)) same (first-run table files pieces e ahead some))

@@ -1,5 +1,5 @@
 -- A pair of both sides: what it shows, and what an event makes of it.
-use Rattle.std.specs.Prelude.{◌≡◌, ◌<◌, ℕ, Bool, false, ◌||◌, is_some, IsTrue, if◌then◌else◌, List, [], ◌∷◌, ◌++◌, Some, None}
+use Rattle.std.specs.Prelude.{◌≡◌, ◌<◌, ℕ, Bool, true, false, ◌||◌, is_some, IsTrue, if◌then◌else◌, List, [], ◌∷◌, ◌++◌, Some, None}
 use Rattle.std.specs.declared.snapshot.Snapshot.{Snapshot}
 use Rattle.serial.specs.declared.script.Line.{Line}
 use Rattle.html_types.specs.declared.ending.Ending.{Ending}
@@ -10,6 +10,7 @@ use Rattle.core_definitions.specs.declared.event.Event.TheVariants.{Send, Pick, 
 use Rattle.core_definitions.specs.Desk.{Desk, can_send, can_do, can_arrive, wants_reply, takes, arrives}
 use Rattle.core_definitions.specs.Core.{Setup, Request, Reply, WorkSide, Core, first_core, enabled, sent_from, picked_from, given_to, Steps, Runs}
 use Rattle.core_definitions.specs.Journal.{Journal, Knows, own_events}
+use Rattle.core_pair.specs.declared.both.Could.{Could}
 use Rattle.core_steps.specs.Acting.{fetch_or_missing}
 use Rattle.core_steps.specs.Fetches.{names_of}
 use Rattle.core_steps.specs.Journals.{found}
@@ -170,8 +171,17 @@ pub record IsRun (es : Entities) (p : Paired) : Type 0 where
   pub own : p.journal.events ≡ own_events p.events
   pub reached : Reaches (setup_of p) p.events p.core
 
+-- After want of memory the document's side tells what it told before, and these events were enabled then.
+pub record IsTold (both before : Paired) (could : Could) : Type 0 where
+  pub desk : both.core.desk ≡ before.core.desk
+  pub ahead : both.ahead ≡ before.ahead
+  pub pick : could.pick ≡ enabled (setup_of before) Pick before.core
+  pub give : could.give ≡ enabled (setup_of before) Give before.core
+  pub takes : could.take ≡ enabled (setup_of before) Take before.core
+
 -- What is known of a pair; before want of memory it was as `before`.
-pub record IsKept (es : Entities) (both before : Paired) (spent : Bool) : Type 0 where
+pub record IsKept (es : Entities) (both before : Paired) (could : Could) (spent : Bool) : Type 0 where
   pub going : spent ≡ false → both.spent ≡ false
+  pub failed : spent ≡ true → IsTold both before could
   pub journal : both.journal ≡ (paired_of both before spent).journal
   pub run : IsRun es (paired_of both before spent)

@@ -8,8 +8,10 @@ ghost use Rattle.core_definitions.specs.Desk.{can_send, can_do, can_arrive, want
 ghost use Rattle.core_definitions.specs.Settling.{is_empty as has_none};
 ghost use Rattle.speculation.specs.Asking.{page_limit};
 ghost use Rattle.core_steps.specs.States.{standing_told};
-ghost use Rattle.core_pair.specs.Interleaving.{standing_of_core};
-ghost use Rattle.core_pair.specs.Pairs.{setup_of, first_paired, with_pieces, StepsShown, stepped, IsApplicable, Applied, IsRun, is_busy};
+ghost use Rattle.core_steps.specs.Fetches.{names_of};
+ghost use Rattle.core_steps.specs.Sides.{standing_of};
+ghost use Rattle.core_pair.specs.Interleaving.{unless_busy};
+ghost use Rattle.core_pair.specs.Pairs.{setup_of, first_paired, with_pieces, StepsShown, stepped, IsApplicable, Applied, IsRun};
 
 use crate::scripts::Scripts;
 use crate::setup::Setup;
@@ -22,6 +24,14 @@ use std::alloc::Global;
 use std::collections::VecDeque;
 use std::marker::Model;
 use std::snapshot::Snapshot;
+
+/// Which events are enabled besides those that the document's side tells of.
+#[derive(Clone, Copy)]
+pub(crate) struct Could {
+    pub pick: bool,
+    pub give: bool,
+    pub take: bool,
+}
 
 /// Both sides, and the requests and replies that are under way, each in order.
 #[derive(Drop)]
@@ -95,12 +105,26 @@ impl<E: InForce> Both<E> {
         })
     }
 
-    // Whether the document's side knows of no fetch of that script, which has a lawful name.
-    fn can_arrive(&self, name: &Text) -> bool
-        requires { IsRun E.entities self.now }
+    /// Whether the document's side knows of no fetch of that script, which has a lawful name.
+    pub fn can_arrive(&self, name: &Text) -> bool
+        requires arrived { self.now.core.desk.arrived ≡ names_of self.now.journal.fetches }
         ensures { result ≡ can_arrive name.now self.now.core.desk }
     {
         is_lawful(name.as_str()) && self.doc.journal().find(name.as_str()).is_none()
+    }
+
+    /// Whether the document's side can send.
+    pub fn can_send(&self) -> bool
+        ensures { result ≡ can_send self.now.ahead self.now.core.desk }
+    {
+        self.doc.can_send()
+    }
+
+    /// Whether the document's side has a batch in hand, or a script that can run on.
+    pub fn can_do(&self) -> bool
+        ensures { result ≡ can_do self.now.core.desk }
+    {
+        self.doc.can_do()
     }
 
     // Whether a request is to be picked, and the parser's side has none in hand.
@@ -119,43 +143,30 @@ impl<E: InForce> Both<E> {
 
     // Whether a reply is to be taken, and nothing is in hand.
     fn can_take(&self) -> bool
-        requires going { self.now.spent ≡ false }
         requires run { IsRun E.entities self.now }
         ensures { result ≡ enabled (setup_of self.now) event.Take self.now.core }
     {
         self.doc.wants_reply() && !self.replies.is_empty()
     }
 
-    /// Whether the event is enabled.
-    pub fn enabled(&self, event: &Event) -> bool
-        requires going { self.now.spent ≡ false }
+    /// Which events are enabled besides those that the document's side tells of.
+    pub fn could(&self) -> Could
         requires run { IsRun E.entities self.now }
-        ensures { result ≡ enabled (setup_of self.now) event.now self.now.core }
+        ensures pick { result.pick ≡ enabled (setup_of self.now) event.Pick self.now.core }
+        ensures give { result.give ≡ enabled (setup_of self.now) event.Give self.now.core }
+        ensures takes { result.take ≡ enabled (setup_of self.now) event.Take self.now.core }
     {
-        match event {
-            Event::Send => self.doc.can_send(),
-            Event::Pick => self.can_pick(),
-            Event::Give => self.can_give(),
-            Event::Take => self.can_take(),
-            Event::Do => self.doc.can_do(),
-            Event::Arrive(name) => self.can_arrive(name),
+        Could {
+            pick: self.can_pick(),
+            give: self.can_give(),
+            take: self.can_take(),
         }
     }
 
-    // Whether an event is enabled that needs no script.
-    fn is_busy(&self) -> bool
-        requires { self.now.spent ≡ false }
-        ensures { result ≡ is_busy (setup_of self.now) self.now.core }
+    /// Where it stands, where events are enabled that need no script, or not.
+    pub fn status(&self, busy: bool) -> State<'_>
+        ensures { standing_told result ≡ unless_busy busy (standing_of self.now.core.desk) }
     {
-        self.doc.can_send() || self.can_pick() || self.can_give()
-    }
-
-    /// Where it stands.
-    pub fn status(&self) -> State<'_>
-        requires { self.now.spent ≡ false }
-        ensures { standing_told result ≡ standing_of_core (setup_of self.now) self.now.core }
-    {
-        let busy = self.is_busy();
         match self.doc.status() {
             State::Awaits(_) if busy => State::Running,
             state => state,
@@ -182,6 +193,8 @@ impl<E: InForce> Both<E> {
         requires { IsTrue (can_send self.old.ahead self.old.core.desk) }
         ensures applied { OnOk result (Applied event.Send self.old self.new) }
         ensures journal { OnErr result (self.new.journal ≡ self.old.journal) }
+        ensures desk { OnErr result (self.new.core.desk ≡ self.old.core.desk) }
+        ensures ahead { OnErr result (self.new.ahead ≡ self.old.ahead) }
     {
         self.requests.reserve(1)?;
         let request = self.doc.send()?;
@@ -205,6 +218,8 @@ impl<E: InForce> Both<E> {
         requires full { IsTrue (is_some self.old.core.work.hand) }
         ensures applied { OnOk result (Applied event.Give self.old self.new) }
         ensures journal { OnErr result (self.new.journal ≡ self.old.journal) }
+        ensures desk { OnErr result (self.new.core.desk ≡ self.old.core.desk) }
+        ensures ahead { OnErr result (self.new.ahead ≡ self.old.ahead) }
     {
         let reply = self.work.give::<E>(&self.table)?;
         self.replies.push_back(reply)?;
@@ -217,6 +232,8 @@ impl<E: InForce> Both<E> {
         requires wanted { IsTrue (wants_reply self.old.core.desk) }
         ensures applied { OnOk result (Applied event.Take self.old self.new) }
         ensures journal { OnErr result (self.new.journal ≡ self.old.journal) }
+        ensures desk { OnErr result (self.new.core.desk ≡ self.old.core.desk) }
+        ensures ahead { OnErr result (self.new.ahead ≡ self.old.ahead) }
     {
         let Some(reply) = self.replies.pop_front() else {
             return Err(NoMemory);
@@ -230,6 +247,8 @@ impl<E: InForce> Both<E> {
         requires { IsTrue (can_do self.old.core.desk) }
         ensures applied { OnOk result (Applied event.Do self.old self.new) }
         ensures journal { OnErr result (self.new.journal ≡ self.old.journal) }
+        ensures desk { OnErr result (self.new.core.desk ≡ self.old.core.desk) }
+        ensures ahead { OnErr result (self.new.ahead ≡ self.old.ahead) }
     {
         self.doc.act()?;
         Ok(())
@@ -240,6 +259,8 @@ impl<E: InForce> Both<E> {
         requires { IsTrue (can_arrive name self.old.core.desk) }
         ensures applied { OnOk result (Applied (event.Arrive name) self.old self.new) }
         ensures journal { OnErr result (self.new.journal ≡ self.old.journal) }
+        ensures desk { OnErr result (self.new.core.desk ≡ self.old.core.desk) }
+        ensures ahead { OnErr result (self.new.ahead ≡ self.old.ahead) }
     {
         let fetch = self.scripts.fetch(self.alloc, name.as_str())?;
         self.doc.arrive(name, fetch)
@@ -250,6 +271,8 @@ impl<E: InForce> Both<E> {
         requires { IsApplicable E.entities event self.old }
         ensures applied { OnOk result (Applied event self.old self.new) }
         ensures journal { OnErr result (self.new.journal ≡ self.old.journal) }
+        ensures desk { OnErr result (self.new.core.desk ≡ self.old.core.desk) }
+        ensures ahead { OnErr result (self.new.ahead ≡ self.old.ahead) }
     {
         match event {
             Event::Send => self.send(),
@@ -272,6 +295,8 @@ impl<E: InForce> Both<E> {
         ensures steps { OnOk result (StepsShown (setup_of self.old) event self.old.core self.new.core) }
         ensures others { OnOk result (self.new ≡ stepped event self.new.core self.old) }
         ensures journal { OnErr result (self.new.journal ≡ self.old.journal) }
+        ensures desk { OnErr result (self.new.core.desk ≡ self.old.core.desk) }
+        ensures ahead { OnErr result (self.new.ahead ≡ self.old.ahead) }
     {
         let taken = Snapshot::of(&event);
         self.events.push(taken)?;

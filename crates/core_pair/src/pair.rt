@@ -1,15 +1,16 @@
 //! The pair of both sides.
 
 ghost use Rattle.std.specs.Prelude.{◌≡◌, ◌≢◌, ◌↔◌, ◌≤◌, ◌<◌, ◌++◌, ℕ, List, false, true, length, IfOk, OnOk, OnErr, IsErr, IsTrue};
+ghost use Rattle.core_definitions.specs.declared.event.Event.TheVariants as event;
 ghost use Rattle.core_definitions.specs.Core.{joined, enabled};
 ghost use Rattle.core_laws.specs.CoreLaws.{IsIdle};
 ghost use Rattle.speculation.specs.Asking.{page_limit};
 ghost use Rattle.core_steps.specs.Sides.{running, awaiting};
 ghost use Rattle.core_steps.specs.States.{standing_told};
 ghost use Rattle.core_pair.specs.Interleaving.{standing_of_core, Awaits, IsReached, AlwaysStandsFor, EndsAsSerial, LinesBegin, EndStays, CreditIsKept, BoundedWhereItStands, BoundedByTheParse};
-ghost use Rattle.core_pair.specs.Pairs.{setup_of, first_paired, StepsShown, stepped};
+ghost use Rattle.core_pair.specs.Pairs.{setup_of, first_paired, StepsShown, stepped, is_busy};
 
-use crate::both::Both;
+use crate::both::{Both, Could};
 use crate::setup::Setup;
 use core_steps::{Event, Journal, State};
 use html_types::NoMemory;
@@ -24,11 +25,14 @@ use std::snapshot::Snapshot;
 /// journal, what the pair was given, and the events so far. Of a parse that is over it sees result, document and lines, and what is kept of the
 /// pieces.
 ///
-/// After an event that answered want of memory it answers that to every later one, and shows what it did before that event.
+/// After an event that answered want of memory it answers that to every later one, and shows what it did before that event; what is enabled and
+/// where it stands it tells as before it too.
 #[derive(Drop)]
 pub struct Pair<E: InForce> {
     both: Both<E>,
     before: Snapshot<Both<E>>,
+    // What was enabled before the event that was taken last.
+    could: Could,
     spent: bool,
 }
 
@@ -39,7 +43,7 @@ impl<E: InForce> Model for Pair<E> {
 
     ghost view = { λ p. paired_of p.both p.before.value p.spent };
 
-    ghost invariant = { λ p. IsKept E.entities p.both p.before.value p.spent };
+    ghost invariant = { λ p. IsKept E.entities p.both p.before.value p.could p.spent };
 }
 
 impl<E: InForce> Pair<E> {
@@ -53,19 +57,47 @@ impl<E: InForce> Pair<E> {
     {
         let both = Both::new(alloc, setup)?;
         let before = Snapshot::of(&both);
+        let could = both.could();
         Ok(Pair {
             both,
             before,
+            could,
             spent: false,
         })
     }
 
-    /// Whether the event is enabled. After want of memory the answer is no.
-    pub fn enabled(&self, event: &Event) -> bool
-        ensures exact { self.now.spent ≡ false → result ≡ enabled (setup_of self.now) event.now self.now.core }
-        ensures can { IsTrue result → IsTrue (enabled (setup_of self.now) event.now self.now.core) }
+    // Which events are enabled besides those that the document's side tells of.
+    fn could(&self) -> Could
+        ensures pick { result.pick ≡ enabled (setup_of self.now) event.Pick self.now.core }
+        ensures give { result.give ≡ enabled (setup_of self.now) event.Give self.now.core }
+        ensures takes { result.take ≡ enabled (setup_of self.now) event.Take self.now.core }
     {
-        !self.spent && self.both.enabled(event)
+        if self.spent {
+            return self.could;
+        }
+        self.both.could()
+    }
+
+    // Whether the document's side can send.
+    fn can_send(&self) -> bool
+        ensures { result ≡ enabled (setup_of self.now) event.Send self.now.core }
+    {
+        self.both.can_send()
+    }
+
+    /// Whether the event is enabled.
+    pub fn enabled(&self, event: &Event) -> bool
+        ensures { result ≡ enabled (setup_of self.now) event.now self.now.core }
+    {
+        let could = self.could();
+        match event {
+            Event::Send => self.can_send(),
+            Event::Pick => could.pick,
+            Event::Give => could.give,
+            Event::Take => could.take,
+            Event::Do => self.both.can_do(),
+            Event::Arrive(name) => self.both.can_arrive(name),
+        }
     }
 
     /// Takes an event, which is to be enabled.
@@ -83,23 +115,30 @@ impl<E: InForce> Pair<E> {
             return Err(NoMemory);
         }
         self.before = Snapshot::of(&self.both);
+        self.could = self.both.could();
         self.spent = true;
         self.both.step(event)?;
         self.spent = false;
         Ok(())
     }
 
-    /// Where it stands. After want of memory it tells nothing.
+    // Whether an event is enabled that needs no script.
+    fn is_busy(&self) -> bool
+        ensures { result ≡ is_busy (setup_of self.now) self.now.core }
+    {
+        let could = self.could();
+        self.can_send() || could.pick || could.give
+    }
+
+    /// Where it stands.
     pub fn status(&self) -> State<'_>
-        ensures told { self.now.spent ≡ false → standing_told result ≡ standing_of_core (setup_of self.now) self.now.core }
-        ensures never_stuck { self.now.spent ≡ false → IsIdle (setup_of self.now) self.now.core → standing_told result ≢ running }
-        ensures awaits { self.now.spent ≡ false → (name : List ℕ) → (standing_told result ≡ awaiting name) ↔ Awaits name self.now }
+        ensures told { standing_told result ≡ standing_of_core (setup_of self.now) self.now.core }
+        ensures never_stuck { IsIdle (setup_of self.now) self.now.core → standing_told result ≢ running }
+        ensures awaits { (name : List ℕ) → (standing_told result ≡ awaiting name) ↔ Awaits name self.now }
         ensures ends { EndsAsSerial self.now }
     {
-        if self.spent {
-            return State::Running;
-        }
-        self.both.status()
+        let busy = self.is_busy();
+        self.both.status(busy)
     }
 
     /// What holds of it whatever events were taken, and in whatever order.

@@ -14,7 +14,7 @@ use Rattle.core_definitions.specs.declared.event.Event.{Event}
 use Rattle.core_definitions.specs.declared.event.Event.TheVariants.{Arrive}
 use Rattle.core_definitions.specs.Batches.{Piece, of_text, of_ending, Batch, answer}
 use Rattle.core_definitions.specs.Core.{Request, request_for, joined}
-use Rattle.core_definitions.specs.Desk.{Phase, free, tagged, waits, done, Desk, first_desk, pieces_with, with_more, has_arrived, arrives, Does, MovesBy}
+use Rattle.core_definitions.specs.Desk.{Phase, free, tagged, waits, done, Desk, first_desk, pieces_with, with_more, has_arrived, can_send, can_do, wants_reply, arrives, Does, MovesBy}
 use Rattle.core_definitions.specs.Journal.{Journal, Knows}
 use Rattle.core_definitions.specs.StandsFor.{text_of, page_left}
 use Rattle.moment_laws.specs.Served.{IsRoomy}
@@ -24,6 +24,7 @@ use Rattle.speculation.specs.Asking.{page_limit}
 use Rattle.core_steps.specs.declared.stage.Stage.{Stage}
 use Rattle.core_steps.specs.declared.stage.Stage.TheVariants.{Free, Tagged, Waits, Done}
 use Rattle.core_steps.specs.declared.side.Side.{Side}
+use Rattle.core_steps.specs.declared.side.Could.{Could}
 use Rattle.core_steps.specs.Fetches.{names_of}
 use Rattle.core_steps.specs.Journals.{empty_journal}
 
@@ -224,8 +225,16 @@ pub record IsSound (s : Side) : Type 0 where
   pub ahead : AreAhead s.ready (hand_of s.table s.stage s.writer.parser s.ledger.left)
   pub placed : IsPlaced s.counts.place s.counts.sent_to s.ledger s.journal
 
+-- What was enabled before an event that was refused. Where a batch or a script was in hand it was running; else it stands as it stood.
+pub record IsTold (side before : Side) (could : Could) : Type 0 where
+  pub send : could.send ≡ can_send before.ledger.ahead (desk_of before)
+  pub act : could.act ≡ can_do (desk_of before)
+  pub take : could.take ≡ wants_reply (desk_of before)
+  pub stands : could.act ≡ false → standing_of (desk_of side) ≡ standing_of (desk_of before)
+
 -- What is known of a side that shows what is told; before want of memory it was as `before`.
-pub record IsKept (side before : Side) (spent : Bool) (told : Shown) : Type 0 where
+pub record IsKept (side before : Side) (could : Could) (spent : Bool) (told : Shown) : Type 0 where
   pub sound : spent ≡ false → IsSound side
+  pub failed : spent ≡ true → IsTold side before could
   pub journal : side.journal ≡ told.journal
   pub replayed : IsReplayed told

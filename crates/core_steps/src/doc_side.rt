@@ -13,7 +13,7 @@ ghost use Rattle.core_steps.specs.Tallies.{IsTallyOf};
 
 use crate::fetch::Fetch;
 use crate::journal::Journal;
-use crate::side::Side;
+use crate::side::{Could, Side};
 use crate::state::State;
 use crate::tally::Tally;
 use entity_table::Table;
@@ -29,11 +29,14 @@ use std::snapshot::Snapshot;
 /// scripts that it meets, and decides behind each whether what was made ahead is kept. A contract sees the desk of the definitions, with the
 /// journal that replays to it.
 ///
-/// After an event that answered want of memory it answers that to every later one, its desk and journal being as before that event.
+/// After an event that answered want of memory it answers that to every later one, its desk and journal being as before that event; where it
+/// stands and which events are enabled it tells as before it too.
 #[derive(Drop)]
 pub struct DocSide {
     side: Side,
     before: Snapshot<Side>,
+    // What was enabled before the event that was taken last.
+    could: Could,
     spent: bool,
 }
 
@@ -45,7 +48,7 @@ impl Model for DocSide {
 
     ghost view = { λ d. shown_of (if d.spent then d.before.value else d.side) d.spent };
 
-    ghost invariant = { λ d. IsKept d.side d.before.value d.spent (shown_of (if d.spent then d.before.value else d.side) d.spent) };
+    ghost invariant = { λ d. IsKept d.side d.before.value d.could d.spent (shown_of (if d.spent then d.before.value else d.side) d.spent) };
 }
 
 impl DocSide {
@@ -57,9 +60,11 @@ impl DocSide {
     {
         let side = Side::new(alloc, table, ahead)?;
         let before = Snapshot::of(&side);
+        let could = side.could();
         Ok(DocSide {
             side,
             before,
+            could,
             spent: false,
         })
     }
@@ -76,6 +81,7 @@ impl DocSide {
             return Err(NoMemory);
         }
         self.before = Snapshot::of(&self.side);
+        self.could = self.side.could();
         self.spent = true;
         self.side.piece(text)?;
         self.spent = false;
@@ -93,30 +99,40 @@ impl DocSide {
             return Err(NoMemory);
         }
         self.before = Snapshot::of(&self.side);
+        self.could = self.side.could();
         self.spent = true;
         self.side.end(ending)?;
         self.spent = false;
         Ok(())
     }
 
-    /// Whether credit is left and a piece is to be sent. After want of memory it tells nothing.
+    /// Whether credit is left and a piece is to be sent.
     pub fn can_send(&self) -> bool
-        ensures { self.now.spent ≡ false → result ≡ can_send self.now.ahead self.now.desk }
+        ensures { result ≡ can_send self.now.ahead self.now.desk }
     {
+        if self.spent {
+            return self.could.send;
+        }
         self.side.can_send()
     }
 
-    /// Whether a batch is in hand, or a script that can run on. After want of memory it tells nothing.
+    /// Whether a batch is in hand, or a script that can run on.
     pub fn can_do(&self) -> bool
-        ensures { self.now.spent ≡ false → result ≡ can_do self.now.desk }
+        ensures { result ≡ can_do self.now.desk }
     {
+        if self.spent {
+            return self.could.act;
+        }
         self.side.can_do()
     }
 
-    /// Whether nothing is in hand, and a reply is to come. After want of memory it tells nothing.
+    /// Whether nothing is in hand, and a reply is to come.
     pub fn wants_reply(&self) -> bool
-        ensures { self.now.spent ≡ false → result ≡ wants_reply self.now.desk }
+        ensures { result ≡ wants_reply self.now.desk }
     {
+        if self.spent {
+            return self.could.take;
+        }
         self.side.wants_reply()
     }
 
@@ -133,6 +149,7 @@ impl DocSide {
             return Err(NoMemory);
         }
         self.before = Snapshot::of(&self.side);
+        self.could = self.side.could();
         self.spent = true;
         let request = self.side.send()?;
         self.spent = false;
@@ -152,6 +169,7 @@ impl DocSide {
             return Err(NoMemory);
         }
         self.before = Snapshot::of(&self.side);
+        self.could = self.side.could();
         self.spent = true;
         self.side.take(reply)?;
         self.spent = false;
@@ -171,6 +189,7 @@ impl DocSide {
             return Err(NoMemory);
         }
         self.before = Snapshot::of(&self.side);
+        self.could = self.side.could();
         self.spent = true;
         self.side.act()?;
         self.spent = false;
@@ -188,18 +207,33 @@ impl DocSide {
             return Err(NoMemory);
         }
         self.before = Snapshot::of(&self.side);
+        self.could = self.side.could();
         self.spent = true;
         self.side.arrive(name, fetch)?;
         self.spent = false;
         Ok(())
     }
 
-    /// Where it stands. After want of memory it tells nothing.
+    /// Where it stands.
     pub fn status(&self) -> State<'_>
-        ensures standing { self.now.spent ≡ false → standing_told result ≡ standing_of self.now.desk }
+        ensures standing { standing_told result ≡ standing_of self.now.desk }
         // A script that is awaited may arrive.
-        ensures awaited { self.now.spent ≡ false → (name : List ℕ) → awaiting name ≡ standing_told result → IsTrue (can_arrive name self.now.desk) }
+        ensures awaited { (name : List ℕ) → awaiting name ≡ standing_told result → IsTrue (can_arrive name self.now.desk) }
     {
+        if self.spent {
+            return self.stood();
+        }
+        self.side.status()
+    }
+
+    // Where it stood before the event that was refused. Only Do changes what is in hand where it is refused.
+    fn stood(&self) -> State<'_>
+        requires { self.now.spent ≡ true }
+        ensures { standing_told result ≡ standing_of self.now.desk }
+    {
+        if self.could.act {
+            return State::Running;
+        }
         self.side.status()
     }
 

@@ -48,6 +48,14 @@ pub(crate) struct Counts {
     pub sent_to: u64,
 }
 
+/// Which of its own events are enabled: to send, to do, and to take.
+#[derive(Clone, Copy)]
+pub(crate) struct Could {
+    pub send: bool,
+    pub act: bool,
+    pub take: bool,
+}
+
 /// What the document's side holds.
 #[derive(Drop)]
 pub(crate) struct Side {
@@ -111,6 +119,7 @@ impl Side {
         ensures sound { OnOk result (IsSound self.new) }
         ensures shown { OnOk result (shown_of self.new false ≡ with_piece (chars text.now) (shown_of self.old false)) }
         ensures journal { OnErr result (self.new.journal ≡ self.old.journal) }
+        ensures stage { OnErr result (self.new.stage ≡ self.old.stage) }
     {
         let text = SharedText::of(self.alloc, String::from_str(self.alloc, text)?)?;
         let read = Snapshot::of(&text);
@@ -125,6 +134,7 @@ impl Side {
         ensures sound { OnOk result (IsSound self.new) }
         ensures shown { OnOk result (shown_of self.new false ≡ with_ending ending (shown_of self.old false)) }
         ensures journal { OnErr result (self.new.journal ≡ self.old.journal) }
+        ensures stage { OnErr result (self.new.stage ≡ self.old.stage) }
     {
         let text = SharedText::empty(self.alloc)?;
         self.ledger.add(Piece::new(text, Some(ending)))?;
@@ -175,6 +185,19 @@ impl Side {
         }
     }
 
+    /// Which of its own events are enabled.
+    pub fn could(&self) -> Could
+        ensures send { result.send ≡ can_send self.now.ledger.ahead (desk_of self.now) }
+        ensures act { result.act ≡ can_do (desk_of self.now) }
+        ensures take { result.take ≡ wants_reply (desk_of self.now) }
+    {
+        Could {
+            send: self.can_send(),
+            act: self.can_do(),
+            take: self.wants_reply(),
+        }
+    }
+
     /// Where it stands.
     pub fn status(&self) -> State<'_>
         ensures { standing_told result ≡ standing_of (desk_of self.now) }
@@ -205,6 +228,7 @@ impl Side {
         ensures from { IfOk result (λ r. r.from ≡ sent_before (shown_of self.old false)) }
         ensures shown { OnOk result (shown_of self.new false ≡ journaled event.Send (sends (desk_of self.old)) (shown_of self.old false)) }
         ensures journal { OnErr result (self.new.journal ≡ self.old.journal) }
+        ensures stage { OnErr result (self.new.stage ≡ self.old.stage) }
     {
         let from = self.counts.sent_to;
         let piece = self.ledger.keep()?;
@@ -245,6 +269,7 @@ impl Side {
         ensures sound { OnOk result (IsSound self.new) }
         ensures shown { OnOk result (shown_of self.new false ≡ journaled event.Take (takes self.old.table (desk_of self.old)) (shown_of self.old false)) }
         ensures journal { OnErr result (self.new.journal ≡ self.old.journal) }
+        ensures stage { OnErr result (self.new.stage ≡ self.old.stage) }
     {
         // A reply to a request of an epoch that has ended isn't the one called for.
         let _current = self.ledger.took();
@@ -258,6 +283,7 @@ impl Side {
         ensures sound { OnOk result (IsSound self.new) }
         ensures shown { OnOk result (shown_of self.new false ≡ with_fetch name (fetched_of fetch) (shown_of self.old false)) }
         ensures journal { OnErr result (self.new.journal ≡ self.old.journal) }
+        ensures stage { OnErr result (self.new.stage ≡ self.old.stage) }
     {
         self.journal.add_fetch(name, fetch)
     }

@@ -63,7 +63,6 @@ pub const PAGE_LIMIT: usize = 1_073_741_824;
 
 // What the parse came to, where it is over.
 fn outcome_of(doc: &DocSide) -> Option<Outcome>
-    requires { doc.now.spent ≡ false }
     ensures over { IfSome result (λ o. doc.now.desk.phase ≡ done (result_of o)) }
     ensures on { IfNone result (is_done doc.now.desk.phase ≡ false) }
 {
@@ -121,8 +120,7 @@ fn run_on<K: Sink>(alloc: Global, out: &mut K, doc: &mut DocSide) -> Result<(), 
 
 // The name of the script that is awaited.
 fn awaited_name(alloc: Global, doc: &DocSide) -> Result<Text, NoMemory>
-    requires going { doc.now.spent ≡ false }
-    requires awaits { (name : _) × (standing_of doc.now.desk ≡ awaiting name) }
+    requires { (name : _) × (standing_of doc.now.desk ≡ awaiting name) }
     ensures { IfOk result (λ name. standing_of doc.now.desk ≡ awaiting name) }
 {
     match doc.status() {
@@ -138,8 +136,7 @@ fn fetch_awaited<F: Outside>(
     files: &mut F,
     doc: &mut DocSide,
 ) -> Result<(), NoMemory>
-    requires going { doc.old.spent ≡ false }
-    requires awaits { (name : _) × (standing_of doc.old.desk ≡ awaiting name) }
+    requires { (name : _) × (standing_of doc.old.desk ≡ awaiting name) }
     ensures arrives { OnOk result (Arrives dir.now (F.seen files.old) (F.seen files.new) doc.old doc.new) }
     ensures stays { OnErr result (Stays doc.old doc.new) }
     ensures begins { BeginsTheAwaited dir.now (F.seen files.old) (F.seen files.new) doc.old.desk }

@@ -32,11 +32,11 @@ returns-in_err-ask-clause-err g c =
 
 pub turns-preserved-in-Continue-branch-2 : goal.turns-preserved-in-Continue-branch-2
 turns-preserved-in-Continue-branch-2 g c =
-    record { cuts = cut_at_same _ _ _ _ _ _ _ _ (ap (λ (z : Shown). z.journal.pieces) c.in_ok-request.ensures.sent) (ap (λ (z : Shown). z.journal.ending) c.in_ok-request.ensures.sent) c.turns.invariant.cuts; room = c.turns.invariant.room; holds = after_sent _ _ _ _ _ _ _ _ _ _ c.turns.invariant.holds _ _ (sym (c.can_send.ensures c.turns.invariant.holds.inside.going) ∙ c.if-can_send.true) c.in_ok-request.ensures.sent c.in_ok-ask.ensures.load; goes = goes_sent _ _ c.turns.invariant.goes _ c.in_ok-request.request _ c.ask.ensures.put (sym (c.can_send.ensures c.turns.invariant.holds.inside.going) ∙ c.if-can_send.true) c.in_ok-request.ensures.request c.in_ok-request.ensures.from c.in_ok-request.ensures.sent; taken = taken_same (g.L.Counterpart.taken c.turns.lanes) (g.L.Counterpart.taken c.ask.new.self) c.turns.doc.journal.events c.send.new.self.journal.events event.Send refl c.ask.ensures.taken (ap (λ (z : Shown). z.journal.events) c.in_ok-request.ensures.sent) c.turns.invariant.taken; faults = c.turns.invariant.faults }
+    record { cuts = cut_at_same _ _ _ _ _ _ _ _ (ap (λ (z : Shown). z.journal.pieces) c.in_ok-request.ensures.sent) (ap (λ (z : Shown). z.journal.ending) c.in_ok-request.ensures.sent) c.turns.invariant.cuts; room = c.turns.invariant.room; holds = after_sent _ _ _ _ _ _ _ _ _ _ c.turns.invariant.holds _ _ (sym (c.can_send.ensures) ∙ c.if-can_send.true) c.in_ok-request.ensures.sent c.in_ok-ask.ensures.load; goes = goes_sent _ _ c.turns.invariant.goes _ c.in_ok-request.request _ c.ask.ensures.put (sym (c.can_send.ensures) ∙ c.if-can_send.true) c.in_ok-request.ensures.request c.in_ok-request.ensures.from c.in_ok-request.ensures.sent; taken = taken_same (g.L.Counterpart.taken c.turns.lanes) (g.L.Counterpart.taken c.ask.new.self) c.turns.doc.journal.events c.send.new.self.journal.events event.Send refl c.ask.ensures.taken (ap (λ (z : Shown). z.journal.events) c.in_ok-request.ensures.sent) c.turns.invariant.taken; faults = c.turns.invariant.faults }
 
 pub turns-smaller-in-Continue-branch-2 : goal.turns-smaller-in-Continue-branch-2
 turns-smaller-in-Continue-branch-2 g c =
-    after_sent_less _ _ _ _ _ _ _ _ _ _ c.turns.invariant.holds _ _ (sym (c.can_send.ensures c.turns.invariant.holds.inside.going) ∙ c.if-can_send.true) c.in_ok-request.ensures.sent c.in_ok-ask.ensures.load
+    after_sent_less _ _ _ _ _ _ _ _ _ _ c.turns.invariant.holds _ _ (sym (c.can_send.ensures) ∙ c.if-can_send.true) c.in_ok-request.ensures.sent c.in_ok-ask.ensures.load
 
 pub read_on-requires-clause-reading : goal.read_on-requires-clause-reading
 read_on-requires-clause-reading g c =
@@ -68,11 +68,11 @@ turns-smaller-then-branch g c =
 
 pub take_reply-requires-clause-stands : goal.take_reply-requires-clause-stands
 take_reply-requires-clause-stands g c =
-    stands_reply (g.L.Counterpart.load c.turns.lanes) (g.L.Counterpart.load c.answer.new.self) c.turns.doc.desk c.turns.invariant.holds.inside.count (answers-as _ _ _ _ c.if-branch.false c.in_ok-answer.ensures.load) (sym (c.wants_reply.ensures c.turns.invariant.holds.inside.going) ∙ c.if-wants_reply.true)
+    stands_reply (g.L.Counterpart.load c.turns.lanes) (g.L.Counterpart.load c.answer.new.self) c.turns.doc.desk c.turns.invariant.holds.inside.count (answers-as _ _ _ _ c.if-branch.false c.in_ok-answer.ensures.load) (sym (c.wants_reply.ensures) ∙ c.if-wants_reply.true)
 
 pub turns-preserved-in-Continue-branch-5 : goal.turns-preserved-in-Continue-branch-5
 turns-preserved-in-Continue-branch-5 g c =
-    record { cuts = cut_at_same _ _ _ _ _ _ _ _ (ap (λ (z : Shown). z.journal.pieces) c.in_ok-take_reply.ensures.took) (ap (λ (z : Shown). z.journal.ending) c.in_ok-take_reply.ensures.took) c.turns.invariant.cuts; room = c.turns.invariant.room; holds = after_took _ _ _ _ _ _ _ _ _ _ c.turns.invariant.holds _ (answers-as _ _ _ _ c.if-branch.false c.in_ok-answer.ensures.load) _ _ (sym (c.wants_reply.ensures c.turns.invariant.holds.inside.going) ∙ c.if-wants_reply.true) c.in_ok-take_reply.ensures.load c.in_ok-take_reply.ensures.took; goes = goes_same _ _ _ c.take_reply.ensures.put (goes_took _ _ (goes_same _ _ _ c.answer.ensures.put c.turns.invariant.goes) _ (sym (c.wants_reply.ensures c.turns.invariant.holds.inside.going) ∙ c.if-wants_reply.true) (took_sent _ _ _ _ _ _ _ _ _ _ c.turns.invariant.holds _ (answers-as _ _ _ _ c.if-branch.false c.in_ok-answer.ensures.load) _ c.in_ok-take_reply.ensures.load) c.in_ok-take_reply.ensures.took); taken = taken_one (g.L.Counterpart.taken c.answer.new.self) (g.L.Counterpart.taken c.take_reply.new.lanes) c.turns.doc.journal.events c.take_reply.new.doc.journal.events c.in_ok-take_reply.ensures.reply (ap (λ (z : Shown). z.journal.events) c.in_ok-take_reply.ensures.took) (taken_kept (g.L.Counterpart.taken c.turns.lanes) (g.L.Counterpart.taken c.answer.new.self) c.turns.doc.journal.events c.turns.doc.journal.events c.answer.ensures.taken refl c.turns.invariant.taken); faults = c.turns.invariant.faults }
+    record { cuts = cut_at_same _ _ _ _ _ _ _ _ (ap (λ (z : Shown). z.journal.pieces) c.in_ok-take_reply.ensures.took) (ap (λ (z : Shown). z.journal.ending) c.in_ok-take_reply.ensures.took) c.turns.invariant.cuts; room = c.turns.invariant.room; holds = after_took _ _ _ _ _ _ _ _ _ _ c.turns.invariant.holds _ (answers-as _ _ _ _ c.if-branch.false c.in_ok-answer.ensures.load) _ _ (sym (c.wants_reply.ensures) ∙ c.if-wants_reply.true) c.in_ok-take_reply.ensures.load c.in_ok-take_reply.ensures.took; goes = goes_same _ _ _ c.take_reply.ensures.put (goes_took _ _ (goes_same _ _ _ c.answer.ensures.put c.turns.invariant.goes) _ (sym (c.wants_reply.ensures) ∙ c.if-wants_reply.true) (took_sent _ _ _ _ _ _ _ _ _ _ c.turns.invariant.holds _ (answers-as _ _ _ _ c.if-branch.false c.in_ok-answer.ensures.load) _ c.in_ok-take_reply.ensures.load) c.in_ok-take_reply.ensures.took); taken = taken_one (g.L.Counterpart.taken c.answer.new.self) (g.L.Counterpart.taken c.take_reply.new.lanes) c.turns.doc.journal.events c.take_reply.new.doc.journal.events c.in_ok-take_reply.ensures.reply (ap (λ (z : Shown). z.journal.events) c.in_ok-take_reply.ensures.took) (taken_kept (g.L.Counterpart.taken c.turns.lanes) (g.L.Counterpart.taken c.answer.new.self) c.turns.doc.journal.events c.turns.doc.journal.events c.answer.ensures.taken refl c.turns.invariant.taken); faults = c.turns.invariant.faults }
 
 pub turns-smaller-in-Continue-branch-5 : goal.turns-smaller-in-Continue-branch-5
 turns-smaller-in-Continue-branch-5 g c =
@@ -84,7 +84,7 @@ returns-in_err-take_reply-clause-err g c =
 
 pub turns-preserved-in-Continue-branch-6 : goal.turns-preserved-in-Continue-branch-6
 turns-preserved-in-Continue-branch-6 g c =
-    record { cuts = cut_at_same _ _ _ _ _ _ _ _ (ap (λ (z : Shown). z.journal.pieces) c.in_ok-run_on.ensures.ok.others) (ap (λ (z : Shown). z.journal.ending) c.in_ok-run_on.ensures.ok.others) c.turns.invariant.cuts; room = c.turns.invariant.room; holds = after_ran _ _ _ _ _ _ _ _ _ _ c.turns.invariant.holds _ (answers-as _ _ _ _ c.if-branch.false c.in_ok-answer.ensures.load) _ _ c.may_read-may_read.ensures.replayed (sym (c.can_do.ensures c.turns.invariant.holds.inside.going) ∙ c.if-can_do.true) c.in_ok-run_on.ensures.ok; goes = goes_may_do _ _ _ _ _ _ _ _ _ _ c.turns.invariant.holds _ (answers-as _ _ _ _ c.if-branch.false c.in_ok-answer.ensures.load) _ _ (goes_same _ _ _ c.answer.ensures.put c.turns.invariant.goes) (sym (c.can_do.ensures c.turns.invariant.holds.inside.going) ∙ c.if-can_do.true) (sent_so_far _ _ _ _ _ _ _ _ _ _ c.turns.invariant.holds c.in_default.ensures.on (sym c.may_read-may_read.ensures.may ∙ c.if-may_read.false) (sym (c.can_send.ensures c.turns.invariant.holds.inside.going) ∙ c.if-can_send.false)) c.run_on.ensures.did; taken = taken_did (g.L.Counterpart.taken c.answer.new.self) c.turns.doc c.run_on.new.doc c.run_on.ensures.did (taken_kept (g.L.Counterpart.taken c.turns.lanes) (g.L.Counterpart.taken c.answer.new.self) c.turns.doc.journal.events c.turns.doc.journal.events c.answer.ensures.taken refl c.turns.invariant.taken); faults = let first = c.turns.invariant.faults in let second = c.run_on.ensures.faults in omega (arith, first, second) }
+    record { cuts = cut_at_same _ _ _ _ _ _ _ _ (ap (λ (z : Shown). z.journal.pieces) c.in_ok-run_on.ensures.ok.others) (ap (λ (z : Shown). z.journal.ending) c.in_ok-run_on.ensures.ok.others) c.turns.invariant.cuts; room = c.turns.invariant.room; holds = after_ran _ _ _ _ _ _ _ _ _ _ c.turns.invariant.holds _ (answers-as _ _ _ _ c.if-branch.false c.in_ok-answer.ensures.load) _ _ c.may_read-may_read.ensures.replayed (sym (c.can_do.ensures) ∙ c.if-can_do.true) c.in_ok-run_on.ensures.ok; goes = goes_may_do _ _ _ _ _ _ _ _ _ _ c.turns.invariant.holds _ (answers-as _ _ _ _ c.if-branch.false c.in_ok-answer.ensures.load) _ _ (goes_same _ _ _ c.answer.ensures.put c.turns.invariant.goes) (sym (c.can_do.ensures) ∙ c.if-can_do.true) (sent_so_far _ _ _ _ _ _ _ _ _ _ c.turns.invariant.holds c.in_default.ensures.on (sym c.may_read-may_read.ensures.may ∙ c.if-may_read.false) (sym (c.can_send.ensures) ∙ c.if-can_send.false)) c.run_on.ensures.did; taken = taken_did (g.L.Counterpart.taken c.answer.new.self) c.turns.doc c.run_on.new.doc c.run_on.ensures.did (taken_kept (g.L.Counterpart.taken c.turns.lanes) (g.L.Counterpart.taken c.answer.new.self) c.turns.doc.journal.events c.turns.doc.journal.events c.answer.ensures.taken refl c.turns.invariant.taken); faults = let first = c.turns.invariant.faults in let second = c.run_on.ensures.faults in omega (arith, first, second) }
 
 pub turns-smaller-in-Continue-branch-6 : goal.turns-smaller-in-Continue-branch-6
 turns-smaller-in-Continue-branch-6 g c =
@@ -92,15 +92,15 @@ turns-smaller-in-Continue-branch-6 g c =
 
 pub returns-in_err-run_on-clause-err : goal.returns-in_err-run_on-clause-err
 returns-in_err-run_on-clause-err g c =
-    on_err _ _ (gives_up_running _ _ _ _ _ _ _ _ _ _ c.turns.invariant.holds c.may_read-may_read.ensures.replayed (goes_forget _ _ c.turns.invariant.goes) _ _ (goes_forget _ _ (goes_may_do _ _ _ _ _ _ _ _ _ _ c.turns.invariant.holds _ (answers-as _ _ _ _ c.if-branch.false c.in_ok-answer.ensures.load) _ _ (goes_same _ _ _ c.answer.ensures.put c.turns.invariant.goes) (sym (c.can_do.ensures c.turns.invariant.holds.inside.going) ∙ c.if-can_do.true) (sent_so_far _ _ _ _ _ _ _ _ _ _ c.turns.invariant.holds c.in_default.ensures.on (sym c.may_read-may_read.ensures.may ∙ c.if-may_read.false) (sym (c.can_send.ensures c.turns.invariant.holds.inside.going) ∙ c.if-can_send.false)) c.run_on.ensures.did)) c.in_err-run_on.ensures.stays c.run_on.ensures.did c.in_err-run_on.ensures.err)
+    on_err _ _ (gives_up_running _ _ _ _ _ _ _ _ _ _ c.turns.invariant.holds c.may_read-may_read.ensures.replayed (goes_forget _ _ c.turns.invariant.goes) _ _ (goes_forget _ _ (goes_may_do _ _ _ _ _ _ _ _ _ _ c.turns.invariant.holds _ (answers-as _ _ _ _ c.if-branch.false c.in_ok-answer.ensures.load) _ _ (goes_same _ _ _ c.answer.ensures.put c.turns.invariant.goes) (sym (c.can_do.ensures) ∙ c.if-can_do.true) (sent_so_far _ _ _ _ _ _ _ _ _ _ c.turns.invariant.holds c.in_default.ensures.on (sym c.may_read-may_read.ensures.may ∙ c.if-may_read.false) (sym (c.can_send.ensures) ∙ c.if-can_send.false)) c.run_on.ensures.did)) c.in_err-run_on.ensures.stays c.run_on.ensures.did c.in_err-run_on.ensures.err)
 
-pub fetch_awaited-requires-clause-awaits : goal.fetch_awaited-requires-clause-awaits
-fetch_awaited-requires-clause-awaits g c =
-    awaits_name _ _ _ _ _ _ _ _ _ _ c.turns.invariant.holds c.may_read-may_read.ensures.replayed c.requires.some c.in_default.ensures.on (sym c.may_read-may_read.ensures.may ∙ c.if-may_read.false) (sym (c.can_send.ensures c.turns.invariant.holds.inside.going) ∙ c.if-can_send.false) (sym (c.wants_reply.ensures c.turns.invariant.holds.inside.going) ∙ c.if-wants_reply.false) (sym (c.can_do.ensures c.turns.invariant.holds.inside.going) ∙ c.if-can_do.false)
+pub fetch_awaited-requires : goal.fetch_awaited-requires
+fetch_awaited-requires g c =
+    awaits_name _ _ _ _ _ _ _ _ _ _ c.turns.invariant.holds c.may_read-may_read.ensures.replayed c.requires.some c.in_default.ensures.on (sym c.may_read-may_read.ensures.may ∙ c.if-may_read.false) (sym (c.can_send.ensures) ∙ c.if-can_send.false) (sym (c.wants_reply.ensures) ∙ c.if-wants_reply.false) (sym (c.can_do.ensures) ∙ c.if-can_do.false)
 
 pub turns-preserved : goal.turns-preserved
 turns-preserved g c =
-    record { cuts = cut_at_same _ _ _ _ _ _ _ _ (ap (λ (z : Shown). z.journal.pieces) c.in_ok-fetch_awaited.ensures.arrives.arrived) (ap (λ (z : Shown). z.journal.ending) c.in_ok-fetch_awaited.ensures.arrives.arrived) (cut_at_past _ _ _ _ _ _ _ c.fetch_awaited.ensures.others c.turns.invariant.cuts); room = c.turns.invariant.room; holds = after_arrived _ _ _ _ _ _ _ _ _ _ c.turns.invariant.holds _ (answers-as _ _ _ _ c.if-branch.false c.in_ok-answer.ensures.load) _ _ (subst (λ d. Arrives d (g.F.Outside.seen c.turns.files) (g.F.Outside.seen c.fetch_awaited.new.files) c.turns.doc c.fetch_awaited.new.doc) c.as_str.ensures.value c.in_ok-fetch_awaited.ensures.arrives) (subst (λ d. BeginsTheAwaited d (g.F.Outside.seen c.turns.files) (g.F.Outside.seen c.fetch_awaited.new.files) c.turns.doc.desk) c.as_str.ensures.value c.fetch_awaited.ensures.begins) c.fetch_awaited.ensures.others; goes = goes_fetched _ _ _ _ _ _ _ _ _ _ c.turns.invariant.holds _ (answers-as _ _ _ _ c.if-branch.false c.in_ok-answer.ensures.load) _ _ _ (goes_same _ _ _ c.answer.ensures.put c.turns.invariant.goes) c.in_default.ensures.on (sent_so_far _ _ _ _ _ _ _ _ _ _ c.turns.invariant.holds c.in_default.ensures.on (sym c.may_read-may_read.ensures.may ∙ c.if-may_read.false) (sym (c.can_send.ensures c.turns.invariant.holds.inside.going) ∙ c.if-can_send.false)) (subst (λ d. Arrives d (g.F.Outside.seen c.turns.files) (g.F.Outside.seen c.fetch_awaited.new.files) c.turns.doc c.fetch_awaited.new.doc) c.as_str.ensures.value c.in_ok-fetch_awaited.ensures.arrives); taken = taken_same (g.L.Counterpart.taken c.answer.new.self) (g.L.Counterpart.taken c.answer.new.self) c.turns.doc.journal.events c.fetch_awaited.new.doc.journal.events (event.Arrive c.in_ok-fetch_awaited.ensures.arrives.name) refl refl (ap (λ (z : Shown). z.journal.events) c.in_ok-fetch_awaited.ensures.arrives.arrived) (taken_kept (g.L.Counterpart.taken c.turns.lanes) (g.L.Counterpart.taken c.answer.new.self) c.turns.doc.journal.events c.turns.doc.journal.events c.answer.ensures.taken refl c.turns.invariant.taken); faults = c.turns.invariant.faults }
+    record { cuts = cut_at_same _ _ _ _ _ _ _ _ (ap (λ (z : Shown). z.journal.pieces) c.in_ok-fetch_awaited.ensures.arrives.arrived) (ap (λ (z : Shown). z.journal.ending) c.in_ok-fetch_awaited.ensures.arrives.arrived) (cut_at_past _ _ _ _ _ _ _ c.fetch_awaited.ensures.others c.turns.invariant.cuts); room = c.turns.invariant.room; holds = after_arrived _ _ _ _ _ _ _ _ _ _ c.turns.invariant.holds _ (answers-as _ _ _ _ c.if-branch.false c.in_ok-answer.ensures.load) _ _ (subst (λ d. Arrives d (g.F.Outside.seen c.turns.files) (g.F.Outside.seen c.fetch_awaited.new.files) c.turns.doc c.fetch_awaited.new.doc) c.as_str.ensures.value c.in_ok-fetch_awaited.ensures.arrives) (subst (λ d. BeginsTheAwaited d (g.F.Outside.seen c.turns.files) (g.F.Outside.seen c.fetch_awaited.new.files) c.turns.doc.desk) c.as_str.ensures.value c.fetch_awaited.ensures.begins) c.fetch_awaited.ensures.others; goes = goes_fetched _ _ _ _ _ _ _ _ _ _ c.turns.invariant.holds _ (answers-as _ _ _ _ c.if-branch.false c.in_ok-answer.ensures.load) _ _ _ (goes_same _ _ _ c.answer.ensures.put c.turns.invariant.goes) c.in_default.ensures.on (sent_so_far _ _ _ _ _ _ _ _ _ _ c.turns.invariant.holds c.in_default.ensures.on (sym c.may_read-may_read.ensures.may ∙ c.if-may_read.false) (sym (c.can_send.ensures) ∙ c.if-can_send.false)) (subst (λ d. Arrives d (g.F.Outside.seen c.turns.files) (g.F.Outside.seen c.fetch_awaited.new.files) c.turns.doc c.fetch_awaited.new.doc) c.as_str.ensures.value c.in_ok-fetch_awaited.ensures.arrives); taken = taken_same (g.L.Counterpart.taken c.answer.new.self) (g.L.Counterpart.taken c.answer.new.self) c.turns.doc.journal.events c.fetch_awaited.new.doc.journal.events (event.Arrive c.in_ok-fetch_awaited.ensures.arrives.name) refl refl (ap (λ (z : Shown). z.journal.events) c.in_ok-fetch_awaited.ensures.arrives.arrived) (taken_kept (g.L.Counterpart.taken c.turns.lanes) (g.L.Counterpart.taken c.answer.new.self) c.turns.doc.journal.events c.turns.doc.journal.events c.answer.ensures.taken refl c.turns.invariant.taken); faults = c.turns.invariant.faults }
 
 pub turns-smaller : goal.turns-smaller
 turns-smaller g c =
@@ -136,7 +136,7 @@ returns-in_err-request-clause-more_taken g c =
 
 pub returns-in_err-ask-clause-goes : goal.returns-in_err-ask-clause-goes
 returns-in_err-ask-clause-goes g c =
-    goes_sent _ _ c.turns.invariant.goes _ c.in_ok-request.request _ c.ask.ensures.put (sym (c.can_send.ensures c.turns.invariant.holds.inside.going) ∙ c.if-can_send.true) c.in_ok-request.ensures.request c.in_ok-request.ensures.from c.in_ok-request.ensures.sent
+    goes_sent _ _ c.turns.invariant.goes _ c.in_ok-request.request _ c.ask.ensures.put (sym (c.can_send.ensures) ∙ c.if-can_send.true) c.in_ok-request.ensures.request c.in_ok-request.ensures.from c.in_ok-request.ensures.sent
 
 pub returns-in_err-ask-clause-write_taken : goal.returns-in_err-ask-clause-write_taken
 returns-in_err-ask-clause-write_taken g c =
@@ -172,7 +172,7 @@ returns-in_err-answer-clause-more_taken g c =
 
 pub returns-in_err-run_on-clause-goes : goal.returns-in_err-run_on-clause-goes
 returns-in_err-run_on-clause-goes g c =
-    goes_may_do _ _ _ _ _ _ _ _ _ _ c.turns.invariant.holds _ (answers-as _ _ _ _ c.if-branch.false c.in_ok-answer.ensures.load) _ _ (goes_same _ _ _ c.answer.ensures.put c.turns.invariant.goes) (sym (c.can_do.ensures c.turns.invariant.holds.inside.going) ∙ c.if-can_do.true) (sent_so_far _ _ _ _ _ _ _ _ _ _ c.turns.invariant.holds c.in_default.ensures.on (sym c.may_read-may_read.ensures.may ∙ c.if-may_read.false) (sym (c.can_send.ensures c.turns.invariant.holds.inside.going) ∙ c.if-can_send.false)) c.run_on.ensures.did
+    goes_may_do _ _ _ _ _ _ _ _ _ _ c.turns.invariant.holds _ (answers-as _ _ _ _ c.if-branch.false c.in_ok-answer.ensures.load) _ _ (goes_same _ _ _ c.answer.ensures.put c.turns.invariant.goes) (sym (c.can_do.ensures) ∙ c.if-can_do.true) (sent_so_far _ _ _ _ _ _ _ _ _ _ c.turns.invariant.holds c.in_default.ensures.on (sym c.may_read-may_read.ensures.may ∙ c.if-may_read.false) (sym (c.can_send.ensures) ∙ c.if-can_send.false)) c.run_on.ensures.did
 
 pub returns-in_err-run_on-clause-write_taken : goal.returns-in_err-run_on-clause-write_taken
 returns-in_err-run_on-clause-write_taken g c =

@@ -7,4 +7,4 @@ use Rattle.core_pair.proofs.both.Both.can_take.Goals as goal
 pub returns-else-wants_reply : goal.returns-else-wants_reply
 returns-else-wants_reply g c =
     take-unwanted _ c.args.self.now c.wants_reply.result c.requires.run
-    (c.wants_reply.ensures (ap (λ (p : Paired). p.spent) c.self.view_is ∙ c.requires.going) ∙ ap (λ (p : Paired). wants_reply p.core.desk) c.self.view_is) c.if-wants_reply.false
+    (c.wants_reply.ensures ∙ ap (λ (p : Paired). wants_reply p.core.desk) c.self.view_is) c.if-wants_reply.false

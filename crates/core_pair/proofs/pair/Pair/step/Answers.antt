@@ -1,8 +1,21 @@
 use Rattle.std.proofs.Common.{sym, ◌∙◌, ap, subst, false}
 use Rattle.core_pair.specs.Pairs.{Paired, setup_of, StepsShown}
-use Rattle.core_pair.proofs.Holding.{run-told, run-shown, both-shown, stepped-shown}
+use Rattle.core_pair.proofs.Holding.{run-told, run-shown, kept-run, failed-kept, told-before, both-shown, stepped-shown}
 use Rattle.core_pair.proofs.Interleaved.{always-stands_for, end-stays}
 use Rattle.core_pair.proofs.pair.Pair.step.Goals as goal
+
+pub could-self-inside-requires : goal.could-self-inside-requires
+could-self-inside-requires g c =
+    let i = c.self.inside in
+    record { run = kept-run g.E.InForce.entities i.both i.before.value i.spent c.if-self.false c.self.invariant }
+
+pub invariant_of-self : goal.invariant_of-self
+invariant_of-self g c =
+    let i = c.self.inside in
+    let e = c.in_err-step.ensures in
+    failed-kept g.E.InForce.entities i.both c.step.new.self c.of.result.value c.could-self-inside.result c.of.ensures e.journal
+    (told-before i.both c.step.new.self c.of.result.value c.could-self-inside.result c.of.ensures e.desk e.ahead c.could-self-inside.ensures.pick c.could-self-inside.ensures.give c.could-self-inside.ensures.takes)
+    (kept-run g.E.InForce.entities i.both i.before.value i.spent c.if-self.false c.self.invariant)
 
 pub returns-clause-steps : goal.returns-clause-steps
 returns-clause-steps g c =

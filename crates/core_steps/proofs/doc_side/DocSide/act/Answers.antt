@@ -1,5 +1,16 @@
-use Rattle.core_steps.proofs.DocSides.{do-kept}
+use Rattle.std.proofs.Common.{subst, IsTrue}
+use Rattle.core_definitions.specs.Desk.{can_do}
+use Rattle.core_steps.specs.Sides.{Shown, desk_of}
+use Rattle.core_steps.proofs.DocSides.{shown-now, kept-now, kept-failed, told-running, do-kept}
 use Rattle.core_steps.proofs.doc_side.DocSide.act.Goals as goal
+
+pub invariant_of-self : goal.invariant_of-self
+invariant_of-self c =
+    let i = c.self.inside in
+    let can : IsTrue (can_do (desk_of i.side)) = subst (λ (s : Shown). IsTrue (can_do s.desk)) (shown-now i.side i.before.value i.spent c.args.self.now c.if-self.false c.self.view_is) c.requires.can in
+    kept-failed i.side c.act.new.self c.of.result.value c.could-self-inside.result c.of.ensures c.in_err-act.ensures.journal
+    (told-running i.side c.act.new.self c.of.result.value c.could-self-inside.result c.of.ensures can c.could-self-inside.ensures.send c.could-self-inside.ensures.act c.could-self-inside.ensures.take)
+    (kept-now i.side i.before.value i.spent c.if-self.false c.self.invariant).1
 
 pub invariant_of-self-2 : goal.invariant_of-self-2
 invariant_of-self-2 c =

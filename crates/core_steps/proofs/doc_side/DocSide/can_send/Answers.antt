@@ -1,0 +1,11 @@
+use Rattle.std.proofs.Common.{◌∙◌, sym, ap}
+use Rattle.core_definitions.specs.Desk.{can_send}
+use Rattle.core_steps.specs.Sides.{Shown}
+use Rattle.core_steps.proofs.DocSides.{told-now, failed-send}
+use Rattle.core_steps.proofs.doc_side.DocSide.can_send.Goals as goal
+
+pub returns-then-self : goal.returns-then-self
+returns-then-self c = failed-send c.self.invariant c.if-self.true c.self.view_is
+
+pub returns : goal.returns
+returns c = c.can_send.ensures ∙ ap (λ (s : Shown). can_send s.ahead s.desk) (sym (told-now c.self.inside.side c.self.inside.before.value c.self.inside.spent c.args.self.now c.self.view_is (sym (ap (λ (s : Shown). s.spent) c.self.view_is) ∙ c.if-self.false)))
