@@ -1,0 +1,3 @@
+mod Pieces
+mod Lists
+pub mod Literals

@@ -1,0 +1,4 @@
+pub mod Stage
+pub mod Fed
+pub mod Fragments
+pub mod Flat

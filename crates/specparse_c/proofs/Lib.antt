@@ -1,0 +1,3 @@
+mod Failures
+mod Laying
+mod Calls
