@@ -13,8 +13,8 @@ REGISTRY = "/usr/share/cargo/registry"
 SOURCES = ['source.crates-io.replace-with="debian"', 'source.debian.directory="%s"' % REGISTRY, "net.offline=true"]
 
 
-def install():
-    wanted = [name for name, file in PACKAGES.items() if not os.path.exists(file)]
+def install(packages=PACKAGES):
+    wanted = [name for name, file in packages.items() if not os.path.exists(file)]
     if wanted:
         print("installing", *wanted, file=sys.stderr)
         quiet = {"stdout": subprocess.DEVNULL, "check": True, "env": {**os.environ, "DEBIAN_FRONTEND": "noninteractive"}}
