@@ -218,6 +218,7 @@ impl PageParser {
     /// The page's document, where no more bytes come. `Refused::Parse` comes exactly where the
     /// parse of the page is refused.
     pub fn finish(self) -> Result<Doc, Refused>
+        ensures spent { self.spent ≡ true → result ≡ Err Refused.NoMemory }
         ensures tree { IfOk result (λ d. (es : Entities) (read : List ℕ) → HasFed es self read
             → quiet es (page_of PAGE_LIMIT read false) ≡ tree d) }
         ensures refused { (w : Why) → result ≡ Err (Refused.Parse w)
