@@ -3,6 +3,7 @@
 ghost use Rattle.std.specs.Prelude.{◌≡◌, ◌<◌, [], length, reverse, remove, IfOk, IsTrue, MatchOption};
 ghost use Rattle.standard.specs.Elements.{is_meant, is_word};
 ghost use Rattle.standard.specs.Formatting.{listed, clear_to_marker, lost, kept, entry_named, without_entry};
+ghost use Rattle.standard.specs.Stack.{is_open};
 
 use crate::walks::has_open;
 use html_types::{
@@ -88,7 +89,20 @@ pub fn clear_back(formats: &mut ActiveFormatting)
     }
 }
 
-/// Whether no entry stands behind the last marker or open entry, as at nearly each character of a page.
+/// Whether the element of that id is the current node.
+#[inline]
+fn is_last(stack: &Stack, id: NodeId) -> bool
+    ensures { IsTrue result → IsTrue (is_open id stack.now) }
+{
+    match stack.latest() {
+        None => false,
+        Some(last) => last.id.same(id),
+    }
+}
+
+/// Whether no entry stands behind the last marker or open entry, as at nearly each character of a page. Mostly the latest
+/// entry's element is the current node.
+#[inline]
 pub fn none_lost(formats: &ActiveFormatting, stack: &Stack) -> bool
     ensures lost { IsTrue result → lost stack.now formats.now ≡ [] }
     ensures kept { IsTrue result → kept stack.now formats.now ≡ formats.now }
@@ -96,7 +110,9 @@ pub fn none_lost(formats: &ActiveFormatting, stack: &Stack) -> bool
     match formats.latest() {
         None => true,
         Some(FormattingEntry::Marker) => true,
-        Some(FormattingEntry::Element { id, tag: _ }) => has_open(stack, *id),
+        Some(FormattingEntry::Element { id, tag: _ }) => {
+            is_last(stack, *id) || has_open(stack, *id)
+        }
     }
 }
 

@@ -69,6 +69,7 @@ fn make(
 }
 
 /// Inserts an element for a tag at a place, and pushes it.
+#[inline(never)]
 fn insert_element(
     alloc: Global,
     state: &mut Open,
@@ -88,6 +89,7 @@ fn insert_element(
 }
 
 /// Makes an element for a tag at a place, and pushes it.
+#[inline(always)]
 pub fn push_made(
     alloc: Global,
     state: &mut Open,

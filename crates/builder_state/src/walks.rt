@@ -69,6 +69,7 @@ pub fn is_option_in_optgroup(stack: &Stack) -> bool
 }
 
 /// Whether the element of that id is on the stack.
+#[inline(never)]
 pub fn has_open(stack: &Stack, id: NodeId) -> bool
     ensures { result ≡ is_open id stack.now }
 {

@@ -1,9 +1,11 @@
 //! Attributes in a list, with an index of their names once there are many.
 
-ghost use Rattle.std.specs.Prelude.{◌≡◌, [], ◌∷◌, ◌++◌, ◌||◌, if◌then◌else◌, IfOk, OnOk, OnErr, take, length};
+ghost use Rattle.std.specs.Prelude.{◌≡◌, [], ◌∷◌, ◌++◌, ◌||◌, if◌then◌else◌, IsTrue, IfOk, OnOk, OnErr, take, length};
 ghost use Rattle.html_types.specs.Text.{same_text};
 ghost use Rattle.html_types.specs.Attributes.{has_name, with_missing, Indexes};
+ghost use Rattle.html_types.specs.Sums.{AreApart};
 
+use crate::attribute_sum::distinct_sum;
 use crate::attributes::Attribute;
 use crate::memory::NoMemory;
 use crate::name_index::NameIndex;
@@ -21,18 +23,21 @@ pub(crate) struct AttributeList {
     list: Vec<Attribute>,
     // Where it is there, it has all their names.
     index: Option<Box<NameIndex>>,
+    // A sum that their order doesn't change, where it was asked for and no two have the same name.
+    sum: Option<u64>,
 }
 
 impl Model for AttributeList {
     ghost use Rattle.std.specs.Prelude.{List};
     ghost use Rattle.html_types.specs.declared.attributes.Attribute.{Attribute};
     ghost use Rattle.html_types.specs.Attributes.{has_name, Indexes};
+    ghost use Rattle.html_types.specs.Sums.{HasSum};
 
     ghost Value = { List Attribute };
 
     ghost view = { λ a. a.list.items };
 
-    ghost invariant = { λ a. Indexes a.index (λ name. has_name name a.list.items) };
+    ghost invariant = { λ a. Indexes a.index (λ name. has_name name a.list.items) × HasSum a.list.items a.sum };
 }
 
 // Whether one of them has this name.
@@ -79,6 +84,7 @@ impl AttributeList {
             alloc,
             list: Vec::new(alloc),
             index: None,
+            sum: None,
         }
     }
 
@@ -91,6 +97,7 @@ impl AttributeList {
             alloc,
             list,
             index: None,
+            sum: None,
         })
     }
 
@@ -99,6 +106,7 @@ impl AttributeList {
         ensures ok { OnOk result (self.new ≡ self.old ++ attribute ∷ []) }
         ensures err { OnErr result (self.new ≡ self.old) }
     {
+        self.sum = None;
         add_name(self.alloc, &mut self.index, &self.list, &attribute.name)?;
         if let Err(error) = self.list.push(attribute) {
             self.index = None;
@@ -116,6 +124,7 @@ impl AttributeList {
         if let Err(error) = self.add_all(more) {
             self.list.truncate(before);
             self.index = None;
+            self.sum = None;
             return Err(error);
         }
         Ok(())
@@ -159,6 +168,24 @@ impl AttributeList {
         ensures { result.now ≡ self.now }
     {
         self.list.as_slice()
+    }
+
+    /// Makes the sum by which `are_apart` tells lists apart; a change drops it.
+    pub(crate) fn sum_up(&mut self) -> Result<(), NoMemory>
+        ensures { self.new ≡ self.old }
+    {
+        self.sum = distinct_sum(self.alloc, &self.list)?;
+        Ok(())
+    }
+
+    /// Whether two lists are known to differ in more than their order, since their sums do. False tells nothing.
+    pub(crate) fn are_apart(&self, other: &AttributeList) -> bool
+        ensures { IsTrue result → AreApart self.now other.now }
+    {
+        match (self.sum, other.sum) {
+            (Some(sum), Some(its)) => sum != its,
+            _ => false,
+        }
     }
 
     /// A copy.

@@ -5,7 +5,6 @@ ghost use Rattle.html_types.specs.Attributes.{has_name, with_missing};
 ghost use Rattle.html_types.specs.Sums.{AreApart};
 
 use crate::attribute_list::AttributeList;
-use crate::attribute_sum::distinct_sum;
 use crate::memory::NoMemory;
 use crate::text::Text;
 use std::alloc::Global;
@@ -44,21 +43,16 @@ pub struct Attributes {
     alloc: Global,
     // None where there were never any.
     shared: Option<Arc<AttributeList>>,
-    // A sum that their order doesn't change, where it was asked for and no two have the same name.
-    sum: Option<u64>,
 }
 
 impl Model for Attributes {
     ghost use Rattle.std.specs.Prelude.{List};
     ghost use Rattle.html_types.specs.declared.attributes.Attribute.{Attribute};
     ghost use Rattle.html_types.specs.Attributes.{shared_list};
-    ghost use Rattle.html_types.specs.Sums.{HasSum};
 
     ghost Value = { List Attribute };
 
     ghost view = { λ a. shared_list a.shared };
-
-    ghost invariant = { λ a. HasSum (shared_list a.shared) a.sum };
 }
 
 impl Attributes {
@@ -69,7 +63,6 @@ impl Attributes {
         Attributes {
             alloc,
             shared: None,
-            sum: None,
         }
     }
 
@@ -78,7 +71,6 @@ impl Attributes {
         ensures ok { OnOk result (self.new ≡ self.old ++ attribute ∷ []) }
         ensures err { OnErr result (self.new ≡ self.old) }
     {
-        self.sum = None;
         match &mut self.shared {
             Some(shared) => Arc::make_mut(shared)?.push(attribute),
             None => {
@@ -96,7 +88,6 @@ impl Attributes {
         ensures ok { OnOk result (self.new ≡ with_missing self.old more.now) }
         ensures err { OnErr result (self.new ≡ self.old) }
     {
-        self.sum = None;
         match &mut self.shared {
             Some(shared) => Arc::make_mut(shared)?.add_missing(more.as_slice()),
             None => {
@@ -139,7 +130,9 @@ impl Attributes {
     pub fn sum_up(&mut self) -> Result<(), NoMemory>
         ensures { self.new ≡ self.old }
     {
-        self.sum = distinct_sum(self.alloc, self.as_slice())?;
+        if let Some(shared) = &mut self.shared {
+            Arc::make_mut(shared)?.sum_up()?;
+        }
         Ok(())
     }
 
@@ -147,8 +140,8 @@ impl Attributes {
     pub fn are_apart(&self, other: &Attributes) -> bool
         ensures { IsTrue result → AreApart self.now other.now }
     {
-        match (self.sum, other.sum) {
-            (Some(sum), Some(its)) => sum != its,
+        match (&self.shared, &other.shared) {
+            (Some(list), Some(its)) => list.are_apart(its),
             _ => false,
         }
     }
@@ -174,7 +167,6 @@ impl Attributes {
             Some(shared) => Ok(Attributes {
                 alloc,
                 shared: Some(shared.clone()?),
-                sum: self.sum,
             }),
             None => Ok(Attributes::new(alloc)),
         }

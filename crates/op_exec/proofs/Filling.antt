@@ -1,26 +1,23 @@
 -- A fragment's nodes beside a document's.
-use Rattle.std.proofs.Common.{◌≡◌, ℕ, Bool, true, false, List, [], ◌∷◌, ◌++◌, length, Result, Ok, Err, OnOk, OnErr, map, refl, sym, ap, subst, ◌∙◌, append-nil, arith}
+use Rattle.std.proofs.Common.{◌≡◌, ℕ, Bool, true, false, List, [], ◌∷◌, ◌++◌, Result, Ok, Err, OnOk, OnErr, map, refl, sym, ap, subst, ◌∙◌, append-nil, arith}
 use Rattle.std.specs.Prelude.{◌||◌, if◌then◌else◌}
 use Rattle.std.specs.Map.{values_of}
-use Rattle.std.specs.BTreeMap.{insert_entry}
 use Rattle.html_types.specs.declared.operation.NodeId.{NodeId}
 use Rattle.html_types.specs.declared.operation.Op.{Op}
 use Rattle.html_types.specs.declared.operation.Op.TheVariants.{Make, Put, Text, Comment, Doctype, Detach, MoveChildren, AddAttributes}
 use Rattle.html_types.specs.declared.operation.Place.{Place}
 use Rattle.html_types.specs.declared.operation.Place.TheVariants.{Page, Inside, Contents, Foster}
 use Rattle.html_types.specs.Operations.{same_id, spelled_one}
-use Rattle.html_types.specs.declared.attributes.Attribute.{Attribute}
-use Rattle.html_types.specs.declared.name.Name.{Name}
 use Rattle.standard.specs.Tree.{Nodes, children_of, detached, all_out, emptied}
-use Rattle.standard.specs.Act.{Bound, Doc, id_cmp, is_bound, act, acts, known_after, IsPlaceBound, AreOpsBound}
-use Rattle.standard.specs.Fragment.{root_id, form_id, roots_made, place_in_root, all_in_root, with_fragment, exchanged, filled}
+use Rattle.standard.specs.Act.{Bound, Doc, is_bound, act, acts, known_after, IsPlaceBound, AreOpsBound}
+use Rattle.standard.specs.Fragment.{root_id, roots_made, place_in_root, all_in_root, with_fragment, exchanged, filled}
 use Rattle.act_laws.specs.Staying.{Stays}
 use Rattle.act_laws.proofs.Elements.{Alike, Alike-detached}
 use Rattle.act_laws.proofs.Known.{known_after-is}
-use Rattle.act_laws.proofs.Staying.{same, Stays-act, Stays-acts, Stays-all_out}
+use Rattle.act_laws.proofs.Staying.{same, Stays-acts, Stays-all_out}
 use Rattle.op_exec.specs.Docs.{IsPlain, IsDoc, IsDoneInPart, html_made, form_made}
 use Rattle.op_exec.proofs.Docs.{IsPlain-kept}
-use Rattle.op_exec.proofs.Lists.{acts-append}
+use Rattle.op_exec.proofs.Lists.{acts-append, AreOpsBound-append}
 use Rattle.std.proofs.lemmas.List.Elements.{All-weaker}
 
 Alike-all_out : (t : Nodes) (cs : List ℕ) → Alike t (all_out t cs)
@@ -55,27 +52,6 @@ IsDoc-again t s bound other doc now stays = record {
 pub IsDoc-none : (t : Nodes) (old now : Bound) → now ≡ [] → IsDoc t old → IsDoc t now
 IsDoc-none t old now none doc =
     subst (IsDoc t) (sym none) (record { document = doc.document; plain = λ k n below. absurd (omega arith); one_to_one = λ a b n one two. absurd (cc one); elements = doc.elements })
-
--- ---- the roots
-
-pub Stays-from : (d e : Doc) (o : Op) → e ≡ act d o → Stays d.tree e.tree
-Stays-from d e o is = subst (λ (x : Doc). Stays d.tree x.tree) (sym is) (Stays-act d o)
-
-pub made-none : {T E : Type 0} (r : Result T E) (d e : Doc) (id : NodeId) (name : Name) (as' : List Attribute) → as' ≡ [] → OnOk r (e ≡ act d (Make id name as')) → OnOk r (e ≡ act d (Make id name []))
-made-none r d e id name as' none h = subst (λ (x : List Attribute). OnOk r (e ≡ act d (Make id name x))) none h
-
-pub second-free : (d e : Doc) → d.bound ≡ [] → e ≡ act d html_made → is_bound e.bound (form_id 0) ≡ false
-unfolding act
-second-free d e none is =
-    ap (λ (x : Doc). is_bound x.bound (form_id 0)) is ∙ ap (λ (b : Bound). is_bound (insert_entry id_cmp b (root_id 0) (length d.tree)) (form_id 0)) none
-
-pub one-made : (d e : Doc) (form : Bool) → form ≡ false → e ≡ act d html_made → e ≡ acts d (roots_made form)
-unfolding acts
-one-made d e form off is = is ∙ sym (ap (λ b. acts d (roots_made b)) off)
-
-pub two-made : (d m e : Doc) (form : Bool) → form ≡ true → m ≡ act d html_made → e ≡ act m form_made → e ≡ acts d (roots_made form)
-unfolding acts
-two-made d m e form on first is = is ∙ (ap (λ (x : Doc). act x form_made) first ∙ sym (ap (λ b. acts d (roots_made b)) on))
 
 -- ---- what is bound
 
@@ -145,6 +121,31 @@ fragment-made d m e form ops none first next =
     ∙ (ap (λ (x : Doc). acts x (all_in_root ops)) first
     ∙ (sym (acts-append d (roots_made form) (all_in_root ops)) ∙ ap (λ (b : Bound). acts (record { tree = d.tree; bound = b }) (roots_made form ++ all_in_root ops)) none))
 
+-- ---- the operations of both in one list
+
+roots-fit : (form : Bool) → AreOpsBound (is_bound []) (roots_made form)
+unfolding AreOpsBound
+roots-fit true = (refl, (refl, tt))
+roots-fit false = (refl, tt)
+
+module _ (d : Doc) (form : Bool) (ops all : List Op) (is : all ≡ roots_made form ++ all_in_root ops) where
+  abbrev roots : Doc
+  roots = acts d (roots_made form)
+
+  pub fragment-fits : d.bound ≡ [] → AreOpsBound (is_bound (with_fragment d.tree form []).bound) ops → AreOpsBound (is_bound d.bound) all
+  fragment-fits none bound =
+      let first : AreOpsBound (is_bound d.bound) (roots_made form) = subst (λ (b : Bound). AreOpsBound (is_bound b) (roots_made form)) (sym none) (roots-fit form) in
+      subst (AreOpsBound (is_bound d.bound)) (sym is) (AreOpsBound-append d (roots_made form) (all_in_root ops) first (rooted-bound d roots form ops none refl bound))
+
+  behind-roots : (e : Doc) → e ≡ acts d all → e ≡ acts roots (all_in_root ops)
+  behind-roots e done = done ∙ (ap (acts d) is ∙ acts-append d (roots_made form) (all_in_root ops))
+
+  pub fragment-done : (e : Doc) → d.bound ≡ [] → e ≡ acts d all → e ≡ with_fragment d.tree form ops
+  fragment-done e none done = fragment-made d roots e form ops none refl (behind-roots e done)
+
+  pub fragment-root : (e : Doc) → e ≡ acts d all → is_bound e.bound (root_id 0) ≡ true
+  fragment-root e done = root-bound d roots e form (all_in_root ops) refl (behind-roots e done)
+
 run-in_root : (place : Place) (text : List ℕ) → all_in_root (map (λ c. Text place (c ∷ [])) text) ≡ map (λ c. Text (place_in_root place) (c ∷ [])) text
 run-in_root place [] = refl
 run-in_root place (c ∷ cs) = ap (λ os. Text (place_in_root place) (c ∷ []) ∷ os) (run-in_root place cs)
@@ -152,10 +153,6 @@ run-in_root place (c ∷ cs) = ap (λ os. Text (place_in_root place) (c ∷ []) 
 -- a text in the root, spelled out
 pub text-in_root : (place at : Place) (text : List ℕ) → at ≡ place_in_root place → all_in_root (spelled_one (Text place text)) ≡ spelled_one (Text at text)
 text-in_root place at text is = run-in_root place text ∙ ap (λ p. spelled_one (Text p text)) (sym is)
-
-pub acts-none : (d : Doc) (ops : List Op) → ops ≡ [] → d ≡ acts d ops
-unfolding acts
-acts-none d ops none = ap (acts d) (sym none)
 
 pub Stays-all : (d e : Doc) (ops : List Op) → e ≡ acts d ops → Stays d.tree e.tree
 Stays-all d e ops is = subst (λ (x : Doc). Stays d.tree x.tree) (sym is) (Stays-acts d ops)

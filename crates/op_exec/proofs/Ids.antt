@@ -1,6 +1,6 @@
 -- What ids stand for in lists by realm is what the list of pairs says.
 use Rattle.std.proofs.Common.{◌≡◌, ◌≢◌, ℕ, ◌+◌, ◌<◌, ◌≤◌, zero, suc, Bool, true, false, cond, List, [], ◌∷◌, ◌++◌, length, get_or, set, Option, Some, None, Result, Ok, Err, OnOk, OnErr, refl, sym, ap, subst, ◌∙◌, inl, inr, arith}
-use Rattle.std.specs.Prelude.{unwrap_or, ◌&&◌, ◌==◌, nat_lt}
+use Rattle.std.specs.Prelude.{unwrap_or, is_some, ◌&&◌, ◌==◌, nat_lt}
 use Rattle.std.specs.BTreeMap.{insert_entry}
 use Rattle.std.specs.Ordering.{is_eq}
 use Rattle.std.specs.declared.cmp.Ordering.{Ordering}
@@ -8,7 +8,7 @@ use Rattle.std.specs.declared.cmp.Ordering.TheVariants.{Less, Equal, Greater}
 use Rattle.std.proofs.lemmas.Bool.{and_parts}
 use Rattle.std.proofs.lemmas.Bool.Decides.{nat_tests}
 use Rattle.html_types.specs.declared.operation.NodeId.{NodeId}
-use Rattle.standard.specs.Act.{Bound, id_cmp, bound_to, node_of}
+use Rattle.standard.specs.Act.{Bound, id_cmp, bound_to, node_of, is_bound}
 use Rattle.op_exec.specs.declared.bound.Realm.{Realm}
 use Rattle.op_exec.specs.Ids.{with_nodes, with_realms, listed, IsNext}
 use Rattle.act_laws.proofs.Renamed.{id_cmp-same, same_from_equal, tells, bound_to-insert}
@@ -203,6 +203,9 @@ bound_to-realms (r ∷ rs) es q = by_test (r.realm == q.realm && nat_lt q.n (len
 
 pub node_of-listed : (rs : List Realm) (es : Bound) (q : NodeId) (n : ℕ) → Some n ≡ listed rs q → n ≡ node_of (with_realms rs es) q
 node_of-listed rs es q n is = sym (ap (λ o. unwrap_or o 0) (bound_to-realms rs es q ∙ ap (λ o. found o (bound_to es q)) (sym is)))
+
+pub is_bound-listed : (rs : List Realm) (es : Bound) (q : NodeId) (n : ℕ) → Some n ≡ listed rs q → is_bound (with_realms rs es) q ≡ true
+is_bound-listed rs es q n is = ap is_some (bound_to-realms rs es q ∙ ap (λ o. found o (bound_to es q)) (sym is))
 
 pub bound_to-others : (rs : List Realm) (es : Bound) (q : NodeId) → None ≡ listed rs q → bound_to (with_realms rs es) q ≡ bound_to es q
 bound_to-others rs es q is = bound_to-realms rs es q ∙ ap (λ o. found o (bound_to es q)) (sym is)

@@ -8,7 +8,7 @@ use Rattle.html_types.specs.declared.operation.Op.TheVariants.{Make, Put, Text, 
 use Rattle.standard.specs.Act.{Doc, act, acts, is_bound, IsPlaceBound, IsOpBound, known_after, AreOpsBound}
 use Rattle.standard.specs.Fragment.{in_root, all_in_root}
 use Rattle.op_exec.specs.Docs.{inserts_nothing, IsDoneInPart}
-use Rattle.act_laws.proofs.Known.{AreOpsBound-act}
+use Rattle.act_laws.proofs.Known.{known_after-is, AreOpsBound-act}
 
 pub acts-append : (d : Doc) (xs ys : List Op) → acts d (xs ++ ys) ≡ acts (acts d xs) ys
 unfolding acts
@@ -28,6 +28,13 @@ AreOpsBound-after : (d : Doc) (xs ys : List Op) → AreOpsBound (is_bound d.boun
 unfolding acts AreOpsBound
 AreOpsBound-after d [] ys bound = bound
 AreOpsBound-after d (x ∷ xs) ys bound = AreOpsBound-after (act d x) xs ys (AreOpsBound-act d x (xs ++ ys) bound.1)
+
+pub AreOpsBound-append : (d : Doc) (xs ys : List Op) → AreOpsBound (is_bound d.bound) xs → AreOpsBound (is_bound (acts d xs).bound) ys → AreOpsBound (is_bound d.bound) (xs ++ ys)
+unfolding acts AreOpsBound
+AreOpsBound-append d [] ys first next = next
+AreOpsBound-append d (x ∷ xs) ys first next =
+    let rest : AreOpsBound (is_bound (act d x).bound) (xs ++ ys) = AreOpsBound-append (act d x) xs ys (AreOpsBound-act d x xs first.1) next in
+    (first.0, subst (λ (known : NodeId → Bool). AreOpsBound known (xs ++ ys)) (λ i q. sym (known_after-is d x q) i) rest)
 
 AreOpsBound-front : (known : NodeId → Bool) (xs ys : List Op) → AreOpsBound known (xs ++ ys) → AreOpsBound known xs
 unfolding AreOpsBound
@@ -75,50 +82,35 @@ acts-nothing d (Detach id) none = absurd (cc)
 acts-nothing d (MoveChildren from to) none = absurd (cc)
 acts-nothing d (AddAttributes id attributes) none = absurd (cc)
 
--- ---- a turn of a loop over operations, each of which comes to some: xs are done, then comes o, and os are left
+-- ---- a turn of a loop over operations, each with its text spelled out: xs are done, then comes o, and os are left
 
-module _ (all : List Op → List Op) (one : Op → List Op) (split : (xs ys : List Op) → all (xs ++ ys) ≡ all xs ++ all ys) (single : (o : Op) → all (o ∷ []) ≡ one o) where
-  module _ (d e : Doc) (xs : List Op) (o : Op) (os : List Op) (done : e ≡ acts d (all xs)) (bound : AreOpsBound (is_bound e.bound) (all (o ∷ os))) where
-    whole : AreOpsBound (is_bound e.bound) (one o ++ all os)
-    whole = subst (AreOpsBound (is_bound e.bound)) (split (o ∷ []) os ∙ ap (λ ys. ys ++ all os) (single o)) bound
-
-    pub turn-bound_by : AreOpsBound (is_bound e.bound) (one o)
-    turn-bound_by = AreOpsBound-front (is_bound e.bound) (one o) (all os) whole
-
-    pub turn-bound_after_by : (e' : Doc) → e' ≡ acts e (one o) → AreOpsBound (is_bound e'.bound) (all os)
-    turn-bound_after_by e' is = subst (λ (x : Doc). AreOpsBound (is_bound x.bound) (all os)) (sym is) (AreOpsBound-after e (one o) (all os) whole)
-
-    pub turn-done_by : (e' : Doc) → e' ≡ acts e (one o) → e' ≡ acts d (all (xs ++ o ∷ []))
-    turn-done_by e' is =
-        is
-        ∙ ap (λ (x : Doc). acts x (one o)) done
-        ∙ sym (acts-append d (all xs) (one o))
-        ∙ ap (λ ys. acts d (all xs ++ ys)) (sym (single o))
-        ∙ ap (acts d) (sym (split xs (o ∷ [])))
-
-    pub turn-part_by : IsDoneInPart d e (all (xs ++ o ∷ os))
-    turn-part_by = record {
-      done = all xs;
-      left = all (o ∷ os);
-      all = split xs (o ∷ os);
-      result = done;
-    }
-
--- each with its text spelled out
 module _ (d e : Doc) (xs : List Op) (o : Op) (os : List Op) (done : e ≡ acts d (spelled xs)) (bound : AreOpsBound (is_bound e.bound) (spelled (o ∷ os))) where
+  whole : AreOpsBound (is_bound e.bound) (spelled_one o ++ spelled os)
+  whole = subst (AreOpsBound (is_bound e.bound)) (spelled-split (o ∷ []) os ∙ ap (λ ys. ys ++ spelled os) (spelled-one o)) bound
+
   pub turn-bound : AreOpsBound (is_bound e.bound) (spelled_one o)
-  turn-bound = turn-bound_by spelled spelled_one spelled-split spelled-one d e xs o os done bound
+  turn-bound = AreOpsBound-front (is_bound e.bound) (spelled_one o) (spelled os) whole
 
   pub turn-bound_after : (e' : Doc) → e' ≡ acts e (spelled_one o) → AreOpsBound (is_bound e'.bound) (spelled os)
-  turn-bound_after e' is = turn-bound_after_by spelled spelled_one spelled-split spelled-one d e xs o os done bound e' is
+  turn-bound_after e' is = subst (λ (x : Doc). AreOpsBound (is_bound x.bound) (spelled os)) (sym is) (AreOpsBound-after e (spelled_one o) (spelled os) whole)
 
   pub turn-done : (e' : Doc) → e' ≡ acts e (spelled_one o) → e' ≡ acts d (spelled (xs ++ o ∷ []))
-  turn-done e' is = turn-done_by spelled spelled_one spelled-split spelled-one d e xs o os done bound e' is
+  turn-done e' is =
+      is
+      ∙ ap (λ (x : Doc). acts x (spelled_one o)) done
+      ∙ sym (acts-append d (spelled xs) (spelled_one o))
+      ∙ ap (λ ys. acts d (spelled xs ++ ys)) (sym (spelled-one o))
+      ∙ ap (acts d) (sym (spelled-split xs (o ∷ [])))
 
   pub turn-part : IsDoneInPart d e (spelled (xs ++ o ∷ os))
-  turn-part = turn-part_by spelled spelled_one spelled-split spelled-one d e xs o os done bound
+  turn-part = record {
+    done = spelled xs;
+    left = spelled (o ∷ os);
+    all = spelled-split xs (o ∷ os);
+    result = done;
+  }
 
--- and each in the root of a fragment
+-- ---- in the root of a fragment
 abbrev pub rooted : List Op → List Op
 rooted os = all_in_root (spelled os)
 
@@ -129,8 +121,17 @@ in_root-split : (xs ys : List Op) → all_in_root (xs ++ ys) ≡ all_in_root xs 
 in_root-split [] ys = refl
 in_root-split (x ∷ xs) ys = ap (λ zs. in_root x ++ zs) (in_root-split xs ys) ∙ sym (append_assoc (in_root x) (all_in_root xs) (all_in_root ys))
 
-pub rooted-split : (xs ys : List Op) → rooted (xs ++ ys) ≡ rooted xs ++ rooted ys
+rooted-split : (xs ys : List Op) → rooted (xs ++ ys) ≡ rooted xs ++ rooted ys
 rooted-split xs ys = ap all_in_root (spelled-split xs ys) ∙ in_root-split (spelled xs) (spelled ys)
 
-pub rooted-one : (o : Op) → rooted (o ∷ []) ≡ rooted_one o
+rooted-one : (o : Op) → rooted (o ∷ []) ≡ rooted_one o
 rooted-one o = ap all_in_root (spelled-one o)
+
+-- one more comes behind those of xs
+pub turn-rooted : (start now next : List Op) (xs : List Op) (o : Op) → now ≡ start ++ rooted xs → next ≡ now ++ rooted_one o → next ≡ start ++ rooted (xs ++ o ∷ [])
+turn-rooted start now next xs o was is =
+    is
+    ∙ ap (λ ys. ys ++ rooted_one o) was
+    ∙ append_assoc start (rooted xs) (rooted_one o)
+    ∙ ap (λ ys. start ++ (rooted xs ++ ys)) (sym (rooted-one o))
+    ∙ ap (λ ys. start ++ ys) (sym (rooted-split xs (o ∷ [])))

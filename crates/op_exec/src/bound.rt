@@ -70,6 +70,12 @@ fn in_map(others: &BTreeMap<NodeId, usize>, id: NodeId) -> usize
     others.get(&id).copied().unwrap()
 }
 
+fn is_in_map(others: &BTreeMap<NodeId, usize>, id: NodeId) -> bool
+    ensures { result ≡ is_bound others.now.entries id }
+{
+    others.get(&id).is_some()
+}
+
 // The realm whose list the id comes next in.
 fn next_in(realms: &[Realm], id: NodeId) -> Option<usize>
     ensures here { ForSome result (λ i. i < length realms.now) }
@@ -176,6 +182,16 @@ impl Bound {
         match listed(&self.realms, id) {
             Some(node) => node,
             None => in_map(&self.others, id),
+        }
+    }
+
+    /// Whether the id stands for a node.
+    pub(crate) fn has(&self, id: NodeId) -> bool
+        ensures { result ≡ is_bound self.now id }
+    {
+        match listed(&self.realms, id) {
+            Some(_) => true,
+            None => is_in_map(&self.others, id),
         }
     }
 

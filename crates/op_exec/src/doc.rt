@@ -6,10 +6,10 @@ ghost use Rattle.html_types.specs.declared.operation.Op.TheVariants as op;
 ghost use Rattle.doc_tree.specs.declared.tree.Put.TheVariants as put;
 
 use crate::bound::Bound;
-use crate::fragment::{context_of, in_root};
+use crate::fragment::{context_of, fragment_ops};
 use crate::script::{ScriptKind, kind_of_script};
 use doc_tree::{Put, Tree};
-use html_types::{Attributes, Context, Kind, Name, NoMemory, NodeId, Op, Ops, Place, Text, Word};
+use html_types::{Attributes, Context, Kind, Name, NoMemory, NodeId, Op, Ops, Place, Text};
 use std::alloc::Global;
 use std::marker::Model;
 use std::mem;
@@ -130,6 +130,13 @@ impl Doc {
         ensures no_contents { host_of self.now.tree result ≡ None }
     {
         self.bound.get(id)
+    }
+
+    /// Whether the id stands for a node.
+    pub fn has(&self, id: NodeId) -> bool
+        ensures { result ≡ is_bound self.now.bound id }
+    {
+        self.bound.has(id)
     }
 
     /// No two ids stand for one node.
@@ -344,12 +351,10 @@ impl Doc {
 // Fragments (13.4).
 impl Doc {
     ghost use Rattle.std.specs.Prelude.{[]};
-    ghost use Rattle.html_types.specs.Operations.{spelled_one};
     ghost use Rattle.act_laws.specs.Staying.{Stays};
     ghost use Rattle.standard.specs.Tree.{new_tree};
-    ghost use Rattle.standard.specs.Act.{act, acts, node_of, is_bound, AreOpsBound};
-    ghost use Rattle.standard.specs.Fragment.{context_at, roots_made, all_in_root, with_fragment, exchanged, filled, root_id, form_id};
-    ghost use Rattle.op_exec.specs.Docs.{IsDoneInPart, html_made, form_made};
+    ghost use Rattle.standard.specs.Act.{node_of, is_bound, AreOpsBound};
+    ghost use Rattle.standard.specs.Fragment.{context_at, with_fragment, exchanged, filled, root_id};
 
     /// What the parse of a fragment asks of that node as its context, in a document that is in
     /// quirks mode or not. Its way up is walked.
@@ -358,63 +363,6 @@ impl Doc {
         ensures { IfOk result (λ context. context ≡ context_at self.now.tree node quirks) }
     {
         context_of(self.alloc, &self.tree, node, quirks)
-    }
-
-    // Does the operation in the root of a fragment, unless it inserts an empty text.
-    fn apply_in_root(&mut self, op: Op) -> Result<(), NoMemory>
-        requires { AreOpsBound (is_bound self.old.bound) (all_in_root (spelled_one op)) }
-        ensures ok { OnOk result (self.new ≡ acts self.old (all_in_root (spelled_one op))) }
-        ensures err { OnErr result (self.new ≡ self.old) }
-    {
-        match in_root(op) {
-            None => Ok(()),
-            Some(op) => self.apply_spelled(op),
-        }
-    }
-
-    // Does the operations in order, in the root of a fragment.
-    fn apply_all_in_root(&mut self, ops: Ops) -> Result<(), NoMemory>
-        requires { AreOpsBound (is_bound self.old.bound) (all_in_root ops) }
-        ensures ok { OnOk result (self.new ≡ acts self.old (all_in_root ops)) }
-        ensures err { OnErr result (IsDoneInPart self.old self.new (all_in_root ops)) }
-    {
-        for op in ops.into_vec() {
-            self.apply_in_root(op)?;
-        }
-        Ok(())
-    }
-
-    // The root of a fragment.
-    fn make_root(&mut self) -> Result<(), NoMemory>
-        requires { is_bound self.old.bound (root_id 0) ≡ false }
-        ensures ok { OnOk result (self.new ≡ act self.old html_made) }
-        ensures err { OnErr result (self.new ≡ self.old) }
-    {
-        let none = Attributes::new(self.alloc);
-        self.make(NodeId { realm: 0, n: 0 }, Name::Known(Word::Html), none)
-    }
-
-    // The form element that its form element pointer names.
-    fn make_form(&mut self) -> Result<(), NoMemory>
-        requires { is_bound self.old.bound (form_id 0) ≡ false }
-        ensures ok { OnOk result (self.new ≡ act self.old form_made) }
-        ensures err { OnErr result (self.new ≡ self.old) }
-    {
-        let none = Attributes::new(self.alloc);
-        self.make(NodeId { realm: 0, n: 1 }, Name::Known(Word::Form), none)
-    }
-
-    // With no id bound: what the fragment's operations name and don't make.
-    fn make_roots(&mut self, form: bool) -> Result<(), NoMemory>
-        requires { self.old.bound ≡ [] }
-        ensures ok { OnOk result (self.new ≡ acts self.old (roots_made form)) }
-        ensures stays { Stays self.old.tree self.new.tree }
-    {
-        self.make_root()?;
-        if form {
-            self.make_form()?;
-        }
-        Ok(())
     }
 
     // The node's children are taken out (a template's: its contents' children), and the root's are put there.
@@ -438,8 +386,8 @@ impl Doc {
         ensures root { OnOk result (IsTrue (is_bound self.new.bound (root_id 0))) }
         ensures stays { Stays self.old.tree self.new.tree }
     {
-        self.make_roots(form)?;
-        self.apply_all_in_root(ops)?;
+        let all = fragment_ops(self.alloc, form, ops)?;
+        self.apply_all(all)?;
         Ok(())
     }
 

@@ -1,11 +1,13 @@
 //! Fragments (13.4): what their parse asks of an element, and their operations in their root.
 
-ghost use Rattle.std.specs.Prelude.{◌≡◌, ◌<◌, [], length, IfOk, MatchOption};
+ghost use Rattle.std.specs.Prelude.{◌≡◌, ◌<◌, [], ◌∷◌, ◌++◌, length, IfOk, OnOk, MatchOption};
+ghost use Rattle.html_types.specs.declared.name.Name.TheVariants.{Known};
+ghost use Rattle.html_types.specs.declared.operation.Op.TheVariants as op;
 ghost use Rattle.html_types.specs.Operations.{spelled_one};
-ghost use Rattle.standard.specs.Fragment.{is_form, name_in, is_annotation_point, in_form_by, context_at, place_in_root, all_in_root};
+ghost use Rattle.standard.specs.Fragment.{is_form, name_in, is_annotation_point, in_form_by, context_at, roots_made, place_in_root, all_in_root};
 
 use doc_tree::Tree;
-use html_types::{Context, Kind, Name, NoMemory, NodeId, Op, Place, Space, Word};
+use html_types::{Attributes, Context, Kind, Name, NoMemory, NodeId, Op, Ops, Place, Space, Word};
 use std::alloc::Global;
 use tag_sets::{is_html_annotation, is_the};
 
@@ -89,8 +91,8 @@ fn place_in_root(place: Place) -> Place
     }
 }
 
-/// The operation in the root of a fragment: none of a doctype.
-pub(crate) fn in_root(op: Op) -> Option<Op>
+// The operation in the root of a fragment: none of a doctype.
+fn in_root(op: Op) -> Option<Op>
     ensures { MatchOption result (all_in_root (spelled_one op) ≡ []) (λ o. all_in_root (spelled_one op) ≡ spelled_one o) }
 {
     match op {
@@ -109,4 +111,49 @@ pub(crate) fn in_root(op: Op) -> Option<Op>
         Op::Doctype { .. } => None,
         _ => Some(op),
     }
+}
+
+// Adds the operation in the root of a fragment at the end of others.
+fn push_in_root(all: &mut Ops, op: Op) -> Result<(), NoMemory>
+    ensures { OnOk result (all.new ≡ all.old ++ all_in_root (spelled_one op)) }
+{
+    match in_root(op) {
+        None => Ok(()),
+        Some(op) => all.push(op),
+    }
+}
+
+// Adds the operations in the root of a fragment at the end of others.
+fn push_all_in_root(all: &mut Ops, ops: Ops) -> Result<(), NoMemory>
+    ensures { OnOk result (all.new ≡ all.old ++ all_in_root ops) }
+{
+    for op in ops.into_vec() {
+        push_in_root(all, op)?;
+    }
+    Ok(())
+}
+
+// Makes that element of the fragment's, without attributes.
+fn push_made(alloc: Global, all: &mut Ops, n: u32, word: Word) -> Result<(), NoMemory>
+    ensures { OnOk result (all.new ≡ all.old ++ op.Make (record { realm = 0; n = n }) (Known word) [] ∷ []) }
+{
+    all.push(Op::Make {
+        id: NodeId { realm: 0, n },
+        name: Name::Known(word),
+        attributes: Attributes::new(alloc),
+    })
+}
+
+/// What makes a fragment's nodes under ids of their own: its root, the form element that its form element pointer names
+/// if there is one, and what is made of them in the root.
+pub(crate) fn fragment_ops(alloc: Global, form: bool, ops: Ops) -> Result<Ops, NoMemory>
+    ensures { IfOk result (λ all. all ≡ roots_made form ++ all_in_root ops) }
+{
+    let mut all = Ops::new(alloc);
+    push_made(alloc, &mut all, 0, Word::Html)?;
+    if form {
+        push_made(alloc, &mut all, 1, Word::Form)?;
+    }
+    push_all_in_root(&mut all, ops)?;
+    Ok(all)
 }

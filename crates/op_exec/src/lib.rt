@@ -9,4 +9,4 @@ mod script;
 
 pub use doc::Doc;
 pub use doc_tree::Put;
-pub use script::ScriptKind;
+pub use script::{ScriptKind, is_javascript};

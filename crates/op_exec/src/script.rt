@@ -61,8 +61,8 @@ fn is_among(text: &str, names: &[&str]) -> bool
     false
 }
 
-// Whether a `type` that is there says that the script is JavaScript.
-fn is_javascript(text: &str) -> bool
+/// Whether a `type` that is there says that the script is JavaScript.
+pub fn is_javascript(text: &str) -> bool
     ensures { result ≡ is_javascript (Some (chars text.now)) }
 {
     text.is_empty() || is_among(text, &JAVASCRIPT_TYPES)

@@ -37,10 +37,10 @@ use Rattle.core_definitions.specs.Batches.{Batch, finishing, refusal_batch, end_
 use Rattle.parse_machine.specs.declared.machine.PageEnd.{PageEnd}
 use Rattle.parse_machine.specs.declared.machine.PageEnd.TheVariants as page_end
 use Rattle.parse_machine.specs.Machine.{WentTo, EndedTo, finished_as, stops, RanAs, halt_at, EndsAs}
-use Rattle.parse_machine.specs.declared.machine.Went.{Went}
-use Rattle.parse_machine.specs.declared.machine.Went.TheVariants as went
-use Rattle.parse_machine.specs.declared.machine.Went.TheVariants.{AllUsed}
-use Rattle.parse_machine.specs.declared.machine.Ended.TheVariants as ended
+use Rattle.parse_machine.specs.declared.process.Went.{Went}
+use Rattle.parse_machine.specs.declared.process.Went.TheVariants as went
+use Rattle.parse_machine.specs.declared.process.Went.TheVariants.{AllUsed}
+use Rattle.parse_machine.specs.declared.process.Ended.TheVariants as ended
 
 -- ---- tokens
 

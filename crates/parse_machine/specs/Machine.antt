@@ -13,11 +13,11 @@ use Rattle.core_definitions.specs.Batches.{Batch, Halt, finishing, refusing}
 use Rattle.parse_machine.specs.declared.machine.Ran.{Ran}
 use Rattle.parse_machine.specs.declared.machine.PageEnd.{PageEnd}
 use Rattle.parse_machine.specs.declared.machine.PageEnd.TheVariants as page_end
-use Rattle.parse_machine.specs.declared.machine.Went.{Went}
-use Rattle.parse_machine.specs.declared.machine.Went.TheVariants.{AllUsed}
-use Rattle.parse_machine.specs.declared.machine.Went.TheVariants as went
-use Rattle.parse_machine.specs.declared.machine.Ended.{Ended}
-use Rattle.parse_machine.specs.declared.machine.Ended.TheVariants as ended
+use Rattle.parse_machine.specs.declared.process.Went.{Went}
+use Rattle.parse_machine.specs.declared.process.Went.TheVariants.{AllUsed}
+use Rattle.parse_machine.specs.declared.process.Went.TheVariants as went
+use Rattle.parse_machine.specs.declared.process.Ended.{Ended}
+use Rattle.parse_machine.specs.declared.process.Ended.TheVariants as ended
 
 -- the tokens that waited were processed up to a stop, whether or not the last character was a CR
 abbrev pub Builds : Bool → Reached → Open → List Op → Reached → Open → List Op → Stop → Type 0

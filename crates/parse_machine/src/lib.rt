@@ -5,6 +5,8 @@
 mod after_adoption;
 mod fragment;
 mod machine;
+mod process;
+mod text_runs;
 mod token;
 mod weight;
 

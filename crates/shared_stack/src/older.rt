@@ -97,6 +97,7 @@ impl<T> Older<T> {
 impl<T: Entry> Older<T> {
     /// Keeps so many, the earliest. The others stay for the copies.
     #[tactic(auto, using(std::proofs::lemmas::Grind::common_steps, crate::proofs::Ends::taken))]
+    #[inline(never)]
     pub(crate) fn truncate(&mut self, kept: usize)
         requires { kept ≤ length self.old }
         ensures { self.new ≡ take kept self.old }

@@ -64,6 +64,7 @@ impl<T: Entry> SharedStack<T> {
 
     /// Takes the latest entry off, if there is one. One that is shared stays for the copies.
     #[tactic(auto, using(std::proofs::lemmas::Grind::common_steps, crate::proofs::Ends::fewer))]
+    #[inline]
     pub fn pop(&mut self) -> bool
         ensures some { IsTrue result ↔ (0 < length self.old) }
         ensures rest { self.new ≡ drop 1 self.old }
@@ -102,7 +103,10 @@ impl<T: Entry> SharedStack<T> {
     pub fn latest(&self) -> Option<&T>
         ensures { MatchOption result (self.now ≡ []) (λ e. self.now ≡ e.now ∷ drop 1 self.now) }
     {
-        self.walk().latest()
+        match self.own.last() {
+            Some(entry) => Some(entry),
+            None => self.older.latest(),
+        }
     }
 
     /// The entry at a place: the earliest has place 0.

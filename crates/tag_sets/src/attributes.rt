@@ -41,6 +41,7 @@ fn is_html_encoding(text: &Text) -> bool
 
 /// Whether the `encoding` is one of HTML.
 #[tactic(auto, using(std::proofs::lemmas::Grind::common_steps, crate::proofs::Literals::encoding_text))]
+#[inline(never)]
 fn has_html_encoding(attributes: &[Attribute]) -> bool
     ensures { result ≡ definition.is_html_encoding (attribute (codes "encoding") attributes.now) }
 {
@@ -53,6 +54,7 @@ fn has_html_encoding(attributes: &[Attribute]) -> bool
 /// Whether an element of that name with those attributes is an annotation-xml of MathML that is
 /// an HTML integration point (13.2.6).
 #[tactic(auto, unfolding(standard::specs::Foreign::is_html_annotation))]
+#[inline]
 pub fn is_html_annotation(name: &Name, attributes: &[Attribute]) -> bool
     ensures { result ≡ definition.is_html_annotation (record { name = name.now; attributes = attributes.now; self_closing = false }) }
 {

@@ -5,11 +5,11 @@ use Rattle.standard.specs.Parser.{parse}
 use Rattle.parse_machine.proofs.MachineLemmas.{IsOver}
 use Rattle.parse_machine.proofs.machine.Machine.run.Given as goal
 
-abbrev pub invariant-loop-ran : goal.invariant-loop-ran
-invariant-loop-ran l = record {
+abbrev pub invariant-pieces : goal.invariant-pieces
+invariant-pieces l = record {
   boundary : IsCharBoundary l.text l.used;
   over : IsOver (parse l.table l.fn.self (chars (take l.used l.text))) l.fn.ops (length (chars (take l.used l.text))) l.self l.ops InputEnd;
 }
 
-abbrev pub decreases-loop-ran : goal.decreases-loop-ran
-decreases-loop-ran l = length l.text - l.used
+abbrev pub decreases-pieces : goal.decreases-pieces
+decreases-pieces l = length l.text - l.used
