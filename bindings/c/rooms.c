@@ -1,7 +1,8 @@
-/* rooms PAGE..: what the calls do with rooms, over pages that aren't refused, and over the same as
-   fragments. A room that is one item too small gives SP_NO_ROOM, the exact sizes, and untouched
-   rooms; what stands behind a tree stays; a refusal has its status and writes nothing; four threads
-   at once make the same trees. */
+/* rooms ENTITIES PAGE..: what the calls do with rooms, over pages that aren't refused, and over the
+   same as fragments. A room that is one item too small gives SP_NO_ROOM, the exact sizes, and
+   untouched rooms; what stands behind a tree stays; a refusal has its status and writes nothing;
+   four threads at once make the same trees. The archive's list is what sp_entities makes of that
+   JSON file. */
 #define _POSIX_C_SOURCE 200809L
 #include "specparse.h"
 #include <pthread.h>
@@ -156,6 +157,44 @@ static void try_refusals(void) {
     refused(text, SP_ENTITIES);
 }
 
+/* ---- lists of entities */
+
+/* That list gives the archive's, in a room that fits; in one that is too small nothing. */
+static void prepares(const uint8_t *list, size_t length) {
+    size_t wanted = sp_standard_entities_length, needed;
+    for (size_t room = wanted - 1; room <= wanted + 1; room++) {
+        int done = room >= wanted;
+        uint8_t *bytes = (uint8_t *)marked(room);
+        CHECK(sp_entities(list, length, bytes, room, &needed) == (done ? SP_DONE : SP_NO_ROOM));
+        CHECK(needed == wanted && is_marked(bytes, done ? wanted : 0, room + BEHIND));
+        CHECK(!done || !memcmp(bytes, sp_standard_entities, wanted));
+        free(bytes);
+    }
+}
+
+static void no_list(const uint8_t *list, size_t length) {
+    uint8_t room[1] = { MARK };
+    size_t needed = MARK;
+    CHECK(sp_entities(list, length, room, 1, &needed) == SP_ENTITIES);
+    CHECK(needed == 0 && room[0] == MARK);
+}
+
+/* The same of the JSON file and of the prepared list; of a part of the latter, or of one with
+   something behind it, nothing. */
+static void try_entities(const char *path) {
+    size_t length, own = sp_standard_entities_length;
+    uint8_t *json = read_file(path, &length), *list = (uint8_t *)malloc(own + 1);
+    CHECK(list);
+    memcpy(list, sp_standard_entities, own);
+    list[own] = 0;
+    prepares(json, length);
+    prepares(list, own);
+    for (size_t cut = 0; cut < own; cut += cut < 100 ? 1 : 997) no_list(list, cut);
+    no_list(list, own + 1);
+    free(json);
+    free(list);
+}
+
 /* ---- trees in room of their own */
 
 /* A page whose tree is larger than is guessed is parsed again; an empty one may be null. */
@@ -202,9 +241,11 @@ static void try_threads(void) {
 }
 
 int main(int count, char **words) {
+    CHECK(count > 1);
+    try_entities(words[1]);
     try_refusals();
     try_guesses();
-    for (int i = 1; i < count && i <= MOST; i++) {
+    for (int i = 2; i < count && i < MOST + 2; i++) {
         size_t length;
         uint8_t *source = read_file(words[i], &length);
         Job page = page_of(source, length), text = page;

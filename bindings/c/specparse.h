@@ -55,9 +55,15 @@ typedef struct { size_t nodes, attributes, text, root; } SpSizes;
 typedef char sp_node_has_48_bytes[sizeof(SpNode) == 48 ? 1 : -1];
 typedef char sp_attribute_has_16_bytes[sizeof(SpAttribute) == 16 ? 1 : -1];
 
-/* The standard's list of entities: what each call wants first. */
+/* The standard's list of entities, prepared: what each call wants first. */
 extern const uint8_t sp_standard_entities[];
 extern const size_t sp_standard_entities_length;
+
+/* A list of entities, prepared, of `needed` bytes. Each call takes a list, this one too, as JSON (a
+   file like the standard's entities.json, which begins with white space or a brace) or prepared,
+   which is read in a small part of the time. Who needs no list of his own needs no such call. */
+uint32_t sp_entities(const uint8_t *entities, size_t entities_length,
+                     uint8_t *room, size_t room_length, size_t *needed);
 
 /* The tree of a page. At SP_DONE the fronts of the three rooms, as long as `sizes` says, are the
    tree. At SP_NO_ROOM `sizes` says what is needed, and else it is 0; nothing was written to the

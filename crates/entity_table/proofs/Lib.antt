@@ -8,3 +8,4 @@ pub mod Examples
 pub mod Semicolons
 pub mod Spelling
 pub mod Finding
+pub mod Preparing

@@ -3,6 +3,7 @@
 
 pub mod cursor;
 mod guess;
+mod prepared;
 mod read;
 pub mod row;
 mod search;

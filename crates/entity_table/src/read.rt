@@ -35,7 +35,8 @@ fn all_alphanumeric(text: &[u8]) -> bool
     text.iter().all(|c| c.is_ascii_alphanumeric())
 }
 
-fn is_name(key: &[u8]) -> bool
+/// Whether it is spelt as a name.
+pub(crate) fn is_name(key: &[u8]) -> bool
     ensures { result ≡ is_named key.now }
 {
     let inner = inner(key);

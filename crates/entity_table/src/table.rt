@@ -6,12 +6,13 @@ ghost use Rattle.standard.specs.Entities.{begins_some, entities_of, is_name, lon
 ghost use Rattle.entity_table.specs.Matches.{Tells};
 ghost use Rattle.entity_table.specs.Order.{AreNames, entity_named};
 ghost use Rattle.entity_table.specs.Parts.{row_names};
+ghost use Rattle.entity_table.specs.Prepared.{loaded};
 ghost use Rattle.entity_table.specs.View.{rows_in};
 
 use crate::guess::Guesses;
-use crate::read;
 use crate::row::{Match, Row, as_match, goes_on};
 use crate::search::place_of;
+use crate::{prepared, read};
 use html_types::NoMemory;
 use std::alloc::{AllocError, AllocFailed, Global};
 use std::marker::Model;
@@ -83,6 +84,31 @@ impl Table {
         ensures no_table { result ≡ Err TableFault.NotTable → entities_of bytes.now ≡ None }
     {
         let rows = read::rows(alloc, bytes)?;
+        Table::of(alloc, rows)
+    }
+
+    /// The table that prepared bytes list, which takes a small part of the time in which `read` reads a file.
+    pub fn load(alloc: Global, bytes: &[u8]) -> Result<Table, TableFault>
+        ensures table { IfOk result (λ t. loaded bytes.now ≡ Some t) }
+        ensures no_table { result ≡ Err TableFault.NotTable → loaded bytes.now ≡ None }
+    {
+        let rows = prepared::rows(alloc, bytes)?;
+        Table::of(alloc, rows)
+    }
+
+    /// The bytes that `load` reads.
+    pub fn prepare(&self, alloc: Global) -> Result<Vec<u8>, NoMemory>
+        ensures { IfOk result (λ bytes. loaded bytes.items ≡ Some self.now) }
+    {
+        prepared::bytes(alloc, self.rows())
+    }
+
+    // The table of these rows.
+    fn of(alloc: Global, rows: Vec<Row>) -> Result<Table, TableFault>
+        requires { AreNames (row_names rows.items) }
+        ensures table { IfOk result (λ t. t ≡ rows_in rows.items) }
+        ensures no_table { IfErr result (λ fault. fault ≡ TableFault.NoMemory) }
+    {
         let guesses = Guesses::new(alloc, rows.as_slice())?;
         let names = Arc::new(alloc, Names { rows, guesses })?;
         Ok(Table { names })

@@ -8,7 +8,7 @@ use Rattle.html_types.specs.declared.name.Name.{Name}
 use Rattle.html_types.specs.declared.open.Context.{Context}
 use Rattle.entity_table.specs.declared.table.TableFault.{TableFault}
 use Rattle.entity_table.specs.declared.table.TableFault.TheVariants as table
-use Rattle.standard.specs.Entities.{Entities, entities_of}
+use Rattle.standard.specs.Entities.{Entities}
 use Rattle.standard.specs.Fragment.{fragment}
 use Rattle.serial.specs.Page.{page_of}
 use Rattle.serial.specs.Quiet.{refused, quiet}
@@ -18,6 +18,7 @@ use Rattle.html_document.specs.declared.refused.Refused.TheVariants as no_tree
 use Rattle.specparse_c.specs.declared.failure.Failure.{Failure}
 use Rattle.specparse_c.specs.declared.failure.Failure.TheVariants as failure
 use Rattle.specparse_c.specs.Statuses.{status_of, failure_of, failure_at}
+use Rattle.specparse_c.specs.Entities.{entities_in}
 use Rattle.specparse_c.specs.Calls.{space_at, name_in, IsNameAt, IsName, IsNoName, IsContext, FailsAtTable, FailsAtContext, FailsAtText, FailsAtParse, FailsAtDeep, FailsAtPage, FailsAtFragment}
 
 back : ℕ → Failure
@@ -57,6 +58,13 @@ page-status entities page failure.BadUtf8 h = (2, omega arith, refl)
 page-status entities page failure.Limit h = (3, omega arith, refl)
 page-status entities page failure.NoMemory h = (4, omega arith, refl)
 
+pub table-status : (entities : List ℕ) (f : Failure) → FailsAtTable entities f → Contains (0 ∷ 3 ∷ 12 ∷ 13 ∷ []) (status_of f)
+table-status entities failure.Context h = absurd h
+table-status entities failure.Entities h = (1, omega arith, refl)
+table-status entities failure.BadUtf8 h = absurd h
+table-status entities failure.Limit h = absurd h
+table-status entities failure.NoMemory h = (2, omega arith, refl)
+
 pub fragment-status : (f : Failure) → Contains (0 ∷ 2 ∷ 3 ∷ 4 ∷ 5 ∷ 12 ∷ 13 ∷ []) (status_of f)
 fragment-status failure.Context = (1, omega arith, refl)
 fragment-status failure.Entities = (2, omega arith, refl)
@@ -66,7 +74,7 @@ fragment-status failure.NoMemory = (5, omega arith, refl)
 
 -- ---- why there is nothing
 
-pub fails-table : (entities : List ℕ) (fault : TableFault) (r : Result Entities TableFault) → r ≡ Err fault → (r ≡ Err table.NotTable → entities_of entities ≡ None) → FailsAtTable entities (failure_at fault)
+pub fails-table : (entities : List ℕ) (fault : TableFault) (r : Result Entities TableFault) → r ≡ Err fault → (r ≡ Err table.NotTable → entities_in entities ≡ None) → FailsAtTable entities (failure_at fault)
 fails-table entities table.NotTable r is none = none is
 fails-table entities table.NoMemory r is none = tt
 
@@ -94,7 +102,7 @@ table-page entities page failure.BadUtf8 h = absurd h
 table-page entities page failure.Limit h = absurd h
 table-page entities page failure.NoMemory h = tt
 
-pub parse-page : (entities page : List ℕ) (es : Entities) (f : Failure) → entities_of entities ≡ Some es → FailsAtParse es page f → FailsAtPage entities page f
+pub parse-page : (entities page : List ℕ) (es : Entities) (f : Failure) → entities_in entities ≡ Some es → FailsAtParse es page f → FailsAtPage entities page f
 parse-page entities page es failure.Context is h = absurd h
 parse-page entities page es failure.Entities is h = absurd h
 parse-page entities page es failure.BadUtf8 is h = (es, is, h)
@@ -108,7 +116,7 @@ table-fragment entities name space flags source failure.BadUtf8 h = absurd h
 table-fragment entities name space flags source failure.Limit h = absurd h
 table-fragment entities name space flags source failure.NoMemory h = tt
 
-pub deep-fragment : (entities name : List ℕ) (space flags : ℕ) (source text : List ℕ) (es : Entities) (c : Context) (f : Failure) → entities_of entities ≡ Some es → IsContext name space flags c → text ≡ source
+pub deep-fragment : (entities name : List ℕ) (space flags : ℕ) (source text : List ℕ) (es : Entities) (c : Context) (f : Failure) → entities_in entities ≡ Some es → IsContext name space flags c → text ≡ source
     → FailsAtDeep es c (chars text) f → FailsAtFragment entities name space flags source f
 deep-fragment entities name space flags source text es c failure.Context is at same h = absurd h
 deep-fragment entities name space flags source text es c failure.Entities is at same h = absurd h

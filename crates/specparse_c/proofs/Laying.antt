@@ -1,5 +1,5 @@
 -- What is laid into the caller's room.
-use Rattle.std.proofs.Common.{◌≡◌, ◌≢◌, ◌≤◌, ◌⊎◌, inl, inr, ℕ, Bool, true, false, ◌||◌, List, ◌++◌, length, take, drop, Result, Ok, Err, IfErr, encode_utf8_all, refl, sym, ap, subst, ◌∙◌, arith, length-append}
+use Rattle.std.proofs.Common.{◌≡◌, ◌≢◌, ◌≤◌, ◌⊎◌, inl, inr, ℕ, Bool, true, false, ◌||◌, List, ◌++◌, length, take, drop, Result, Ok, Err, IfErr, refl, sym, ap, subst, ◌∙◌, arith, length-append}
 use Rattle.std.specs.Prelude.{nat_lt}
 use Rattle.std.proofs.Math.Seq.{take-append_seam, drop-append_seam}
 use Rattle.std.proofs.lemmas.Bool.{ltb-true, ltb-false}
@@ -11,7 +11,7 @@ use Rattle.specparse_c.specs.declared.failure.Failure.{Failure}
 use Rattle.specparse_c.specs.declared.results.Rooted.{Rooted}
 use Rattle.specparse_c.specs.declared.rooms.SpSizes.{SpSizes}
 use Rattle.specparse_c.specs.Statuses.{status_of}
-use Rattle.specparse_c.specs.Rooms.{no_sizes, sizes_of, lacks, AreTooSmall, ShownIn, AreSizes, Keeps, KeepsBytes, IsLaid, Gives, GivesText}
+use Rattle.specparse_c.specs.Rooms.{no_sizes, sizes_of, lacks, AreTooSmall, ShownIn, AreSizes, Keeps, KeepsBytes, IsLaid, IsLeft, Gives, GivesMade}
 use Rattle.specparse_c.proofs.Failures.{same-failure, not-done, not-room}
 
 laid-fits : {A : Type 0} (xs ys : List A) → length xs ≤ length (xs ++ ys)
@@ -88,11 +88,6 @@ failed P g (Ok r) status s ns new_ns as' new_as bs new_bs h (sizes, inl laid) is
 failed P g (Ok r) status s ns new_ns as' new_as bs new_bs h (sizes, inr (full, small, left)) is = absurd (not-room g (sym is ∙ full))
 failed P g (Err f) status s ns new_ns as' new_as bs new_bs h (own, none, left) is = subst P (same-failure f g (sym own ∙ is)) h
 
-pub failed-text : (P : Failure → Type 0) (g : Failure) (text : Result (List ℕ) Failure) (status needed : ℕ) (bs new_bs : List ℕ) → IfErr text P → GivesText text status needed bs new_bs → status ≡ status_of g → P g
-failed-text P g (Ok text) status needed bs new_bs h (size, inl (done, laid)) is = absurd (not-done g (sym is ∙ done))
-failed-text P g (Ok text) status needed bs new_bs h (size, inr (full, small, left)) is = absurd (not-room g (sym is ∙ full))
-failed-text P g (Err f) status needed bs new_bs h (own, none, left) is = subst P (same-failure f g (sym own ∙ is)) h
-
 -- nothing is needed where there is nothing
 pub none-needed : (tree : Result Rooted Failure) (status : ℕ) (s : SpSizes) (ns new_ns : List FlatNode) (as' new_as : List FlatAttribute) (bs new_bs : List ℕ) → Gives tree status s ns new_ns as' new_as bs new_bs → status ≢ 0 →
     status ≢ 13 → s ≡ no_sizes
@@ -100,12 +95,17 @@ none-needed (Ok r) status s ns new_ns as' new_as bs new_bs (sizes, inl laid) oth
 none-needed (Ok r) status s ns new_ns as' new_as bs new_bs (sizes, inr (full, small, left)) other more = absurd (more full)
 none-needed (Err f) status s ns new_ns as' new_as bs new_bs (own, none, left) other more = none
 
-pub none-needed-text : (text : Result (List ℕ) Failure) (status needed : ℕ) (bs new_bs : List ℕ) → GivesText text status needed bs new_bs → status ≢ 0 → status ≢ 13 → needed ≡ 0
-none-needed-text (Ok text) status needed bs new_bs (size, inl (done, laid)) other more = absurd (other done)
-none-needed-text (Ok text) status needed bs new_bs (size, inr (full, small, left)) other more = absurd (more full)
-none-needed-text (Err f) status needed bs new_bs (own, none, left) other more = none
+-- what stays, where nothing is laid
+left-as-they-were : (status : ℕ) (s : SpSizes) (ns new_ns : List FlatNode) (as' new_as : List FlatAttribute) (bs new_bs : List ℕ) → IsLeft ns new_ns as' new_as bs new_bs → Keeps status s ns new_ns as' new_as bs new_bs
+left-as-they-were status s ns new_ns as' new_as bs new_bs left = record {
+  nodes_behind = λ z. ap (drop s.nodes) left.nodes;
+  attributes_behind = λ z. ap (drop s.attributes) left.attributes;
+  text_behind = λ z. ap (drop s.text) left.text;
+  nodes = λ n. left.nodes;
+  attributes = λ n. left.attributes;
+  text = λ n. left.text;
+}
 
--- what stays
 pub keeps : (tree : Result Rooted Failure) (status : ℕ) (s : SpSizes) (ns new_ns : List FlatNode) (as' new_as : List FlatAttribute) (bs new_bs : List ℕ) → Gives tree status s ns new_ns as' new_as bs new_bs →
     Keeps status s ns new_ns as' new_as bs new_bs
 keeps (Ok r) status s ns new_ns as' new_as bs new_bs (sizes, inl laid) =
@@ -120,27 +120,29 @@ keeps (Ok r) status s ns new_ns as' new_as bs new_bs (sizes, inl laid) =
       attributes = λ n. absurd (n laid.status);
       text = λ n. absurd (n laid.status);
     }
-keeps (Ok r) status s ns new_ns as' new_as bs new_bs (sizes, inr (full, small, left)) = record {
-  nodes_behind = λ z. ap (drop s.nodes) left.nodes;
-  attributes_behind = λ z. ap (drop s.attributes) left.attributes;
-  text_behind = λ z. ap (drop s.text) left.text;
-  nodes = λ n. left.nodes;
-  attributes = λ n. left.attributes;
-  text = λ n. left.text;
-}
-keeps (Err f) status s ns new_ns as' new_as bs new_bs (own, none, left) = record {
-  nodes_behind = λ z. ap (drop s.nodes) left.nodes;
-  attributes_behind = λ z. ap (drop s.attributes) left.attributes;
-  text_behind = λ z. ap (drop s.text) left.text;
-  nodes = λ n. left.nodes;
-  attributes = λ n. left.attributes;
-  text = λ n. left.text;
-}
+keeps (Ok r) status s ns new_ns as' new_as bs new_bs (sizes, inr (full, small, left)) = left-as-they-were status s ns new_ns as' new_as bs new_bs left
+keeps (Err f) status s ns new_ns as' new_as bs new_bs (own, none, left) = left-as-they-were status s ns new_ns as' new_as bs new_bs left
 
-pub keeps-text : (text : Result (List ℕ) Failure) (status needed : ℕ) (bs new_bs : List ℕ) → GivesText text status needed bs new_bs → KeepsBytes status needed bs new_bs
-keeps-text (Ok text) status needed bs new_bs (size, inl (done, laid)) = record {
-  behind = λ z. ap (drop needed) laid ∙ (ap (λ k. drop k (encode_utf8_all text ++ drop needed bs)) size ∙ drop-append_seam (encode_utf8_all text) (drop needed bs));
+-- ---- the same of what fills one room
+
+pub failed-made : {A : Type 0} (bytes : A → List ℕ) (P : Failure → Type 0) (g : Failure) (made : Result A Failure) (status needed : ℕ) (bs new_bs : List ℕ) → IfErr made P → GivesMade bytes made status needed bs new_bs →
+    status ≡ status_of g → P g
+failed-made bytes P g (Ok a) status needed bs new_bs h (size, inl (done, laid)) is = absurd (not-done g (sym is ∙ done))
+failed-made bytes P g (Ok a) status needed bs new_bs h (size, inr (full, small, left)) is = absurd (not-room g (sym is ∙ full))
+failed-made bytes P g (Err f) status needed bs new_bs h (own, none, left) is = subst P (same-failure f g (sym own ∙ is)) h
+
+pub none-needed-made : {A : Type 0} (bytes : A → List ℕ) (made : Result A Failure) (status needed : ℕ) (bs new_bs : List ℕ) → GivesMade bytes made status needed bs new_bs → status ≢ 0 → status ≢ 13 → needed ≡ 0
+none-needed-made bytes (Ok a) status needed bs new_bs (size, inl (done, laid)) other more = absurd (other done)
+none-needed-made bytes (Ok a) status needed bs new_bs (size, inr (full, small, left)) other more = absurd (more full)
+none-needed-made bytes (Err f) status needed bs new_bs (own, none, left) other more = none
+
+left-as-it-was : (status needed : ℕ) (bs new_bs : List ℕ) → new_bs ≡ bs → KeepsBytes status needed bs new_bs
+left-as-it-was status needed bs new_bs left = record { behind = λ z. ap (drop needed) left; all = λ n. left }
+
+pub keeps-made : {A : Type 0} (bytes : A → List ℕ) (made : Result A Failure) (status needed : ℕ) (bs new_bs : List ℕ) → GivesMade bytes made status needed bs new_bs → KeepsBytes status needed bs new_bs
+keeps-made bytes (Ok a) status needed bs new_bs (size, inl (done, laid)) = record {
+  behind = λ z. ap (drop needed) laid ∙ (ap (λ k. drop k (bytes a ++ drop needed bs)) size ∙ drop-append_seam (bytes a) (drop needed bs));
   all = λ n. absurd (n done);
 }
-keeps-text (Ok text) status needed bs new_bs (size, inr (full, small, left)) = record { behind = λ z. ap (drop needed) left; all = λ n. left }
-keeps-text (Err f) status needed bs new_bs (own, none, left) = record { behind = λ z. ap (drop needed) left; all = λ n. left }
+keeps-made bytes (Ok a) status needed bs new_bs (size, inr (full, small, left)) = left-as-it-was status needed bs new_bs left
+keeps-made bytes (Err f) status needed bs new_bs (own, none, left) = left-as-it-was status needed bs new_bs left

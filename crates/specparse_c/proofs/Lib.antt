@@ -1,3 +1,4 @@
 mod Failures
 mod Laying
 mod Calls
+mod Prepared

@@ -9,7 +9,7 @@ use Rattle.html_types.specs.declared.name.Space.TheVariants.{Html, MathMl, Svg}
 use Rattle.html_types.specs.declared.open.Context.{Context}
 use Rattle.html_types.specs.declared.ending.Why.{Why}
 use Rattle.html_types.specs.declared.ending.Why.TheVariants as why
-use Rattle.standard.specs.Entities.{Entities, entities_of}
+use Rattle.standard.specs.Entities.{Entities}
 use Rattle.standard.specs.Act.{Doc, node_of}
 use Rattle.standard.specs.Outer.{document_text}
 use Rattle.standard.specs.Fragment.{fragment, root_id}
@@ -25,21 +25,22 @@ use Rattle.specparse_c.specs.declared.failure.Failure.{Failure}
 use Rattle.specparse_c.specs.declared.failure.Failure.TheVariants as failure
 use Rattle.specparse_c.specs.declared.results.Rooted.{Rooted}
 use Rattle.specparse_c.specs.declared.rooms.SpSizes.{SpSizes}
+use Rattle.specparse_c.specs.Entities.{entities_in, ArePrepared}
 use Rattle.specparse_c.specs.Rooms.{AreTooSmall, ShownIn, AreSizes}
 
 -- ---- entities and page
 
 -- the bytes are no list of entities
 abbrev pub NoEntities : List ℕ → Type 0
-NoEntities entities = entities_of entities ≡ None
+NoEntities entities = entities_in entities ≡ None
 
 -- with those entities, the page has that document
 abbrev pub IsPage : List ℕ → List ℕ → Doc → Type 0
-IsPage entities page d = (es : Entities) × (entities_of entities ≡ Some es) × (quiet es (page_of PAGE_LIMIT page false) ≡ tree d)
+IsPage entities page d = (es : Entities) × (entities_in entities ≡ Some es) × (quiet es (page_of PAGE_LIMIT page false) ≡ tree d)
 
 -- it is refused for that
 abbrev pub IsRefused : List ℕ → List ℕ → Why → Type 0
-IsRefused entities page w = (es : Entities) × (entities_of entities ≡ Some es) × (quiet es (page_of PAGE_LIMIT page false) ≡ refused w)
+IsRefused entities page w = (es : Entities) × (entities_in entities ≡ Some es) × (quiet es (page_of PAGE_LIMIT page false) ≡ refused w)
 
 abbrev pub IsBadUtf8 : List ℕ → List ℕ → Type 0
 IsBadUtf8 entities page = IsRefused entities page why.BadUtf8
@@ -87,12 +88,12 @@ IsNoText source = IsUtf8 source → ⊥
 -- with those entities, the text has that document as the children of that context
 abbrev pub IsFragmentDoc : List ℕ → List ℕ → ℕ → ℕ → List ℕ → Doc → Type 0
 IsFragmentDoc entities name space flags source d =
-    (es : Entities) × (c : Context) × (entities_of entities ≡ Some es) × IsContext name space flags c × IsUtf8 source × IsFragment es c (chars source) d
+    (es : Entities) × (c : Context) × (entities_in entities ≡ Some es) × IsContext name space flags c × IsUtf8 source × IsFragment es c (chars source) d
 
 -- more than 512 elements would be open
 abbrev pub IsDeep : List ℕ → List ℕ → ℕ → ℕ → List ℕ → Type 0
 IsDeep entities name space flags source =
-    (es : Entities) × (c : Context) × (entities_of entities ≡ Some es) × IsContext name space flags c × (fragment es c (chars source) ≡ None)
+    (es : Entities) × (c : Context) × (entities_in entities ≡ Some es) × IsContext name space flags c × (fragment es c (chars source) ≡ None)
 
 -- ---- results, before they are laid into the room
 
@@ -172,3 +173,10 @@ HasFragment entities name space flags source s ns as' bs =
 abbrev pub LacksFragmentRoom : List ℕ → List ℕ → ℕ → ℕ → List ℕ → SpSizes → List FlatNode → List FlatAttribute → List ℕ → Type 0
 LacksFragmentRoom entities name space flags source s ns as' bs =
     (d : Doc) × IsFragmentDoc entities name space flags source d × AreSizes d.tree s × (s.root ≡ node_of d.bound (root_id 0)) × AreTooSmall s ns as' bs
+
+-- the room's front lists, prepared, what the bytes list
+abbrev pub HasEntities : List ℕ → ℕ → List ℕ → Type 0
+HasEntities entities needed bs = (needed ≤ length bs) × ArePrepared entities (take needed bs)
+
+abbrev pub LacksEntitiesRoom : List ℕ → ℕ → List ℕ → Type 0
+LacksEntitiesRoom entities needed bs = (bytes : List ℕ) × ArePrepared entities bytes × (needed ≡ length bytes) × (length bs < needed)

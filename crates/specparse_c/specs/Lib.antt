@@ -1,3 +1,4 @@
+pub mod Entities
 pub mod Statuses
 pub mod Rooms
 pub mod Calls

@@ -1,5 +1,6 @@
 -- A tree, or its text, in the caller's room.
-use Rattle.std.specs.Prelude.{◌≡◌, ◌≢◌, ◌<◌, ◌≤◌, ◌⊎◌, ℕ, Bool, ◌||◌, nat_lt, List, ◌++◌, length, take, drop, flat_map, encode_utf8_all, Result, Ok, Err}
+use Rattle.std.specs.Prelude.{◌≡◌, ◌≢◌, ◌<◌, ◌≤◌, ◌⊎◌, ℕ, Bool, ◌||◌, nat_lt, List, ◌++◌, length, take, drop, flat_map, encode_utf8_all, Result, Ok, Err, Vec}
+use Rattle.std.specs.Global.{Global}
 use Rattle.standard.specs.Tree.{Nodes}
 use Rattle.html_document.specs.declared.spans.FlatNode.{FlatNode}
 use Rattle.html_document.specs.declared.spans.FlatAttribute.{FlatAttribute}
@@ -71,9 +72,18 @@ Gives (Ok r) status s ns new_ns as' new_as bs new_bs = GivesTree r status s ns n
 Gives (Err f) status s ns new_ns as' new_as bs new_bs = (status ≡ status_of f) × (s ≡ no_sizes) × IsLeft ns new_ns as' new_as bs new_bs
 
 abbrev pub GivesBytes : List ℕ → ℕ → ℕ → (bs new_bs : List ℕ) → Type 0
-GivesBytes text status needed bs new_bs =
-    (needed ≡ length (encode_utf8_all text)) × (((status ≡ 0) × (new_bs ≡ encode_utf8_all text ++ drop needed bs)) ⊎ ((status ≡ 13) × (length bs < needed) × (new_bs ≡ bs)))
+GivesBytes bytes status needed bs new_bs = (needed ≡ length bytes) × (((status ≡ 0) × (new_bs ≡ bytes ++ drop needed bs)) ⊎ ((status ≡ 13) × (length bs < needed) × (new_bs ≡ bs)))
+
+-- the bytes of what was made, or why there is nothing
+abbrev pub GivesMade : {A : Type 0} → (A → List ℕ) → Result A Failure → ℕ → ℕ → (bs new_bs : List ℕ) → Type 0
+GivesMade bytes (Ok a) status needed bs new_bs = GivesBytes (bytes a) status needed bs new_bs
+GivesMade bytes (Err f) status needed bs new_bs = (status ≡ status_of f) × (needed ≡ 0) × (new_bs ≡ bs)
 
 abbrev pub GivesText : Result (List ℕ) Failure → ℕ → ℕ → (bs new_bs : List ℕ) → Type 0
-GivesText (Ok text) status needed bs new_bs = GivesBytes text status needed bs new_bs
-GivesText (Err f) status needed bs new_bs = (status ≡ status_of f) × (needed ≡ 0) × (new_bs ≡ bs)
+GivesText text status needed bs new_bs = GivesMade encode_utf8_all text status needed bs new_bs
+
+abbrev pub items_of : Vec ℕ Global → List ℕ
+items_of v = v.items
+
+abbrev pub GivesPrepared : Result (Vec ℕ Global) Failure → ℕ → ℕ → (bs new_bs : List ℕ) → Type 0
+GivesPrepared prepared status needed bs new_bs = GivesMade items_of prepared status needed bs new_bs

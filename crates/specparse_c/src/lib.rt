@@ -5,7 +5,7 @@
 
 ghost use Rattle.std.specs.Prelude.{◌≡◌, ◌≢◌, ◌∷◌, [], Contains};
 ghost use Rattle.specparse_c.specs.Rooms.{no_sizes, Keeps, KeepsBytes};
-ghost use Rattle.specparse_c.specs.Calls.{HasPage, HasText, HasFragment, LacksRoom, LacksTextRoom, LacksFragmentRoom, NoEntities, IsBadUtf8, IsLimit, IsNoText, IsDeep, IsNoContext};
+ghost use Rattle.specparse_c.specs.Calls.{HasPage, HasText, HasFragment, LacksRoom, LacksTextRoom, LacksFragmentRoom, NoEntities, IsBadUtf8, IsLimit, IsNoText, IsDeep, IsNoContext, HasEntities, LacksEntitiesRoom};
 
 mod failure;
 mod results;
@@ -14,6 +14,28 @@ mod rooms;
 use html_document::{FlatAttribute, FlatNode};
 pub use rooms::SpSizes;
 use std::alloc::Global;
+
+/// Prepares the list of entities, which every other call takes as this one does: as the JSON file,
+/// or as the bytes that this call made of it, which are read in a small part of the time. They fill
+/// the front of the room where that is large enough, and `needed` says how much of it; where it
+/// isn't nothing is written, the status is 13, and `needed` says what is needed.
+#[unsafe(no_mangle)]
+pub extern "C" fn sp_entities(
+    alloc: Global,
+    entities: &[u8],
+    room: &mut [u8],
+    needed: &mut usize,
+) -> u32
+    ensures done { result ≡ 0 → HasEntities entities.now needed.new room.new }
+    ensures no_room { result ≡ 13 → LacksEntitiesRoom entities.now needed.new room.old }
+    ensures no_entities { result ≡ 3 → NoEntities entities.now }
+    ensures statuses { Contains (0 ∷ 3 ∷ 12 ∷ 13 ∷ []) result }
+    ensures nothing { result ≢ 0 → result ≢ 13 → needed.new ≡ 0 }
+    ensures kept { KeepsBytes result needed.new room.old room.new }
+{
+    let prepared = results::entities(alloc, entities);
+    rooms::give_prepared(prepared, room, needed)
+}
 
 /// Parses a page without its scripts. The tree fills the fronts of the three rooms where they are
 /// large enough for it, and `sizes` says how much of them; where one isn't nothing is written to

@@ -2,11 +2,11 @@
 
 ghost use Rattle.std.specs.Prelude.{◌≡◌, ◌==◌, ◌%◌, ◌/◌, Some, None, IfOk, IfErr, MatchOption};
 ghost use Rattle.std.specs.Str.{chars, IsUtf8};
-ghost use Rattle.standard.specs.Entities.{entities_of};
+ghost use Rattle.specparse_c.specs.Entities.{begins_json, entities_in, ArePrepared};
 ghost use Rattle.specparse_c.specs.Calls.{space_at, name_in, IsName, IsNameAt, IsNoName, IsContext, IsPage, HasDoc, HasTree, IsPageTree, IsPageText, IsFragmentTree, FailsAtTable, FailsAtContext, FailsAtText, FailsAtParse, FailsAtDeep, FailsAtPage, FailsAtFragment};
 
 use crate::failure::Failure;
-use entity_table::Table;
+use entity_table::{Table, TableFault};
 use html_document::{Flat, Fragment, parse, parse_fragment};
 use html_types::{Context, Name, NoMemory, Space, Text};
 use op_exec::Doc;
@@ -20,14 +20,47 @@ pub struct Rooted {
     pub root: usize,
 }
 
+// Whether the bytes begin as JSON does, with white space or `{`.
+fn begins_json(bytes: &[u8]) -> bool
+    ensures { result ≡ begins_json bytes.now }
+{
+    match bytes.first() {
+        Some(first) => matches!(*first, b'{' | b' ' | b'\n' | b'\r' | b'\t'),
+        None => false,
+    }
+}
+
+// The entities, of the JSON file or prepared.
+#[tactic(auto, unfolding(crate::specs::Entities::entities_in))]
+fn table_in(alloc: Global, entities: &[u8]) -> Result<Table, TableFault>
+    ensures table { IfOk result (λ t. entities_in entities.now ≡ Some t) }
+    ensures no_table { result ≡ Err TableFault.NotTable → entities_in entities.now ≡ None }
+{
+    if begins_json(entities) {
+        Table::read(alloc, entities)
+    } else {
+        Table::load(alloc, entities)
+    }
+}
+
 fn table_of(alloc: Global, entities: &[u8]) -> Result<Table, Failure>
-    ensures table { IfOk result (λ t. entities_of entities.now ≡ Some t) }
+    ensures table { IfOk result (λ t. entities_in entities.now ≡ Some t) }
     ensures failure { IfErr result (λ f. FailsAtTable entities.now f) }
 {
-    match Table::read(alloc, entities) {
+    match table_in(alloc, entities) {
         Ok(table) => Ok(table),
         Err(fault) => Err(Failure::at(fault)),
     }
+}
+
+/// The entities, prepared.
+pub fn entities(alloc: Global, entities: &[u8]) -> Result<Vec<u8>, Failure>
+    ensures prepared { IfOk result (λ bytes. ArePrepared entities.now bytes.items) }
+    ensures failure { IfErr result (λ f. FailsAtTable entities.now f) }
+{
+    let table = table_of(alloc, entities)?;
+    let bytes = table.prepare(alloc)?;
+    Ok(bytes)
 }
 
 fn parsed(alloc: Global, table: &Table, page: &[u8]) -> Result<Doc, Failure>

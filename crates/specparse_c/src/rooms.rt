@@ -1,8 +1,7 @@
 //! The caller's room.
 
 ghost use Rattle.std.specs.Prelude.{◌≡◌, ◌≤◌, ◌++◌, length, drop};
-ghost use Rattle.std.specs.Str.{chars};
-ghost use Rattle.specparse_c.specs.Rooms.{sizes_of, no_sizes, lacks, Gives, GivesTree, GivesText, GivesBytes};
+ghost use Rattle.specparse_c.specs.Rooms.{sizes_of, no_sizes, lacks, Gives, GivesTree, GivesText, GivesPrepared, GivesBytes};
 
 use crate::failure::Failure;
 use crate::results::Rooted;
@@ -117,27 +116,40 @@ pub fn give(
     }
 }
 
-// Lays a text into the room where that is large enough, and says how much it takes.
-fn give_bytes(written: &str, text: &mut [u8], needed: &mut usize) -> u32
-    ensures { GivesBytes (chars written.now) result needed.new text.old text.new }
+// Lays bytes into the room where that is large enough, and says how much they take.
+fn give_bytes(bytes: &[u8], room: &mut [u8], needed: &mut usize) -> u32
+    ensures { GivesBytes bytes.now result needed.new room.old room.new }
 {
-    let bytes = written.as_bytes();
     *needed = bytes.len();
-    let lacks = text.len() < bytes.len();
+    let lacks = room.len() < bytes.len();
     if lacks {
         return 13;
     }
-    fill(text, bytes);
+    fill(room, bytes);
     0
 }
 
 /// Lays a text into the room where that is large enough, and says how much it takes; or why there
 /// is none.
-pub fn give_text(written: Result<Text, Failure>, text: &mut [u8], needed: &mut usize) -> u32
-    ensures { GivesText written result needed.new text.old text.new }
+pub fn give_text(written: Result<Text, Failure>, room: &mut [u8], needed: &mut usize) -> u32
+    ensures { GivesText written result needed.new room.old room.new }
 {
     match written {
-        Ok(written) => give_bytes(written.as_str(), text, needed),
+        Ok(written) => give_bytes(written.as_str().as_bytes(), room, needed),
+        Err(failure) => {
+            *needed = 0;
+            failure.status()
+        }
+    }
+}
+
+/// Lays prepared entities into the room where that is large enough, and says how much they take;
+/// or why there are none.
+pub fn give_prepared(prepared: Result<Vec<u8>, Failure>, room: &mut [u8], needed: &mut usize) -> u32
+    ensures { GivesPrepared prepared result needed.new room.old room.new }
+{
+    match prepared {
+        Ok(bytes) => give_bytes(bytes.as_slice(), room, needed),
         Err(failure) => {
             *needed = 0;
             failure.status()

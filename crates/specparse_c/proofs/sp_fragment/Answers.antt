@@ -29,7 +29,8 @@ returns-clause-limit c =
     failed (FailsAtFragment c.args.entities.now c.args.name.now c.args.space c.args.flags c.args.source.now) failure.Limit _ _ _ _ _ _ _ _ _ c.fragment-tree.ensures.failure c.give.ensures
 
 pub returns-clause-statuses : goal.returns-clause-statuses
-returns-clause-statuses c = fragment-statuses _ _ _ _ _ _ _ _ _ c.give.ensures
+returns-clause-statuses c =
+    fragment-statuses (FailsAtFragment c.args.entities.now c.args.name.now c.args.space c.args.flags c.args.source.now) _ _ _ _ _ _ _ _ _ c.fragment-tree.ensures.failure c.give.ensures
 
 pub returns-clause-no_tree : goal.returns-clause-no_tree
 returns-clause-no_tree c = none-needed _ _ _ _ _ _ _ _ _ c.give.ensures
