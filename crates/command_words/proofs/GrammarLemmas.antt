@@ -63,9 +63,11 @@ pub page_within : (read : PageWords) (sub : Option (Text × List Row)) → shown
 page_within read sub is =
     let piece = number_within 1 65536 4096 (value_of (codes "piece") sub) (lit≤ tt) (lit≤ tt) in
     let ahead = number_within 1 64 8 (value_of (codes "ahead") sub) (lit≤ tt) (lit≤ tt) in
+    let preload = number_within 0 8 0 (value_of (codes "preload") sub) (lit≤ tt) (lit≤ tt) in
     let piece_is : read.piece ≡ number_from 1 65536 4096 (value_of (codes "piece") sub) = ap (λ (p : PageAsked). p.piece) is in
     let ahead_is : read.ahead ≡ number_from 1 64 8 (value_of (codes "ahead") sub) = ap (λ (p : PageAsked). p.ahead) is in
-    (rw piece_is piece.0, rw piece_is piece.1, rw ahead_is ahead.0, rw ahead_is ahead.1)
+    let preload_is : read.preload ≡ number_from 0 8 0 (value_of (codes "preload") sub) = ap (λ (p : PageAsked). p.preload) is in
+    (rw piece_is piece.0, rw piece_is piece.1, rw ahead_is ahead.0, rw ahead_is ahead.1, rw preload_is preload.1)
 
 -- and of a page that is to be made
 pub make_within : (made : MakeWords) (sub : Option (Text × List Row)) → made ≡ make_asked sub → AreWithin (words.Make made)

@@ -6,19 +6,28 @@ use Rattle.clap.specs.Walk.{walked}
 use Rattle.command_words.specs.Words.{for_page, for_make, asked}
 
 plain : asked (codes "specparse" ∷ codes "page" ∷ codes "p" ∷ codes "d" ∷ codes "e" ∷ [])
-    ≡ Some (for_page (record { page = codes "p"; dir = codes "d"; entities = codes "e"; piece = 4096; ahead = 8; dump = false }))
+    ≡ Some (for_page (record { page = codes "p"; dir = codes "d"; entities = codes "e"; piece = 4096; ahead = 8; preload = 0; dump = false }))
 unfolding walk_fault walked defaults_fault
 plain = refl
 
 with_options : asked (codes "specparse" ∷ codes "page" ∷ codes "--piece=+5" ∷ codes "p" ∷ codes "d" ∷ codes "--ahead" ∷ codes "007" ∷ codes "e" ∷ [])
-    ≡ Some (for_page (record { page = codes "p"; dir = codes "d"; entities = codes "e"; piece = 5; ahead = 7; dump = false }))
+    ≡ Some (for_page (record { page = codes "p"; dir = codes "d"; entities = codes "e"; piece = 5; ahead = 7; preload = 0; dump = false }))
 unfolding walk_fault walked defaults_fault
 with_options = refl
 
 with_dump : asked (codes "specparse" ∷ codes "page" ∷ codes "p" ∷ codes "--dump" ∷ codes "d" ∷ codes "e" ∷ [])
-    ≡ Some (for_page (record { page = codes "p"; dir = codes "d"; entities = codes "e"; piece = 4096; ahead = 8; dump = true }))
+    ≡ Some (for_page (record { page = codes "p"; dir = codes "d"; entities = codes "e"; piece = 4096; ahead = 8; preload = 0; dump = true }))
 unfolding walk_fault walked defaults_fault
 with_dump = refl
+
+with_preload : asked (codes "specparse" ∷ codes "page" ∷ codes "--preload" ∷ codes "8" ∷ codes "p" ∷ codes "d" ∷ codes "e" ∷ [])
+    ≡ Some (for_page (record { page = codes "p"; dir = codes "d"; entities = codes "e"; piece = 4096; ahead = 8; preload = 8; dump = false }))
+unfolding walk_fault walked defaults_fault
+with_preload = refl
+
+too_large_a_preload : asked (codes "specparse" ∷ codes "page" ∷ codes "--preload=9" ∷ codes "p" ∷ codes "d" ∷ codes "e" ∷ []) ≡ None
+unfolding walk_fault walked defaults_fault
+too_large_a_preload = refl
 
 dump_twice : asked (codes "specparse" ∷ codes "page" ∷ codes "--dump" ∷ codes "--dump" ∷ codes "p" ∷ codes "d" ∷ codes "e" ∷ []) ≡ None
 unfolding walk_fault walked defaults_fault

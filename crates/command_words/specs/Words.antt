@@ -17,9 +17,9 @@ use Rattle.command_words.specs.declared.words.MakeWords.{MakeWords}
 use Rattle.command_words.specs.declared.words.CommandWords.{CommandWords}
 use Rattle.command_words.specs.declared.words.CommandWords.TheVariants as words
 
--- an option that takes a number from 1 to this
-abbrev pub number_option : List ℕ → ℕ → Rule
-number_option name most = record (new_rule name) { long = Some name; parser = Some (parsers.Unsigned 1 most) }
+-- an option that takes a number from this to that
+abbrev pub number_option : List ℕ → ℕ → ℕ → Rule
+number_option name least most = record (new_rule name) { long = Some name; parser = Some (parsers.Unsigned least most) }
 
 -- an option that takes none
 abbrev pub flag : List ℕ → Rule
@@ -32,11 +32,12 @@ required name = record (new_rule name) { required = true }
 abbrev pub required_number : List ℕ → ℕ → ℕ → Rule
 required_number name least most = record (new_rule name) { required = true; parser = Some (parsers.Unsigned least most) }
 
--- page [--piece N] [--ahead K] [--dump] PAGE DIR ENTITIES
+-- page [--piece N] [--ahead K] [--preload N] [--dump] PAGE DIR ENTITIES
 abbrev pub page_command : App
-page_command = with_rule (with_rule (with_rule (with_rule (with_rule (with_rule (new_app (codes "page"))
-    (number_option (codes "piece") 65536))
-    (number_option (codes "ahead") 64))
+page_command = with_rule (with_rule (with_rule (with_rule (with_rule (with_rule (with_rule (new_app (codes "page"))
+    (number_option (codes "piece") 1 65536))
+    (number_option (codes "ahead") 1 64))
+    (number_option (codes "preload") 0 8))
     (flag (codes "dump")))
     (required (codes "PAGE")))
     (required (codes "DIR")))
@@ -80,6 +81,7 @@ pub record PageAsked : Type 0 where
   pub entities : List ℕ
   pub piece : ℕ
   pub ahead : ℕ
+  pub preload : ℕ
   pub dump : Bool
 
 -- what the words ask for: that a page is parsed, or that one is made
@@ -94,6 +96,7 @@ page_asked sub = record {
   entities = text_from (value_of (codes "ENTITIES") sub);
   piece = number_from 1 65536 4096 (value_of (codes "piece") sub);
   ahead = number_from 1 64 8 (value_of (codes "ahead") sub);
+  preload = number_from 0 8 0 (value_of (codes "preload") sub);
   dump = flag_from (value_of (codes "dump") sub);
 }
 
@@ -126,6 +129,7 @@ shown read = record {
   entities = string_bytes read.entities;
   piece = read.piece;
   ahead = read.ahead;
+  preload = read.preload;
   dump = read.dump;
 }
 
@@ -135,5 +139,5 @@ asked_for (words.Make read) = for_make read
 
 -- the numbers are those that the grammar takes
 abbrev pub AreWithin : CommandWords → Type 0
-AreWithin (words.Page read) = (1 ≤ read.piece) × (read.piece ≤ 65536) × (1 ≤ read.ahead) × (read.ahead ≤ 64)
+AreWithin (words.Page read) = (1 ≤ read.piece) × (read.piece ≤ 65536) × (1 ≤ read.ahead) × (read.ahead ≤ 64) × (read.preload ≤ 8)
 AreWithin (words.Make read) = (read.number < 2 ^ 31) × (1 ≤ read.count) × (read.count ≤ 50000)

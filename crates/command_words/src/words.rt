@@ -34,6 +34,8 @@ pub struct PageWords {
     pub piece: usize,
     /// How many requests may be sent ahead of their replies: 1 to 64.
     pub ahead: usize,
+    /// How many fetch scripts before they are awaited: 0 to 8.
+    pub preload: usize,
     /// Whether the tree's dump is written in place of its text.
     pub dump: bool,
 }
@@ -65,13 +67,13 @@ impl From<AllocError> for Refused {
     }
 }
 
-fn number_option<'a>(alloc: Global, name: &'a str, most: u64) -> Arg<'a>
-    ensures rule { rule_of result ≡ number_option name.entry.now most }
+fn number_option<'a>(alloc: Global, name: &'a str, least: u64, most: u64) -> Arg<'a>
+    ensures rule { rule_of result ≡ number_option name.entry.now least most }
     ensures local { result.global ≡ false }
 {
     Arg::new(alloc, name)
         .long(name)
-        .value_parser(ValueParser::Unsigned(1, most))
+        .value_parser(ValueParser::Unsigned(least, most))
 }
 
 fn flag<'a>(alloc: Global, name: &'a str) -> Arg<'a>
@@ -101,8 +103,9 @@ fn page_command<'a>(alloc: Global) -> Result<Command<'a>, AllocError>
     ensures { IfOk result (λ c. (app_of c ≡ page_command) × ((fields_of c).has_globals ≡ false)) }
 {
     Command::new(alloc, "page")
-        .arg(number_option(alloc, "piece", 65536))?
-        .arg(number_option(alloc, "ahead", 64))?
+        .arg(number_option(alloc, "piece", 1, 65536))?
+        .arg(number_option(alloc, "ahead", 1, 64))?
+        .arg(number_option(alloc, "preload", 0, 8))?
         .arg(flag(alloc, "dump"))?
         .arg(required(alloc, "PAGE"))?
         .arg(required(alloc, "DIR"))?
@@ -221,6 +224,7 @@ fn page_words(alloc: Global, matches: &ArgMatches<'_>) -> Result<PageWords, Allo
         entities: String::from_str(alloc, text_of(matches, "ENTITIES"))?,
         piece: number_of(matches, "piece", 1, 65536, 4096),
         ahead: number_of(matches, "ahead", 1, 64, 8),
+        preload: number_of(matches, "preload", 0, 8, 0),
         dump: is_given(matches, "dump"),
     })
 }

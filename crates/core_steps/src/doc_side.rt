@@ -106,6 +106,13 @@ impl DocSide {
         Ok(())
     }
 
+    /// The epoch in which requests are sent now. After want of memory it tells nothing.
+    pub fn epoch(&self) -> u64
+        ensures { self.now.spent ≡ false → result ≡ self.now.desk.epoch }
+    {
+        self.side.counts.epoch
+    }
+
     /// Whether credit is left and a piece is to be sent.
     pub fn can_send(&self) -> bool
         ensures { result ≡ can_send self.now.ahead self.now.desk }

@@ -19,9 +19,12 @@ use Rattle.page_runner.specs.declared.status.Status.TheVariants as status
 use Rattle.command_words.specs.Words.{PageAsked, Asked, for_page, for_make}
 use Rattle.page_turns.specs.Given.{Given, unmet, missing, faulted, got, FaultsRose, NoFault, AbsencesRose, file_at, MayGive}
 use Rattle.page_turns.specs.Taken.{Took}
-use Rattle.page_turns.specs.Scripts.{path_of, IsAbsent, MayFetch, AreScriptsOf, fetched_of, world_in}
+use Rattle.page_turns.specs.Scripts.{Folder, Help, path_of, IsAbsent, MayFetch, MayCome, AreScriptsOf, Alike, fetched_of, world_in}
+use Rattle.page_turns.proofs.SameWorlds.{alike-refl, serial-same}
+use Rattle.preload.specs.Teams.{helps_first}
 use Rattle.page_turns.specs.Pages.{page_at, world_of, ComesTo}
-use Rattle.page_runner.specs.Answers.{IsPageOf, PageMet, MayGivePage, IsParsed, Answer, status_with, answer_to_page, answer_over, answer_to, table_of, Gives, RunsTo, CompletesRun}
+use Rattle.page_runner.proofs.HelpLemmas.{helped_told}
+use Rattle.page_runner.specs.Answers.{folder_by, TellAll, IsPageOf, PageMet, MayGivePage, IsParsed, Answer, status_with, answer_to_page, answer_over, answer_to, table_of, Gives, RunsTo, CompletesRun}
 
 abbrev Only : Option (List ℕ) → Option (List ℕ) → Answer → Status → Type 0
 Only t t' answer r = (r ≡ status.NoMemory) ⊎ ((r ≡ answer.0) × Took t t' answer.1)
@@ -76,40 +79,50 @@ fetch_told dir before after map name fetched.missing told none may =
 fetch_told dir before after map name fetched.faulted told none may = absurd (none may.0)
 
 -- so the scripts are those of the folder
-pub scripts_told : (dir : List ℕ) (before after : Seen) (map : Files) (scripts : List ℕ → Fetched) → before.files ≡ Some map → ¬ (FaultsRose Script before after) → AreScriptsOf dir before after scripts
+pub scripts_told : (dir : List ℕ) (before after : Seen) (map : Files) (scripts : List ℕ → Fetched) → before.files ≡ Some map → ¬ (FaultsRose Script before after) → ((name : List ℕ) → MayFetch dir before after name (scripts name))
     → scripts ≡ (λ name. fetched_of (map (path_of dir name)))
-scripts_told dir before after map scripts told none are = fun_ext (λ name. fetch_told dir before after map name (scripts name) told none (are.each name))
+scripts_told dir before after map scripts told none each = fun_ext (λ name. fetch_told dir before after map name (scripts name) told none (each name))
+
+-- or are the same to the parse, where helpers tell those files too
+scripts_alike : (dir : List ℕ) (helps : List Help) (before after : Seen) (map : Files) (name : List ℕ) (f : Fetched) → before.files ≡ Some map → ¬ (FaultsRose Script before after) → TellAll map helps
+    → MayCome (record { dir = dir; given = []; helps = helps }) before after name f → Alike f (fetched_of (map (path_of dir name)))
+scripts_alike dir helps before after map name f told none all (inl may) = subst (λ g. Alike f g) (fetch_told dir before after map name f told none may) (alike-refl f)
+scripts_alike dir helps before after map name f told none all (inr (inl nothing)) = absurd nothing
+scripts_alike dir helps before after map name f told none all (inr (inr some)) = helped_told dir map name f helps all some
 
 abbrev Finishes : Bool → Option (List ℕ) → Option (List ℕ) → Status → Outcome → Type 0
-Finishes dump t t' r o = (r ≡ status.NoMemory) ⊎ ((r ≡ status.Done) × Took t t' (output_with dump o))
+Finishes dump t t' r o = (r ≡ status.NoMemory) ⊎ ((r ≡ status_with o.result) × Took t t' (output_with dump o))
 
-module _ (asked : PageAsked) (before after : Seen) (map : Files) (told : before.files ≡ Some map) (rose : Type 0) (t t' : Option (List ℕ)) (r : Status) (unless : ¬ rose)
+module _ (asked : PageAsked) (was is : List Seen) (before after : Seen) (map : Files) (told : before.files ≡ Some map) (rose : Type 0) (t t' : Option (List ℕ)) (r : Status) (unless : ¬ rose)
     (none : ¬ (FaultsRose Entities before after)) (none' : ¬ (FaultsRose Page before after)) (none'' : ¬ (FaultsRose Script before after))
-    (es : Table) (page : List ℕ) (there : map asked.page ≡ Some page) (o : Outcome) (comes : ComesTo (world_in es map asked.dir) (record { bytes = page; fault = false }) o) (done : o.result ≡ finished) where
+    (es : Table) (page : List ℕ) (there : map asked.page ≡ Some page) (o : Outcome) (comes : ComesTo (world_in es map asked.dir) (record { bytes = page; fault = false }) o) (all : TellAll map (helps_first asked.preload was is)) where
+  abbrev folder : Folder
+  folder = folder_by asked.dir asked.preload was is
+
   file_told : (path : List ℕ) → file_at before path ≡ Some (map path)
   file_told path = ap (option_map (λ m. m path)) told
 
   read_page : (bytes : List ℕ) (fault : Bool) (scripts : List ℕ → Fetched) (end : Outcome) → IsPageOf asked.page before after (record { bytes = bytes; fault = fault })
-      → AreScriptsOf asked.dir before after scripts → ComesTo (world_of es scripts) (record { bytes = bytes; fault = fault }) end
+      → AreScriptsOf folder before after scripts → ComesTo (world_of es scripts) (record { bytes = bytes; fault = fault }) end
       → Gives rose t t' (status_with end.result, output_with asked.dump end) r → Finishes asked.dump t t' r o
   read_page bytes true scripts end may are parsed gives = absurd (none' (may.cause refl))
   read_page bytes false scripts end may are parsed gives =
       let same : Some page ≡ Some bytes = some_at (file_at before asked.page) (λ f. f ≡ Some bytes) (Some page) (file_told asked.page ∙ ap Some there) (may.whole refl) in
-      let is : bytes ≡ page = cc in
-      let here = subst (λ b. ComesTo (world_of es scripts) (record { bytes = b; fault = false }) end) is parsed in
-      let here' = subst (λ f. ComesTo (world_of es f) (record { bytes = page; fault = false }) end) (scripts_told asked.dir before after map scripts told none'' are) here in
+      let all_read : bytes ≡ page = cc in
+      let here = subst (λ b. ComesTo (world_of es scripts) (record { bytes = b; fault = false }) end) all_read parsed in
+      let alike : (name : List ℕ) → Alike (scripts name) (fetched_of (map (path_of asked.dir name))) = λ name. scripts_alike asked.dir folder.helps before after map name (scripts name) told none'' all (are.each name) in
+      let here' = serial-same (world_of es scripts) (λ name. fetched_of (map (path_of asked.dir name))) alike (page_at (record { bytes = page; fault = false })) end here in
       let one : end ≡ o = one_outcome (page_at (record { bytes = page; fault = false })) (world_in es map asked.dir) end o here' comes in
-      let there' = subst (λ e. Gives rose t t' (status_with e.result, output_with asked.dump e) r) one gives in
-      gives_only rose t t' (status.Done, output_with asked.dump o) r (subst (λ k. Gives rose t t' (status_with k, output_with asked.dump o) r) done there') unless
+      gives_only rose t t' (status_with o.result, output_with asked.dump o) r (subst (λ e. Gives rose t t' (status_with e.result, output_with asked.dump e) r) one gives) unless
 
-  met_page : (given : Given PageMet) → MayGivePage asked.page asked.dir before after given → IsParsed es given → Gives rose t t' (answer_to_page asked.dump given) r → Finishes asked.dump t t' r o
+  met_page : (given : Given PageMet) → MayGivePage asked.page folder before after given → IsParsed es given → Gives rose t t' (answer_to_page asked.dump given) r → Finishes asked.dump t t' r o
   met_page unmet may parsed gives = memory_only rose t t' r gives unless
   met_page missing may parsed gives = absurd (cc (some_at (file_at before asked.page) (λ f. f ≡ None) (Some page) (file_told asked.page ∙ ap Some there) may.1))
   met_page faulted may parsed gives = absurd (none' may.0)
   met_page (got p) may parsed gives = read_page p.read.bytes p.read.fault p.scripts p.outcome may.0.read may.0.scripts parsed gives
 
   met_entities : (entities : List ℕ) (given : Given (List ℕ)) (given' : Given PageMet) → map asked.entities ≡ Some entities → table_of entities ≡ Some es
-      → MayGive ENTITIES_LIMIT Entities asked.entities before after given → MayGivePage asked.page asked.dir before after given'
+      → MayGive ENTITIES_LIMIT Entities asked.entities before after given → MayGivePage asked.page folder before after given'
       → ((bytes : List ℕ) (es : Table) → given ≡ got bytes → table_of bytes ≡ Some es → IsParsed es given')
       → Gives rose t t' (answer_to asked.dump given given') r → Finishes asked.dump t t' r o
   met_entities entities unmet given' at table may may' parsed gives = memory_only rose t t' r gives unless
@@ -122,9 +135,9 @@ module _ (asked : PageAsked) (before after : Seen) (map : Files) (told : before.
       met_page given' may' (parsed bytes es refl here) (subst (λ k. Gives rose t t' (answer_over asked.dump k given') r) here gives)
 
 -- the whole
-pub completes : (asked : Option Asked) (before after : Seen) (sink sink' : ℕ) (t t' : Option (List ℕ)) (r : Status) → RunsTo asked before after sink sink' t t' r → CompletesRun asked before after sink sink' t t' r
-completes None before after sink sink' t t' r runs = tt
-completes (Some (for_make asked)) before after sink sink' t t' r runs = tt
-completes (Some (for_page asked)) before after sink sink' t t' r runs = if_some before.files _ (λ map told entities page es o there table there' comes done none.
-    met_entities asked before after map told (Rose sink sink') t t' r none.at_sink none.entities none.page none.script es page there' o comes done
+pub completes : (asked : Option Asked) (was is : List Seen) (before after : Seen) (sink sink' : ℕ) (t t' : Option (List ℕ)) (r : Status) → RunsTo asked was is before after sink sink' t t' r → CompletesRun asked was is before after sink sink' t t' r
+completes None was is before after sink sink' t t' r runs = tt
+completes (Some (for_make asked)) was is before after sink sink' t t' r runs = tt
+completes (Some (for_page asked)) was is before after sink sink' t t' r runs = if_some before.files _ (λ map told entities page es o there table there' all comes none.
+    met_entities asked was is before after map told (Rose sink sink') t t' r none.at_sink none.entities none.page none.script es page there' o comes all
     entities runs.entities runs.page there table runs.may_entities runs.may_page runs.parsed runs.gives)

@@ -1,4 +1,5 @@
 pub mod PageFaults
+pub mod HelpLemmas
 pub mod RunLemmas
 pub mod TakenLemmas
 pub mod OnTwoLemmas

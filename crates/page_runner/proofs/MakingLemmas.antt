@@ -38,7 +38,8 @@ use Rattle.made_laws.proofs.MadePages.{is-in_ascii, is-read_as_made}
 use Rattle.page_turns.specs.declared.outcome.Outcome.TheVariants as told
 use Rattle.page_turns.specs.Given.{Given, unmet, missing as absent, faulted as failed, got as given, file_at, FaultsRose, NoFault}
 use Rattle.page_turns.specs.Taken.{Took}
-use Rattle.page_turns.specs.Scripts.{path_of, fetched_of, AreScriptsOf, MayMeet, Alike}
+use Rattle.page_runner.proofs.HelpLemmas.{come_none}
+use Rattle.page_turns.specs.Scripts.{Folder, folder_with, path_of, fetched_of, AreScriptsOf, MayMeet, Alike}
 use Rattle.page_turns.specs.Pages.{PageRead, page_at, world_of, IsPageBehind}
 use Rattle.page_turns.proofs.SameWorlds.{alike-refl, alike-sym, moment-same, serial-back}
 use Rattle.page_turns.proofs.DeskLemmas.{shows-phase}
@@ -56,6 +57,10 @@ use Rattle.page_runner.specs.Making.{page_made, file_among, made_world, AreNumbe
 use Rattle.page_turns.proofs.PageTakenLemmas.{took_nothing, front_nothing}
 use Rattle.page_runner.proofs.RunLemmas.{status_is, gives_all}
 use Rattle.page_runner.proofs.Complete.{scripts_told, fetch_told, some_at}
+
+-- a made page's scripts, which no helper fetches
+abbrev in_scripts : Folder
+in_scripts = folder_with (codes "scripts") []
 
 -- ---- what is written
 
@@ -161,10 +166,10 @@ module _ (asked : MakeWords) (few : asked.count ≤ 50000) (before after : Seen)
           let bytes : page.bytes ≡ made_page asked.number asked.count = sym cc in
           ap (λ b. page_at (record { bytes = page.bytes; fault = b })) q ∙ ap (λ t. page_at (record { bytes = t; fault = false })) bytes ∙ is-read_as_made asked.number asked.count few
 
-  world-is : (scripts : List ℕ → Fetched) → AreScriptsOf (codes "scripts") before after scripts → world_of [] scripts ≡ made_world
-  world-is scripts are = ap (world_of []) (scripts_told (codes "scripts") before after map scripts told no_script_fault are ∙ scripts-are map scripts_there)
+  world-is : (scripts : List ℕ → Fetched) → AreScriptsOf in_scripts before after scripts → world_of [] scripts ≡ made_world
+  world-is scripts are = ap (world_of []) (scripts_told (codes "scripts") before after map scripts told no_script_fault (λ name. come_none (codes "scripts") before after name (scripts name) (are.each name)) ∙ scripts-are map scripts_there)
 
-  settled-at : (t t' : Option (List ℕ)) (page : Given PageMet) (r : Status) → MayGivePage (codes "page") (codes "scripts") before after page → IsParsed [] page → Gives (Rose 0 0) t t' (answer_to_page false page) r → IsSettled asked r
+  settled-at : (t t' : Option (List ℕ)) (page : Given PageMet) (r : Status) → MayGivePage (codes "page") in_scripts before after page → IsParsed [] page → Gives (Rose 0 0) t t' (answer_to_page false page) r → IsSettled asked r
   settled-at t t' unmet r may parsed gives =
       let (o, comes) = has_outcome (page_made asked) made_world in
       record { end = o; comes = comes; status_is = elim (given-or t t' (Rose 0 0) _ r gives never-rose) [ inl is ↦ inr is | inr is ↦ inr is ] }
@@ -178,23 +183,23 @@ module _ (asked : MakeWords) (few : asked.count ≤ 50000) (before after : Seen)
         status_is = given-or t t' (Rose 0 0) _ r gives never-rose;
       }
 
-  pub settled : (t t' : Option (List ℕ)) (r : Status) → PageAnswers [] false (codes "page") (codes "scripts") before after 0 0 t t' r → IsSettled asked r
+  pub settled : (t t' : Option (List ℕ)) (r : Status) → PageAnswers [] false (codes "page") in_scripts before after 0 0 t t' r → IsSettled asked r
   settled t t' r answers = settled-at t t' answers.page r answers.may answers.parsed answers.gives
 
   -- ---- its numbers
 
   -- what came of each name is to the parse what is in the folder
-  met-alike : (met : _) → ((name : List ℕ) (f : Fetched) → found name met ≡ Some f → MayMeet (codes "scripts") before after name f) → (name : List ℕ) → Alike (file_among made_scripts name) (scripts_with met (file_among made_scripts) name)
+  met-alike : (met : _) → ((name : List ℕ) (f : Fetched) → found name met ≡ Some f → MayMeet in_scripts before after name f) → (name : List ℕ) → Alike (file_among made_scripts name) (scripts_with met (file_among made_scripts) name)
   met-alike met meets name = by (found name met) refl
     where
       by : (o : Option Fetched) → found name met ≡ o → Alike (file_among made_scripts name) (found_or (file_among made_scripts name) o)
       by None q = alike-refl (file_among made_scripts name)
       by (Some f) q =
           let (g, may, same) = meets name f q in
-          let is : g ≡ file_among made_scripts name = fetch_told (codes "scripts") before after map name g told no_script_fault may ∙ scripts_there name in
+          let is : g ≡ file_among made_scripts name = fetch_told (codes "scripts") before after map name g told no_script_fault (come_none (codes "scripts") before after name g may) ∙ scripts_there name in
           alike-sym f (file_among made_scripts name) (subst (λ x. Alike f x) is same)
 
-  numbers-at : (s : Shown) (t t' : Option (List ℕ)) (o : Outcome) → IsReplayed s → Reports [] 8 false (codes "page") (codes "scripts") before after t t' s status.Done → s.desk.phase ≡ done finished →
+  numbers-at : (s : Shown) (t t' : Option (List ℕ)) (o : Outcome) → IsReplayed s → Reports [] 8 false (codes "page") in_scripts before after t t' s status.Done → s.desk.phase ≡ done finished →
       IsSerial (page_made asked) made_world o → AreNumbers asked o (tally_of 0 s.desk)
   numbers-at s t t' o replayed reports at_done comes =
       let met = reports.met in
@@ -231,7 +236,7 @@ module _ (asked : MakeWords) (few : asked.count ≤ 50000) (before after : Seen)
 module _ (asked : MakeWords) (few : asked.count ≤ 50000) (before after : Seen) (map : Files) (told : before.files ≡ Some map) (page_there : map (codes "page") ≡ Some (made_page asked.number asked.count))
     (scripts_there : (name : List ℕ) → fetched_of (map (path_of (codes "scripts") name)) ≡ file_among made_scripts name)
     (no_page_fault : FaultsRose Page before after → ⊥) (no_script_fault : FaultsRose Script before after → ⊥) (t t' : Option (List ℕ)) where
-  finished-run : (s : Shown) (n : Tally) → IsSettled asked status.Done → Reports [] 8 false (codes "page") (codes "scripts") before after t t' s status.Done → IsReplayed s → (s.spent ≡ false → IsTallyOf s.desk n) →
+  finished-run : (s : Shown) (n : Tally) → IsSettled asked status.Done → Reports [] 8 false (codes "page") in_scripts before after t t' s status.Done → IsReplayed s → (s.spent ≡ false → IsTallyOf s.desk n) →
       IsRunOf asked (made.Finished n)
   finished-run s n ended reports replayed numbers =
       let written = reports.written refl in
@@ -253,22 +258,22 @@ module _ (asked : MakeWords) (few : asked.count ≤ 50000) (before after : Seen)
       by finished q = absurd (other (status_is ∙ ap status_with q))
       by (refused w) q = (ended.end, ended.comes, (w, q, status_is ∙ ap status_with q))
 
-  pub run-is : (r : Status) (side : Option Shown) (run : MadeRun) → IsSettled asked r → IfSome side (λ s. Reports [] 8 false (codes "page") (codes "scripts") before after t t' s r) → Tells r side run → IsRunOf asked run
+  pub run-is : (r : Status) (side : Option Shown) (run : MadeRun) → IsSettled asked r → IfSome side (λ s. Reports [] 8 false (codes "page") in_scripts before after t t' s r) → Tells r side run → IsRunOf asked run
   run-is r side (made.Finished n) ended reports (is, s, there, replayed, numbers) =
-      let here : Reports [] 8 false (codes "page") (codes "scripts") before after t t' s r = subst (λ o. IfSome o (λ z. Reports [] 8 false (codes "page") (codes "scripts") before after t t' z r)) there reports in
-      finished-run s n (subst (IsSettled asked) is ended) (subst (λ z. Reports [] 8 false (codes "page") (codes "scripts") before after t t' s z) is here) replayed numbers
+      let here : Reports [] 8 false (codes "page") in_scripts before after t t' s r = subst (λ o. IfSome o (λ z. Reports [] 8 false (codes "page") in_scripts before after t t' z r)) there reports in
+      finished-run s n (subst (IsSettled asked) is ended) (subst (λ z. Reports [] 8 false (codes "page") in_scripts before after t t' s z) is here) replayed numbers
   run-is r side (made.Refused told_) ended reports (is, other, memory) = subst (λ z. IsRunOf asked (made.Refused z)) (sym is) (refused-run r ended other memory)
 
   -- what is told of a run over those files
-  pub run-over : (es : Entities) (path dir : List ℕ) (r : Status) (side : Option Shown) (run : MadeRun) → es ≡ [] → path ≡ codes "page" → dir ≡ codes "scripts" → PageAnswers es false path dir before after 0 0 t t' r →
-      IfSome side (λ s. Reports es 8 false path dir before after t t' s r) → Tells r side run → IsRunOf asked run
+  pub run-over : (es : Entities) (path dir : List ℕ) (r : Status) (side : Option Shown) (run : MadeRun) → es ≡ [] → path ≡ codes "page" → dir ≡ codes "scripts" → PageAnswers es false path (folder_with dir []) before after 0 0 t t' r →
+      IfSome side (λ s. Reports es 8 false path (folder_with dir []) before after t t' s r) → Tells r side run → IsRunOf asked run
   run-over es path dir r side run none path_is dir_is answers reports tells =
-      let over_none = subst (λ e. PageAnswers e false path dir before after 0 0 t t' r) none answers in
-      let of_page = subst (λ p. PageAnswers [] false p dir before after 0 0 t t' r) path_is over_none in
-      let in_folder = subst (λ d. PageAnswers [] false (codes "page") d before after 0 0 t t' r) dir_is of_page in
-      let told_over_none = subst (λ e. IfSome side (λ s. Reports e 8 false path dir before after t t' s r)) none reports in
-      let told_of_page = subst (λ p. IfSome side (λ s. Reports [] 8 false p dir before after t t' s r)) path_is told_over_none in
-      let told_in_folder = subst (λ d. IfSome side (λ s. Reports [] 8 false (codes "page") d before after t t' s r)) dir_is told_of_page in
+      let over_none = subst (λ e. PageAnswers e false path (folder_with dir []) before after 0 0 t t' r) none answers in
+      let of_page = subst (λ p. PageAnswers [] false p (folder_with dir []) before after 0 0 t t' r) path_is over_none in
+      let in_folder = subst (λ d. PageAnswers [] false (codes "page") (folder_with d []) before after 0 0 t t' r) dir_is of_page in
+      let told_over_none = subst (λ e. IfSome side (λ s. Reports e 8 false path (folder_with dir []) before after t t' s r)) none reports in
+      let told_of_page = subst (λ p. IfSome side (λ s. Reports [] 8 false p (folder_with dir []) before after t t' s r)) path_is told_over_none in
+      let told_in_folder = subst (λ d. IfSome side (λ s. Reports [] 8 false (codes "page") (folder_with d []) before after t t' s r)) dir_is told_of_page in
       run-is r side run (settled asked few before after map told page_there scripts_there no_page_fault no_script_fault t t' r in_folder) told_in_folder tells
 
 -- ---- the files of the made page

@@ -1,5 +1,5 @@
 -- What went through both lanes, beside the journal.
-use Rattle.std.proofs.Common.{◌≡◌, ℕ, List, [], ◌∷◌, ◌++◌, length, map, Option, Some, None, refl, sym, ◌∙◌, ap, subst, inl, inr}
+use Rattle.std.proofs.Common.{◌≡◌, ℕ, List, [], ◌∷◌, ◌++◌, length, map, Option, Some, None, Result, Ok, Err, OnOk, refl, sym, ◌∙◌, ap, subst, inl, inr}
 use Rattle.std.specs.Prelude.{IfSome}
 use Rattle.std.proofs.lemmas.List.{map-append}
 use Rattle.standard.specs.Entities.{Entities}
@@ -19,7 +19,8 @@ use Rattle.page_turns.specs.declared.page.Failure.{Failure}
 use Rattle.page_turns.specs.declared.page.Failure.TheVariants.{Memory, Write}
 use Rattle.page_turns.specs.Along.{AsksOf, FetchesAwaited, requests_of, Goes}
 use Rattle.page_turns.specs.Messages.{Message, TakenSoFar, MayTakeMore}
-use Rattle.page_turns.proofs.AlongLemmas.{looks_along, asks_along, awaited_along, sends_along}
+use Rattle.page_turns.specs.Scripts.{Met, GivesMore}
+use Rattle.page_turns.proofs.AlongLemmas.{goes_more, looks_along, asks_along, awaited_along, sends_along}
 use Rattle.page_runner.specs.declared.status.Status.{Status}
 use Rattle.page_runner.specs.Answers.{status_for}
 use Rattle.page_runner.proofs.TakenLemmas.{takes_follow}
@@ -52,7 +53,7 @@ taken_at_err Write (Some ms) vs exact more = inl (exact refl)
 
 -- ---- both ends
 
-module _ {E : Type 0} (g : InForce.Ghosts E) (es : Entities) (ahead : ℕ) (s : Shown) (l : Lanes E g) (asks : List Asked) (goes : Goes (Some asks) s) (entities : s.entities ≡ es) (credit : s.ahead ≡ ahead) (stopped : l.asked.put ≡ map Ask asks ++ Stop ∷ []) where
+module _ {E : Type 0} (g : InForce.Ghosts E) (es : Entities) (ahead : ℕ) (s : Shown) (l : Lanes E g) {given : Met} (asks : List Asked) (goes : Goes given (Some asks) s) (entities : s.entities ≡ es) (credit : s.ahead ≡ ahead) (stopped : l.asked.put ≡ map Ask asks ++ Stop ∷ []) where
   asks-are : asks_in l.asked.put ≡ goes.asked
   asks-are = ap asks_in stopped ∙ (asks-stopped asks ∙ goes.told)
 
@@ -87,9 +88,18 @@ module _ {E : Type 0} (g : InForce.Ghosts E) (es : Entities) (ahead : ℕ) (s : 
   pub drops_failed : DropsFailed g es ahead s.journal l
   drops_failed = record { dropped = drops-are_over (requests_in l.asked.put) es ahead s.journal sent-here }
 
-pub is_looking_ahead : (es : Entities) (ahead : ℕ) (s : Shown) (asks : Option (List Asked)) → Goes asks s → s.entities ≡ es → s.ahead ≡ ahead → IsLookingAhead es ahead s.journal
+pub is_looking_ahead : {given : Met} (es : Entities) (ahead : ℕ) (s : Shown) (asks : Option (List Asked)) → Goes given asks s → s.entities ≡ es → s.ahead ≡ ahead → IsLookingAhead es ahead s.journal
 is_looking_ahead es ahead s asks goes entities credit = record { looks = subst (λ n. HoldsAlong (λ x. LooksAhead x.ahead) es n s.journal) credit (subst (λ e. HoldsAlong (λ x. LooksAhead x.ahead) e s.ahead s.journal) entities (looks_along asks s goes)) }
 
-pub is_fetching_awaited : (es : Entities) (ahead : ℕ) (s : Shown) (asks : Option (List Asked)) → Goes asks s → s.entities ≡ es → s.ahead ≡ ahead → IsFetchingAwaited es ahead s.journal
-is_fetching_awaited es ahead s asks goes entities credit =
-    record { awaited = subst (λ n. HoldsAlong (λ x. FetchesAwaited) es n s.journal) credit (subst (λ e. HoldsAlong (λ x. FetchesAwaited) e s.ahead s.journal) entities (awaited_along asks s goes)) }
+pub is_fetching_awaited : (given : Met) (es : Entities) (ahead : ℕ) (s : Shown) (asks : Option (List Asked)) → Goes given asks s → s.entities ≡ es → s.ahead ≡ ahead → IsFetchingAwaited es ahead given s.journal
+is_fetching_awaited given es ahead s asks goes entities credit =
+    record { awaited = subst (λ n. HoldsAlong (λ x. FetchesAwaited given) es n s.journal) credit (subst (λ e. HoldsAlong (λ x. FetchesAwaited given) e s.ahead s.journal) entities (awaited_along asks s goes)) }
+
+-- where more was given
+pub is_fetching_more : (given given' : Met) (es : Entities) (ahead : ℕ) (s : Shown) (asks : Option (List Asked)) → GivesMore given given' → Goes given asks s → s.entities ≡ es → s.ahead ≡ ahead → IsFetchingAwaited es ahead given' s.journal
+is_fetching_more given given' es ahead s asks more goes = is_fetching_awaited given' es ahead s asks (goes_more given given' asks s more goes)
+
+-- what is so whatever came
+pub always_ok : {T E P : Type 0} (r : Result T E) → P → OnOk r P
+always_ok (Ok x) so = so
+always_ok (Err e) so = tt

@@ -20,6 +20,7 @@ use Rattle.page_turns.specs.Cuts.{IsCut}
 use Rattle.page_turns.specs.Given.{NoFault, file_at}
 use Rattle.page_turns.specs.Pages.{EndsWithScripts}
 use Rattle.page_turns.specs.Taken.{Took, TookFront}
+use Rattle.page_turns.specs.Scripts.{Folder}
 use Rattle.page_turns.specs.Shown.{result_of}
 use Rattle.page_runner.specs.Shown.{status_of}
 use Rattle.page_turns.specs.Turns.{Leaves, RunsOut}
@@ -30,13 +31,13 @@ use Rattle.page_runner.specs.Reports.{HasSide, has_run_out, IsCutByReads, IsMet,
 use Rattle.page_turns.proofs.CallLemmas.{called_then}
 use Rattle.page_turns.proofs.CutLemmas.{cut_short}
 use Rattle.page_turns.proofs.PageTakenLemmas.{took_then, with_front}
-use Rattle.page_runner.proofs.RunLemmas.{status_is, failure_unanswered, may_page, fetch_since, FirstSince, file_page_since, may_meet_since}
+use Rattle.page_runner.proofs.RunLemmas.{status_is, failure_unanswered, may_page, come_since, FirstSince, file_page_since, may_meet_since}
 
 -- What was met outside is in the journal.
-is_met : (es : Entities) (ahead : ℕ) (path dir : List ℕ) (before after : Seen) (s : Shown) → IsBegun path before → Leaves es ahead dir before after s → IsMet path dir before after s.journal
-is_met es ahead path dir before after s begun left = record {
+is_met : (es : Entities) (ahead : ℕ) (path : List ℕ) (folder : Folder) (before after : Seen) (s : Shown) → IsBegun path before → Leaves es ahead folder before after s → IsMet path folder before after s.journal
+is_met es ahead path folder before after s begun left = record {
   page = left.page.page;
-  is_page = may_page es false path dir before after begun left.page.page left.page.read_from;
+  is_page = may_page es false path folder before after begun left.page.page left.page.read_from;
   front = left.page.is;
   scripts = λ name f is. elim (left.fetches.fresh name f is) [
     | inl none ↦ absurd (cc none)
@@ -45,13 +46,13 @@ is_met es ahead path dir before after s begun left = record {
   known = left.known;
 }
 
-module _ (es : Entities) (ahead : ℕ) (dump : Bool) (path dir : List ℕ) (before after : Seen) (begun : IsBegun path before) (t t' : Option (List ℕ)) (s : Shown) (left : Leaves es ahead dir before after s) (replays : ReplaysTo es ahead s) where
+module _ (es : Entities) (ahead : ℕ) (dump : Bool) (path : List ℕ) (folder : Folder) (before after : Seen) (begun : IsBegun path before) (t t' : Option (List ℕ)) (s : Shown) (left : Leaves es ahead folder before after s) (replays : ReplaysTo es ahead s) where
   -- the parse gave up
-  pub reports_failure : (f : Failure) → WritesInPart es ahead t t' (IsDue s) → Reports es ahead dump path dir before after t t' s (status_for f)
+  pub reports_failure : (f : Failure) → WritesInPart es ahead t t' (IsDue s) → Reports es ahead dump path folder before after t t' s (status_for f)
   reports_failure f part = record {
     entities = left.entities;
     ahead_is = left.ahead_is;
-    met = is_met es ahead path dir before after s begun left;
+    met = is_met es ahead path folder before after s begun left;
     replays = replays;
     written = λ e. absurd (failure_unanswered f e);
     ended = λ e. absurd (failure_unanswered f e);
@@ -59,22 +60,22 @@ module _ (es : Entities) (ahead : ℕ) (dump : Bool) (path dir : List ℕ) (befo
   }
 
   -- or it is over
-  pub reports_end : (now' : Option (List ℕ)) (o : Told) (rose : Type 0) (r : Status) → RunsOut es ahead dir before after t now' s o → EndsWithScripts es dir before after s.desk.own.side.doc s.desk.own.side.lines t now' o
-      → Gives rose now' t' (status_of o, result_with dump (result_of o) s.desk.own.side.doc.tree) r → Reports es ahead dump path dir before after t t' s r
+  pub reports_end : (now' : Option (List ℕ)) (o : Told) (rose : Type 0) (r : Status) → RunsOut es ahead folder before after t now' s o → EndsWithScripts es folder before after s.desk.own.side.doc s.desk.own.side.lines t now' o
+      → Gives rose now' t' (status_of o, result_with dump (result_of o) s.desk.own.side.doc.tree) r → Reports es ahead dump path folder before after t t' s r
   reports_end now' o rose r out ends gives = record {
     entities = left.entities;
     ahead_is = left.ahead_is;
-    met = is_met es ahead path dir before after s begun left;
+    met = is_met es ahead path folder before after s begun left;
     replays = replays;
     written = λ e. here (all-of r e gives);
     ended = λ _. as_serial;
     in_part = λ e. part (front-of r e gives);
   }
     where
-      as_serial : EndsAsSerial es path dir before after s
+      as_serial : EndsAsSerial es path folder before after s
       as_serial = record {
         met = record { read = ends.page; scripts = ends.scripts; outcome = ends.ended.outcome };
-        may = record { read = may_page es dump path dir before after begun ends.page ends.read_from; scripts = ends.are_scripts };
+        may = record { read = may_page es dump path folder before after begun ends.page ends.read_from; scripts = ends.are_scripts };
         comes = ends.ended.comes;
         phase = out.phase ∙ ap done (sym ends.ended.result);
         lines = sym ends.ended.lines;
@@ -119,9 +120,9 @@ module _ (es : Entities) (ahead : ℕ) (dump : Bool) (path dir : List ℕ) (befo
       here (is, took) = record { result = result_of o; going = out.going; phase = out.phase; outcome_is = is ∙ status_is o; took = took_then t now' t' _ _ out.took took }
 
 -- The page was begun before.
-pub reports_since : (es : Entities) (ahead : ℕ) (dump : Bool) (path dir : List ℕ) (before now after : Seen) (t t' : Option (List ℕ)) (s : Shown) (r : Status) → KeepsOthers Page before now → NoFault Page before now → FirstSince before now after
-    → Reports es ahead dump path dir now after t t' s r → Reports es ahead dump path dir before after t t' s r
-reports_since es ahead dump path dir before now after t t' s r keeps quiet first reports =
+pub reports_since : (es : Entities) (ahead : ℕ) (dump : Bool) (path : List ℕ) (folder : Folder) (before now after : Seen) (t t' : Option (List ℕ)) (s : Shown) (r : Status) → KeepsOthers Page before now → NoFault Page before now → FirstSince before now after
+    → Reports es ahead dump path folder now after t t' s r → Reports es ahead dump path folder before after t t' s r
+reports_since es ahead dump path folder before now after t t' s r keeps quiet first reports =
     let met = reports.met in
     record {
       entities = reports.entities;
@@ -130,7 +131,7 @@ reports_since es ahead dump path dir before now after t t' s r keeps quiet first
         page = met.page;
         is_page = file_page_since Page path before now after met.page keeps quiet first met.is_page;
         front = met.front;
-        scripts = λ name f is. let (g, may, alike) = met.scripts name f is in (g, fetch_since Page dir before now after name g (λ e. cc e) keeps may, alike);
+        scripts = λ name f is. let (g, may, alike) = met.scripts name f is in (g, come_since Page folder before now after name g (λ e. cc e) keeps may, alike);
         known = met.known;
       };
       replays = reports.replays;
@@ -139,10 +140,10 @@ reports_since es ahead dump path dir before now after t t' s r keeps quiet first
       in_part = reports.in_part;
     }
   where
-    ended_since : EndsAsSerial es path dir now after s → EndsAsSerial es path dir before after s
+    ended_since : EndsAsSerial es path folder now after s → EndsAsSerial es path folder before after s
     ended_since x = record {
       met = x.met;
-      may = may_meet_since Page path dir before now after x.met (λ e. cc e) keeps quiet first x.may;
+      may = may_meet_since Page path folder before now after x.met (λ e. cc e) keeps quiet first x.may;
       comes = x.comes;
       phase = x.phase;
       lines = x.lines;

@@ -34,12 +34,12 @@ use Rattle.page_runner.specs.Making.{Makes, MakesTo}
 use Rattle.page_turns.specs.Given.{Given, unmet, missing, faulted, got, FaultsRose, NoFault, AbsencesRose, file_at, MayGive, AreRead, ReadTo, untouched, unbegun, begun, KeepsEntities}
 use Rattle.page_turns.specs.Calls.{CallsAt, EachWithin}
 use Rattle.page_turns.specs.Taken.{Took, TookFront}
-use Rattle.page_turns.specs.Scripts.{path_of, IsAbsent, MayFetch, ReadScriptsTo, NamesOnce, none_begun, last}
+use Rattle.page_turns.specs.Scripts.{Folder, MayCome, path_of, IsAbsent, MayFetch, ReadScriptsTo, NamesOnce, none_begun, last}
 use Rattle.page_turns.specs.Shown.{result_of}
 use Rattle.page_runner.specs.Shown.{status_of}
 use Rattle.page_turns.specs.Pages.{PageRead, page_at, world_of, AreTaken, ReadsOn, GivenFirst, IsReadFrom, Ended, EndsWithScripts, FrontWithScripts}
 use Rattle.page_turns.specs.Turns.{LeavesAlone}
-use Rattle.page_runner.specs.Answers.{IsPageOf, PageMet, MayMeetPage, MayGivePage, FaultsOver, FaultsMet, AwaitsOver, AwaitsEach, IsParsed, Answer, status_with, answer_to_page, answer_over, answer_to, table_of, status_for, Gives, is_answered, IsBegun, PageAnswers, ReadsPage, ReadsTable, ReadsNone, answer_without, Answers, RunsTo, StopsAtEach, StopsAtLimits, BeginsEach, BeginsOnce, is_finished}
+use Rattle.page_runner.specs.Answers.{folder_by, IsPageOf, PageMet, MayMeetPage, MayGivePage, FaultsOver, FaultsMet, AwaitsOver, AwaitsEach, IsParsed, Answer, status_with, answer_to_page, answer_over, answer_to, table_of, status_for, Gives, is_answered, IsBegun, PageAnswers, ReadsPage, ReadsTable, ReadsNone, answer_without, Answers, RunsTo, StopsAtEach, StopsAtLimits, BeginsEach, BeginsOnce, is_finished}
 use Rattle.outside.proofs.KeepsLemmas.{keeps-same}
 use Rattle.page_turns.proofs.KeepsLemmas.{begun_none, begun_then, begun_stays, begun_since, begun_is, rose-on, rose-stays, entities-same, entities-then, entities-others}
 use Rattle.page_turns.proofs.MeetLemmas.{names_none}
@@ -147,13 +147,13 @@ ended_text w page doc lines t t' o end dump =
     ap (λ r. flat_map line_text end.outcome.last.side.lines ++ result_with dump r end.outcome.last.side.doc.tree) end.result
     ∙ ap (λ x. flat_map line_text end.outcome.last.side.lines ++ result_with dump (result_of o) x) end.tree
 
-module _ (es : Table) (dump : Bool) (path dir : List ℕ) (before after : Seen) (found : IsBegun path before) where
+module _ (es : Table) (dump : Bool) (path : List ℕ) (folder : Folder) (before after : Seen) (found : IsBegun path before) where
   pub may_page : (page : PageRead) → IsReadFrom before after page → IsPageOf path before after page
   may_page page from = page_of path before after page found.1 from
 
   -- the parse gave up
-  pub page_gave_up : (k k' : ℕ) (t t' : Option (List ℕ)) (f : Failure) → (f ≡ failures.Write → Rose k k') → LeavesAlone dir before after → FrontWithScripts es dir before after t t'
-      → PageAnswers es dump path dir before after k k' t t' (status_for f)
+  pub page_gave_up : (k k' : ℕ) (t t' : Option (List ℕ)) (f : Failure) → (f ≡ failures.Write → Rose k k') → LeavesAlone folder.dir before after → FrontWithScripts es folder before after t t'
+      → PageAnswers es dump path folder before after k k' t t' (status_for f)
   page_gave_up k k' t t' f cause alone part =
       let end = has_outcome (page_at part.page) (world_of es part.scripts) in
       let met : PageMet = record { read = part.page; scripts = part.scripts; outcome = end.0 } in
@@ -167,8 +167,8 @@ module _ (es : Table) (dump : Bool) (path dir : List ℕ) (before after : Seen) 
       }
 
   -- the parse ended, and what comes of it was written, or a front of it
-  pub page_ended : (k now_k k' : ℕ) (t now' t' : Option (List ℕ)) (doc doc' : Doc) (lines : List Line) (o : Told) (r : Status) → k ≤ now_k → LeavesAlone dir before after → EndsWithScripts es dir before after doc lines t now' o → doc' ≡ doc
-      → Gives (Rose now_k k') now' t' (status_of o, result_with dump (result_of o) doc'.tree) r → PageAnswers es dump path dir before after k k' t t' r
+  pub page_ended : (k now_k k' : ℕ) (t now' t' : Option (List ℕ)) (doc doc' : Doc) (lines : List Line) (o : Told) (r : Status) → k ≤ now_k → LeavesAlone folder.dir before after → EndsWithScripts es folder before after doc lines t now' o → doc' ≡ doc
+      → Gives (Rose now_k k') now' t' (status_of o, result_with dump (result_of o) doc'.tree) r → PageAnswers es dump path folder before after k k' t t' r
   page_ended k now_k k' t now' t' doc doc' lines o r later alone ends same gives' =
       let gives = subst (λ d. Gives (Rose now_k k') now' t' (status_of o, result_with dump (result_of o) d.tree) r) same gives' in
       let end = ends.ended in
@@ -187,7 +187,7 @@ module _ (es : Table) (dump : Bool) (path dir : List ℕ) (before after : Seen) 
   page_read_to reads = begun reads.read (read_of before.files path (before.left Page) (after.left Page) reads.read found.1 reads.taken) reads.at_most
 
   -- what it read
-  pub page_reads : LeavesAlone dir before after → ReadsPage path dir [] before after
+  pub page_reads : LeavesAlone folder.dir before after → ReadsPage path folder.dir [] before after
   page_reads alone = record {
     others = alone.keeps;
     page = page_read_to alone.read;
@@ -216,6 +216,11 @@ fetch_since port dir before now after name fetched.missing other keeps may =
 fetch_since port dir before now after name fetched.faulted other keeps may =
     (rose-on _ _ _ (keeps.faults Script) may.0, failed_since Script (path_of dir name) before now after [] (called_none _ _ (keeps.calls Script other)) may.1)
 
+-- and of one that comes early no call of the files tells
+pub come_since : (port : Port) (folder : Folder) (before now after : Seen) (name : List ℕ) (f : Fetched) → (Script ≡ port → ⊥) → KeepsOthers port before now → MayCome folder now after name f → MayCome folder before after name f
+come_since port folder before now after name f other keeps (inl may) = inl (fetch_since port folder.dir before now after name f other keeps may)
+come_since port folder before now after name f other keeps (inr early) = inr early
+
 -- What was given before a read failed was given since, too.
 abbrev pub FirstSince : Seen → Seen → Seen → Type 0
 FirstSince before now after = (bytes : List ℕ) → GivenFirst now after bytes → GivenFirst before after bytes
@@ -238,20 +243,20 @@ file_page_since port path before now after page keeps quiet first is = record {
 }
 
 -- and may be met all the same
-pub may_meet_since : (port : Port) (path dir : List ℕ) (before now after : Seen) (page : PageMet) → (Script ≡ port → ⊥) → KeepsOthers port before now → NoFault Page before now → FirstSince before now after → MayMeetPage path dir now after page
-    → MayMeetPage path dir before after page
-may_meet_since port path dir before now after page other keeps quiet first may = record {
+pub may_meet_since : (port : Port) (path : List ℕ) (folder : Folder) (before now after : Seen) (page : PageMet) → (Script ≡ port → ⊥) → KeepsOthers port before now → NoFault Page before now → FirstSince before now after → MayMeetPage path folder now after page
+    → MayMeetPage path folder before after page
+may_meet_since port path folder before now after page other keeps quiet first may = record {
   read = file_page_since port path before now after page.read keeps quiet first may.read;
-  scripts = record { each = λ name. fetch_since port dir before now after name (page.scripts name) other keeps (may.scripts.each name) };
+  scripts = record { each = λ name. come_since port folder before now after name (page.scripts name) other keeps (may.scripts.each name) };
 }
 
-pub may_since : (port : Port) (path dir : List ℕ) (before now after : Seen) (page : Given PageMet) → (Script ≡ port → ⊥) → KeepsOthers port before now → NoFault Page before now → FirstSince before now after → MayGivePage path dir now after page
-    → MayGivePage path dir before after page
-may_since port path dir before now after unmet other keeps quiet first may = tt
-may_since port path dir before now after missing other keeps quiet first may =
+pub may_since : (port : Port) (path : List ℕ) (folder : Folder) (before now after : Seen) (page : Given PageMet) → (Script ≡ port → ⊥) → KeepsOthers port before now → NoFault Page before now → FirstSince before now after → MayGivePage path folder now after page
+    → MayGivePage path folder before after page
+may_since port path folder before now after unmet other keeps quiet first may = tt
+may_since port path folder before now after missing other keeps quiet first may =
     (rose-on _ _ _ (keeps.absences Page) may.0, subst (λ file. IfSome file (λ f. f ≡ None)) (file_since path before now keeps.files) may.1, may.2 ∙ quiet, may.3)
-may_since port path dir before now after faulted other keeps quiet first may = (rose-on _ _ _ (keeps.faults Page) may.0, may.1, may.2)
-may_since port path dir before now after (got page) other keeps quiet first may = (may_meet_since port path dir before now after page other keeps quiet first may.0, may.1)
+may_since port path folder before now after faulted other keeps quiet first may = (rose-on _ _ _ (keeps.faults Page) may.0, may.1, may.2)
+may_since port path folder before now after (got page) other keeps quiet first may = (may_meet_since port path folder before now after page other keeps quiet first may.0, may.1)
 
 -- the scripts that were begun
 awaits_over : (table : Option Table) (dir : List ℕ) (before now after : Seen) (page : PageMet) → now.begun Script ≡ before.begun Script → AwaitsOver table dir page now after → AwaitsOver table dir page before after
@@ -276,24 +281,24 @@ faults_since table before now after faulted quiet met = met ∙ quiet
 faults_since table before now after (got page) quiet met = faults_over table before now after page quiet met
 
 -- the page was begun before
-pub page_since : (es : Table) (dump : Bool) (path dir : List ℕ) (before now after : Seen) (k k' : ℕ) (t t' : Option (List ℕ)) (result : Status) (path' : List ℕ) (answer : Result Bool Failed) → KeepsOthers Page before now → NoFault Page before now → CallsAt Page before now (begins path' answer ∷ [])
-    → PageAnswers es dump path dir now after k k' t t' result → PageAnswers es dump path dir before after k k' t t' result
-page_since es dump path dir before now after k k' t t' result path' answer keeps quiet made answers = record {
+pub page_since : (es : Table) (dump : Bool) (path : List ℕ) (folder : Folder) (before now after : Seen) (k k' : ℕ) (t t' : Option (List ℕ)) (result : Status) (path' : List ℕ) (answer : Result Bool Failed) → KeepsOthers Page before now → NoFault Page before now → CallsAt Page before now (begins path' answer ∷ [])
+    → PageAnswers es dump path folder now after k k' t t' result → PageAnswers es dump path folder before after k k' t t' result
+page_since es dump path folder before now after k k' t t' result path' answer keeps quiet made answers = record {
   page = answers.page;
-  may = may_since Page path dir before now after answers.page (λ e. cc e) keeps quiet (first_begun path' answer before now after made) answers.may;
+  may = may_since Page path folder before now after answers.page (λ e. cc e) keeps quiet (first_begun path' answer before now after made) answers.may;
   faults = λ e. faults_since (Some es) before now after answers.page (keeps.other_faults Script (λ e. cc e)) (answers.faults e);
-  awaited = awaits_since (Some es) dir before now after answers.page (keeps.begun Script (λ e. cc e)) answers.awaited;
+  awaited = awaits_since (Some es) folder.dir before now after answers.page (keeps.begun Script (λ e. cc e)) answers.awaited;
   parsed = answers.parsed;
   gives = answers.gives;
 }
 
 -- it could not be begun
-module _ (es : Table) (dump : Bool) (path dir : List ℕ) (before after : Seen) (keeps : KeepsOthers Page before after) (k k' : ℕ) (t t' : Option (List ℕ)) where
-  pub page_faulted : (r : Status) → FaultsRose Page before after → IfSome (after.left Page) (λ rest. rest ≡ []) → after.open_at Page ≡ false → Gives (Rose k k') t t' (status.ReadFault, []) r → PageAnswers es dump path dir before after k k' t t' r
+module _ (es : Table) (dump : Bool) (path : List ℕ) (folder : Folder) (before after : Seen) (keeps : KeepsOthers Page before after) (k k' : ℕ) (t t' : Option (List ℕ)) where
+  pub page_faulted : (r : Status) → FaultsRose Page before after → IfSome (after.left Page) (λ rest. rest ≡ []) → after.open_at Page ≡ false → Gives (Rose k k') t t' (status.ReadFault, []) r → PageAnswers es dump path folder before after k k' t t' r
   page_faulted r rose none closed gives = record { page = faulted; may = (rose, none, closed); faults = λ _. keeps.other_faults Script (λ e. cc e); awaited = begun_none _ _ (keeps.begun Script (λ e. cc e)); parsed = tt; gives = gives }
 
   pub page_absent : (b : Bool) (path' : List ℕ) → b ≡ false → path' ≡ path → OnFalse b (Rose (before.absences Page) (after.absences Page)) → OnFalse b (IfSome before.files (λ map. map path' ≡ None)) → NoFault Page before after → after.open_at Page ≡ b → t' ≡ t
-      → PageAnswers es dump path dir before after k k' t t' status.Absent
+      → PageAnswers es dump path folder before after k k' t t' status.Absent
   page_absent b path' is same rose none quiet closed stays = record {
     page = missing;
     may = (on_false b is rose, none_at before.files (subst (λ p. IfSome before.files (λ map. map p ≡ None)) same (on_false b is none)), quiet, closed ∙ is);
@@ -312,7 +317,7 @@ module _ (es : Table) (dump : Bool) (path dir : List ℕ) (before after : Seen) 
       none_at (Some map) none = none
 
   pub page_unbegun : (path' : List ℕ) → path' ≡ path → IfSome (after.left Page) (λ rest. rest ≡ []) → AbsencesRose Page before after ⊎ FaultsRose Page before after → Begun (before.begun Page) (after.begun Page) (path' ∷ [])
-      → (answer : Result Bool Failed) → CallsAt Page before after (begins path' answer ∷ []) → ReadsPage path dir (path ∷ []) before after
+      → (answer : Result Bool Failed) → CallsAt Page before after (begins path' answer ∷ []) → ReadsPage path folder.dir (path ∷ []) before after
   page_unbegun path' same none cause paths answer made = record {
     others = entities-others Page before after (λ e. cc e) keeps;
     page = unbegun none cause;
@@ -320,34 +325,34 @@ module _ (es : Table) (dump : Bool) (path dir : List ℕ) (before after : Seen) 
     scripts = none_begun (keeps.left Script (λ e. cc e));
     scripts_within = each_none SCRIPT_LIMIT Script before after (keeps.calls Script (λ e. cc e));
     begun = begun_is _ _ path' path same paths;
-    names = names_none dir _ _ (keeps.begun Script (λ e. cc e));
+    names = names_none folder.dir _ _ (keeps.begun Script (λ e. cc e));
   }
 
   -- there is no such file
   pub page_absent_reads : (b : Bool) (path' : List ℕ) → b ≡ false → path' ≡ path → OnFalse b (IfSome (after.left Page) (λ rest. rest ≡ [])) → OnFalse b (Rose (before.absences Page) (after.absences Page))
-      → Begun (before.begun Page) (after.begun Page) (path' ∷ []) → (answer : Result Bool Failed) → CallsAt Page before after (begins path' answer ∷ []) → ReadsPage path dir (path ∷ []) before after
+      → Begun (before.begun Page) (after.begun Page) (path' ∷ []) → (answer : Result Bool Failed) → CallsAt Page before after (begins path' answer ∷ []) → ReadsPage path folder.dir (path ∷ []) before after
   page_absent_reads b path' is same none rose paths answer made = page_unbegun path' same (OnFalse_at is none) (inl (OnFalse_at is rose)) paths answer made
 
-pub answers_on : (asked : PageAsked) (before now after : Seen) (k k' : ℕ) (t t' : Option (List ℕ)) (result : Status) (es : Table) → ReadsTable asked.entities before now es → KeepsOthers Entities before now
-    → PageAnswers es asked.dump asked.page asked.dir now after k k' t t' result → KeepsEntities now after → Answers asked before after k k' t t' result
-answers_on asked before now after k k' t t' result es reads keeps answers keeps' = record {
+pub answers_on : (asked : PageAsked) (was is : List Seen) (before now after : Seen) (k k' : ℕ) (t t' : Option (List ℕ)) (result : Status) (es : Table) → ReadsTable asked.entities before now es → KeepsOthers Entities before now
+    → PageAnswers es asked.dump asked.page (folder_by asked.dir asked.preload was is) now after k k' t t' result → KeepsEntities now after → Answers asked was is before after k k' t t' result
+answers_on asked was is before now after k k' t t' result es reads keeps answers keeps' = record {
   entities = got reads.bytes;
   page = answers.page;
   may_entities = (reads.given.0, keeps'.no_fault ∙ reads.given.1);
-  may_page = may_since Entities asked.page asked.dir before now after answers.page (λ e. cc e) keeps (keeps.other_faults Page (λ e. cc e)) (first_other before now after (keeps.calls Page (λ e. cc e))) answers.may;
+  may_page = may_since Entities asked.page (folder_by asked.dir asked.preload was is) before now after answers.page (λ e. cc e) keeps (keeps.other_faults Page (λ e. cc e)) (first_other before now after (keeps.calls Page (λ e. cc e))) answers.may;
   faults = λ e. subst (λ table. FaultsMet table answers.page before after) (sym reads.lists) (faults_since (Some es) before now after answers.page (keeps.other_faults Script (λ e. cc e)) (answers.faults e));
   awaited = subst (λ table. AwaitsEach table asked.dir answers.page before after) (sym reads.lists) (awaits_since (Some es) asked.dir before now after answers.page (keeps.begun Script (λ e. cc e)) answers.awaited);
   parsed = λ bytes' es' same table'.
-      let is : reads.bytes ≡ bytes' = cc in
-      let one : Some es ≡ Some es' = sym reads.lists ∙ ap table_of is ∙ table' in
+      let same_bytes : reads.bytes ≡ bytes' = cc in
+      let one : Some es ≡ Some es' = sym reads.lists ∙ ap table_of same_bytes ∙ table' in
       let are : es ≡ es' = cc in
       subst (λ e. IsParsed e answers.page) are answers.parsed;
   gives = subst (λ table. Gives (Rose k k') t t' (answer_over asked.dump table answers.page) result) (sym reads.lists) answers.gives;
 }
 
 -- there is no table
-module _ (asked : PageAsked) (before after : Seen) (keeps : KeepsOthers Entities before after) (k k' : ℕ) (t t' : Option (List ℕ)) (r : Status) where
-  answers_early : (given : Given (List ℕ)) → MayGive ENTITIES_LIMIT Entities asked.entities before after given → Gives (Rose k k') t t' (answer_to asked.dump given unmet) r → Answers asked before after k k' t t' r
+module _ (asked : PageAsked) (was is : List Seen) (before after : Seen) (keeps : KeepsOthers Entities before after) (k k' : ℕ) (t t' : Option (List ℕ)) (r : Status) where
+  answers_early : (given : Given (List ℕ)) → MayGive ENTITIES_LIMIT Entities asked.entities before after given → Gives (Rose k k') t t' (answer_to asked.dump given unmet) r → Answers asked was is before after k k' t t' r
   answers_early given may gives = record {
     entities = given;
     page = unmet;
@@ -359,7 +364,7 @@ module _ (asked : PageAsked) (before after : Seen) (keeps : KeepsOthers Entities
     gives = gives;
   }
 
-  pub answers_without : (u : Unread) → ReadsNone asked.entities before after u → Gives (Rose k k') t t' (answer_without u) r → Answers asked before after k k' t t' r
+  pub answers_without : (u : Unread) → ReadsNone asked.entities before after u → Gives (Rose k k') t t' (answer_without u) r → Answers asked was is before after k k' t t' r
   answers_without unread.NoMemory none gives = answers_early unmet tt gives
   answers_without unread.Missing none gives = answers_early missing none gives
   answers_without unread.Faulted none gives = answers_early faulted none gives
@@ -491,21 +496,21 @@ reads_nothing path dir before = record {
   names = names_none dir _ _ refl;
 }
 
-pub page_no_memory : (es : Table) (dump : Bool) (path dir : List ℕ) (before : Seen) (k : ℕ) (t : Option (List ℕ)) → PageAnswers es dump path dir before before k k t t status.NoMemory
-page_no_memory es dump path dir before k t = record { page = unmet; may = tt; faults = λ _. refl; awaited = begun_none _ _ refl; parsed = tt; gives = front_nothing t [] }
+pub page_no_memory : (es : Table) (dump : Bool) (path : List ℕ) (folder : Folder) (before : Seen) (k : ℕ) (t : Option (List ℕ)) → PageAnswers es dump path folder before before k k t t status.NoMemory
+page_no_memory es dump path folder before k t = record { page = unmet; may = tt; faults = λ _. refl; awaited = begun_none _ _ refl; parsed = tt; gives = front_nothing t [] }
 
 -- ---- the words
 
-pub runs_usage : (asked : Option Asked) (before : Seen) (k : ℕ) (t : Option (List ℕ)) → asked ≡ None → RunsTo asked before before k k t t status.Usage
-runs_usage asked before k t none = subst (λ a. RunsTo a before before k k t t status.Usage) (sym none) (refl, took_nothing t)
+pub runs_usage : (asked : Option Asked) (was is : List Seen) (before : Seen) (k : ℕ) (t : Option (List ℕ)) → asked ≡ None → RunsTo asked was is before before k k t t status.Usage
+runs_usage asked was is before k t none = subst (λ a. RunsTo a was is before before k k t t status.Usage) (sym none) (refl, took_nothing t)
 
-pub runs_no_memory : (asked : Option Asked) (before : Seen) (k : ℕ) (t : Option (List ℕ)) → RunsTo asked before before k k t t status.NoMemory
-runs_no_memory None before k t = front_nothing t []
-runs_no_memory (Some (for_make asked)) before k t = tt
-runs_no_memory (Some (for_page asked)) before k t = answers_without asked before before (keeps-same Entities before) k k t t status.NoMemory unread.NoMemory tt (front_nothing t [])
+pub runs_no_memory : (asked : Option Asked) (was is : List Seen) (before : Seen) (k : ℕ) (t : Option (List ℕ)) → RunsTo asked was is before before k k t t status.NoMemory
+runs_no_memory None was is before k t = front_nothing t []
+runs_no_memory (Some (for_make asked)) was is before k t = tt
+runs_no_memory (Some (for_page asked)) was is before k t = answers_without asked was is before before (keeps-same Entities before) k k t t status.NoMemory unread.NoMemory tt (front_nothing t [])
 
-pub runs_asked : (asked : Option Asked) (a : PageAsked) (before after : Seen) (k k' : ℕ) (t t' : Option (List ℕ)) (result : Status) → Some (for_page a) ≡ asked → Answers a before after k k' t t' result → RunsTo asked before after k k' t t' result
-runs_asked asked a before after k k' t t' result is answers = subst (λ o. RunsTo o before after k k' t t' result) is answers
+pub runs_asked : (asked : Option Asked) (a : PageAsked) (was is : List Seen) (before after : Seen) (k k' : ℕ) (t t' : Option (List ℕ)) (result : Status) → Some (for_page a) ≡ asked → Answers a was is before after k k' t t' result → RunsTo asked was is before after k k' t t' result
+runs_asked asked a was is before after k k' t t' result same answers = subst (λ o. RunsTo o was is before after k k' t t' result) same answers
 
 pub begins_nothing : (asked : Option Asked) (before : Seen) → BeginsOnce asked before before
 begins_nothing None before = refl
@@ -531,8 +536,8 @@ pub stops_asked : (asked : Option Asked) (a : Asked) (before after : Seen) → S
 stops_asked asked a before after is stops = subst (λ o. StopsAtLimits o before after) is stops
 
 -- of the command `make` no more is said by these
-pub runs_made : (asked : Option Asked) (a : MakeWords) (before after : Seen) (k k' : ℕ) (t t' : Option (List ℕ)) (result : Status) → Some (for_make a) ≡ asked → RunsTo asked before after k k' t t' result
-runs_made asked a before after k k' t t' result is = subst (λ o. RunsTo o before after k k' t t' result) is tt
+pub runs_made : (asked : Option Asked) (a : MakeWords) (was is : List Seen) (before after : Seen) (k k' : ℕ) (t t' : Option (List ℕ)) (result : Status) → Some (for_make a) ≡ asked → RunsTo asked was is before after k k' t t' result
+runs_made asked a was is before after k k' t t' result same = subst (λ o. RunsTo o was is before after k k' t t' result) same tt
 
 pub makes_none : (asked : Option Asked) (before after : Seen) (k k' : ℕ) (t t' : Option (List ℕ)) (result : Status) → asked ≡ None → MakesTo asked before after k k' t t' result
 makes_none asked before after k k' t t' result is = subst (λ o. MakesTo o before after k k' t t' result) (sym is) tt

@@ -1,12 +1,14 @@
 -- What a run answers: its status and the bytes that the sink took, as a function of what it met outside.
-use Rattle.std.specs.Prelude.{◌≡◌, ◌⊎◌, ℕ, Bool, true, false, List, [], ◌∷◌, ◌++◌, length, nat_le, if◌then◌else◌, Option, Some, None, IfSome, IsSome, IsTrue}
+use Rattle.std.specs.Prelude.{◌≡◌, ◌⊎◌, ℕ, zero, suc, Bool, true, false, List, [], ◌∷◌, ◌++◌, length, nat_le, if◌then◌else◌, Option, Some, None, IfSome, IsSome, IsTrue}
 use Rattle.html_types.specs.declared.ending.Why.TheVariants as why
-use Rattle.outside.specs.Outside.{Rose, Begun, Seen}
+use Rattle.std.specs.List.{AllByRecursion}
+use Rattle.outside.specs.Outside.{Rose, Begun, Files, Seen, KeepsOthers}
 use Rattle.outside.specs.declared.traits.Port.TheVariants.{Entities, Page, Script}
 use Rattle.standard.specs.Entities.{Entities as Table, entities_of}
 use Rattle.serial.specs.Scripts.{Fetched}
 use Rattle.serial.specs.Serial.{Result, finished, refused, Outcome}
 use Rattle.serial.specs.Output.{output_with}
+use Rattle.preload.specs.Teams.{helps_first}
 use Rattle.page_runner.specs.declared.command.TheConstants.{ENTITIES_LIMIT}
 use Rattle.page_runner.specs.declared.command.Unread.{Unread}
 use Rattle.page_runner.specs.declared.command.Unread.TheVariants as unread
@@ -21,7 +23,7 @@ use Rattle.command_words.specs.Words.{PageAsked, Asked, for_page, for_make}
 use Rattle.page_turns.specs.Given.{Given, unmet, missing, faulted, got, FaultsRose, NoFault, AbsencesRose, file_at, MayGive, ReadTo, BegunOnce, KeepsEntities}
 use Rattle.page_turns.specs.Calls.{ReadWithin, EachWithin}
 use Rattle.page_turns.specs.Taken.{Took, TookFront}
-use Rattle.page_turns.specs.Scripts.{AreScriptsOf, ReadScriptsTo, NamesOnce, world_in}
+use Rattle.page_turns.specs.Scripts.{Folder, Help, AreScriptsOf, ReadScriptsTo, NamesOnce, world_in}
 use Rattle.page_turns.specs.Pages.{PageRead, page_at, GivenFirst, MeetsFaults, BeginsAwaited, world_of, ComesTo}
 
 -- ---- what the outside may give of the page
@@ -41,17 +43,17 @@ pub record PageMet : Type 0 where
   pub outcome : Outcome
 
 -- the page is the file's, and the scripts are the folder's
-pub record MayMeetPage (path dir : List ℕ) (before after : Seen) (page : PageMet) : Type 0 where
+pub record MayMeetPage (path : List ℕ) (folder : Folder) (before after : Seen) (page : PageMet) : Type 0 where
   pub read : IsPageOf path before after page.read
-  pub scripts : AreScriptsOf dir before after page.scripts
+  pub scripts : AreScriptsOf folder before after page.scripts
 
 -- A page that was met was begun. Where it can't be begun, no file is open at its port, which has nothing left: so a failed read of a page that
 -- was begun isn't this.
-abbrev pub MayGivePage : List ℕ → List ℕ → Seen → Seen → Given PageMet → Type 0
-MayGivePage path dir before after unmet = Unit {0}
-MayGivePage path dir before after missing = AbsencesRose Page before after × IfSome (file_at before path) (λ file. file ≡ None) × NoFault Page before after × (after.open_at Page ≡ false)
-MayGivePage path dir before after faulted = FaultsRose Page before after × IfSome (after.left Page) (λ rest. rest ≡ []) × (after.open_at Page ≡ false)
-MayGivePage path dir before after (got page) = MayMeetPage path dir before after page × (after.open_at Page ≡ true)
+abbrev pub MayGivePage : List ℕ → Folder → Seen → Seen → Given PageMet → Type 0
+MayGivePage path folder before after unmet = Unit {0}
+MayGivePage path folder before after missing = AbsencesRose Page before after × IfSome (file_at before path) (λ file. file ≡ None) × NoFault Page before after × (after.open_at Page ≡ false)
+MayGivePage path folder before after faulted = FaultsRose Page before after × IfSome (after.left Page) (λ rest. rest ≡ []) × (after.open_at Page ≡ false)
+MayGivePage path folder before after (got page) = MayMeetPage path folder before after page × (after.open_at Page ≡ true)
 
 -- A fetch of a script failed only where the serial parse stops at it. Without a table there is no fetch.
 abbrev pub FaultsOver : Option Table → PageMet → Seen → Seen → Type 0
@@ -140,11 +142,11 @@ abbrev pub IsBegun : List ℕ → Seen → Type 0
 IsBegun path now = (now.open_at Page ≡ true) × IfSome now.files (λ map. IsSome (map path) × (now.left Page ≡ map path))
 
 -- from where the page is begun
-pub record PageAnswers (es : Table) (dump : Bool) (path dir : List ℕ) (before after : Seen) (sink sink' : ℕ) (taken taken' : Option (List ℕ)) (result : Status) : Type 0 where
+pub record PageAnswers (es : Table) (dump : Bool) (path : List ℕ) (folder : Folder) (before after : Seen) (sink sink' : ℕ) (taken taken' : Option (List ℕ)) (result : Status) : Type 0 where
   pub page : Given PageMet
-  pub may : MayGivePage path dir before after page
+  pub may : MayGivePage path folder before after page
   pub faults : IsTrue (is_answered result) → FaultsMet (Some es) page before after
-  pub awaited : AwaitsEach (Some es) dir page before after
+  pub awaited : AwaitsEach (Some es) folder.dir page before after
   pub parsed : IsParsed es page
   pub gives : Gives (Rose sink sink') taken taken' (answer_to_page dump page) result
 
@@ -182,23 +184,39 @@ answer_without unread.Missing = (status.Absent, [])
 answer_without unread.Faulted = (status.ReadFault, [])
 answer_without unread.NotTable = (status.Entities, [])
 
+-- where the scripts of a run come from that has these helpers, of which so many may be used: as they were, and as they are now
+abbrev pub folder_by : List ℕ → ℕ → List Seen → List Seen → Folder
+folder_by dir preload was now = record { dir = dir; given = []; helps = helps_first preload was now }
+
+-- Of the helpers the first so many fetched scripts, or did nothing; the others are as they were. Each is in its place.
+abbrev pub HelpersBack : ℕ → List Seen → List Seen → Type 0
+HelpersBack zero was now = now ≡ was
+HelpersBack (suc n) [] now = now ≡ []
+HelpersBack (suc n) (w ∷ was) [] = ⊥
+HelpersBack (suc n) (w ∷ was) (s ∷ now) = KeepsOthers Script w s × HelpersBack n was now
+
+-- none is used by another command
+abbrev pub HelpersBackOf : Option Asked → List Seen → List Seen → Type 0
+HelpersBackOf (Some (for_page asked)) was now = HelpersBack asked.preload was now
+HelpersBackOf _ was now = now ≡ was
+
 -- What was met at the ports, each with its cause, and the answer to it. The entities come first, and what stands behind
 -- that one which refuses counts for nothing.
-pub record Answers (asked : PageAsked) (before after : Seen) (sink sink' : ℕ) (taken taken' : Option (List ℕ)) (result : Status) : Type 0 where
+pub record Answers (asked : PageAsked) (was now : List Seen) (before after : Seen) (sink sink' : ℕ) (taken taken' : Option (List ℕ)) (result : Status) : Type 0 where
   pub entities : Given (List ℕ)
   pub page : Given PageMet
   pub may_entities : MayGive ENTITIES_LIMIT Entities asked.entities before after entities
-  pub may_page : MayGivePage asked.page asked.dir before after page
+  pub may_page : MayGivePage asked.page (folder_by asked.dir asked.preload was now) before after page
   pub faults : IsTrue (is_answered result) → FaultsMet (table_in entities) page before after
   pub awaited : AwaitsEach (table_in entities) asked.dir page before after
   pub parsed : (bytes : List ℕ) (es : Table) → entities ≡ got bytes → table_of bytes ≡ Some es → IsParsed es page
   pub gives : Gives (Rose sink sink') taken taken' (answer_to asked.dump entities page) result
 
 -- The words come before all. What comes of the command `make` is said by a clause of its own (`Making`).
-abbrev pub RunsTo : Option Asked → Seen → Seen → ℕ → ℕ → Option (List ℕ) → Option (List ℕ) → Status → Type 0
-RunsTo None before after sink sink' taken taken' result = Gives (Rose sink sink') taken taken' (status.Usage, []) result
-RunsTo (Some (for_page asked)) before after sink sink' taken taken' result = Answers asked before after sink sink' taken taken' result
-RunsTo (Some (for_make asked)) before after sink sink' taken taken' result = Unit {0}
+abbrev pub RunsTo : Option Asked → List Seen → List Seen → Seen → Seen → ℕ → ℕ → Option (List ℕ) → Option (List ℕ) → Status → Type 0
+RunsTo None was now before after sink sink' taken taken' result = Gives (Rose sink sink') taken taken' (status.Usage, []) result
+RunsTo (Some (for_page asked)) was now before after sink sink' taken taken' result = Answers asked was now before after sink sink' taken taken' result
+RunsTo (Some (for_make asked)) was now before after sink sink' taken taken' result = Unit {0}
 
 -- the statuses before which the sink is finished
 abbrev pub is_finished : Status → Bool
@@ -247,19 +265,24 @@ pub record NoFaultRose (before after : Seen) (sink sink' : ℕ) : Type 0 where
   pub script : ¬ (FaultsRose Script before after)
   pub at_sink : ¬ (Rose sink sink')
 
--- Where the files are there and in order, the parse with the folder's scripts finishes, and nothing failed, all is written, or
--- memory ran out.
-abbrev pub Completes : PageAsked → Seen → Seen → ℕ → ℕ → Option (List ℕ) → Option (List ℕ) → Status → Type 0
-Completes asked before after sink sink' taken taken' result = IfSome before.files (λ map. (entities page : List ℕ) (es : Table) (o : Outcome)
+-- each of the helpers tells these files
+abbrev pub TellAll : Files → List Help → Type 0
+TellAll map helps = AllByRecursion (λ (h : Help). h.before.files ≡ Some map) helps
+
+-- Where the files are there and in order, all helpers that may be used tell the same, and no call of the files failed, the status and all that
+-- is written are those of the parse with the folder's scripts, in which no helper occurs, or memory ran out.
+abbrev pub Completes : PageAsked → List Seen → List Seen → Seen → Seen → ℕ → ℕ → Option (List ℕ) → Option (List ℕ) → Status → Type 0
+Completes asked was now before after sink sink' taken taken' result = IfSome before.files (λ map. (entities page : List ℕ) (es : Table) (o : Outcome)
     → map asked.entities ≡ Some entities → table_of entities ≡ Some es → map asked.page ≡ Some page
-    → ComesTo (world_in es map asked.dir) (record { bytes = page; fault = false }) o → o.result ≡ finished
+    → TellAll map (helps_first asked.preload was now)
+    → ComesTo (world_in es map asked.dir) (record { bytes = page; fault = false }) o
     → NoFaultRose before after sink sink'
-    → (result ≡ status.NoMemory) ⊎ ((result ≡ status.Done) × Took taken taken' (output_with asked.dump o)))
+    → (result ≡ status.NoMemory) ⊎ ((result ≡ status_with o.result) × Took taken taken' (output_with asked.dump o)))
 
 -- the same of the words; a page that is made is always there and in order (`Making`)
-abbrev pub CompletesRun : Option Asked → Seen → Seen → ℕ → ℕ → Option (List ℕ) → Option (List ℕ) → Status → Type 0
-CompletesRun (Some (for_page asked)) before after sink sink' taken taken' result = Completes asked before after sink sink' taken taken' result
-CompletesRun _ before after sink sink' taken taken' result = Unit {0}
+abbrev pub CompletesRun : Option Asked → List Seen → List Seen → Seen → Seen → ℕ → ℕ → Option (List ℕ) → Option (List ℕ) → Status → Type 0
+CompletesRun (Some (for_page asked)) was now before after sink sink' taken taken' result = Completes asked was now before after sink sink' taken taken' result
+CompletesRun _ was now before after sink sink' taken taken' result = Unit {0}
 
 -- It comes nowhere else, and there it comes, or WriteFault or NoMemory comes in its place.
 pub record Exactly (wanted result : Status) (fact : Type 0) : Type 0 where

@@ -16,6 +16,7 @@ use Rattle.parser_thread.specs.Answers.{said, Worked}
 use Rattle.run_laws.specs.Along.{HoldsAlong, sends_in, takes_in, LooksAhead, DropsOver}
 use Rattle.page_turns.specs.Along.{AsksOf, FetchesAwaited, requests_of}
 use Rattle.page_turns.specs.Messages.{Message, AreReplies}
+use Rattle.page_turns.specs.Scripts.{Met}
 use Rattle.page_runner.specs.declared.status.Status.{Status}
 use Rattle.page_runner.specs.declared.status.Status.TheVariants.{NoMemory}
 
@@ -74,6 +75,6 @@ module _ {E : Type 0} (g : InForce.Ghosts E) where
 pub record IsLookingAhead (es : Entities) (ahead : ℕ) (j : Journal) : Type 0 where
   pub looks : HoldsAlong (λ x. LooksAhead x.ahead) es ahead j
 
--- Each script that was fetched was awaited where it arrived.
-pub record IsFetchingAwaited (es : Entities) (ahead : ℕ) (j : Journal) : Type 0 where
-  pub awaited : HoldsAlong (λ x. FetchesAwaited) es ahead j
+-- Each script was awaited where it arrived, but those that were given early, which none but helpers do.
+pub record IsFetchingAwaited (es : Entities) (ahead : ℕ) (given : Met) (j : Journal) : Type 0 where
+  pub awaited : HoldsAlong (λ x. FetchesAwaited given) es ahead j

@@ -17,7 +17,7 @@ use Rattle.page_turns.specs.Calls.{CallsAt}
 use Rattle.page_turns.specs.Cuts.{AreCut, IsLast}
 use Rattle.page_turns.specs.Given.{file_at}
 use Rattle.page_turns.specs.Taken.{Took}
-use Rattle.page_turns.specs.Scripts.{MayMeet, AreKnown}
+use Rattle.page_turns.specs.Scripts.{Folder, MayMeet, AreKnown}
 use Rattle.page_turns.specs.Pages.{PageRead, page_at, world_of, ComesTo, IsPageBehind}
 use Rattle.page_turns.specs.Replaying.{ReplaysTo}
 use Rattle.page_turns.specs.WrittenInPart.{IsDue, WritesInPart}
@@ -51,11 +51,11 @@ pub record IsCutByReads (most : ℕ) (path : List ℕ) (before after : Seen) (ou
 
 -- What the journal has was met outside: its pieces are a front of the page's text, and with the page's ending the whole page; and each thing
 -- that came of a script may have come of it.
-pub record IsMet (path dir : List ℕ) (before after : Seen) (j : Journal) : Type 0 where
+pub record IsMet (path : List ℕ) (folder : Folder) (before after : Seen) (j : Journal) : Type 0 where
   pub page : PageRead
   pub is_page : IsPageOf path before after page
   pub front : IsPageBehind j.ending j.pieces (page_at page)
-  pub scripts : (name : List ℕ) (f : Fetched) → found name j.fetches ≡ Some f → MayMeet dir before after name f
+  pub scripts : (name : List ℕ) (f : Fetched) → found name j.fetches ≡ Some f → MayMeet folder before after name f
   -- each name that was fetched is lawful, and none was twice
   pub known : AreKnown j.fetches
 
@@ -68,9 +68,9 @@ pub record IsWritten (dump : Bool) (taken taken' : Option (List ℕ)) (s : Shown
   pub took : Took taken taken' (flat_map line_text s.desk.own.side.lines ++ result_with dump result s.desk.own.side.doc.tree)
 
 -- The parse is over, and this is where the serial parse of the page ended: its result, its lines and its tree.
-pub record EndsAsSerial (es : Entities) (path dir : List ℕ) (before after : Seen) (s : Shown) : Type 0 where
+pub record EndsAsSerial (es : Entities) (path : List ℕ) (folder : Folder) (before after : Seen) (s : Shown) : Type 0 where
   pub met : PageMet
-  pub may : MayMeetPage path dir before after met
+  pub may : MayMeetPage path folder before after met
   pub comes : ComesTo (world_of es met.scripts) met.read met.outcome
   pub phase : s.desk.phase ≡ done met.outcome.result
   pub lines : s.desk.own.side.lines ≡ met.outcome.last.side.lines
@@ -90,11 +90,11 @@ IsDueNext dump s before text = IsDue s before text ⊎ IsEndText dump s before t
 
 -- The document's side is of this run, and what was written is so. Where memory ran out or the sink failed the journal has the events before the
 -- refused one, and perhaps that, if it is a Do: all lines of those before it were written, and behind them a front of what was to come next.
-pub record Reports (es : Entities) (ahead : ℕ) (dump : Bool) (path dir : List ℕ) (before after : Seen) (taken taken' : Option (List ℕ)) (s : Shown) (outcome : Status) : Type 0 where
+pub record Reports (es : Entities) (ahead : ℕ) (dump : Bool) (path : List ℕ) (folder : Folder) (before after : Seen) (taken taken' : Option (List ℕ)) (s : Shown) (outcome : Status) : Type 0 where
   pub entities : s.entities ≡ es
   pub ahead_is : s.ahead ≡ ahead
-  pub met : IsMet path dir before after s.journal
+  pub met : IsMet path folder before after s.journal
   pub replays : ReplaysTo es ahead s
   pub written : IsTrue (is_answered outcome) → IsWritten dump taken taken' s outcome
-  pub ended : IsTrue (is_answered outcome) → EndsAsSerial es path dir before after s
+  pub ended : IsTrue (is_answered outcome) → EndsAsSerial es path folder before after s
   pub in_part : is_answered outcome ≡ false → WritesInPart es ahead taken taken' (IsDueNext dump s)

@@ -10,7 +10,7 @@ ghost use Rattle.page_turns.specs.Taken.{Took, TookFront};
 ghost use Rattle.page_turns.specs.Shown.{result_of};
 ghost use Rattle.page_runner.specs.Shown.{status_of};
 ghost use Rattle.page_runner.specs.Making.{MakesTo};
-ghost use Rattle.page_runner.specs.Answers.{status_for, table_of, is_finished, Gives, PageAnswers, ReadsPage, ReadsTable, ReadsNone, answer_without, Answers, RunsTo, StopsAtLimits, BeginsOnce, CompletesRun, Exactly, AbsenceRose, FaultRose};
+ghost use Rattle.page_runner.specs.Answers.{status_for, table_of, is_finished, folder_by, HelpersBack, HelpersBackOf, Gives, PageAnswers, ReadsPage, ReadsTable, ReadsNone, answer_without, Answers, RunsTo, StopsAtLimits, BeginsOnce, CompletesRun, Exactly, AbsenceRose, FaultRose};
 
 use crate::making::run_make;
 use crate::on_two::page_on_two;
@@ -131,25 +131,35 @@ fn end_without<K: Sink>(out: &mut K, unread: Unread) -> Status
 fn by_table<
     R: Threads + Wait + Copy + Send + Sync + 'static,
     E: InForce + Send + 'static,
-    F: Outside,
+    F: Outside + Drop + Send + 'static,
     K: Sink,
     G: Gate + Drop + Send + Sync + 'static,
->(rt: &R, alloc: Global, job: &Job<'_>, files: &mut F, out: &mut K, gate: &Arc<G, Global>) -> Status
+>(
+    rt: &R,
+    alloc: Global,
+    job: &Job<'_>,
+    files: &mut F,
+    out: &mut K,
+    gate: &Arc<G, Global>,
+    helpers: &mut Vec<F>,
+) -> Status
     requires table { job.now.table.now ≡ E.entities }
     requires piece { (0 < job.now.piece) × (job.now.piece ≤ 65536) }
     requires ahead { (0 < job.now.ahead) × (job.now.ahead ≤ 64) }
-    ensures answer { PageAnswers job.now.table.now job.now.dump (string_bytes job.now.page) (string_bytes job.now.dir)
+    ensures answer { PageAnswers job.now.table.now job.now.dump (string_bytes job.now.page)
+        (folder_by (string_bytes job.now.dir) job.now.preload (map F.seen helpers.old.items) (map F.seen helpers.new.items))
         (F.seen files.old) (F.seen files.new) (K.faults out.old) (K.faults out.new) (K.taken out.old) (K.taken out.new) result }
     ensures reads { ReadsPage (string_bytes job.now.page) (string_bytes job.now.dir) (string_bytes job.now.page ∷ []) (F.seen files.old) (F.seen files.new) }
     ensures clean { IsTrue (is_finished result) → IsTrue (K.clean out.new) }
+    ensures helpers { HelpersBack job.now.preload (map F.seen helpers.old.items) (map F.seen helpers.new.items) }
 {
-    page_on_two::<R, E, F, K, G>(rt, alloc, job, files, out, gate).outcome
+    page_on_two::<R, E, F, K, G>(rt, alloc, job, files, out, gate, helpers).outcome
 }
 
 // Runs the page over the table.
 fn run_page<
     R: Threads + Wait + Copy + Send + Sync + 'static,
-    F: Outside,
+    F: Outside + Drop + Send + 'static,
     K: Sink,
     G: Gate + Drop + Send + Sync + 'static,
 >(
@@ -159,14 +169,17 @@ fn run_page<
     files: &mut F,
     out: &mut K,
     gate: &Arc<G, Global>,
+    helpers: &mut Vec<F>,
     words: PageWords,
 ) -> Status
     requires piece { (0 < words.piece) × (words.piece ≤ 65536) }
     requires ahead { (0 < words.ahead) × (words.ahead ≤ 64) }
-    ensures answer { PageAnswers table.now words.dump (string_bytes words.page) (string_bytes words.dir)
+    ensures answer { PageAnswers table.now words.dump (string_bytes words.page)
+        (folder_by (string_bytes words.dir) words.preload (map F.seen helpers.old.items) (map F.seen helpers.new.items))
         (F.seen files.old) (F.seen files.new) (K.faults out.old) (K.faults out.new) (K.taken out.old) (K.taken out.new) result }
     ensures reads { ReadsPage (string_bytes words.page) (string_bytes words.dir) (string_bytes words.page ∷ []) (F.seen files.old) (F.seen files.new) }
     ensures clean { IsTrue (is_finished result) → IsTrue (K.clean out.new) }
+    ensures helpers { HelpersBack words.preload (map F.seen helpers.old.items) (map F.seen helpers.new.items) }
 {
     let job = Job {
         page: words.page,
@@ -175,8 +188,9 @@ fn run_page<
         piece: words.piece,
         ahead: words.ahead,
         dump: words.dump,
+        preload: words.preload,
     };
-    by_table::<R, Brand, F, K, G>(rt, alloc, &job, files, out, gate)
+    by_table::<R, Brand, F, K, G>(rt, alloc, &job, files, out, gate, helpers)
 }
 
 // The table that the file lists. One that is too long is none.
@@ -215,7 +229,7 @@ fn read_entities<F: Outside>(alloc: Global, files: &mut F, path: &str) -> Result
 // Reads the entities, and runs the page over them.
 fn run_files<
     R: Threads + Wait + Copy + Send + Sync + 'static,
-    F: Outside,
+    F: Outside + Drop + Send + 'static,
     K: Sink,
     G: Gate + Drop + Send + Sync + 'static,
 >(
@@ -224,26 +238,29 @@ fn run_files<
     files: &mut F,
     out: &mut K,
     gate: &Arc<G, Global>,
+    helpers: &mut Vec<F>,
     words: PageWords,
 ) -> Status
     requires piece { (0 < words.piece) × (words.piece ≤ 65536) }
     requires ahead { (0 < words.ahead) × (words.ahead ≤ 64) }
-    ensures answer { Answers (shown words) (F.seen files.old) (F.seen files.new)
+    ensures answer { Answers (shown words) (map F.seen helpers.old.items) (map F.seen helpers.new.items)
+        (F.seen files.old) (F.seen files.new)
         (K.faults out.old) (K.faults out.new) (K.taken out.old) (K.taken out.new) result }
     ensures no_further { StopsAtLimits (Some (for_page (shown words))) (F.seen files.old) (F.seen files.new) }
     ensures begins { BeginsOnce (Some (for_page (shown words))) (F.seen files.old) (F.seen files.new) }
     ensures clean { IsTrue (is_finished result) → IsTrue (K.clean out.new) }
+    ensures helpers { HelpersBack words.preload (map F.seen helpers.old.items) (map F.seen helpers.new.items) }
 {
     match read_entities(alloc, files, words.entities.as_str()) {
         Err(unread) => end_without(out, unread),
-        Ok(table) => run_page(rt, alloc, &table, files, out, gate, words),
+        Ok(table) => run_page(rt, alloc, &table, files, out, gate, helpers, words),
     }
 }
 
 // Reads the words, and runs what they ask for.
 fn run_words<
     R: Threads + Wait + Copy + Send + Sync + 'static,
-    F: Outside,
+    F: Outside + Drop + Send + 'static,
     K: Sink,
     G: Gate + Drop + Send + Sync + 'static,
 >(
@@ -253,29 +270,32 @@ fn run_words<
     files: &mut F,
     out: &mut K,
     gate: &Arc<G, Global>,
+    helpers: &mut Vec<F>,
 ) -> Status
-    ensures answer { RunsTo (asked (map string_bytes words.now)) (F.seen files.old) (F.seen files.new)
+    ensures answer { RunsTo (asked (map string_bytes words.now)) (map F.seen helpers.old.items) (map F.seen helpers.new.items)
+        (F.seen files.old) (F.seen files.new)
         (K.faults out.old) (K.faults out.new) (K.taken out.old) (K.taken out.new) result }
     ensures no_further { StopsAtLimits (asked (map string_bytes words.now)) (F.seen files.old) (F.seen files.new) }
     ensures begins { BeginsOnce (asked (map string_bytes words.now)) (F.seen files.old) (F.seen files.new) }
     ensures makes { MakesTo (asked (map string_bytes words.now)) (F.seen files.old) (F.seen files.new)
         (K.faults out.old) (K.faults out.new) (K.taken out.old) (K.taken out.new) result }
     ensures clean { IsTrue (is_finished result) → IsTrue (K.clean out.new) }
+    ensures helpers { HelpersBackOf (asked (map string_bytes words.now)) (map F.seen helpers.old.items) (map F.seen helpers.new.items) }
 {
     match read_words(alloc, words) {
         Err(Refused::Usage) => Status::Usage,
         Err(Refused::NoMemory) => Status::NoMemory,
-        Ok(CommandWords::Page(words)) => run_files(rt, alloc, files, out, gate, words),
+        Ok(CommandWords::Page(words)) => run_files(rt, alloc, files, out, gate, helpers, words),
         Ok(CommandWords::Make(words)) => run_make(rt, alloc, out, gate, words),
     }
 }
 
 /// Runs the command that the words give, of which the program's name is the first: the entities file is read, and then
 /// the page is begun, parsed and written, its scripts with it; or a page is made, parsed, and what that comes to in numbers written. The sink is
-/// finished where the parse came to an end.
+/// finished where the parse came to an end. Of the helpers the first so many as the words say fetch scripts before they are awaited.
 pub fn run<
     R: Threads + Wait + Copy + Send + Sync + 'static,
-    F: Outside,
+    F: Outside + Drop + Send + 'static,
     K: Sink,
     G: Gate + Drop + Send + Sync + 'static,
 >(
@@ -285,9 +305,11 @@ pub fn run<
     files: &mut F,
     out: &mut K,
     gate: &Arc<G, Global>,
+    helpers: &mut Vec<F>,
 ) -> Status
     // The status and the bytes that the sink took are the answer to what the run met, and the text is that of the serial parse.
-    ensures answer { RunsTo (asked (map string_bytes words.now)) (F.seen files.old) (F.seen files.new)
+    ensures answer { RunsTo (asked (map string_bytes words.now)) (map F.seen helpers.old.items) (map F.seen helpers.new.items)
+        (F.seen files.old) (F.seen files.new)
         (K.faults out.old) (K.faults out.new) (K.taken out.old) (K.taken out.new) result }
 
     // The same of a page that is made from a number.
@@ -299,8 +321,12 @@ pub fn run<
     // Where the outside tells what was begun: entities, page and each script once at most, and nothing else ever.
     ensures begins { BeginsOnce (asked (map string_bytes words.now)) (F.seen files.old) (F.seen files.new) }
 
-    // Where nothing stands in its way, all is written, or memory runs out.
-    ensures complete { CompletesRun (asked (map string_bytes words.now)) (F.seen files.old) (F.seen files.new)
+    // Each helper is back in its place, and those that weren't to be used are as they were.
+    ensures helpers { HelpersBackOf (asked (map string_bytes words.now)) (map F.seen helpers.old.items) (map F.seen helpers.new.items) }
+
+    // Where nothing stands in its way, all is written, or memory runs out: what it would be with no helper.
+    ensures complete { CompletesRun (asked (map string_bytes words.now)) (map F.seen helpers.old.items) (map F.seen helpers.new.items)
+        (F.seen files.old) (F.seen files.new)
         (K.faults out.old) (K.faults out.new) (K.taken out.old) (K.taken out.new) result }
 
     // What follows for single statuses.
@@ -309,5 +335,5 @@ pub fn run<
     ensures read_fault { result ≡ Status.ReadFault → FaultRose (F.seen files.old) (F.seen files.new) }
     ensures write_fault { result ≡ Status.WriteFault → Rose (K.faults out.old) (K.faults out.new) }
 {
-    run_words(rt, alloc, words, files, out, gate)
+    run_words(rt, alloc, words, files, out, gate, helpers)
 }

@@ -3,6 +3,7 @@ ghost use Rattle.std.specs.Prelude.{◌≡◌, ◌<◌, ◌≤◌, ◌⊎◌, []
 ghost use Rattle.std.specs.String.{string_bytes};
 ghost use Rattle.page_runner.specs.Reports.{HasSide, has_run_out, IsCutByReads, Reports};
 ghost use Rattle.page_turns.specs.Cuts.{IsCut};
+ghost use Rattle.page_turns.specs.Scripts.{folder_with};
 ghost use Rattle.page_runner.specs.OnTwo.{IsLookingAhead, IsFetchingAwaited};
 ghost use Rattle.page_runner.specs.Answers.{is_finished, IsBegun, PageAnswers, ReadsPage};
 
@@ -13,7 +14,7 @@ use crate::status::Status;
 use core_steps::DocSide;
 use html_types::NoMemory;
 use outside::{Failed, Outside, Port, Sink};
-use page_turns::{InPlace, Job};
+use page_turns::{InPlace, Job, Nobody};
 use speculation::InForce;
 use std::alloc::Global;
 use std::marker::Brand;
@@ -30,11 +31,11 @@ fn run_begun<E: InForce, F: Outside, K: Sink>(
     requires piece { 0 < job.now.piece }
     requires some { 0 < job.now.ahead }
     requires few { job.now.ahead ≤ 64 }
-    ensures answer { PageAnswers job.now.table.now job.now.dump (string_bytes job.now.page) (string_bytes job.now.dir)
+    ensures answer { PageAnswers job.now.table.now job.now.dump (string_bytes job.now.page) (folder_with (string_bytes job.now.dir) [])
         (F.seen files.old) (F.seen files.new) (K.faults out.old) (K.faults out.new) (K.taken out.old) (K.taken out.new) result.outcome }
     ensures reads { ReadsPage (string_bytes job.now.page) (string_bytes job.now.dir) [] (F.seen files.old) (F.seen files.new) }
     ensures clean { IsTrue (is_finished result.outcome) → IsTrue (K.clean out.new) }
-    ensures reports { IfSome result.side (λ side. Reports job.now.table.now job.now.ahead job.now.dump (string_bytes job.now.page) (string_bytes job.now.dir)
+    ensures reports { IfSome result.side (λ side. Reports job.now.table.now job.now.ahead job.now.dump (string_bytes job.now.page) (folder_with (string_bytes job.now.dir) [])
         (F.seen files.old) (F.seen files.new) (K.taken out.old) (K.taken out.new) side result.outcome) }
     ensures side { IsSome result.side ⊎ ((result.outcome ≡ Status.NoMemory)
         × (F.seen files.new ≡ F.seen files.old) × (K.taken out.new ≡ K.taken out.old)) }
@@ -42,7 +43,7 @@ fn run_begun<E: InForce, F: Outside, K: Sink>(
         (F.seen files.old) (F.seen files.new) side.journal.pieces) }
     ensures looks_ahead { IfSome result.side (λ side. IsLookingAhead job.now.table.now job.now.ahead
         side.journal) }
-    ensures fetches { IfSome result.side (λ side. IsFetchingAwaited job.now.table.now job.now.ahead
+    ensures fetches { IfSome result.side (λ side. IsFetchingAwaited job.now.table.now job.now.ahead []
         side.journal) }
 {
     let (mut room, mut side) = match begin_run(alloc, job) {
@@ -55,8 +56,16 @@ fn run_begun<E: InForce, F: Outside, K: Sink>(
         Ok(begun) => begun,
     };
     let mut lanes: InPlace<E> = InPlace::new(alloc);
-    let outcome = run_with::<E, InPlace<E>, F, K>(
-        alloc, job, files, out, &mut side, &mut lanes, &mut room,
+    let mut nobody = Nobody;
+    let outcome = run_with::<E, InPlace<E>, Nobody, F, K>(
+        alloc,
+        job,
+        files,
+        out,
+        &mut side,
+        &mut lanes,
+        &mut nobody,
+        &mut room,
     );
     Run {
         outcome,
@@ -75,11 +84,11 @@ pub fn page_in_place<F: Outside, K: Sink>(
 ) -> Report<Brand>
     requires piece { (0 < job.now.piece) × (job.now.piece ≤ 65536) }
     requires ahead { (0 < job.now.ahead) × (job.now.ahead ≤ 64) }
-    ensures answer { PageAnswers job.now.table.now job.now.dump (string_bytes job.now.page) (string_bytes job.now.dir)
+    ensures answer { PageAnswers job.now.table.now job.now.dump (string_bytes job.now.page) (folder_with (string_bytes job.now.dir) [])
         (F.seen files.old) (F.seen files.new) (K.faults out.old) (K.faults out.new) (K.taken out.old) (K.taken out.new) result.outcome }
     ensures reads { ReadsPage (string_bytes job.now.page) (string_bytes job.now.dir) (string_bytes job.now.page ∷ []) (F.seen files.old) (F.seen files.new) }
     ensures clean { IsTrue (is_finished result.outcome) → IsTrue (K.clean out.new) }
-    ensures reports { IfSome result.side (λ side. Reports job.now.table.now job.now.ahead job.now.dump (string_bytes job.now.page) (string_bytes job.now.dir)
+    ensures reports { IfSome result.side (λ side. Reports job.now.table.now job.now.ahead job.now.dump (string_bytes job.now.page) (folder_with (string_bytes job.now.dir) [])
         (F.seen files.old) (F.seen files.new) (K.taken out.old) (K.taken out.new) side result.outcome) }
     ensures side { HasSide (string_bytes job.now.page) (F.seen files.old) (F.seen files.new)
         (K.taken out.old) (K.taken out.new) result.outcome result.side }
@@ -90,7 +99,7 @@ pub fn page_in_place<F: Outside, K: Sink>(
     // it is awaited.
     ensures looks_ahead { IfSome result.side (λ side. IsLookingAhead job.now.table.now job.now.ahead
         side.journal) }
-    ensures fetches { IfSome result.side (λ side. IsFetchingAwaited job.now.table.now job.now.ahead
+    ensures fetches { IfSome result.side (λ side. IsFetchingAwaited job.now.table.now job.now.ahead []
         side.journal) }
 {
     match files.begin(Port::Page, job.page.as_str()) {
@@ -98,11 +107,13 @@ pub fn page_in_place<F: Outside, K: Sink>(
             outcome: end_at_fault(out),
             side: None,
             ends: None,
+            helped: Vec::new(alloc),
         },
         Ok(false) => Report {
             outcome: Status::Absent,
             side: None,
             ends: None,
+            helped: Vec::new(alloc),
         },
         Ok(true) => {
             let Run { outcome, side } = run_begun::<Brand, F, K>(alloc, job, files, out);
@@ -110,6 +121,7 @@ pub fn page_in_place<F: Outside, K: Sink>(
                 outcome,
                 side,
                 ends: None,
+                helped: Vec::new(alloc),
             }
         }
     }

@@ -163,8 +163,10 @@ fn parse_made<
         piece: 4096,
         ahead: 8,
         dump: false,
+        preload: 0,
     };
     let mut nowhere = Nowhere::new();
+    let mut helpers = Vec::new(alloc);
     let report = page_on_two::<R, E, NeverFails, Nowhere, G>(
         rt,
         alloc,
@@ -172,6 +174,7 @@ fn parse_made<
         files,
         &mut nowhere,
         gate,
+        &mut helpers,
     );
     run_of(&report)
 }

@@ -1,5 +1,5 @@
 // A page is run with the parser's side in a thread of its own.
-ghost use Rattle.std.specs.Prelude.{◌≡◌, ◌<◌, ◌≤◌, ◌⊎◌, [], ◌∷◌, ◌++◌, length, map, Some, None, IfOk, IfSome, IsSome, IsTrue};
+ghost use Rattle.std.specs.Prelude.{◌≡◌, ◌<◌, ◌≤◌, ◌⊎◌, false, [], ◌∷◌, ◌++◌, length, map, Some, None, IfOk, IfSome, IsSome, IsTrue};
 ghost use Rattle.std.specs.String.{string_bytes};
 ghost use Rattle.parser_thread.specs.declared.messages.ToParser.TheVariants as message;
 ghost use Rattle.parser_thread.specs.Answers.{said};
@@ -7,7 +7,9 @@ ghost use Rattle.parser_thread.specs.Running.{IsRunning};
 ghost use Rattle.core_steps.specs.Sides.{first_shown};
 ghost use Rattle.page_runner.specs.Reports.{HasSide, has_run_out, IsCutByReads, Reports};
 ghost use Rattle.page_turns.specs.Cuts.{IsCut};
-ghost use Rattle.page_runner.specs.Answers.{is_finished, IsBegun, PageAnswers, ReadsPage};
+ghost use Rattle.page_turns.specs.Scripts.{AreDistinct};
+ghost use Rattle.preload.specs.Teams.{HelpedEach, names_through, given_through};
+ghost use Rattle.page_runner.specs.Answers.{is_finished, folder_by, IsBegun, PageAnswers, ReadsPage};
 ghost use Rattle.page_runner.specs.OnTwo.{IfBoth, InOrder, IsAnswered, IsJournaled, DropsFailed, IsLookingAhead, IsFetchingAwaited};
 
 use crate::command::end_at_fault;
@@ -20,6 +22,7 @@ use html_types::NoMemory;
 use outside::{Failed, Gate, Outside, Port, Sink};
 use page_turns::{Counterpart, Job};
 use parser_thread::{FromParser, Lanes, ParserThread, start};
+use preload::Fetchers;
 use speculation::{InForce, Reply, Request};
 use std::alloc::Global;
 use std::marker::Model;
@@ -55,6 +58,9 @@ impl<'a, R: Wait, E: InForce, G: Gate + Drop> Counterpart<E> for OverLanes<'a, R
     ghost put = { λ o. Some o.asks };
 
     ghost taken = { λ o. Some o.messages };
+
+    // Where the lanes' ends meet the order is known of them, by `finish`.
+    ghost ordered = { λ _. false };
 
     fn has_room(&self, ahead: usize) -> bool {
         self.under_way < ahead
@@ -110,14 +116,29 @@ impl<'a, R: Threads + Wait, E: InForce, G: Gate + Drop> OverLanes<'a, R, E, G> {
 }
 
 // No memory for what a run begins with.
-fn without_memory<E: InForce>() -> Report<E>
-    ensures { result ≡ record { outcome = Status.NoMemory; side = None; ends = None } }
+fn without_memory<E: InForce>(alloc: Global) -> Report<E>
+    ensures outcome { result.outcome ≡ Status.NoMemory }
+    ensures side { result.side ≡ None }
+    ensures ends { result.ends ≡ None }
+    ensures helped { result.helped.items ≡ [] }
 {
     Report {
         outcome: Status::NoMemory,
         side: None,
         ends: None,
+        helped: Vec::new(alloc),
     }
+}
+
+// No memory for the fetchers: what went through the lanes is let go.
+fn without_fetchers<E: InForce>(alloc: Global, ends: Lanes<E>) -> Report<E>
+    ensures outcome { result.outcome ≡ Status.NoMemory }
+    ensures side { result.side ≡ None }
+    ensures ends { result.ends ≡ None }
+    ensures helped { result.helped.items ≡ [] }
+{
+    let _ends = ends;
+    without_memory(alloc)
 }
 
 // What a run on two threads begins with, all memory that the lanes and the parser's side need: room for a read of the page, a document's side, and
@@ -150,7 +171,7 @@ fn begin_on_two<
 fn run_on_two<
     R: Threads + Wait + Copy + Send + Sync + 'static,
     E: InForce + Send + 'static,
-    F: Outside,
+    F: Outside + Drop + Send + 'static,
     K: Sink,
     G: Gate + Drop + Send + Sync + 'static,
 >(
@@ -160,17 +181,20 @@ fn run_on_two<
     files: &mut F,
     out: &mut K,
     gate: &Arc<G, Global>,
+    helpers: &mut Vec<F>,
 ) -> Report<E>
     requires table { job.now.table.now ≡ E.entities }
     requires begun { IsBegun (string_bytes job.now.page) (F.seen files.old) }
     requires piece { 0 < job.now.piece }
     requires some { 0 < job.now.ahead }
     requires few { job.now.ahead ≤ 64 }
-    ensures answer { PageAnswers job.now.table.now job.now.dump (string_bytes job.now.page) (string_bytes job.now.dir)
+    ensures answer { PageAnswers job.now.table.now job.now.dump (string_bytes job.now.page)
+        (folder_by (string_bytes job.now.dir) job.now.preload (map F.seen helpers.old.items) (map F.seen helpers.new.items))
         (F.seen files.old) (F.seen files.new) (K.faults out.old) (K.faults out.new) (K.taken out.old) (K.taken out.new) result.outcome }
     ensures reads { ReadsPage (string_bytes job.now.page) (string_bytes job.now.dir) [] (F.seen files.old) (F.seen files.new) }
     ensures clean { IsTrue (is_finished result.outcome) → IsTrue (K.clean out.new) }
-    ensures reports { IfSome result.side (λ side. Reports job.now.table.now job.now.ahead job.now.dump (string_bytes job.now.page) (string_bytes job.now.dir)
+    ensures reports { IfSome result.side (λ side. Reports job.now.table.now job.now.ahead job.now.dump (string_bytes job.now.page)
+        (folder_by (string_bytes job.now.dir) job.now.preload (map F.seen helpers.old.items) (map F.seen helpers.new.items))
         (F.seen files.old) (F.seen files.new) (K.taken out.old) (K.taken out.new) side result.outcome) }
     ensures side { IsSome result.side ⊎ ((result.outcome ≡ Status.NoMemory)
         × (F.seen files.new ≡ F.seen files.old) × (K.taken out.new ≡ K.taken out.old)) }
@@ -183,29 +207,40 @@ fn run_on_two<
     ensures looks_ahead { IfSome result.side (λ side. IsLookingAhead job.now.table.now job.now.ahead
         side.journal) }
     ensures fetches { IfSome result.side (λ side. IsFetchingAwaited job.now.table.now job.now.ahead
-        side.journal) }
+        (given_through result.helped.items) side.journal) }
     ensures ends { IfSome result.side (λ _. IsSome result.ends) }
+    ensures helped { HelpedEach (string_bytes job.now.dir) result.helped.items (map F.seen helpers.old.items) (map F.seen helpers.new.items) }
+    ensures used { length result.helped.items ≤ job.now.preload }
+    ensures once { AreDistinct (names_through result.helped.items) }
 {
     let Ok((mut room, mut side, running)) = begin_on_two::<R, E, G>(rt, alloc, job, gate) else {
-        return without_memory();
+        return without_memory(alloc);
     };
     let mut lanes = OverLanes::new(rt, running);
-    let outcome = run_with::<E, _, F, K>(alloc, job, files, out, &mut side, &mut lanes, &mut room);
+    let Ok(mut early) = Fetchers::start(rt, alloc, job.dir.as_str(), job.preload, helpers) else {
+        return without_fetchers(alloc, lanes.finish());
+    };
+    let outcome = run_with::<E, _, _, F, K>(
+        alloc, job, files, out, &mut side, &mut lanes, &mut early, &mut room,
+    );
     let ends = lanes.finish();
+    let helped = early.finish(helpers);
     Report {
         outcome,
         side: Some(side),
         ends: Some(ends),
+        helped,
     }
 }
 
 /// Begins the page, parses it and writes what comes of it, with the parser's side in a thread of its own, which begins before the page's first
 /// read. Where no thread can be made it is in the calling thread, over the same lanes, and nothing else differs. The parser's side is told to
-/// stop in every case before it is joined. The sink is finished where the parse came to an end.
+/// stop in every case before it is joined. The first so many helpers as the job says fetch scripts, each in a thread of its own, before they are
+/// awaited; where no thread can be made a helper isn't used. The sink is finished where the parse came to an end.
 pub fn page_on_two<
     R: Threads + Wait + Copy + Send + Sync + 'static,
     E: InForce + Send + 'static,
-    F: Outside,
+    F: Outside + Drop + Send + 'static,
     K: Sink,
     G: Gate + Drop + Send + Sync + 'static,
 >(
@@ -215,17 +250,20 @@ pub fn page_on_two<
     files: &mut F,
     out: &mut K,
     gate: &Arc<G, Global>,
+    helpers: &mut Vec<F>,
 ) -> Report<E>
     requires table { job.now.table.now ≡ E.entities }
     requires piece { (0 < job.now.piece) × (job.now.piece ≤ 65536) }
     requires ahead { (0 < job.now.ahead) × (job.now.ahead ≤ 64) }
 
     // What was written is the serial parse's text, as of `page_in_place`; the journal replays to this very document, these lines and this outcome.
-    ensures answer { PageAnswers job.now.table.now job.now.dump (string_bytes job.now.page) (string_bytes job.now.dir)
+    ensures answer { PageAnswers job.now.table.now job.now.dump (string_bytes job.now.page)
+        (folder_by (string_bytes job.now.dir) job.now.preload (map F.seen helpers.old.items) (map F.seen helpers.new.items))
         (F.seen files.old) (F.seen files.new) (K.faults out.old) (K.faults out.new) (K.taken out.old) (K.taken out.new) result.outcome }
     ensures reads { ReadsPage (string_bytes job.now.page) (string_bytes job.now.dir) (string_bytes job.now.page ∷ []) (F.seen files.old) (F.seen files.new) }
     ensures clean { IsTrue (is_finished result.outcome) → IsTrue (K.clean out.new) }
-    ensures reports { IfSome result.side (λ side. Reports job.now.table.now job.now.ahead job.now.dump (string_bytes job.now.page) (string_bytes job.now.dir)
+    ensures reports { IfSome result.side (λ side. Reports job.now.table.now job.now.ahead job.now.dump (string_bytes job.now.page)
+        (folder_by (string_bytes job.now.dir) job.now.preload (map F.seen helpers.old.items) (map F.seen helpers.new.items))
         (F.seen files.old) (F.seen files.new) (K.taken out.old) (K.taken out.new) side result.outcome) }
     ensures side { HasSide (string_bytes job.now.page) (F.seen files.old) (F.seen files.new)
         (K.taken out.old) (K.taken out.new) result.outcome result.side }
@@ -241,20 +279,28 @@ pub fn page_on_two<
     ensures looks_ahead { IfSome result.side (λ side. IsLookingAhead job.now.table.now job.now.ahead
         side.journal) }
     ensures fetches { IfSome result.side (λ side. IsFetchingAwaited job.now.table.now job.now.ahead
-        side.journal) }
+        (given_through result.helped.items) side.journal) }
     ensures ends { IfSome result.side (λ _. IsSome result.ends) }
+
+    // Each helper is back in its place. Those that were used fetched each name that they were asked for, once and in order, and no name was asked
+    // of two.
+    ensures helped { HelpedEach (string_bytes job.now.dir) result.helped.items (map F.seen helpers.old.items) (map F.seen helpers.new.items) }
+    ensures used { length result.helped.items ≤ job.now.preload }
+    ensures once { AreDistinct (names_through result.helped.items) }
 {
     match files.begin(Port::Page, job.page.as_str()) {
         Err(Failed) => Report {
             outcome: end_at_fault(out),
             side: None,
             ends: None,
+            helped: Vec::new(alloc),
         },
         Ok(false) => Report {
             outcome: Status::Absent,
             side: None,
             ends: None,
+            helped: Vec::new(alloc),
         },
-        Ok(true) => run_on_two::<R, E, F, K, G>(rt, alloc, job, files, out, gate),
+        Ok(true) => run_on_two::<R, E, F, K, G>(rt, alloc, job, files, out, gate, helpers),
     }
 }

@@ -5,6 +5,7 @@ ghost use Rattle.core_steps.specs.Tallies.{IsTallyOf};
 use crate::status::Status;
 use core_steps::{DocSide, Tally};
 use parser_thread::Lanes;
+use preload::HelperLanes;
 use speculation::InForce;
 
 /// What came of a page that was run on the calling thread.
@@ -24,6 +25,9 @@ pub struct Report<E: InForce> {
     pub side: Option<DocSide>,
     /// What went through both lanes between the document's side and the parser's side: none where there were no lanes.
     pub ends: Option<Lanes<E>>,
+    /// Of each helper that might be used, in their order, what went through its lanes: none where no memory for its thread was to be had. There
+    /// are none where the page wasn't begun.
+    pub helped: Vec<Option<HelperLanes>>,
 }
 
 impl<E: InForce> Report<E> {

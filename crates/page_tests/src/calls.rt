@@ -34,6 +34,7 @@ pub fn job_of<'a>(page: String, dir: String, table: &'a Table, piece: usize, dum
         piece,
         ahead: 8,
         dump,
+        preload: 0,
     }
 }
 
@@ -45,7 +46,7 @@ pub fn path_of(alloc: Global, path: &str) -> Result<String, NoMemory> {
 /// Runs the words' page on two threads.
 pub fn status_on_two<
     R: Threads + Wait + Copy + Send + Sync + 'static,
-    F: Outside,
+    F: Outside + Drop + Send + 'static,
     K: Sink,
     G: Gate + Drop + Send + Sync + 'static,
 >(
@@ -56,7 +57,26 @@ pub fn status_on_two<
     out: &mut K,
     gate: &Arc<G, Global>,
 ) -> Status {
-    run(rt, alloc, words, files, out, gate)
+    let mut none = Vec::new(alloc);
+    run(rt, alloc, words, files, out, gate, &mut none)
+}
+
+/// The same, with helpers.
+pub fn status_with_helpers<
+    R: Threads + Wait + Copy + Send + Sync + 'static,
+    F: Outside + Drop + Send + 'static,
+    K: Sink,
+    G: Gate + Drop + Send + Sync + 'static,
+>(
+    rt: &R,
+    alloc: Global,
+    words: &[String],
+    files: &mut F,
+    out: &mut K,
+    gate: &Arc<G, Global>,
+    helpers: &mut Vec<F>,
+) -> Status {
+    run(rt, alloc, words, files, out, gate, helpers)
 }
 
 /// Runs the page on one thread.
@@ -76,7 +96,7 @@ pub fn status_in_place<F: Outside, K: Sink>(
 pub fn report_on_two<
     R: Threads + Wait + Copy + Send + Sync + 'static,
     E: InForce + Send + 'static,
-    F: Outside,
+    F: Outside + Drop + Send + 'static,
     K: Sink,
     G: Gate + Drop + Send + Sync + 'static,
 >(
@@ -91,5 +111,29 @@ pub fn report_on_two<
     requires piece { (0 < job.now.piece) × (job.now.piece ≤ 65536) }
     requires ahead { (0 < job.now.ahead) × (job.now.ahead ≤ 64) }
 {
-    page_on_two::<R, E, F, K, G>(rt, alloc, job, files, out, gate)
+    let mut none = Vec::new(alloc);
+    page_on_two::<R, E, F, K, G>(rt, alloc, job, files, out, gate, &mut none)
+}
+
+/// The same, with helpers.
+pub fn report_with_helpers<
+    R: Threads + Wait + Copy + Send + Sync + 'static,
+    E: InForce + Send + 'static,
+    F: Outside + Drop + Send + 'static,
+    K: Sink,
+    G: Gate + Drop + Send + Sync + 'static,
+>(
+    rt: &R,
+    alloc: Global,
+    job: &Job<'_>,
+    files: &mut F,
+    out: &mut K,
+    gate: &Arc<G, Global>,
+    helpers: &mut Vec<F>,
+) -> Report<E>
+    requires table { job.now.table.now ≡ E.entities }
+    requires piece { (0 < job.now.piece) × (job.now.piece ≤ 65536) }
+    requires ahead { (0 < job.now.ahead) × (job.now.ahead ≤ 64) }
+{
+    page_on_two::<R, E, F, K, G>(rt, alloc, job, files, out, gate, helpers)
 }

@@ -151,6 +151,8 @@ impl<E: InForce, L: Counterpart<E> + Drop> Counterpart<E> for Noted<L> {
 
     ghost taken = { λ n. L.taken n.counterpart };
 
+    ghost ordered = { λ n. L.ordered n.counterpart };
+
     fn has_room(&self, ahead: usize) -> bool {
         self.counterpart.has_room(ahead)
     }

@@ -28,6 +28,10 @@ mod making;
 #[cfg(test)]
 mod meeting;
 #[cfg(test)]
+mod paired;
+#[cfg(test)]
+mod preloads;
+#[cfg(test)]
 mod rows;
 #[cfg(test)]
 mod running;

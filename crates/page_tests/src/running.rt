@@ -1,6 +1,6 @@
 //! Pages that are run on two threads, or on one.
 
-use crate::calls::{job_of, path_of, status_in_place, status_on_two};
+use crate::calls::{job_of, path_of, status_in_place, status_with_helpers};
 use crate::delays::{SlowFiles, SlowGate, SlowSink};
 use crate::thread_pages::{ENTITIES, SCRIPTS};
 use entity_table::{Table, TableFault};
@@ -21,19 +21,23 @@ pub struct Written {
     pub sink: MemSink,
 }
 
-/// How a page is read and sent: the bytes of a read, and how many requests go ahead of their replies.
+/// How a page is read and sent: the bytes of a read, how many requests go ahead of their replies,
+/// and how many helpers fetch its scripts early.
 #[derive(Clone, Copy)]
 pub struct Sending {
     /// 1 to 65,536.
     pub piece: u32,
     /// 1 to 64.
     pub ahead: u32,
+    /// 0 to 8.
+    pub helpers: u32,
 }
 
 /// As it is where the command says nothing of it.
 pub const DEFAULT: Sending = Sending {
     piece: 4096,
     ahead: 8,
+    helpers: 0,
 };
 
 /// The page and its scripts, in memory.
@@ -52,6 +56,7 @@ pub fn files_of(alloc: Global, page: &str) -> Result<MemFiles, NoMemory> {
 pub fn words_of(alloc: Global, sending: Sending) -> Result<Vec<String>, NoMemory> {
     let piece = format!(in alloc; "{}", sending.piece)?;
     let ahead = format!(in alloc; "{}", sending.ahead)?;
+    let helpers = format!(in alloc; "{}", sending.helpers)?;
     let mut words = Vec::new(alloc);
     for word in [
         "specparse",
@@ -60,6 +65,8 @@ pub fn words_of(alloc: Global, sending: Sending) -> Result<Vec<String>, NoMemory
         piece.as_str(),
         "--ahead",
         ahead.as_str(),
+        "--preload",
+        helpers.as_str(),
         "p",
         "d",
         "e",
@@ -100,7 +107,22 @@ pub fn run_alone(alloc: Global, page: &str) -> Result<Written, NoMemory> {
     Ok(Written { status, sink })
 }
 
-/// What the page comes to on two threads, with the delays of this seed.
+// So many helpers with files of that page, each with delays of its own.
+fn slow_helpers(
+    alloc: Global,
+    page: &str,
+    count: u32,
+    seed: u64,
+) -> Result<Vec<SlowFiles<MemFiles>>, NoMemory> {
+    let mut helpers = Vec::new(alloc);
+    for which in 0..count {
+        let own = !seed ^ (u64::from(which) << 32);
+        helpers.push(SlowFiles::new(files_of(alloc, page)?, own))?;
+    }
+    Ok(helpers)
+}
+
+/// What the page comes to on two threads and with helpers, with the delays of this seed.
 pub fn run_slowly<R: Threads + Wait + Copy + Send + Sync + 'static>(
     rt: &R,
     alloc: Global,
@@ -112,7 +134,8 @@ pub fn run_slowly<R: Threads + Wait + Copy + Send + Sync + 'static>(
     let mut files = SlowFiles::new(files_of(alloc, page)?, seed);
     let mut out = SlowSink::new(MemSink::new(alloc, ROOM)?, seed);
     let gate = Arc::new(alloc, SlowGate { seed })?;
-    let status = status_on_two(rt, alloc, &words, &mut files, &mut out, &gate);
+    let mut helpers = slow_helpers(alloc, page, sending.helpers, seed)?;
+    let status = status_with_helpers(rt, alloc, &words, &mut files, &mut out, &gate, &mut helpers);
     Ok(Written {
         status,
         sink: out.sink,

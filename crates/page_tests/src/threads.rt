@@ -1,5 +1,5 @@
-//! Pages on two threads that hold one another, pages with delays, and what the document's side
-//! parses itself.
+//! Pages on two threads that hold one another, pages with delays, with helpers and without, and what
+//! the document's side parses itself.
 
 use crate::counting::{count_page, count_pages, long_comment};
 use crate::running::{Sending, run_alone, run_slowly};
@@ -35,12 +35,13 @@ fn count_held<R: Threads + Wait + Copy + Send + Sync + 'static>(
     Ok(done)
 }
 
-// How a page is sent in a run of that seed.
+// How a page is sent in a run of that seed, and by how many helpers.
 fn sending_of(seed: u64) -> Sending {
     let mut random = Pcg32::new(seed, 3);
     Sending {
         piece: 1 + random.next_word() % 60,
         ahead: 1 + random.next_word() % 8,
+        helpers: random.next_word() % 4,
     }
 }
 

@@ -11,7 +11,7 @@ use core_steps::{DocSide, Fetch};
 use entity_table::{Table, TableFault};
 use html_types::NoMemory;
 use outside::{Failed, Outside, Port, Sink};
-use page_turns::{Counterpart, Failure, InPlace, Job, Outcome, parse_page, read_whole};
+use page_turns::{Counterpart, Failure, InPlace, Job, Nobody, Outcome, parse_page, read_whole};
 use speculation::InForce;
 use std::alloc::{AllocError, Global};
 use std::marker::Brand;
@@ -119,7 +119,17 @@ fn parse<E: InForce, L: Counterpart<E>, F: Outside>(
     requires few { job.now.ahead ≤ 64 }
 {
     let mut out = Nowhere { is_clean: true };
-    parse_page::<E, L, F, Nowhere>(alloc, job, files, &mut out, side, lanes, room)
+    let mut nobody = Nobody;
+    parse_page::<E, L, Nobody, F, Nowhere>(
+        alloc,
+        job,
+        files,
+        &mut out,
+        side,
+        lanes,
+        &mut nobody,
+        room,
+    )
 }
 
 // What was done and noted, as rows.
@@ -236,6 +246,7 @@ fn job_of<'a>(page: String, dir: String, table: &'a Table, piece: usize, ahead: 
         piece,
         ahead,
         dump: false,
+        preload: 0,
     }
 }
 

@@ -1,6 +1,6 @@
 -- What holds along the events so far holds along one more, and in each run.
 use Rattle.std.proofs.Common.{◌≡◌, ℕ, zero, suc, ◌+◌, nat_lt, Bool, true, false, true≢false, List, [], ◌∷◌, ◌++◌, length, Option, Some, None, Ok, Err, refl, sym, ◌∙◌, ap, subst, inl, inr, append-nil, append_assoc, length-append, arith}
-use Rattle.std.specs.Prelude.{Result, OnOk, OnErr, IsTrue, IfSome, not, slice_get}
+use Rattle.std.specs.Prelude.{◌⊎◌, Result, OnOk, OnErr, IsTrue, IfSome, not, slice_get}
 use Rattle.std.specs.List.{AllByRecursion}
 use Rattle.std.proofs.lemmas.Bool.{and_parts}
 use Rattle.html_types.specs.declared.ending.Ending.{Ending}
@@ -21,6 +21,7 @@ use Rattle.core_steps.specs.Fetches.{names_of}
 use Rattle.core_steps.specs.Sides.{Shown, first_shown, ShowsIn, Shows, DoesShow, journaled, with_piece, with_ending, with_fetch, sent_before, IsRequestFor}
 use Rattle.core_steps.proofs.Counts.{counts-same}
 use Rattle.run_laws.specs.Along.{MovesWith, HoldsAlong, sends_in, IsForFirst, SendsOf, IsSentAhead, LooksAhead}
+use Rattle.page_turns.specs.Scripts.{Met, GivenEarly, GivesMore}
 use Rattle.page_turns.specs.Along.{Stays, MayDo, Hands, IsSentSoFar, LooksSoFar, AsksOf, IsAwaitedIn, FetchesAwaited, GoesSoFar, requests_of, HasArrived, Goes}
 use Rattle.page_turns.specs.Messages.{Adds}
 use Rattle.page_turns.specs.Turns.{StaysRead}
@@ -84,13 +85,23 @@ asks-more asks pieces pieces' xs longer Take d s = s
 asks-more asks pieces pieces' xs longer Do d s = s
 asks-more asks pieces pieces' xs longer (Arrive name) d s = s
 
-awaited-more : (xs : List Piece) (v : Event) (d : Desk) → FetchesAwaited v d → FetchesAwaited v (with_more xs d)
-awaited-more xs Send d s = s
-awaited-more xs Pick d s = s
-awaited-more xs Give d s = s
-awaited-more xs Take d s = s
-awaited-more xs Do d s = s
-awaited-more xs (Arrive name) d s = s
+awaited-more : (given : Met) (xs : List Piece) (v : Event) (d : Desk) → FetchesAwaited given v d → FetchesAwaited given v (with_more xs d)
+awaited-more given xs Send d s = s
+awaited-more given xs Pick d s = s
+awaited-more given xs Give d s = s
+awaited-more given xs Take d s = s
+awaited-more given xs Do d s = s
+awaited-more given xs (Arrive name) d s = s
+
+-- where more was given
+pub awaited-given : (given given' : Met) → GivesMore given given' → (v : Event) (d : Desk) → FetchesAwaited given v d → FetchesAwaited given' v d
+awaited-given given given' more Send d s = s
+awaited-given given given' more Pick d s = s
+awaited-given given given' more Give d s = s
+awaited-given given given' more Take d s = s
+awaited-given given given' more Do d s = s
+awaited-given given given' more (Arrive name) d (inl awaited) = inl awaited
+awaited-given given given' more (Arrive name) d (inr (f, early)) = inr (f, more name f early)
 
 full-of : (ahead : ℕ) (d : Desk) → IsSentSoFar ahead None d → nat_lt (outstanding d) ahead ≡ false
 full-of ahead d (inl full) = full
@@ -199,8 +210,8 @@ do-going (done r) d e = absurd (true≢false (sym e))
 
 -- ---- the events of a run
 
-pub goes_first : (es : Entities) (ahead : ℕ) (asks : Option (List Asked)) (s : Shown) → IfSome asks (λ all. all ≡ []) → s ≡ first_shown es ahead → Goes asks s
-goes_first es ahead asks s none is = subst (Goes asks) (sym is) (record { asked = []; told = none; count = refl; sends = refl; arrived = tt; along = λ w entities knows. (first_desk [], refl, refl) })
+pub goes_first : {given : Met} (es : Entities) (ahead : ℕ) (asks : Option (List Asked)) (s : Shown) → IfSome asks (λ all. all ≡ []) → s ≡ first_shown es ahead → Goes given asks s
+goes_first {given} es ahead asks s none is = subst (Goes given asks) (sym is) (record { asked = []; told = none; count = refl; sends = refl; arrived = tt; along = λ w entities knows. (first_desk [], refl, refl) })
 
 -- ---- what is handed in
 
@@ -292,19 +303,35 @@ pub stays_read : (old new : Shown) → Stays old new → StaysRead old new
 stays_read old new is = subst (λ z. StaysRead old z) (sym is) refl
 
 -- nothing of desk and journal was changed
-pub goes_stays : (asks : Option (List Asked)) (s s' : Shown) → Stays s s' → Goes asks s → Goes asks s'
-goes_stays asks s s' is g = subst (Goes asks) (sym is) (record { asked = g.asked; told = g.told; count = g.count; sends = g.sends; arrived = g.arrived; along = g.along })
+pub goes_stays : {given : Met} (asks : Option (List Asked)) (s s' : Shown) → Stays s s' → Goes given asks s → Goes given asks s'
+goes_stays {given} asks s s' is g = subst (Goes given asks) (sym is) (record { asked = g.asked; told = g.told; count = g.count; sends = g.sends; arrived = g.arrived; along = g.along })
 
 -- whatever was put
-pub goes_forget : (asks : Option (List Asked)) (s : Shown) → Goes asks s → Goes None s
-goes_forget asks s g = record { asked = g.asked; told = tt; count = g.count; sends = g.sends; arrived = g.arrived; along = g.along }
+pub goes_forget : {given : Met} (asks : Option (List Asked)) (s : Shown) → Goes given asks s → Goes given None s
+goes_forget {given} asks s g = record { asked = g.asked; told = tt; count = g.count; sends = g.sends; arrived = g.arrived; along = g.along }
 
-pub goes_same : (asks asks' : Option (List Asked)) (s : Shown) → asks' ≡ asks → Goes asks s → Goes asks' s
-goes_same asks asks' s same g = subst (λ o. Goes o s) (sym same) g
+pub goes_same : {given : Met} (asks asks' : Option (List Asked)) (s : Shown) → asks' ≡ asks → Goes given asks s → Goes given asks' s
+goes_same {given} asks asks' s same g = subst (λ o. Goes given o s) (sym same) g
 
-module _ (asks : Option (List Asked)) (s : Shown) (g : Goes asks s) where
+-- what was given is the same
+pub goes_given : (given given' : Met) (asks : Option (List Asked)) (s : Shown) → given' ≡ given → Goes given asks s → Goes given' asks s
+goes_given given given' asks s same g = subst (λ x. Goes x asks s) (sym same) g
+
+-- where more was given
+pub goes_more : (given given' : Met) (asks : Option (List Asked)) (s : Shown) → GivesMore given given' → Goes given asks s → Goes given' asks s
+goes_more given given' asks s more g = record { asked = g.asked; told = g.told; count = g.count; sends = g.sends; arrived = g.arrived; along = along }
+  where
+    Then : Met → Event → Desk → Type 0
+    Then them = GoesSoFar them g.asked s.journal.pieces s.ahead s.journal.ending
+
+    along : (w : World) → w.entities ≡ s.entities → Knows s.journal.fetches w → (d : Desk) × MovesWith (Then given') s.ahead w s.journal.events (first_desk (pieces_with s.journal.pieces s.journal.ending)) d × Shows d s.desk
+    along w entities knows =
+        let (d, with, shows) = g.along w entities knows in
+        (d, with-weaker (Then given) (Then given') s.ahead w (λ v e h. (h.0, h.1, awaited-given given given' more v e h.2)) s.journal.events (first_desk (pieces_with s.journal.pieces s.journal.ending)) d with, shows)
+
+module _ {given : Met} (asks : Option (List Asked)) (s : Shown) (g : Goes given asks s) where
   abbrev Was : Option Ending → Event → Desk → Type 0
-  Was o = GoesSoFar g.asked s.journal.pieces s.ahead o
+  Was o = GoesSoFar given g.asked s.journal.pieces s.ahead o
 
   -- one event more, which is no Send
   same-sends : (v : Event) → sends_in (v ∷ []) ≡ 0 → length g.asked ≡ sends_in (s.journal.events ++ v ∷ [])
@@ -316,11 +343,11 @@ module _ (asks : Option (List Asked)) (s : Shown) (g : Goes asks s) where
       ((earlier, later ++ v ∷ [], ap (λ l. l ++ v ∷ []) is ∙ append_assoc earlier (Arrive name ∷ later) (v ∷ [])), arrived-more v names all)
 
   abbrev Now : Asked → Event → Desk → Type 0
-  Now q = GoesSoFar (g.asked ++ q ∷ []) s.journal.pieces s.ahead s.journal.ending
+  Now q = GoesSoFar given (g.asked ++ q ∷ []) s.journal.pieces s.ahead s.journal.ending
 
   pub goes_sent : (asks' : Option (List Asked)) (q : Asked) (s' : Shown) → Adds asks asks' q → IsTrue (can_send s.ahead s.desk) → IsRequestFor s.desk.to_send s.desk q.request → q.from ≡ sent_before s
-      → s' ≡ journaled Send (sends s.desk) s → Goes asks' s'
-  goes_sent asks' q s' put can for from is = subst (Goes asks') (sym is) (record {
+      → s' ≡ journaled Send (sends s.desk) s → Goes given asks' s'
+  goes_sent asks' q s' put can for from is = subst (Goes given asks') (sym is) (record {
     asked = g.asked ++ q ∷ [];
     told = told-of asks asks' put g.told;
     count = let longer = length-append g.asked (q ∷ []) in let was = g.count in let more = sends-sent s.desk.to_send s.desk q.request for in omega (arith, longer, was, more);
@@ -348,54 +375,54 @@ module _ (asks : Option (List Asked)) (s : Shown) (g : Goes asks s) where
           let step : Moves s.ahead w Send d (sends s.desk) = subst (λ e. Moves s.ahead w Send e (sends s.desk)) (sym same) (can, refl) in
           (sends s.desk, with-then (Now q) s.ahead w s.journal.events Send (first_desk (pieces_with s.journal.pieces s.journal.ending)) d (sends s.desk) longer here step, shows-same (sends s.desk).phase (sends s.desk))
 
-  pub goes_took : (s' : Shown) → IsTrue (wants_reply s.desk) → (takes s.entities s.desk).sent ≡ s.desk.sent → s' ≡ journaled Take (takes s.entities s.desk) s → Goes asks s'
-  goes_took s' wants sent is = subst (Goes asks) (sym is) (record { asked = g.asked; told = g.told; count = g.count ∙ sym sent; sends = same-sends Take refl; arrived = arrived-more Take (names_of s.journal.fetches) g.arrived; along = along })
+  pub goes_took : (s' : Shown) → IsTrue (wants_reply s.desk) → (takes s.entities s.desk).sent ≡ s.desk.sent → s' ≡ journaled Take (takes s.entities s.desk) s → Goes given asks s'
+  goes_took s' wants sent is = subst (Goes given asks) (sym is) (record { asked = g.asked; told = g.told; count = g.count ∙ sym sent; sends = same-sends Take refl; arrived = arrived-more Take (names_of s.journal.fetches) g.arrived; along = along })
     where
       going : is_done s.desk.phase ≡ false
       going = free-going s.desk.phase (and_parts _ _ (and_parts _ _ wants).0).0
 
       along : (w : World) → w.entities ≡ s.entities → Knows s.journal.fetches w →
-          (d : Desk) × MovesWith (GoesSoFar g.asked s.journal.pieces s.ahead s.journal.ending) s.ahead w (s.journal.events ++ Take ∷ []) (first_desk (pieces_with s.journal.pieces s.journal.ending)) d × Shows d (takes s.entities s.desk)
+          (d : Desk) × MovesWith (GoesSoFar given g.asked s.journal.pieces s.ahead s.journal.ending) s.ahead w (s.journal.events ++ Take ∷ []) (first_desk (pieces_with s.journal.pieces s.journal.ending)) d × Shows d (takes s.entities s.desk)
       along w entities knows =
           let (d, with, shows) = g.along w entities knows in
           let same : d ≡ s.desk = shown-going s.desk.phase d s.desk going shows in
           let step : Moves s.ahead w Take d (takes s.entities s.desk) = subst (λ e. Moves s.ahead w Take e (takes s.entities s.desk)) (sym same) (wants, ap (λ es. takes es s.desk) (sym entities)) in
-          (takes s.entities s.desk, with-then (GoesSoFar g.asked s.journal.pieces s.ahead s.journal.ending) s.ahead w s.journal.events Take (first_desk (pieces_with s.journal.pieces s.journal.ending)) d (takes s.entities s.desk) with (tt, tt, tt) step, shows-same (takes s.entities s.desk).phase (takes s.entities s.desk))
+          (takes s.entities s.desk, with-then (GoesSoFar given g.asked s.journal.pieces s.ahead s.journal.ending) s.ahead w s.journal.events Take (first_desk (pieces_with s.journal.pieces s.journal.ending)) d (takes s.entities s.desk) with (tt, tt, tt) step, shows-same (takes s.entities s.desk).phase (takes s.entities s.desk))
 
-  pub goes_did : (s' : Shown) → IsTrue (can_do s.desk) → IsSentSoFar s.ahead s.journal.ending s.desk → DoesShow s.entities s.journal.fetches s.desk s'.desk → s'.desk.sent ≡ s.desk.sent → s' ≡ record (journaled Do s'.desk s) { given = s'.given; spent = s'.spent } → Goes asks s'
-  goes_did s' can looks does sent is = subst (Goes asks) (sym is) (record { asked = g.asked; told = g.told; count = g.count ∙ sym sent; sends = same-sends Do refl; arrived = arrived-more Do (names_of s.journal.fetches) g.arrived; along = along })
+  pub goes_did : (s' : Shown) → IsTrue (can_do s.desk) → IsSentSoFar s.ahead s.journal.ending s.desk → DoesShow s.entities s.journal.fetches s.desk s'.desk → s'.desk.sent ≡ s.desk.sent → s' ≡ record (journaled Do s'.desk s) { given = s'.given; spent = s'.spent } → Goes given asks s'
+  goes_did s' can looks does sent is = subst (Goes given asks) (sym is) (record { asked = g.asked; told = g.told; count = g.count ∙ sym sent; sends = same-sends Do refl; arrived = arrived-more Do (names_of s.journal.fetches) g.arrived; along = along })
     where
       going : is_done s.desk.phase ≡ false
       going = do-going s.desk.phase s.desk can
 
       along : (w : World) → w.entities ≡ s.entities → Knows s.journal.fetches w →
-          (d : Desk) × MovesWith (GoesSoFar g.asked s.journal.pieces s.ahead s.journal.ending) s.ahead w (s.journal.events ++ Do ∷ []) (first_desk (pieces_with s.journal.pieces s.journal.ending)) d × Shows d s'.desk
+          (d : Desk) × MovesWith (GoesSoFar given g.asked s.journal.pieces s.ahead s.journal.ending) s.ahead w (s.journal.events ++ Do ∷ []) (first_desk (pieces_with s.journal.pieces s.journal.ending)) d × Shows d s'.desk
       along w entities knows =
           let (d, with, shows) = g.along w entities knows in
           let same : d ≡ s.desk = shown-going s.desk.phase d s.desk going shows in
           let (d', it, shows') = does w entities knows in
-          let here : GoesSoFar g.asked s.journal.pieces s.ahead s.journal.ending Do d = subst (λ e. GoesSoFar g.asked s.journal.pieces s.ahead s.journal.ending Do e) (sym same) (tt, looks, tt) in
+          let here : GoesSoFar given g.asked s.journal.pieces s.ahead s.journal.ending Do d = subst (λ e. GoesSoFar given g.asked s.journal.pieces s.ahead s.journal.ending Do e) (sym same) (tt, looks, tt) in
           let step : Moves s.ahead w Do d d' = subst (λ e. Moves s.ahead w Do e d') (sym same) (can, it) in
-          (d', with-then (GoesSoFar g.asked s.journal.pieces s.ahead s.journal.ending) s.ahead w s.journal.events Do (first_desk (pieces_with s.journal.pieces s.journal.ending)) d d' with here step, shows')
+          (d', with-then (GoesSoFar given g.asked s.journal.pieces s.ahead s.journal.ending) s.ahead w s.journal.events Do (first_desk (pieces_with s.journal.pieces s.journal.ending)) d d' with here step, shows')
 
-  pub goes_arrived : (name : List ℕ) (f : Fetched) (s' : Shown) → is_done s.desk.phase ≡ false → IsTrue (can_arrive name s.desk) → IsAwaitedIn name s.desk.phase → IsSentSoFar s.ahead s.journal.ending s.desk → s' ≡ with_fetch name f s → Goes asks s'
-  goes_arrived name f s' going can awaited looks is = subst (Goes asks) (sym is) (record { asked = g.asked; told = g.told; count = g.count; sends = same-sends (Arrive name) refl; arrived = ((s.journal.events, [], refl), arrived-more (Arrive name) (names_of s.journal.fetches) g.arrived); along = along })
+  pub goes_arrived : (name : List ℕ) (f : Fetched) (s' : Shown) → is_done s.desk.phase ≡ false → IsTrue (can_arrive name s.desk) → IsAwaitedIn name s.desk.phase ⊎ GivenEarly name given → IsSentSoFar s.ahead s.journal.ending s.desk → s' ≡ with_fetch name f s → Goes given asks s'
+  goes_arrived name f s' going can awaited looks is = subst (Goes given asks) (sym is) (record { asked = g.asked; told = g.told; count = g.count; sends = same-sends (Arrive name) refl; arrived = ((s.journal.events, [], refl), arrived-more (Arrive name) (names_of s.journal.fetches) g.arrived); along = along })
     where
       along : (w : World) → w.entities ≡ s.entities → Knows ((name, f) ∷ s.journal.fetches) w →
-          (d : Desk) × MovesWith (GoesSoFar g.asked s.journal.pieces s.ahead s.journal.ending) s.ahead w (s.journal.events ++ Arrive name ∷ []) (first_desk (pieces_with s.journal.pieces s.journal.ending)) d × Shows d (with_fetch name f s).desk
+          (d : Desk) × MovesWith (GoesSoFar given g.asked s.journal.pieces s.ahead s.journal.ending) s.ahead w (s.journal.events ++ Arrive name ∷ []) (first_desk (pieces_with s.journal.pieces s.journal.ending)) d × Shows d (with_fetch name f s).desk
       along w entities knows =
           let (d, with, shows) = g.along w entities knows.1 in
           let same : d ≡ s.desk = shown-going s.desk.phase d s.desk going shows in
           let after : Desk = (with_fetch name f s).desk in
-          let here : GoesSoFar g.asked s.journal.pieces s.ahead s.journal.ending (Arrive name) d = subst (λ e. GoesSoFar g.asked s.journal.pieces s.ahead s.journal.ending (Arrive name) e) (sym same) (tt, looks, awaited) in
+          let here : GoesSoFar given g.asked s.journal.pieces s.ahead s.journal.ending (Arrive name) d = subst (λ e. GoesSoFar given g.asked s.journal.pieces s.ahead s.journal.ending (Arrive name) e) (sym same) (tt, looks, awaited) in
           let step : Moves s.ahead w (Arrive name) d after = subst (λ e. Moves s.ahead w (Arrive name) e after) (sym same) (can, refl) in
-          (after, with-then (GoesSoFar g.asked s.journal.pieces s.ahead s.journal.ending) s.ahead w s.journal.events (Arrive name) (first_desk (pieces_with s.journal.pieces s.journal.ending)) d after with here step, shows-same after.phase after)
+          (after, with-then (GoesSoFar given g.asked s.journal.pieces s.ahead s.journal.ending) s.ahead w s.journal.events (Arrive name) (first_desk (pieces_with s.journal.pieces s.journal.ending)) d after with here step, shows-same after.phase after)
 
   abbrev Later : Shown → Event → Desk → Type 0
-  Later s' = GoesSoFar g.asked s'.journal.pieces s.ahead s'.journal.ending
+  Later s' = GoesSoFar given g.asked s'.journal.pieces s.ahead s'.journal.ending
 
-  pub goes_read : (s' : Shown) → s.journal.ending ≡ None → Hands s s' → Goes asks s'
-  goes_read s' none h = subst (Goes asks) (sym h.others) (record { asked = g.asked; told = g.told; count = g.count ∙ sym (ap (λ (d : Desk). d.sent) h.desk); sends = g.sends; arrived = g.arrived; along = along })
+  pub goes_read : (s' : Shown) → s.journal.ending ≡ None → Hands s s' → Goes given asks s'
+  goes_read s' none h = subst (Goes given asks) (sym h.others) (record { asked = g.asked; told = g.told; count = g.count ∙ sym (ap (λ (d : Desk). d.sent) h.desk); sends = g.sends; arrived = g.arrived; along = along })
     where
       longer : length (joined s'.journal.pieces) ≡ length (joined s.journal.pieces) + length (text_of h.pieces)
       longer =
@@ -409,7 +436,7 @@ module _ (asks : Option (List Asked)) (s : Shown) (g : Goes asks s) where
           let (d, with, shows) = g.along w entities knows in
           let open_ = subst (λ o. MovesWith (Was o) s.ahead w s.journal.events (first_desk (pieces_with s.journal.pieces o)) d) none with in
           let more = with-more (Was None) (Later s') s.ahead w h.pieces
-          (λ v e p. (asks-more g.asked s.journal.pieces s'.journal.pieces h.pieces longer v e p.0, looks-more s.ahead s'.journal.ending h.pieces v e p.1, awaited-more h.pieces v e p.2))
+          (λ v e p. (asks-more g.asked s.journal.pieces s'.journal.pieces h.pieces longer v e p.0, looks-more s.ahead s'.journal.ending h.pieces v e p.1, awaited-more given h.pieces v e p.2))
           s.journal.events (first_desk (pieces_with s.journal.pieces None)) d open_ in (
             with_more h.pieces d,
             subst (λ ps. MovesWith (Later s') s.ahead w s.journal.events (first_desk ps) (with_more h.pieces d)) (sym h.page) more,
@@ -419,7 +446,7 @@ module _ (asks : Option (List Asked)) (s : Shown) (g : Goes asks s) where
   -- ---- in each run
 
   abbrev Said : List (List ℕ) → ℕ → Event → Desk → Type 0
-  Said pieces ahead v d = AsksOf g.asked pieces v d × LooksAhead ahead v d × FetchesAwaited v d
+  Said pieces ahead v d = AsksOf g.asked pieces v d × LooksAhead ahead v d × FetchesAwaited given v d
 
   goes-along : HoldsAlong (λ x. Said x.pieces x.ahead) s.entities s.ahead s.journal
   goes-along x run = by s.journal.ending run.page (g.along x.world run.entities run.fetches).1
@@ -440,7 +467,7 @@ module _ (asks : Option (List Asked)) (s : Shown) (g : Goes asks s) where
           ap (λ t. length t) (ap joined all ∙ joined-append s.journal.pieces more ∙ ap (λ t. joined s.journal.pieces ++ t) (sym (text-pieces more (Some x.ending)))) ∙ length-append (joined s.journal.pieces) (text_of behind) in
           to-run (with_more behind d)
           (subst (λ ps. MovesWith (Said x.pieces s.ahead) s.ahead x.world s.journal.events (first_desk ps) (with_more behind d)) whole
-          (with-more (Was None) (Said x.pieces s.ahead) s.ahead x.world behind (λ v e p. (asks-more g.asked s.journal.pieces x.pieces behind longer v e p.0, looks-behind s.ahead behind v e p.1, awaited-more behind v e p.2)) s.journal.events
+          (with-more (Was None) (Said x.pieces s.ahead) s.ahead x.world behind (λ v e p. (asks-more g.asked s.journal.pieces x.pieces behind longer v e p.0, looks-behind s.ahead behind v e p.1, awaited-more given behind v e p.2)) s.journal.events
           (first_desk (pieces_with s.journal.pieces None)) d with))
       by (Some e) (all, end) with =
           let whole : pieces_with s.journal.pieces (Some e) ≡ pieces_with x.pieces (Some x.ending) = ap (λ ts. pieces_with ts (Some e)) (sym all) ∙ ap (λ y. pieces_with x.pieces (Some y)) (sym end) in
@@ -460,8 +487,8 @@ module _ (asks : Option (List Asked)) (s : Shown) (g : Goes asks s) where
   pub asks_along : HoldsAlong (λ x. AsksOf g.asked x.pieces) s.entities s.ahead s.journal
   asks_along = along-as (λ x. AsksOf g.asked x.pieces) (λ x v e p. p.0)
 
-  pub awaited_along : HoldsAlong (λ x. FetchesAwaited) s.entities s.ahead s.journal
-  awaited_along = along-as (λ x. FetchesAwaited) (λ x v e p. p.2)
+  pub awaited_along : HoldsAlong (λ x. FetchesAwaited given) s.entities s.ahead s.journal
+  awaited_along = along-as (λ x. FetchesAwaited given) (λ x v e p. p.2)
 
   pub sends_along : HoldsAlong (λ x. SendsOf (requests_of g.asked)) s.entities s.ahead s.journal
   sends_along = along-as (λ x. SendsOf (requests_of g.asked)) (λ x v e p. asks-send g.asked x.pieces v e p.0)

@@ -21,7 +21,7 @@ use Rattle.core_steps.specs.Sides.{Shown, awaiting, unless_arrived, standing_in,
 use Rattle.run_laws.specs.Along.{MovesWith}
 use Rattle.speculation.specs.Asking.{Asked}
 use Rattle.page_turns.specs.Along.{IsAwaitedIn, FetchesAwaited, HasArrived, Goes}
-use Rattle.page_turns.specs.Scripts.{Met, Alike, AreKnown, IsOneOf}
+use Rattle.page_turns.specs.Scripts.{Met, GivenEarly, Alike, AreKnown, IsOneOf}
 use Rattle.page_turns.specs.Pages.{IsPageBehind}
 use Rattle.page_turns.proofs.AlongLemmas.{awaited_along}
 use Rattle.page_turns.proofs.DeskLemmas.{shows-phase}
@@ -61,7 +61,7 @@ arrived-of P ((n, g) ∷ met) name f all is = by (λ e. arrived-of P met name f 
     by behind false q e = behind e
 
 module _ (page : Page) (es : Entities) (scripts : List ℕ → Fetched) (s : Shown) (behind : IsPageBehind s.journal.ending s.journal.pieces page) (entities : s.entities ≡ es) (known : AreKnown s.journal.fetches)
-    (alike : (name : List ℕ) → Alike (scripts name) (scripts_with s.journal.fetches scripts name)) (replayed : IsReplayed s) (asks : Option (List Asked)) (goes : Goes asks s) where
+    (alike : (name : List ℕ) → Alike (scripts name) (scripts_with s.journal.fetches scripts name)) (replayed : IsReplayed s) (given : Met) (asks : Option (List Asked)) (goes : Goes given asks s) where
   abbrev w : World
   w = record { entities = es; scripts = scripts }
 
@@ -84,13 +84,17 @@ module _ (page : Page) (es : Entities) (scripts : List ℕ → Fetched) (s : Sho
       let here : Passes page v (awaits name last) = subst (λ x. Passes page x (awaits name last)) run.world (subst (λ p. Passes p run.run.world (awaits name last)) run.page_is there) in
       (last, passes-back w (scripts_with s.journal.fetches scripts) alike page (awaits name last) here)
 
+  awaited-of : (name : List ℕ) → (GivenEarly name given → ⊥) → (p : Phase) → IsAwaitedIn name p ⊎ GivenEarly name given → IsAwaitedIn name p
+  awaited-of name late p (inl awaited) = awaited
+  awaited-of name late p (inr early) = absurd (late early)
+
   -- where it arrived
-  at-arrival : (name : List ℕ) → HasArrived name s.journal.events → Awaits name
-  at-arrival name (earlier, later, is) =
+  at-arrival : (name : List ℕ) → (GivenEarly name given → ⊥) → HasArrived name s.journal.events → Awaits name
+  at-arrival name late (earlier, later, is) =
       let (d, with) = awaited_along asks s goes run.run run.is_of in
-      let with' = subst (λ vs. MovesWith FetchesAwaited run.run.ahead run.run.world vs (first_desk (pieces_with run.run.pieces (Some run.run.ending))) d) is with in
-      let (d1, by, p) = with-split FetchesAwaited run.run.ahead run.run.world earlier later (Arrive name) (first_desk (pieces_with run.run.pieces (Some run.run.ending))) d with' in
-      let (held, phase) = awaited-phase name d1.phase p in
+      let with' = subst (λ vs. MovesWith (FetchesAwaited given) run.run.ahead run.run.world vs (first_desk (pieces_with run.run.pieces (Some run.run.ending))) d) is with in
+      let (d1, by, p) = with-split (FetchesAwaited given) run.run.ahead run.run.world earlier later (Arrive name) (first_desk (pieces_with run.run.pieces (Some run.run.ending))) d with' in
+      let (held, phase) = awaited-phase name d1.phase (awaited-of name late d1.phase p) in
       awaited-at name held earlier d1 by phase
 
   -- where the parse now stands
@@ -103,13 +107,14 @@ module _ (page : Page) (es : Entities) (scripts : List ℕ → Fetched) (s : Sho
   one-of (n ∷ names) name P all (inr one) = one-of names name P all.1 one
 
   -- each of these is met, or is awaited now
-  pub all_awaited : (unmet names : List (List ℕ)) → AllByRecursion (λ name. IsSome (found name s.journal.fetches) ⊎ IsOneOf name unmet) names → AllByRecursion (λ name. standing_of s.desk ≡ awaiting name) unmet → AllByRecursion Awaits names
-  all_awaited unmet [] all now = tt
-  all_awaited unmet (name ∷ names) (one, all) now = (this one, all_awaited unmet names all now)
+  pub all_awaited : (unmet names : List (List ℕ)) → AllByRecursion (λ name. IsSome (found name s.journal.fetches) ⊎ IsOneOf name unmet) names → AllByRecursion (λ name. standing_of s.desk ≡ awaiting name) unmet → AllByRecursion (λ name. GivenEarly name given → ⊥) names
+      → AllByRecursion Awaits names
+  all_awaited unmet [] all now late = tt
+  all_awaited unmet (name ∷ names) (one, all) now late = (this one, all_awaited unmet names all now late.1)
     where
       by-found : (o : Option Fetched) → found name s.journal.fetches ≡ o → IsSome o → Awaits name
       by-found None e some = absurd (cc some)
-      by-found (Some f) e some = at-arrival name (arrived-of (λ n. HasArrived n s.journal.events) s.journal.fetches name f goes.arrived e)
+      by-found (Some f) e some = at-arrival name late.0 (arrived-of (λ n. HasArrived n s.journal.events) s.journal.fetches name f goes.arrived e)
 
       this : IsSome (found name s.journal.fetches) ⊎ IsOneOf name unmet → Awaits name
       this (inl some) = by-found (found name s.journal.fetches) refl some

@@ -18,6 +18,7 @@ use Rattle.page_turns.specs.Taken.{Took, TookFront}
 use Rattle.page_turns.specs.Shown.{result_of}
 use Rattle.speculation.specs.Asking.{Asked}
 use Rattle.page_turns.specs.Along.{Goes}
+use Rattle.page_turns.specs.Scripts.{Folder}
 use Rattle.page_turns.specs.Pages.{PageRead, page_at, world_of, ComesTo, BeginsAwaited, EndsWithScripts, FrontWithScripts}
 use Rattle.page_turns.specs.Turns.{LeavesAlone, Leaves, GivesUp, RunsOut}
 use Rattle.page_turns.specs.WrittenInPart.{IsDue, WritesInPart}
@@ -35,9 +36,9 @@ shown-lines (tagged i held) d v is = ap (λ (z : Desk). z.own.side.lines) is
 shown-lines (waits name held) d v is = ap (λ (z : Desk). z.own.side.lines) is
 shown-lines (done r) d v (is, doc, lines, counts) = lines
 
-module _ (es : Entities) (ahead : ℕ) (dir : List ℕ) (before after : Seen) (s : Shown) (replayed : IsReplayed s) (leaves : Leaves es ahead dir before after s) where
-  pub has : HasWorld dir before after s.journal.fetches
-  has = has_world dir before after s.journal.fetches leaves.fetches
+module _ (es : Entities) (ahead : ℕ) (folder : Folder) (before after : Seen) (s : Shown) (replayed : IsReplayed s) (leaves : Leaves es ahead folder before after s) where
+  pub has : HasWorld folder before after s.journal.fetches
+  has = has_world folder before after s.journal.fetches leaves.fetches
 
   abbrev page : PageRead
   page = leaves.page.page
@@ -70,16 +71,16 @@ module _ (es : Entities) (ahead : ℕ) (dir : List ℕ) (before after : Seen) (s
       subst (λ l. GoesOnFrom l o.last.side.lines) lines_are (lines-begin run.run s.journal.events run.desk o run.reached (in_run o (serial-same w (scripts_with s.journal.fetches has.scripts) has.alike (page_at page) o comes)))
 
   -- each script that was begun is awaited
-  pub begins_here : (asks : Option (List Asked)) → Goes asks s → BeginsAwaited w (page_at page) dir before after
+  pub begins_here : (asks : Option (List Asked)) → Goes folder.given asks s → BeginsAwaited w (page_at page) folder.dir before after
   begins_here asks goes =
       let begins = leaves.fetches.begins in
       record {
         names = begins.which.names;
         begun = begins.which.begun;
-        awaited = all_awaited (page_at page) es has.scripts s leaves.page.is leaves.entities leaves.known has.alike replayed asks goes leaves.unmet begins.which.names begins.met leaves.awaited;
+        awaited = all_awaited (page_at page) es has.scripts s leaves.page.is leaves.entities leaves.known has.alike replayed folder.given asks goes leaves.unmet begins.which.names begins.met leaves.awaited begins.late;
       }
 
-  pub front_here : (t t' : Option (List ℕ)) → BeginsAwaited w (page_at page) dir before after → TookFront t t' (flat_map line_text s.desk.own.side.lines) → FrontWithScripts es dir before after t t'
+  pub front_here : (t t' : Option (List ℕ)) → BeginsAwaited w (page_at page) folder.dir before after → TookFront t t' (flat_map line_text s.desk.own.side.lines) → FrontWithScripts es folder before after t t'
   unfolding output_with
   front_here t t' awaited front = record {
     scripts = has.scripts;
@@ -113,32 +114,32 @@ module _ (es : Entities) (ahead : ℕ) (dir : List ℕ) (before after : Seen) (s
     comes = serial-back w (scripts_with s.journal.fetches has.scripts) has.alike (page_at page) outcome.0 outcome.1
 
 -- in either case what is left alone
-pub left_alone : {E : Type 0} (es : Entities) (ahead : ℕ) (dir : List ℕ) (before after : Seen) (t t' : Option (List ℕ)) (s : Shown) (r : Result Told E) → IfOk r (λ o. RunsOut es ahead dir before after t t' s o)
-    → OnErr r (GivesUp es ahead dir before after t t' s) → LeavesAlone dir before after
-left_alone es ahead dir before after t t' s (Ok o) out gives = out.alone
-left_alone es ahead dir before after t t' s (Err e) out gives = gives.alone
+pub left_alone : {E : Type 0} (es : Entities) (ahead : ℕ) (folder : Folder) (before after : Seen) (t t' : Option (List ℕ)) (s : Shown) (r : Result Told E) → IfOk r (λ o. RunsOut es ahead folder before after t t' s o)
+    → OnErr r (GivesUp es ahead folder before after t t' s) → LeavesAlone folder.dir before after
+left_alone es ahead folder before after t t' s (Ok o) out gives = out.alone
+left_alone es ahead folder before after t t' s (Err e) out gives = gives.alone
 
 -- and what is in the journal
-pub left_behind : {E : Type 0} (es : Entities) (ahead : ℕ) (dir : List ℕ) (before after : Seen) (t t' : Option (List ℕ)) (s : Shown) (r : Result Told E) → IfOk r (λ o. RunsOut es ahead dir before after t t' s o)
-    → OnErr r (GivesUp es ahead dir before after t t' s) → Leaves es ahead dir before after s
-left_behind es ahead dir before after t t' s (Ok o) out gives = out.leaves
-left_behind es ahead dir before after t t' s (Err e) out gives = gives.left
+pub left_behind : {E : Type 0} (es : Entities) (ahead : ℕ) (folder : Folder) (before after : Seen) (t t' : Option (List ℕ)) (s : Shown) (r : Result Told E) → IfOk r (λ o. RunsOut es ahead folder before after t t' s o)
+    → OnErr r (GivesUp es ahead folder before after t t' s) → Leaves es ahead folder before after s
+left_behind es ahead folder before after t t' s (Ok o) out gives = out.leaves
+left_behind es ahead folder before after t t' s (Err e) out gives = gives.left
 
 -- the sink took a front
-pub gave_up : (es : Entities) (ahead : ℕ) (dir : List ℕ) (before after : Seen) (t t' : Option (List ℕ)) (s : Shown) → IsReplayed s → GivesUp es ahead dir before after t t' s → FrontWithScripts es dir before after t t'
-gave_up es ahead dir before after t t' s replayed gives = front_here es ahead dir before after gives.shown (gives.replayed replayed) gives.leaves t t' (begins_here es ahead dir before after gives.shown (gives.replayed replayed) gives.leaves None gives.goes) gives.front
+pub gave_up : (es : Entities) (ahead : ℕ) (folder : Folder) (before after : Seen) (t t' : Option (List ℕ)) (s : Shown) → IsReplayed s → GivesUp es ahead folder before after t t' s → FrontWithScripts es folder before after t t'
+gave_up es ahead folder before after t t' s replayed gives = front_here es ahead folder before after gives.shown (gives.replayed replayed) gives.leaves t t' (begins_here es ahead folder before after gives.shown (gives.replayed replayed) gives.leaves None gives.goes) gives.front
 
 -- all lines of the events before the refused one, and a front of what that one was to write
-pub gave_part : (es : Entities) (ahead : ℕ) (dir : List ℕ) (before after : Seen) (t t' : Option (List ℕ)) (s : Shown) → IsReplayed s → GivesUp es ahead dir before after t t' s → WritesInPart es ahead t t' (IsDue s)
-gave_part es ahead dir before after t t' s replayed gives = gives.part replayed
+pub gave_part : (es : Entities) (ahead : ℕ) (folder : Folder) (before after : Seen) (t t' : Option (List ℕ)) (s : Shown) → IsReplayed s → GivesUp es ahead folder before after t t' s → WritesInPart es ahead t t' (IsDue s)
+gave_part es ahead folder before after t t' s replayed gives = gives.part replayed
 
 -- or all
-pub ran_out : (es : Entities) (ahead : ℕ) (dir : List ℕ) (before after : Seen) (t t' : Option (List ℕ)) (s : Shown) (o : Told) (asks : Option (List Asked)) → IsReplayed s → Goes asks s → RunsOut es ahead dir before after t t' s o
-    → EndsWithScripts es dir before after s.desk.own.side.doc s.desk.own.side.lines t t' o
-ran_out es ahead dir before after t t' s o asks replayed goes out =
-    let there = has es ahead dir before after s replayed out.leaves in
-    let end = same_end es ahead dir before after s replayed out.leaves (result_of o) out.phase in
-    let last = outcome es ahead dir before after s replayed out.leaves (result_of o) out.phase in
+pub ran_out : (es : Entities) (ahead : ℕ) (folder : Folder) (before after : Seen) (t t' : Option (List ℕ)) (s : Shown) (o : Told) (asks : Option (List Asked)) → IsReplayed s → Goes folder.given asks s → RunsOut es ahead folder before after t t' s o
+    → EndsWithScripts es folder before after s.desk.own.side.doc s.desk.own.side.lines t t' o
+ran_out es ahead folder before after t t' s o asks replayed goes out =
+    let there = has es ahead folder before after s replayed out.leaves in
+    let end = same_end es ahead folder before after s replayed out.leaves (result_of o) out.phase in
+    let last = outcome es ahead folder before after s replayed out.leaves (result_of o) out.phase in
     record {
       scripts = there.scripts;
       are_scripts = there.are_scripts;
@@ -146,15 +147,15 @@ ran_out es ahead dir before after t t' s o asks replayed goes out =
       read_from = out.leaves.page.read_from;
       ended = record {
         outcome = last.0;
-        comes = comes es ahead dir before after s replayed out.leaves (result_of o) out.phase;
+        comes = comes es ahead folder before after s replayed out.leaves (result_of o) out.phase;
         result = sym end.0;
-        tree = sym end.2 ∙ ap (λ d. d.tree) (doc_is es ahead dir before after s replayed out.leaves (result_of o) out.phase);
-        lines = sym end.1 ∙ lines_are es ahead dir before after s replayed out.leaves;
-        took = subst (λ l. Took t t' (flat_map line_text l)) (sym (lines_are es ahead dir before after s replayed out.leaves) ∙ end.1) out.took;
+        tree = sym end.2 ∙ ap (λ d. d.tree) (doc_is es ahead folder before after s replayed out.leaves (result_of o) out.phase);
+        lines = sym end.1 ∙ lines_are es ahead folder before after s replayed out.leaves;
+        took = subst (λ l. Took t t' (flat_map line_text l)) (sym (lines_are es ahead folder before after s replayed out.leaves) ∙ end.1) out.took;
       };
       faults = elim out.faults [
         | inl none ↦ inl none
-        | inr stop ↦ inr (stops_there (page_at out.leaves.page.page) es there.scripts s out.leaves.page.is out.leaves.entities out.leaves.known there.alike stop last.0 (comes es ahead dir before after s replayed out.leaves (result_of o) out.phase))
+        | inr stop ↦ inr (stops_there (page_at out.leaves.page.page) es there.scripts s out.leaves.page.is out.leaves.entities out.leaves.known there.alike stop last.0 (comes es ahead folder before after s replayed out.leaves (result_of o) out.phase))
       ];
-      begins = begins_here es ahead dir before after s replayed out.leaves asks goes;
+      begins = begins_here es ahead folder before after s replayed out.leaves asks goes;
     }

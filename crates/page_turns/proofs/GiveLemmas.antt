@@ -10,7 +10,7 @@ use Rattle.outside.specs.Outside.{Seen, KeepsOthers}
 use Rattle.outside.specs.declared.traits.Port.TheVariants as port
 use Rattle.standard.specs.Entities.{Entities}
 use Rattle.serial.specs.Output.{line_text}
-use Rattle.serial.specs.Scripts.{is_lawful, missing}
+use Rattle.serial.specs.Scripts.{Fetched, is_lawful, missing}
 use Rattle.serial.specs.Serial.{World, Serial}
 use Rattle.core_definitions.specs.declared.event.Event.TheVariants as event
 use Rattle.core_definitions.specs.Batches.{Piece}
@@ -19,12 +19,13 @@ use Rattle.core_definitions.specs.Desk.{Phase, free, tagged, waits, done, Desk, 
 use Rattle.core_definitions.specs.Settling.{is_empty}
 use Rattle.core_definitions.specs.StandsFor.{text_of}
 use Rattle.speculation.specs.Asking.{Asked}
+use Rattle.core_steps.specs.Journals.{found}
 use Rattle.core_steps.specs.Sides.{Shown, ShowsIn, journaled, with_fetch, IsReplayed, Standing, running, awaiting, over, unless_arrived, standing_in, standing_of, left_to_do}
 use Rattle.page_turns.specs.declared.outcome.Outcome.{Outcome as Told}
 use Rattle.page_turns.specs.declared.reader.PageReader.{PageReader}
 use Rattle.page_turns.specs.Given.{KeepsEntities}
 use Rattle.page_turns.specs.Taken.{Took, TookFront}
-use Rattle.page_turns.specs.Scripts.{Met, Fetches, AreKnown}
+use Rattle.page_turns.specs.Scripts.{Folder, Met, GivenEarly, Fetches, AreKnown}
 use Rattle.page_turns.specs.Shown.{result_of}
 use Rattle.page_turns.specs.Pages.{PageFor}
 use Rattle.page_turns.specs.Turns.{Load, under_way, weight_of, Asks, Answers, while_open, while_awaiting, ReadsPiece, ReadsInPart, StaysRead, RunsOn, RunsInPart, unwritten, part_written, Arrives, BeginsTheAwaited, StopsIn, Holds, text_to_come, steps_to_come, turns_to_come, Leaves, LeavesAlone, GivesUp, RunsOut}
@@ -40,16 +41,16 @@ use Rattle.page_turns.proofs.ReadLemmas.{page_for, for_past}
 use Rattle.page_turns.proofs.Stuck.{never-free}
 use Rattle.page_turns.specs.Along.{IsSentSoFar, IsAwaitedIn, Stays, MayDo, Goes}
 use Rattle.page_turns.proofs.AlongLemmas.{stays_read, goes_stays, goes_did, goes_arrived}
-use Rattle.page_turns.proofs.TurnLemmas.{holds_open, holds_sent, holds_answered, holds_took, holds_ran, holds_arrived, awaits-in, not-arrived, keeps-desk, more-lines, took-desk}
+use Rattle.page_turns.proofs.TurnLemmas.{holds_open, holds_sent, holds_answered, holds_took, holds_ran, awaits-in, not-arrived, keeps-desk, more-lines, took-desk}
 
 none-left : (n taken sent : ℕ) → n + taken ≡ sent → nat_lt 0 (sent - taken) ≡ false → n ≡ 0
 none-left n taken sent count quiet = let le = ltb-false 0 (sent - taken) quiet in omega (arith, count, le)
 
-module _ (es : Entities) (ahead : ℕ) (dir : List ℕ) (before : Seen) (t : Option (List ℕ)) where
+module _ (es : Entities) (ahead : ℕ) (folder : Folder) (before : Seen) (t : Option (List ℕ)) where
   -- ---- giving up
 
   alone-of : (after : Seen) (met : Met) (ps : List (List ℕ)) (o : Option Ending) → KeepsEntities before after → after.begun port.Page ≡ before.begun port.Page → after.open_at port.Page ≡ before.open_at port.Page
-      → PageFor before after ps o → {unmet : List (List ℕ)} → Fetches unmet dir before after [] met → LeavesAlone dir before after
+      → PageFor before after ps o → {unmet : List (List ℕ)} → Fetches unmet folder before after [] met → LeavesAlone folder.dir before after
   alone-of after met ps o keeps begun opened for fetches = record {
     keeps = keeps;
     read = for.read;
@@ -61,15 +62,15 @@ module _ (es : Entities) (ahead : ℕ) (dir : List ℕ) (before : Seen) (t : Opt
     names = fetches.begins.which;
   }
 
-  front-of : (t' : Option (List ℕ)) (s : Shown) → s.desk.own.side.lines ≡ s.given → Took t t' (flat_map line_text s.given) → TookFront t t' (flat_map line_text s.desk.own.side.lines)
+  pub front-of : (t' : Option (List ℕ)) (s : Shown) → s.desk.own.side.lines ≡ s.given → Took t t' (flat_map line_text s.given) → TookFront t t' (flat_map line_text s.desk.own.side.lines)
   front-of t' s lines took = subst (λ l. TookFront t t' (flat_map line_text l)) (sym lines) (front_of_all t t' (flat_map line_text s.given) took)
 
-  left-stays : (after : Seen) (s s' : Shown) → StaysRead s s' → (left : Leaves es ahead dir before after s) → AllByRecursion (λ name. standing_of s'.desk ≡ awaiting name) left.unmet → Leaves es ahead dir before after s'
+  pub left-stays : (after : Seen) (s s' : Shown) → StaysRead s s' → (left : Leaves es ahead folder before after s) → AllByRecursion (λ name. standing_of s'.desk ≡ awaiting name) left.unmet → Leaves es ahead folder before after s'
   left-stays after s s' stays left awaited =
-      subst (λ z. Leaves es ahead dir before after z) (sym stays) (record { entities = left.entities; ahead_is = left.ahead_is; page = left.page; unmet = left.unmet; fetches = left.fetches; awaited = awaited; known = left.known })
+      subst (λ z. Leaves es ahead folder before after z) (sym stays) (record { entities = left.entities; ahead_is = left.ahead_is; page = left.page; unmet = left.unmet; fetches = left.fetches; awaited = awaited; known = left.known })
 
-  module _ (now : Seen) (t' : Option (List ℕ)) (reader : PageReader) (l : Load) (s : Shown) (h : Holds es ahead dir before now t t' reader l s) where
-    abbrev pub leaves_now : Leaves es ahead dir before now s
+  module _ (now : Seen) (t' : Option (List ℕ)) (reader : PageReader) (l : Load) (s : Shown) (h : Holds es ahead folder before now t t' reader l s) where
+    abbrev pub leaves_now : Leaves es ahead folder before now s
     leaves_now = record {
       entities = h.inside.entities;
       ahead_is = h.inside.ahead_is;
@@ -80,12 +81,12 @@ module _ (es : Entities) (ahead : ℕ) (dir : List ℕ) (before : Seen) (t : Opt
       known = h.inside.known;
     }
 
-    pub alone_now : LeavesAlone dir before now
+    pub alone_now : LeavesAlone folder.dir before now
     alone_now = alone-of now s.journal.fetches s.journal.pieces s.journal.ending h.outside.keeps h.outside.begun h.outside.open_at leaves_now.page leaves_now.fetches
 
     -- ---- the end
 
-    pub runs_out : (o : Told) → s.desk.phase ≡ done (result_of o) → RunsOut es ahead dir before now t t' s o
+    pub runs_out : (o : Told) → s.desk.phase ≡ done (result_of o) → RunsOut es ahead folder before now t t' s o
     runs_out o q = record {
       leaves = leaves_now;
       alone = alone_now;
@@ -97,7 +98,7 @@ module _ (es : Entities) (ahead : ℕ) (dir : List ℕ) (before : Seen) (t : Opt
 
     module _ (replayed : IsReplayed s) where
       -- all lines of what is shown were written
-      part_none : (s' : Shown) → s'.entities ≡ es → s'.ahead ≡ ahead → s'.desk.own.side.lines ≡ s.desk.own.side.lines → IsReplayed s' → WritesInPart es ahead t t' (IsDue s')
+      pub part_none : (s' : Shown) → s'.entities ≡ es → s'.ahead ≡ ahead → s'.desk.own.side.lines ≡ s.desk.own.side.lines → IsReplayed s' → WritesInPart es ahead t t' (IsDue s')
       part_none s' entities credit same there = record {
         before = s';
         replays = replays-to es ahead s' entities credit there;
@@ -117,26 +118,26 @@ module _ (es : Entities) (ahead : ℕ) (dir : List ℕ) (before : Seen) (t : Opt
       }
 
       -- whatever else the document's side has become
-      gives_up_as : Goes None s → (s' : Shown) → StaysRead s s' → (IsReplayed s' → WritesInPart es ahead t t' (IsDue s')) → GivesUp es ahead dir before now t t' s'
+      gives_up_as : Goes folder.given None s → (s' : Shown) → StaysRead s s' → (IsReplayed s' → WritesInPart es ahead t t' (IsDue s')) → GivesUp es ahead folder before now t t' s'
       gives_up_as goes s' stays part = record { left = left-stays now s s' stays leaves_now tt; shown = s; replayed = λ _. replayed; leaves = leaves_now; goes = goes; alone = alone_now; front = front-of t' s h.inside.lines h.took; part = part }
 
       -- with no line more
-      pub gives_up : Goes None s → (s' : Shown) → StaysRead s s' → s'.desk.own.side.lines ≡ s.desk.own.side.lines → GivesUp es ahead dir before now t t' s'
+      pub gives_up : Goes folder.given None s → (s' : Shown) → StaysRead s s' → s'.desk.own.side.lines ≡ s.desk.own.side.lines → GivesUp es ahead folder before now t t' s'
       gives_up goes s' stays same = gives_up_as goes s' stays (part_none s' (ap (λ (z : Shown). z.entities) stays ∙ h.inside.entities) (ap (λ (z : Shown). z.ahead) stays ∙ h.inside.ahead_is) same)
 
       -- while the page was read on
-      pub gives_up_reading : (after : Seen) (s' : Shown) → Goes None s' → s.journal.ending ≡ None → ReadsInPart now after reader s s' → KeepsOthers port.Page now after → after.begun ≡ now.begun → after.open_at ≡ now.open_at → GivesUp es ahead dir before after t t' s'
+      pub gives_up_reading : (after : Seen) (s' : Shown) → Goes folder.given None s' → s.journal.ending ≡ None → ReadsInPart now after reader s s' → KeepsOthers port.Page now after → after.begun ≡ now.begun → after.open_at ≡ now.open_at → GivesUp es ahead folder before after t t' s'
       gives_up_reading after s' goes none part keeps begun opened =
           let o = part.others in
           let fetched : s'.journal.fetches ≡ s.journal.fetches = ap (λ (z : Shown). z.journal.fetches) o in
-          let fetches : Fetches [] dir before after [] s.journal.fetches =
-          fetches-then before now after (later-entities before now h.outside.keeps) (later-others port.Page now after keeps) [] dir [] s.journal.fetches s.journal.fetches h.outside.fetches (fetches-past [] dir port.Page now after s.journal.fetches (λ e. cc e) keeps) in
-          let left : Leaves es ahead dir before after s' = record {
+          let fetches : Fetches [] folder before after [] s.journal.fetches =
+          fetches-then before now after (later-entities before now h.outside.keeps) (later-others port.Page now after keeps) [] folder [] s.journal.fetches s.journal.fetches h.outside.fetches (fetches-past [] folder port.Page now after s.journal.fetches (λ e. cc e) keeps) in
+          let left : Leaves es ahead folder before after s' = record {
             entities = ap (λ (z : Shown). z.entities) o ∙ h.inside.entities;
             ahead_is = ap (λ (z : Shown). z.ahead) o ∙ h.inside.ahead_is;
-            page = subst (λ e. PageFor before after s'.journal.pieces e) (sym (ap (λ (z : Shown). z.journal.ending) o ∙ none)) (part.at before (holds_open es ahead dir before t now t' reader l s none h));
+            page = subst (λ e. PageFor before after s'.journal.pieces e) (sym (ap (λ (z : Shown). z.journal.ending) o ∙ none)) (part.at before (holds_open es ahead folder before t now t' reader l s none h));
             unmet = [];
-            fetches = subst (λ m. Fetches [] dir before after [] m) (sym fetched) fetches;
+            fetches = subst (λ m. Fetches [] folder before after [] m) (sym fetched) fetches;
             awaited = tt;
             known = subst AreKnown (sym fetched) h.inside.known;
           } in
@@ -152,16 +153,17 @@ module _ (es : Entities) (ahead : ℕ) (dir : List ℕ) (before : Seen) (t : Opt
           }
 
       -- while a script was fetched
-      pub gives_up_fetching : Goes None s → (after : Seen) (s' : Shown) → Stays s s' → BeginsTheAwaited dir now after s.desk → KeepsOthers port.Script now after → GivesUp es ahead dir before after t t' s'
+      pub gives_up_fetching : Goes folder.given None s → (after : Seen) (s' : Shown) → Stays s s' → BeginsTheAwaited folder.dir now after s.desk → KeepsOthers port.Script now after → GivesUp es ahead folder before after t t' s'
       gives_up_fetching goes after s' stays (name, awaits, begins) keeps =
-          let waits_for = awaits-in es ahead dir before t s.desk.phase s.desk name awaits in
-          let parts : (is_lawful name ≡ true) × (is_among name s.desk.arrived ≡ false) = not-arrived es ahead dir before t (is_lawful name) (is_among name s.desk.arrived) waits_for.2 in
+          let waits_for = awaits-in es ahead folder before t s.desk.phase s.desk name awaits in
+          let parts : (is_lawful name ≡ true) × (is_among name s.desk.arrived ≡ false) = not-arrived es ahead folder before t (is_lawful name) (is_among name s.desk.arrived) waits_for.2 in
           let none = none-found name s.journal.fetches (subst (λ names. is_among name names ≡ false) h.inside.arrived parts.1) in
+          let late : GivenEarly name folder.given → ⊥ = (λ e. (let there : is_some (found name s.journal.fetches) ≡ true = h.early name e.0 e.1 in cc (sym there ∙ ap is_some none))) in
           let for : PageFor before after s.journal.pieces s.journal.ending = for_past before now after s.journal.pieces s.journal.ending keeps leaves_now.page in
-          let fetches : Fetches (name ∷ []) dir before after [] s.journal.fetches =
-          fetches-then before now after (later-entities before now h.outside.keeps) (later-others port.Script now after keeps) (name ∷ []) dir [] s.journal.fetches s.journal.fetches h.outside.fetches (fetch_cut dir name now after parts.0 s.journal.fetches none begins) in
-          let leaves : Leaves es ahead dir before after s = record { entities = h.inside.entities; ahead_is = h.inside.ahead_is; page = for; unmet = name ∷ []; fetches = fetches; awaited = (awaits, tt); known = h.inside.known } in
-          let left : Leaves es ahead dir before after s' = left-stays after s s' (stays_read s s' stays) leaves (ap (λ (z : Shown). standing_of z.desk) stays ∙ awaits, tt) in
+          let fetches : Fetches (name ∷ []) folder before after [] s.journal.fetches =
+          fetches-then before now after (later-entities before now h.outside.keeps) (later-others port.Script now after keeps) (name ∷ []) folder [] s.journal.fetches s.journal.fetches h.outside.fetches (fetch_cut folder name now after parts.0 s.journal.fetches none late begins) in
+          let leaves : Leaves es ahead folder before after s = record { entities = h.inside.entities; ahead_is = h.inside.ahead_is; page = for; unmet = name ∷ []; fetches = fetches; awaited = (awaits, tt); known = h.inside.known } in
+          let left : Leaves es ahead folder before after s' = left-stays after s s' (stays_read s s' stays) leaves (ap (λ (z : Shown). standing_of z.desk) stays ∙ awaits, tt) in
           record {
             left = left;
             shown = s;
@@ -174,15 +176,15 @@ module _ (es : Entities) (ahead : ℕ) (dir : List ℕ) (before : Seen) (t : Opt
           }
 
       -- before the lines of a Do were taken
-      gives_up_unwritten : Goes None s → (s' : Shown) → StaysRead s s' → MayDo s s' → GivesUp es ahead dir before now t t' s'
+      gives_up_unwritten : Goes folder.given None s → (s' : Shown) → StaysRead s s' → MayDo s s' → GivesUp es ahead folder before now t t' s'
       gives_up_unwritten goes s' stays (inl none) = gives_up goes s' stays (ap (λ (z : Shown). z.desk.own.side.lines) none)
       gives_up_unwritten goes s' stays (inr did) =
-          let (more, lines) = more-lines es ahead dir before t l s s' h.inside did.does in
+          let (more, lines) = more-lines es ahead folder before t l s s' h.inside did.does in
           gives_up_as goes s' stays (λ _. part_done t' s' more (record { journal = ap (λ (z : Shown). z.journal) did.others; lines = lines }) (front_nothing t' (flat_map line_text more)))
 
       -- while lines were written
-      pub gives_up_running : Goes None s → (t'' : Option (List ℕ)) (s' : Shown) → Goes None s' → StaysRead s s' → MayDo s s' → RunsInPart t' t'' s s' → GivesUp es ahead dir before now t t'' s'
-      gives_up_running goes t'' s' goes' stays may (unwritten same) = subst (λ z. GivesUp es ahead dir before now t z s') (sym same) (gives_up_unwritten goes s' stays may)
+      pub gives_up_running : Goes folder.given None s → (t'' : Option (List ℕ)) (s' : Shown) → Goes folder.given None s' → StaysRead s s' → MayDo s s' → RunsInPart t' t'' s s' → GivesUp es ahead folder before now t t'' s'
+      gives_up_running goes t'' s' goes' stays may (unwritten same) = subst (λ z. GivesUp es ahead folder before now t z s') (sym same) (gives_up_unwritten goes s' stays may)
       gives_up_running goes t'' s' goes' stays may (part_written more o lines took) = record {
         left = left-stays now s s' stays leaves_now tt;
         shown = s';
@@ -247,6 +249,9 @@ awaiting-le (over r) = omega arith
 -- what is to be written isn't more, and all else is less
 less-steps : (a a' b b' : ℕ) → a' ≤ a → b' < b → 300 * a' + b' < 300 * a + b
 less-steps a a' b b' p q = omega arith
+
+le-steps : (a a' b b' : ℕ) → a' ≤ a → b' ≤ b → 300 * a' + b' ≤ 300 * a + b
+le-steps a a' b b' p q = omega arith
 
 less-text : (a a' b b' : ℕ) → a' < a → b' ≤ b + 270 → 300 * a' + b' < 300 * a + b
 less-text a a' b b' p q = omega arith
@@ -315,14 +320,30 @@ arrived-standing (waits n held) d name is = by (has_arrived n d) refl is
         ap (λ b. while_awaiting (unless_arrived b n)) (either (is_lawful n) (is_among n (name ∷ d.arrived)) among)
 arrived-standing (done r) d name is = absurd (cc is)
 
-pub arrived_less : (dir : List ℕ) (now after : Seen) (reader : PageReader) (l : Load) (s s' : Shown) → Arrives dir now after s s' → turns_to_come reader l s' < turns_to_come reader l s
-arrived_less dir now after reader l s s' arr =
+pub arrived_less : (folder : Folder) (now after : Seen) (reader : PageReader) (l : Load) (s s' : Shown) → Arrives folder now after s s' → turns_to_come reader l s' < turns_to_come reader l s
+arrived_less folder now after reader l s s' arr =
     let z : Shown = with_fetch arr.name arr.fetch s in
     let left : left_to_do z.desk ≡ left_to_do s.desk = desk.arrives-left arr.name s.desk in
     let was : while_awaiting (standing_of s.desk) ≡ 1 = ap while_awaiting arr.awaits in
     let is : while_awaiting (standing_of z.desk) ≡ 0 = arrived-standing s.desk.phase s.desk arr.name arr.awaits in
     subst (λ x. turns_to_come reader l x < turns_to_come reader l s) (sym arr.arrived)
     (less-steps (text_to_come s) (text_to_come z) (steps_to_come reader l s) (steps_to_come reader l z) (omega (arith, left)) (omega (arith, was, is)))
+
+-- another that comes early, while one is awaited
+pub early_less : (reader : PageReader) (l : Load) (s : Shown) (name awaited : List ℕ) (f : Fetched) → standing_of s.desk ≡ awaiting awaited → turns_to_come reader l (with_fetch name f s) ≤ turns_to_come reader l s
+early_less reader l s name awaited f awaits =
+    let z : Shown = with_fetch name f s in
+    let left : left_to_do z.desk ≡ left_to_do s.desk = desk.arrives-left name s.desk in
+    let was : while_awaiting (standing_of s.desk) ≡ 1 = ap while_awaiting awaits in
+    let is : while_awaiting (standing_of z.desk) ≤ 1 = awaiting-le (standing_of z.desk) in
+    le-steps (text_to_come s) (text_to_come z) (steps_to_come reader l s) (steps_to_come reader l z) (omega (arith, left)) (omega (arith, was, is))
+
+-- and answers that are to come
+pub less_still : {a b : ℕ} (n : ℕ) → a < b → a + n < b + n
+less_still {a} {b} n less = omega (arith, less)
+
+pub less_then : {a b : ℕ} (n n' : ℕ) → a < b → n' ≤ n → a + n' < b + n
+less_then {a} {b} n n' less le = omega (arith, less, le)
 
 -- ---- as the calls answer
 
@@ -343,16 +364,16 @@ stands_reply l l' d count (same, requests, hand) wants =
     let replies : l'.replies ≡ l.replies = ap (λ (x : Load). x.replies) same in
     omega (arith, count, requests, hand, some, replies)
 
-module _ (es : Entities) (ahead : ℕ) (dir : List ℕ) (before : Seen) (t : Option (List ℕ)) (now : Seen) (t' : Option (List ℕ)) (reader : PageReader) (l : Load) (s : Shown) (h : Holds es ahead dir before now t t' reader l s) where
+module _ (es : Entities) (ahead : ℕ) (folder : Folder) (before : Seen) (t : Option (List ℕ)) (now : Seen) (t' : Option (List ℕ)) (reader : PageReader) (l : Load) (s : Shown) (h : Holds es ahead folder before now t t' reader l s) where
   abbrev one_more : Load
   one_more = record l { requests = suc l.requests }
 
-  pub after_sent : (l' : Load) (s' : Shown) → IsTrue (can_send s.ahead s.desk) → s' ≡ journaled event.Send (sends s.desk) s → Asks l l' → Holds es ahead dir before now t t' reader l' s'
+  pub after_sent : (l' : Load) (s' : Shown) → IsTrue (can_send s.ahead s.desk) → s' ≡ journaled event.Send (sends s.desk) s → Asks l l' → Holds es ahead folder before now t t' reader l' s'
   after_sent l' s' can is asks =
       let one = asks.one in
       let more : under_way l' ≡ under_way one_more = omega (arith, one) in
-      holds_answered es ahead dir before t now t' reader one_more l' s' more
-      (subst (λ x. Holds es ahead dir before now t t' reader one_more x) (sym is) (holds_sent es ahead dir before t now t' reader l s can h))
+      holds_answered es ahead folder before t now t' reader one_more l' s' more
+      (subst (λ x. Holds es ahead folder before now t t' reader one_more x) (sym is) (holds_sent es ahead folder before t now t' reader l s can h))
 
   pub after_sent_less : (l' : Load) (s' : Shown) → IsTrue (can_send s.ahead s.desk) → s' ≡ journaled event.Send (sends s.desk) s → Asks l l' → turns_to_come reader l' s' < turns_to_come reader l s
   after_sent_less l' s' can is asks =
@@ -386,37 +407,37 @@ module _ (es : Entities) (ahead : ℕ) (dir : List ℕ) (before : Seen) (t : Opt
       )
 
   module _ (m : Load) (none : Answers false l m) where
-    pub with_same : Holds es ahead dir before now t t' reader m s
-    with_same = subst (λ x. Holds es ahead dir before now t t' reader x s) (sym none.0) h
+    pub with_same : Holds es ahead folder before now t t' reader m s
+    with_same = subst (λ x. Holds es ahead folder before now t t' reader x s) (sym none.0) h
 
     same-turns : turns_to_come reader m s ≡ turns_to_come reader l s
     same-turns = ap (λ x. turns_to_come reader x s) none.0
 
-    pub after_took : (l' : Load) (s' : Shown) → IsTrue (wants_reply s.desk) → m ≡ record l' { replies = suc l'.replies } → s' ≡ journaled event.Take (takes s.entities s.desk) s → Holds es ahead dir before now t t' reader l' s'
-    after_took l' s' wants one is = subst (λ x. Holds es ahead dir before now t t' reader l' x) (sym is) (holds_took es ahead dir before t now t' reader m l' s wants one with_same)
+    pub after_took : (l' : Load) (s' : Shown) → IsTrue (wants_reply s.desk) → m ≡ record l' { replies = suc l'.replies } → s' ≡ journaled event.Take (takes s.entities s.desk) s → Holds es ahead folder before now t t' reader l' s'
+    after_took l' s' wants one is = subst (λ x. Holds es ahead folder before now t t' reader l' x) (sym is) (holds_took es ahead folder before t now t' reader m l' s wants one with_same)
 
     pub after_took_less : (l' : Load) (s' : Shown) → m ≡ record l' { replies = suc l'.replies } → s' ≡ journaled event.Take (takes s.entities s.desk) s → turns_to_come reader l' s' < turns_to_come reader l s
     after_took_less l' s' one is =
         subst (λ n. turns_to_come reader l' s' < n) same-turns
-        (subst (λ x. turns_to_come reader l' x < turns_to_come reader m s) (sym is) (took_less reader m l' s one (took-desk es ahead dir before t m l' s one with_same.inside)))
+        (subst (λ x. turns_to_come reader l' x < turns_to_come reader m s) (sym is) (took_less reader m l' s one (took-desk es ahead folder before t m l' s one with_same.inside)))
 
     pub took_sent : (l' : Load) → m ≡ record l' { replies = suc l'.replies } → (takes s.entities s.desk).sent ≡ s.desk.sent
-    took_sent l' one = (took-desk es ahead dir before t m l' s one with_same.inside).sent
+    took_sent l' one = (took-desk es ahead folder before t m l' s one with_same.inside).sent
 
     -- what was put, and that it goes on so
-    pub goes_may_do : (asks : Option (List Asked)) (s' : Shown) → Goes asks s → IsTrue (can_do s.desk) → IsSentSoFar s.ahead s.journal.ending s.desk → MayDo s s' → Goes asks s'
+    pub goes_may_do : (asks : Option (List Asked)) (s' : Shown) → Goes folder.given asks s → IsTrue (can_do s.desk) → IsSentSoFar s.ahead s.journal.ending s.desk → MayDo s s' → Goes folder.given asks s'
     goes_may_do asks s' g can looks (inl stays) = goes_stays asks s s' stays g
-    goes_may_do asks s' g can looks (inr did) = goes_did asks s g s' can looks did.does (keeps-desk es ahead dir before t l s s' h.inside did.does).sent did.others
+    goes_may_do asks s' g can looks (inr did) = goes_did asks s g s' can looks did.does (keeps-desk es ahead folder before t l s s' h.inside did.does).sent did.others
 
-    pub goes_fetched : (asks : Option (List Asked)) (after : Seen) (s' : Shown) → Goes asks s → is_done s.desk.phase ≡ false → IsSentSoFar s.ahead s.journal.ending s.desk → Arrives dir now after s s' → Goes asks s'
+    pub goes_fetched : (asks : Option (List Asked)) (after : Seen) (s' : Shown) → Goes folder.given asks s → is_done s.desk.phase ≡ false → IsSentSoFar s.ahead s.journal.ending s.desk → Arrives folder now after s s' → Goes folder.given asks s'
     goes_fetched asks after s' g going looks arr =
-        let waits_for = awaits-in es ahead dir before t s.desk.phase s.desk arr.name arr.awaits in
-        let parts : (is_lawful arr.name ≡ true) × (is_among arr.name s.desk.arrived ≡ false) = not-arrived es ahead dir before t (is_lawful arr.name) (is_among arr.name s.desk.arrived) waits_for.2 in
+        let waits_for = awaits-in es ahead folder before t s.desk.phase s.desk arr.name arr.awaits in
+        let parts : (is_lawful arr.name ≡ true) × (is_among arr.name s.desk.arrived ≡ false) = not-arrived es ahead folder before t (is_lawful arr.name) (is_among arr.name s.desk.arrived) waits_for.2 in
         let can : can_arrive arr.name s.desk ≡ true = ap (λ b. b && not (is_among arr.name s.desk.arrived)) parts.0 ∙ ap not parts.1 in
-        goes_arrived asks s g arr.name arr.fetch s' going can (subst (λ p. IsAwaitedIn arr.name p) (sym waits_for.1) refl) looks arr.arrived
+        goes_arrived asks s g arr.name arr.fetch s' going can (inl (subst (λ p. IsAwaitedIn arr.name p) (sym waits_for.1) refl)) looks arr.arrived
 
-    pub after_ran : (t'' : Option (List ℕ)) (s' : Shown) → IsReplayed s → IsTrue (can_do s.desk) → RunsOn t' t'' s s' → Holds es ahead dir before now t t'' reader m s'
-    after_ran t'' s' replayed can ran = holds_ran es ahead dir before t now t' t'' reader m s s' replayed can ran with_same
+    pub after_ran : (t'' : Option (List ℕ)) (s' : Shown) → IsReplayed s → IsTrue (can_do s.desk) → RunsOn t' t'' s s' → Holds es ahead folder before now t t'' reader m s'
+    after_ran t'' s' replayed can ran = holds_ran es ahead folder before t now t' t'' reader m s s' replayed can ran with_same
 
     pub after_ran_less : (t'' : Option (List ℕ)) (s' : Shown) → ahead ≤ 64 → RunsOn t' t'' s s' → turns_to_come reader m s' < turns_to_come reader l s
     after_ran_less t'' s' few ran =
@@ -424,10 +445,4 @@ module _ (es : Entities) (ahead : ℕ) (dir : List ℕ) (before : Seen) (t : Opt
         let asked = i.asked in
         let credit = i.credit in
         subst (λ n. turns_to_come reader m s' < n) same-turns
-        (ran_less t' t'' reader m s s' ran (keeps-desk es ahead dir before t m s s' i ran.does) (omega (arith, asked, credit, few)))
-
-    pub after_arrived : (after : Seen) (s' : Shown) → Arrives dir now after s s' → BeginsTheAwaited dir now after s.desk → KeepsOthers port.Script now after → Holds es ahead dir before after t t' reader m s'
-    after_arrived after s' arr begins keeps = holds_arrived es ahead dir before t now after t' reader m s s' arr begins keeps with_same
-
-    pub after_arrived_less : (after : Seen) (s' : Shown) → Arrives dir now after s s' → turns_to_come reader m s' < turns_to_come reader l s
-    after_arrived_less after s' arr = subst (λ n. turns_to_come reader m s' < n) same-turns (arrived_less dir now after reader m s s' arr)
+        (ran_less t' t'' reader m s s' ran (keeps-desk es ahead folder before t m s s' i ran.does) (omega (arith, asked, credit, few)))

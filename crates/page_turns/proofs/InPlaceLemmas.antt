@@ -1,18 +1,18 @@
 -- The parser's side in the calling thread answers each request once, in order.
-use Rattle.std.proofs.Common.{◌≡◌, Bool, true, false, true≢false, List, [], ◌∷◌, ◌++◌, Option, Some, None, refl, sym, ap, subst, ◌∙◌, append_assoc, append-nil}
-use Rattle.std.specs.Prelude.{option_to_list, is_some, not, if◌then◌else◌}
+use Rattle.std.proofs.Common.{◌≡◌, Bool, true, false, true≢false, List, [], ◌∷◌, ◌++◌, Option, Some, None, refl, sym, ap, subst, ◌∙◌, append_assoc, append-nil, map}
+use Rattle.std.specs.Prelude.{option_to_list, is_some, not, if◌then◌else◌, IsSome}
 use Rattle.std.specs.declared.snapshot.Snapshot.{Snapshot}
 use Rattle.std.proofs.lemmas.List.{map-append}
 use Rattle.standard.specs.Entities.{Entities}
 use Rattle.standard.specs.Parser.{Parser}
-use Rattle.core_definitions.specs.Core.{Request, WorkSide, first_work, answer_to, reply_to}
+use Rattle.core_definitions.specs.Core.{Request, Reply as Answer, WorkSide, first_work, answer_to, reply_to}
 use Rattle.speculation.specs.declared.in_force.InForce as InForce
 use Rattle.speculation.specs.declared.reply.Reply.{Reply}
 use Rattle.speculation.specs.Asking.{Asked, Told}
 use Rattle.core_steps.specs.Working.{IsGiven, IsBehind, replies_to, behind}
 use Rattle.page_turns.specs.Along.{requests_of}
-use Rattle.page_turns.specs.Messages.{Message, Adds}
-use Rattle.page_turns.specs.InPlaces.{told_of, asked_in, taken_in, replies_in, in_hand, IsAnswering}
+use Rattle.page_turns.specs.Messages.{Message, Adds, AreInOrder, ToldInOrder, TellsOn}
+use Rattle.page_turns.specs.InPlaces.{Place, told_of, asked_in, taken_in, replies_in, in_hand, IsAnswering}
 
 -- ---- as the calls answer
 
@@ -103,6 +103,81 @@ module _ (es : Entities) (asked : List Asked) (given : List Message) (work : Wor
   -- the same replies, of which one more was taken
   pub takes_one : (given' : List Message) → given' ≡ given → IsAnswering es asked given' work requests
   takes_one given' same = subst (λ l. IsAnswering es asked l work requests) (sym same) a
+
+-- ---- a front of the answers, which was taken
+
+head-same : {A : Type 0} (a b : A) (xs ys : List A) → a ∷ xs ≡ b ∷ ys → a ≡ b
+head-same a b xs ys e = cc e
+
+tail-same : {A : Type 0} (a b : A) (xs ys : List A) → a ∷ xs ≡ b ∷ ys → xs ≡ ys
+tail-same a b xs ys e = cc e
+
+replies-front : (es : Entities) (last : Option Parser) (rs : List Request) (xs ys : List Answer) → xs ++ ys ≡ replies_to es last rs
+    → (answered : List Request) × (later : List Request) × (rs ≡ answered ++ later) × (xs ≡ replies_to es last answered)
+replies-front es last rs [] ys is = ([], rs, refl, refl)
+replies-front es last [] (x ∷ xs) ys is = absurd (cc is)
+replies-front es last (r ∷ rs) (x ∷ xs) ys is =
+    let next = (answer_to es last r).parser in
+    let reply = reply_to r (answer_to es last r).batches in
+    let (answered, later, all, are) = replies-front es next rs xs ys (tail-same x reply (xs ++ ys) (replies_to es next rs) is) in
+    (r ∷ answered, later, ap (λ l. r ∷ l) all, ap (λ l. x ∷ l) are ∙ ap (λ z. z ∷ replies_to es next answered) (head-same x reply (xs ++ ys) (replies_to es next rs) is))
+
+said-front : (ms ns : List Message) (said : List Told) → ms ++ ns ≡ map Some said → (front : List Told) × (later : List Told) × (said ≡ front ++ later) × (ms ≡ map Some front)
+said-front [] ns said is = ([], said, refl, refl)
+said-front (m ∷ ms) ns [] is = absurd (cc is)
+said-front (m ∷ ms) ns (t ∷ said) is =
+    let (front, later, all, are) = said-front ms ns said (tail-same m (Some t) (ms ++ ns) (map Some said) is) in
+    (t ∷ front, later, ap (λ l. t ∷ l) all, ap (λ l. m ∷ l) are ∙ ap (λ z. z ∷ map Some front) (head-same m (Some t) (ms ++ ns) (map Some said) is))
+
+abbrev reply-in : Told → Answer
+reply-in t = t.reply
+
+are-in_order : (es : Entities) (asked : List Asked) (taken standing : List Message) (work : WorkSide) (requests : List Asked) → IsAnswering es asked (taken ++ standing) work requests → AreInOrder es asked taken
+are-in_order es asked taken standing work requests a =
+    let (said, later, all, are) = said-front taken standing a.said a.given_are in
+    let split : map reply-in said ++ map reply-in later ≡ replies_to es first_work.parser a.answered =
+    sym (map-append reply-in said later) ∙ ap (map reply-in) (sym all) ∙ a.replies_are in
+    let (answered, behind, whole, replies) = replies-front es first_work.parser a.answered (map reply-in said) (map reply-in later) split in
+    record {
+      said = said;
+      messages_are = are;
+      answered = answered;
+      later = (behind ++ in_hand work.hand) ++ requests_of requests;
+      asked_are = a.asked_are
+          ∙ ap (λ l. (l ++ in_hand work.hand) ++ requests_of requests) whole
+          ∙ ap (λ l. l ++ requests_of requests) (append_assoc answered behind (in_hand work.hand))
+          ∙ append_assoc answered (behind ++ in_hand work.hand) (requests_of requests);
+      replies_are = replies;
+    }
+
+told-in_order : (es : Entities) (tells tells' : Bool) (asked : List Asked) (taken standing : List Message) (work : WorkSide) (requests : List Asked) → IsAnswering es asked (taken ++ standing) work requests
+    → ToldInOrder es (told_of tells asked) (told_of tells' taken)
+told-in_order es false tells' asked taken standing work requests a = tt
+told-in_order es true false asked taken standing work requests a = tt
+told-in_order es true true asked taken standing work requests a = are-in_order es asked taken standing work requests a
+
+still-told : {A : Type 0} (tells : Bool) (xs ys : List A) → IsSome (told_of tells xs) → IsSome (told_of tells ys)
+still-told false xs ys some = some
+still-told true xs ys some = refl
+
+not-spent : (spent : Bool) → not spent ≡ true → spent ≡ false
+not-spent false is = refl
+not-spent true is = absurd (true≢false (sym is))
+
+-- A call was done, and memory was refused where it was before.
+pub tells_on : (es : Entities) (tells tells' spent : Bool) (asked asked' : List Asked) (taken taken' standing : List Message) (work : WorkSide) (requests : List Asked) → (spent ≡ false → IsAnswering es asked' (taken' ++ standing) work requests)
+    → TellsOn es (told_of tells asked) (told_of tells asked') (told_of tells' taken) (told_of tells' taken') (not spent) (not spent)
+tells_on es tells tells' spent asked asked' taken taken' standing work requests answering = record {
+  put_told = still-told tells asked asked';
+  taken_told = still-told tells' taken taken';
+  kept = refl;
+  in_order = λ ordered. told-in_order es tells tells' asked' taken' standing work requests (answering (not-spent spent ordered));
+}
+
+-- the same beside what was shown before it
+pub tells_since : (es : Entities) (view old : Place) (put : Option (List Asked)) (taken : Option (List Message)) (ordered : Bool) → old ≡ view → TellsOn es old.asked put old.taken taken old.ordered ordered
+    → TellsOn es view.asked put view.taken taken view.ordered ordered
+tells_since es view old put taken ordered is tells = subst (λ (p : Place). TellsOn es p.asked put p.taken taken p.ordered ordered) is tells
 
 -- before any request
 pub answers_none : (es : Entities) (asked : List Asked) (given : List Message) (work : WorkSide) (requests : List Asked) → asked ≡ [] → given ≡ [] → work ≡ first_work → requests ≡ [] → IsAnswering es asked given work requests

@@ -24,4 +24,5 @@ pub mod MessageLemmas
 pub mod InPlaceLemmas
 pub mod TurnLemmas
 pub mod GiveLemmas
+pub mod BringLemmas
 pub mod ReplayLemmas

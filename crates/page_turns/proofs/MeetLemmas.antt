@@ -18,10 +18,12 @@ use Rattle.core_steps.proofs.FileLemmas.{cut-statements}
 use Rattle.page_turns.specs.declared.scripts.TheConstants.{SCRIPT_LIMIT}
 use Rattle.page_turns.specs.Calls.{CallsAt, EachWithin}
 use Rattle.page_turns.specs.Given.{given_of, NoFault, AbsencesRose, file_at, MayGive, AreRead, ReadTo, untouched, unbegun, begun}
-use Rattle.page_turns.specs.Scripts.{Met, path_of, IsAbsent, MayFetch, ReadScriptsTo, none_begun, last, MayMeet, AreDistinct, NamesOnce, IsOneOf, BeginsFile, left_alone, begun_once, BeginsNew, Fetches, AreKnown}
+use Rattle.page_turns.specs.Early.{GivesOneMore}
+use Rattle.page_turns.specs.Scripts.{Met, Folder, folder_with, IsGiven, GivenEarly, MayComeEarly, MayCome, path_of, IsAbsent, MayFetch, ReadScriptsTo, none_begun, last, MayMeet, AreDistinct, NamesOnce, IsOneOf, BeginsFile, left_alone, begun_once, BeginsNew, Fetches, AreKnown}
 use Rattle.page_turns.proofs.CallLemmas.{each_none, failed_stays, failed_since}
 use Rattle.page_turns.proofs.CallLemmas as calls
 use Rattle.page_turns.proofs.KeepsLemmas.{begun_none, begun_then, rose-on, rose-stays, Later}
+use Rattle.page_turns.proofs.SameWorlds.{alike-refl}
 use Rattle.page_turns.proofs.TextLemmas.{same-text, same-refl, none-there}
 
 -- ---- one fetch
@@ -37,12 +39,16 @@ got_at (Some None) limit bytes is read = absurd read
 got_at (Some (Some whole)) limit bytes is read = (whole, refl, ap file_statements read ∙ cut-statements limit whole is)
 
 -- what fetching gave of a name may be met
-pub may_meet : (dir : List ℕ) (before after : Seen) (name : List ℕ) (limit : ℕ) (fetch : Fetch) → limit ≡ SCRIPT_LIMIT → MayGive limit port.Script (path_of dir name) before after (given_of fetch)
-    → MayMeet dir before after name (fetched_of fetch)
-may_meet dir before after name limit (fetches.Got bytes) is may =
-    let there = got_at (file_at before (path_of dir name)) limit bytes.items is may.0 in (got there.0, there.1, there.2)
-may_meet dir before after name limit fetches.Missing is may = (missing, absent_at (file_at before (path_of dir name)) (AbsencesRose port.Script before after) may.0 may.1, tt)
-may_meet dir before after name limit fetches.Faulted is may = (faulted, may, tt)
+pub may_meet : (folder : Folder) (before after : Seen) (name : List ℕ) (limit : ℕ) (fetch : Fetch) → limit ≡ SCRIPT_LIMIT → MayGive limit port.Script (path_of folder.dir name) before after (given_of fetch)
+    → MayMeet folder before after name (fetched_of fetch)
+may_meet folder before after name limit (fetches.Got bytes) is may =
+    let there = got_at (file_at before (path_of folder.dir name)) limit bytes.items is may.0 in (got there.0, inl there.1, there.2)
+may_meet folder before after name limit fetches.Missing is may = (missing, inl (absent_at (file_at before (path_of folder.dir name)) (AbsencesRose port.Script before after) may.0 may.1), tt)
+may_meet folder before after name limit fetches.Faulted is may = (faulted, inl may, tt)
+
+-- what was given early may be met
+pub may_meet_given : (folder : Folder) (before after : Seen) (name : List ℕ) (f : Fetched) → IsGiven name f folder.given → MayMeet folder before after name f
+may_meet_given folder before after name f given = (f, inr (inl given), alike-refl f)
 
 -- no call failed, or the script is faulted
 pub unfailed : (limit : ℕ) (path : List ℕ) (before after : Seen) (f : Fetch) → MayGive limit port.Script path before after (given_of f) → NoFault port.Script before after ⊎ (fetched_of f ≡ faulted)
@@ -63,43 +69,44 @@ each_still P Q (x ∷ xs) on all = (on x all.0, each_still P Q xs on all.1)
 abbrev pub names_none : (dir : List ℕ) (b a : Paths) → a ≡ b → NamesOnce dir b a
 names_none dir b a e = record { names = []; begun = begun_none b a e; lawful = tt; once = tt }
 
-begins_none : (unmet : List (List ℕ)) (dir : List ℕ) (b a : Paths) (old new : Met) → a ≡ b → BeginsNew unmet dir b a old new
-begins_none unmet dir b a old new e = record { which = names_none dir b a e; fresh = tt; met = tt }
+begins_none : (unmet : List (List ℕ)) (dir : List ℕ) (given : Met) (b a : Paths) (old new : Met) → a ≡ b → BeginsNew unmet dir given b a old new
+begins_none unmet dir given b a old new e = record { which = names_none dir b a e; fresh = tt; met = tt; late = tt }
 
-pub begins_one : (unmet : List (List ℕ)) (dir : List ℕ) (b a : Paths) (old new : Met) (name : List ℕ) → Begun b a (path_of dir name ∷ []) → is_lawful name ≡ true → found name old ≡ None → IsSome (found name new) ⊎ IsOneOf name unmet
-    → BeginsNew unmet dir b a old new
-begins_one unmet dir b a old new name paths lawful fresh met = record {
+pub begins_one : (unmet : List (List ℕ)) (dir : List ℕ) (given : Met) (b a : Paths) (old new : Met) (name : List ℕ) → Begun b a (path_of dir name ∷ []) → is_lawful name ≡ true → found name old ≡ None
+    → IsSome (found name new) ⊎ IsOneOf name unmet → (GivenEarly name given → ⊥) → BeginsNew unmet dir given b a old new
+begins_one unmet dir given b a old new name paths lawful fresh met late = record {
   which = record { names = name ∷ []; begun = paths; lawful = (lawful, tt); once = (tt, tt) };
   fresh = (fresh, tt);
   met = (met, tt);
+  late = (late, tt);
 }
 
 -- nothing is met anew
-pub fetches_none : (unmet : List (List ℕ)) (dir : List ℕ) (before after : Seen) (s : Met) → after.begun port.Script ≡ before.begun port.Script → ReadScriptsTo SCRIPT_LIMIT dir before after
-    → EachWithin SCRIPT_LIMIT port.Script before after → Fetches unmet dir before after s s
-fetches_none unmet dir before after s same reads within = record {
+pub fetches_none : (unmet : List (List ℕ)) (folder : Folder) (before after : Seen) (s : Met) → after.begun port.Script ≡ before.begun port.Script → ReadScriptsTo SCRIPT_LIMIT folder.dir before after
+    → EachWithin SCRIPT_LIMIT port.Script before after → Fetches unmet folder before after s s
+fetches_none unmet folder before after s same reads within = record {
   kept = λ name script is. is;
   fresh = λ name script is. inl is;
   no_further = reads;
   within = within;
-  begins = begins_none unmet dir _ _ s s same;
+  begins = begins_none unmet folder.dir folder.given _ _ s s same;
 }
 
-pub fetches_same : (unmet : List (List ℕ)) (dir : List ℕ) (before : Seen) (s : Met) → Fetches unmet dir before before s s
-fetches_same unmet dir before s = fetches_none unmet dir before before s refl (none_begun refl) (each_none SCRIPT_LIMIT port.Script before before refl)
+pub fetches_same : (unmet : List (List ℕ)) (folder : Folder) (before : Seen) (s : Met) → Fetches unmet folder before before s s
+fetches_same unmet folder before s = fetches_none unmet folder before before s refl (none_begun refl) (each_none SCRIPT_LIMIT port.Script before before refl)
 
 -- ---- a file was begun
 
-module _ (dir name : List ℕ) (before after : Seen) (lawful : is_lawful name ≡ true) (met : Met) (fresh : found name met ≡ None) where
+module _ (folder : Folder) (name : List ℕ) (before after : Seen) (lawful : is_lawful name ≡ true) (met : Met) (fresh : found name met ≡ None) where
   -- and memory ran out before it was met
-  pub fetch_cut : BeginsFile dir name before after → Fetches (name ∷ []) dir before after met met
-  fetch_cut (left_alone same) = subst (λ z. Fetches (name ∷ []) dir before z met met) (sym same) (fetches_same (name ∷ []) dir before met)
-  fetch_cut (begun_once paths reads within) = record {
+  pub fetch_cut : (GivenEarly name folder.given → ⊥) → BeginsFile folder.dir name before after → Fetches (name ∷ []) folder before after met met
+  fetch_cut late (left_alone same) = subst (λ z. Fetches (name ∷ []) folder before z met met) (sym same) (fetches_same (name ∷ []) folder before met)
+  fetch_cut late (begun_once paths reads within) = record {
     kept = λ n f is. is;
     fresh = λ n f is. inl is;
     no_further = last name lawful reads;
     within = within;
-    begins = begins_one (name ∷ []) dir _ _ met met name paths lawful fresh (inr (inl refl));
+    begins = begins_one (name ∷ []) folder.dir folder.given _ _ met met name paths lawful fresh (inr (inl refl)) late;
   }
 
   abbrev more : Fetched → Met
@@ -109,17 +116,17 @@ module _ (dir name : List ℕ) (before after : Seen) (lawful : is_lawful name �
   kept-by f n g is true e = let none : found n met ≡ None = subst (λ x. found x met ≡ None) (same-text name n e) fresh in absurd (cc (sym none ∙ is))
   kept-by f n g is false e = is
 
-  fresh-by : (f : Fetched) (may : MayMeet dir before after name f) (n : List ℕ) (g : Fetched) (b : Bool) → same_text name n ≡ b → cond b (Some f) (found n met) ≡ Some g → (found n met ≡ Some g) ⊎ MayMeet dir before after n g
+  fresh-by : (f : Fetched) (may : MayMeet folder before after name f) (n : List ℕ) (g : Fetched) (b : Bool) → same_text name n ≡ b → cond b (Some f) (found n met) ≡ Some g → (found n met ≡ Some g) ⊎ MayMeet folder before after n g
   fresh-by f may n g true e is =
-      let same : f ≡ g = cc in inr (subst (λ k. MayMeet dir before after n k) same (subst (λ x. MayMeet dir before after x f) (same-text name n e) may))
+      let same : f ≡ g = cc in inr (subst (λ k. MayMeet folder before after n k) same (subst (λ x. MayMeet folder before after x f) (same-text name n e) may))
   fresh-by f may n g false e is = inl is
 
   found-more : (f : Fetched) → IsSome (found name (more f))
   found-more f = ap (λ b. is_some (cond b (Some f) (found name met))) (same-refl name)
 
   -- and it is met
-  pub fetch_one : (f : Fetched) → MayMeet dir before after name f → BeginsFile dir name before after → Fetches [] dir before after met (more f)
-  fetch_one f may begins = record {
+  pub fetch_one : (f : Fetched) → MayMeet folder before after name f → (GivenEarly name folder.given → ⊥) → BeginsFile folder.dir name before after → Fetches [] folder before after met (more f)
+  fetch_one f may late begins = record {
     kept = λ n g is. kept-by f n g is (same_text name n) refl;
     fresh = λ n g is. fresh-by f may n g (same_text name n) refl is;
     no_further = reads_to begins;
@@ -127,17 +134,27 @@ module _ (dir name : List ℕ) (before after : Seen) (lawful : is_lawful name �
     begins = begins_new begins;
   }
     where
-      reads_to : BeginsFile dir name before after → ReadScriptsTo SCRIPT_LIMIT dir before after
-      reads_to (left_alone same) = subst (λ z. ReadScriptsTo SCRIPT_LIMIT dir before z) (sym same) (none_begun refl)
+      reads_to : BeginsFile folder.dir name before after → ReadScriptsTo SCRIPT_LIMIT folder.dir before after
+      reads_to (left_alone same) = subst (λ z. ReadScriptsTo SCRIPT_LIMIT folder.dir before z) (sym same) (none_begun refl)
       reads_to (begun_once paths reads within) = last name lawful reads
 
-      within_to : BeginsFile dir name before after → EachWithin SCRIPT_LIMIT port.Script before after
+      within_to : BeginsFile folder.dir name before after → EachWithin SCRIPT_LIMIT port.Script before after
       within_to (left_alone same) = each_none SCRIPT_LIMIT port.Script before after (ap (λ (z : Seen). z.calls port.Script) same)
       within_to (begun_once paths reads within) = within
 
-      begins_new : BeginsFile dir name before after → BeginsNew [] dir (before.begun port.Script) (after.begun port.Script) met (more f)
-      begins_new (left_alone same) = begins_none [] dir _ _ met (more f) (ap (λ (z : Seen). z.begun port.Script) same)
-      begins_new (begun_once paths reads within) = begins_one [] dir _ _ met (more f) name paths lawful fresh (inl (found-more f))
+      begins_new : BeginsFile folder.dir name before after → BeginsNew [] folder.dir folder.given (before.begun port.Script) (after.begun port.Script) met (more f)
+      begins_new (left_alone same) = begins_none [] folder.dir folder.given _ _ met (more f) (ap (λ (z : Seen). z.begun port.Script) same)
+      begins_new (begun_once paths reads within) = begins_one [] folder.dir folder.given _ _ met (more f) name paths lawful fresh (inl (found-more f)) late
+
+  -- it came early, and no file was begun
+  pub fetch_early : (f : Fetched) → MayMeet folder before after name f → after ≡ before → Fetches [] folder before after met (more f)
+  fetch_early f may same = record {
+    kept = λ n g is. kept-by f n g is (same_text name n) refl;
+    fresh = λ n g is. fresh-by f may n g (same_text name n) refl is;
+    no_further = subst (λ z. ReadScriptsTo SCRIPT_LIMIT folder.dir before z) (sym same) (none_begun refl);
+    within = each_none SCRIPT_LIMIT port.Script before after (ap (λ (z : Seen). z.calls port.Script) same);
+    begins = begins_none [] folder.dir folder.given _ _ met (more f) (ap (λ (z : Seen). z.begun port.Script) same);
+  }
 
 pub known_more : (name : List ℕ) (f : Fetched) (met : Met) → is_lawful name ≡ true → is_among name (names_of met) ≡ false → AreKnown met → AreKnown ((name, f) ∷ met)
 known_more name f met lawful none known = record { lawful = (lawful, known.lawful); once = (none-there name met none, known.once) }
@@ -164,6 +181,15 @@ module _ (before now after : Seen) (first : Later before now) (second : Later no
   fetch-since dir name (got bytes) xs made may = subst (λ files. IfSome (option_map (λ map. map (path_of dir name)) files) (λ file. file ≡ Some bytes)) first.files may
   fetch-since dir name missing xs made may = absent-since (file_at before (path_of dir name)) (subst (λ files. IsAbsent (option_map (λ map. map (path_of dir name)) files) (AbsencesRose port.Script now after)) first.files may)
   fetch-since dir name faulted xs made may = (rose-on _ _ _ (first.faults port.Script) may.0, failed_since port.Script (path_of dir name) before now after xs made may.1)
+
+  -- and so of what may come early, which no call of the files changes
+  come-stays : (folder : Folder) (name : List ℕ) (f : Fetched) (ys : List Call) → CallsAt port.Script now after ys → MayCome folder before now name f → MayCome folder before after name f
+  come-stays folder name f ys made (inl may) = inl (fetch-stays folder.dir name f ys made may)
+  come-stays folder name f ys made (inr early) = inr early
+
+  come-since : (folder : Folder) (name : List ℕ) (f : Fetched) (xs : List Call) → CallsAt port.Script before now xs → MayCome folder now after name f → MayCome folder before after name f
+  come-since folder name f xs made (inl may) = inl (fetch-since folder.dir name f xs made may)
+  come-since folder name f xs made (inr early) = inr early
 
   -- how far scripts were read
   read-stays : (path : List ℕ) → after.left port.Script ≡ now.left port.Script → ReadTo SCRIPT_LIMIT port.Script path before now → ReadTo SCRIPT_LIMIT port.Script path before after
@@ -224,9 +250,9 @@ module _ (before now after : Seen) (first : Later before now) (second : Later no
   all-met : (mid : Met) (names : List (List ℕ)) → AllByRecursion (λ name. IsSome (found name mid) ⊎ IsOneOf name []) names → AllByRecursion (λ name. IsSome (found name mid)) names
   all-met mid names all = each_still (λ name. IsSome (found name mid) ⊎ IsOneOf name []) (λ name. IsSome (found name mid)) names (λ name one. elim one [ inl some ↦ some | inr none ↦ absurd none ]) all
 
-  begins-then : (unmet : List (List ℕ)) (dir : List ℕ) (b n a : Paths) (old mid new : Met) → ((name : List ℕ) (s : Fetched) → found name old ≡ Some s → found name mid ≡ Some s)
-      → ((name : List ℕ) (s : Fetched) → found name mid ≡ Some s → found name new ≡ Some s) → BeginsNew [] dir b n old mid → BeginsNew unmet dir n a mid new → BeginsNew unmet dir b a old new
-  begins-then unmet dir b n a old mid new kept kept' first second =
+  begins-then : (unmet : List (List ℕ)) (dir : List ℕ) (given : Met) (b n a : Paths) (old mid new : Met) → ((name : List ℕ) (s : Fetched) → found name old ≡ Some s → found name mid ≡ Some s)
+      → ((name : List ℕ) (s : Fetched) → found name mid ≡ Some s → found name new ≡ Some s) → BeginsNew [] dir given b n old mid → BeginsNew unmet dir given n a mid new → BeginsNew unmet dir given b a old new
+  begins-then unmet dir given b n a old mid new kept kept' first second =
       let met = all-met mid first.which.names first.met in
       record {
         which = names-then dir b n a mid first.which second.which met second.fresh;
@@ -234,27 +260,78 @@ module _ (before now after : Seen) (first : Later before now) (second : Later no
             (each_still (λ name. found name mid ≡ None) (λ name. found name old ≡ None) second.which.names (λ name none. none-before old mid name (kept name) none) second.fresh);
         met = each_then (λ name. IsSome (found name new) ⊎ IsOneOf name unmet) first.which.names second.which.names
             (each_still (λ name. IsSome (found name mid)) (λ name. IsSome (found name new) ⊎ IsOneOf name unmet) first.which.names (λ name some. inl (some-after mid new name (kept' name) some)) met) second.met;
+        late = each_then (λ name. GivenEarly name given → ⊥) first.which.names second.which.names first.late second.late;
       }
 
-  pub fetches-then : (unmet : List (List ℕ)) (dir : List ℕ) (old mid new : Met) → Fetches [] dir before now old mid → Fetches unmet dir now after mid new → Fetches unmet dir before after old new
-  fetches-then unmet dir old mid new a b = record {
+  pub fetches-then : (unmet : List (List ℕ)) (folder : Folder) (old mid new : Met) → Fetches [] folder before now old mid → Fetches unmet folder now after mid new → Fetches unmet folder before after old new
+  fetches-then unmet folder old mid new a b = record {
     kept = λ name script is. b.kept name script (a.kept name script is);
     fresh = λ name script is. fresh_of name script (b.fresh name script is);
-    no_further = scripts-then dir a.no_further b.no_further;
+    no_further = scripts-then folder.dir a.no_further b.no_further;
     within = calls.each_then SCRIPT_LIMIT port.Script before now after a.within b.within;
-    begins = begins-then unmet dir _ _ _ old mid new a.kept b.kept a.begins b.begins;
+    begins = begins-then unmet folder.dir folder.given _ _ _ old mid new a.kept b.kept a.begins b.begins;
   }
     where
-      stay_of : (name : List ℕ) (script : Fetched) → (found name old ≡ Some script) ⊎ MayMeet dir before now name script → (found name old ≡ Some script) ⊎ MayMeet dir before after name script
+      stay_of : (name : List ℕ) (script : Fetched) → (found name old ≡ Some script) ⊎ MayMeet folder before now name script → (found name old ≡ Some script) ⊎ MayMeet folder before after name script
       stay_of name script (inl is) = inl is
-      stay_of name script (inr may) = inr (may.0, fetch-stays dir name may.0 b.within.calls b.within.made may.1, may.2)
+      stay_of name script (inr may) = inr (may.0, come-stays folder name may.0 b.within.calls b.within.made may.1, may.2)
 
-      fresh_of : (name : List ℕ) (script : Fetched) → (found name mid ≡ Some script) ⊎ MayMeet dir now after name script → (found name old ≡ Some script) ⊎ MayMeet dir before after name script
+      fresh_of : (name : List ℕ) (script : Fetched) → (found name mid ≡ Some script) ⊎ MayMeet folder now after name script → (found name old ≡ Some script) ⊎ MayMeet folder before after name script
       fresh_of name script (inl is) = stay_of name script (a.fresh name script is)
       fresh_of name script (inr may) =
-          inr (may.0, fetch-since dir name may.0 a.within.calls a.within.made may.1, may.2)
+          inr (may.0, come-since folder name may.0 a.within.calls a.within.made may.1, may.2)
 
 -- other ports were read
-pub fetches-past : (unmet : List (List ℕ)) (dir : List ℕ) (p : Port) (before after : Seen) (s : Met) → (port.Script ≡ p → ⊥) → KeepsOthers p before after → Fetches unmet dir before after s s
-fetches-past unmet dir p before after s other keeps =
-    fetches_none unmet dir before after s (keeps.begun port.Script other) (none_begun (keeps.left port.Script other)) (each_none SCRIPT_LIMIT port.Script before after (keeps.calls port.Script other))
+pub fetches-past : (unmet : List (List ℕ)) (folder : Folder) (p : Port) (before after : Seen) (s : Met) → (port.Script ≡ p → ⊥) → KeepsOthers p before after → Fetches unmet folder before after s s
+fetches-past unmet folder p before after s other keeps =
+    fetches_none unmet folder before after s (keeps.begun port.Script other) (none_begun (keeps.left port.Script other)) (each_none SCRIPT_LIMIT port.Script before after (keeps.calls port.Script other))
+
+-- one more that was met
+pub some-more : (name : List ℕ) (f : Fetched) (met : Met) (n : List ℕ) → IsSome (found n met) → IsSome (found n ((name, f) ∷ met))
+some-more name f met n some = by (same_text name n)
+  where
+    by : (b : Bool) → IsSome (cond b (Some f) (found n met))
+    by true = refl
+    by false = some
+
+-- ---- more is given
+
+module _ (dir : List ℕ) (given given' : Met) (name : List ℕ) (f : Fetched) (one : GivesOneMore name f given given') where
+  early-more : (n : List ℕ) (g : Fetched) → MayComeEarly (folder_with dir given) n g → MayComeEarly (folder_with dir given') n g
+  early-more n g (inl is) = inl (one.more n g is)
+  early-more n g (inr none) = absurd none
+
+  come-more : (before after : Seen) (n : List ℕ) (g : Fetched) → MayCome (folder_with dir given) before after n g → MayCome (folder_with dir given') before after n g
+  come-more before after n g (inl may) = inl may
+  come-more before after n g (inr early) = inr (early-more n g early)
+
+  -- It wasn't met, and all that were begun were.
+  late-more : (met : Met) → found name met ≡ None → (names : List (List ℕ)) → AllByRecursion (λ n. IsSome (found n met) ⊎ IsOneOf n []) names → AllByRecursion (λ n. GivenEarly n given → ⊥) names
+      → AllByRecursion (λ n. GivenEarly n given' → ⊥) names
+  late-more met none [] all late = tt
+  late-more met none (n ∷ names) all late = (here, late-more met none names all.1 late.1)
+    where
+      apart-of : IsSome (found n met) ⊎ IsOneOf n [] → n ≡ name → ⊥
+      apart-of (inl some) same = let there : is_some (found name met) ≡ true = subst (λ m. IsSome (found m met)) same some in cc (sym there ∙ ap is_some none)
+      apart-of (inr of_none) same = absurd of_none
+
+      here : GivenEarly n given' → ⊥
+      here (g, is) = elim (one.only n g is) [ inl was ↦ late.0 (g, was) | inr same ↦ apart-of all.0 same ]
+
+  pub fetches-more : (before after : Seen) (old new : Met) → found name new ≡ None → Fetches [] (folder_with dir given) before after old new → Fetches [] (folder_with dir given') before after old new
+  fetches-more before after old new none a = record {
+    kept = a.kept;
+    fresh = λ n g is. still n g (a.fresh n g is);
+    no_further = a.no_further;
+    within = a.within;
+    begins = record {
+      which = a.begins.which;
+      fresh = a.begins.fresh;
+      met = a.begins.met;
+      late = late-more new none a.begins.which.names a.begins.met a.begins.late;
+    };
+  }
+    where
+      still : (n : List ℕ) (g : Fetched) → (found n old ≡ Some g) ⊎ MayMeet (folder_with dir given) before after n g → (found n old ≡ Some g) ⊎ MayMeet (folder_with dir given') before after n g
+      still n g (inl is) = inl is
+      still n g (inr may) = inr (may.0, come-more before after n may.0 may.1, may.2)

@@ -1,13 +1,15 @@
 -- The messages that are taken, beside the journal's Takes.
-use Rattle.std.proofs.Common.{◌≡◌, ◌+◌, List, [], ◌∷◌, ◌++◌, Option, Some, None, refl, sym, ◌∙◌, ap, subst, inl, inr, length-append, arith}
-use Rattle.std.specs.Prelude.{IfSome}
+use Rattle.std.proofs.Common.{◌≡◌, ◌+◌, Bool, false, true≢false, List, [], ◌∷◌, ◌++◌, Option, Some, None, refl, sym, ◌∙◌, ap, subst, inl, inr, length-append, arith}
+use Rattle.std.specs.Prelude.{IfSome, IsSome, IsTrue}
 use Rattle.std.proofs.lemmas.List.{map-append}
+use Rattle.standard.specs.Entities.{Entities}
 use Rattle.core_definitions.specs.declared.event.Event.{Event}
 use Rattle.core_definitions.specs.declared.event.Event.TheVariants.{Send, Pick, Give, Take, Do, Arrive}
 use Rattle.core_steps.specs.Sides.{Shown}
 use Rattle.run_laws.specs.Along.{takes_in}
-use Rattle.page_turns.specs.Along.{MayDo}
-use Rattle.page_turns.specs.Messages.{Message, AreReplies, TakesOne, TakesLast, TakenSoFar, MayTakeMore}
+use Rattle.speculation.specs.Asking.{Asked}
+use Rattle.page_turns.specs.Along.{MayDo, requests_of}
+use Rattle.page_turns.specs.Messages.{Message, AreReplies, TakesOne, TakesLast, TakenSoFar, MayTakeMore, ToldInOrder, TellsOn}
 
 takes-then : (vs : List Event) (v : Event) → takes_in (vs ++ v ∷ []) ≡ takes_in vs + takes_in (v ∷ [])
 takes-then [] v = omega arith
@@ -54,3 +56,26 @@ pub more_last : (old new : Option (List Message)) (vs us : List Event) → Takes
 more_last old None vs us (last, one) is h = tt
 more_last None (Some ns) vs us (last, one) is h = absurd one
 more_last (Some ms) (Some ns) vs us (last, one) is h = subst (λ e. MayTakeMore (Some ns) e) (sym is) (inr (ms, last, one, h))
+
+-- ---- in order
+
+none-taken : (es : Entities) (put : Option (List Asked)) (taken : Option (List Message)) → IfSome taken (λ messages. messages ≡ []) → ToldInOrder es put taken
+none-taken es None taken none = tt
+none-taken es (Some asked) None none = tt
+none-taken es (Some asked) (Some ms) none = record { said = []; messages_are = none; answered = []; later = requests_of asked; asked_are = refl; replies_are = refl }
+
+-- before anything went through
+pub tells_first : (es : Entities) (put : Option (List Asked)) (taken : Option (List Message)) (ordered : Bool) → IfSome taken (λ messages. messages ≡ []) → TellsOn es put put taken taken ordered ordered
+tells_first es put taken ordered none = record { put_told = λ some. some; taken_told = λ some. some; kept = refl; in_order = λ is. none-taken es put taken none }
+
+-- where the order isn't known
+pub tells_unordered : (es : Entities) (put put' : Option (List Asked)) (taken taken' : Option (List Message)) → IsSome put' → IsSome taken' → TellsOn es put put' taken taken' false false
+tells_unordered es put put' taken taken' put_told taken_told = record { put_told = λ some. put_told; taken_told = λ some. taken_told; kept = refl; in_order = λ is. absurd (true≢false (sym is)) }
+
+pub tells_then : {es : Entities} {p q r : Option (List Asked)} {t u v : Option (List Message)} {a b c : Bool} → TellsOn es p q t u a b → TellsOn es q r u v b c → TellsOn es p r t v a c
+tells_then one two = record {
+  put_told = λ some. two.put_told (one.put_told some);
+  taken_told = λ some. two.taken_told (one.taken_told some);
+  kept = two.kept ∙ one.kept;
+  in_order = two.in_order;
+}

@@ -29,6 +29,15 @@ none-found name ((n, f) ∷ met) e = by (λ h. none-found name met h) (same_text
     by rest true e = absurd (true≢false e)
     by rest false e = rest e
 
+-- and the other way
+pub none-among : (name : List ℕ) (met : Met) → found name met ≡ None → is_among name (names_of met) ≡ false
+none-among name [] e = refl
+none-among name ((n, f) ∷ met) e = by (λ h. none-among name met h) (same_text n name) e
+  where
+    by : (found name met ≡ None → is_among name (names_of met) ≡ false) → (b : Bool) → cond b (Some f) (found name met) ≡ None → (b || is_among name (names_of met)) ≡ false
+    by rest true e = absurd (cc e)
+    by rest false e = rest e
+
 pub none-there : (name : List ℕ) (met : Met) → is_among name (names_of met) ≡ false → AllByRecursion (λ other. other ≢ name) (names_of met)
 none-there name [] e = tt
 none-there name ((n, f) ∷ met) e = (λ same. by (same_text n name) e (ap (λ x. same_text x name) same ∙ same-refl name), none-there name met (rest (same_text n name) e))

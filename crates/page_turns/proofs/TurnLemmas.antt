@@ -1,6 +1,6 @@
 -- What holds between two turns holds after each of them.
 use Rattle.std.proofs.Common.{◌≡◌, ℕ, suc, ◌≤◌, ◌<◌, ◌+◌, nat_lt, List, [], ◌∷◌, ◌++◌, length, Bool, true, false, true≢false, Option, Some, None, flat_map, refl, sym, ap, subst, ◌∙◌, inl, inr, length-append, arith}
-use Rattle.std.specs.Prelude.{◌⊎◌, IsTrue, not, ◌&&◌, ◌||◌}
+use Rattle.std.specs.Prelude.{◌⊎◌, IsTrue, IsSome, is_some, not, ◌&&◌, ◌||◌}
 use Rattle.std.proofs.lemmas.Bool.{and_parts}
 use Rattle.std.proofs.lemmas.Grind.{flat_map-append}
 use Rattle.html_types.specs.declared.ending.Ending.{Ending}
@@ -10,7 +10,7 @@ use Rattle.outside.specs.declared.traits.Port.TheVariants as port
 use Rattle.standard.specs.Entities.{Entities}
 use Rattle.serial.specs.Output.{line_text}
 use Rattle.standard.specs.Parser.{Parser}
-use Rattle.serial.specs.Scripts.{faulted, missing, is_lawful}
+use Rattle.serial.specs.Scripts.{Fetched, faulted, missing, is_lawful}
 use Rattle.serial.specs.Serial.{World, fetched_if, fetched}
 use Rattle.core_definitions.specs.declared.event.Event.TheVariants as event
 use Rattle.core_definitions.specs.Batches.{Piece}
@@ -19,18 +19,19 @@ use Rattle.core_definitions.specs.Desk.{Phase, free, tagged, waits, done, Desk, 
 use Rattle.core_definitions.specs.Settling.{is_empty}
 use Rattle.core_steps.specs.Fetches.{names_of}
 use Rattle.core_steps.specs.Journals.{found}
-use Rattle.core_steps.specs.Sides.{Shown, first_shown, journaled, with_fetch, Shows, DoesShow, IsReplayed, awaiting, unless_arrived, standing_in}
+use Rattle.core_steps.specs.Sides.{Shown, first_shown, journaled, with_fetch, Shows, DoesShow, IsReplayed, awaiting, unless_arrived, standing_in, standing_of}
 use Rattle.page_turns.specs.declared.page.TheConstants.{PAGE_LIMIT}
 use Rattle.page_turns.specs.declared.reader.PageReader.{PageReader}
 use Rattle.page_turns.specs.Given.{NoFault}
 use Rattle.page_turns.specs.Taken.{Took}
-use Rattle.page_turns.specs.Scripts.{BeginsFile, Fetches, AreKnown}
+use Rattle.page_turns.specs.Scripts.{Folder, folder_with, Met, IsGiven, GivenEarly, BeginsFile, Fetches, AreKnown}
+use Rattle.page_turns.specs.Early.{GivesOneMore, IsNew}
 use Rattle.page_turns.specs.Pages.{IsUnread, PageOpen, PageAt}
 use Rattle.page_turns.specs.Turns.{Load, no_load, under_way, ReadsPiece, RunsOn, Arrives, BeginsTheAwaited, earlier, StoppedAt, StopsIn, Inside, Holds}
 use Rattle.page_turns.proofs.KeepsLemmas.{later-others, later-entities, entities-same, entities-then, entities-others}
 use Rattle.page_turns.proofs.PageTakenLemmas.{took_nothing, took_then}
-use Rattle.page_turns.proofs.TextLemmas.{none-found, found-first, lawful-found}
-use Rattle.page_turns.proofs.MeetLemmas.{fetches_same, fetches-then, fetches-past, fetch_one, known_more}
+use Rattle.page_turns.proofs.TextLemmas.{none-found, none-among, found-first, lawful-found}
+use Rattle.page_turns.proofs.MeetLemmas.{fetches_same, fetches-more, fetches-then, fetches-past, fetch_one, fetch_early, may_meet_given, some-more, known_more}
 use Rattle.standard_laws.specs.Laws.{GoesOnFrom}
 use Rattle.page_turns.proofs.DeskLemmas as desk
 use Rattle.page_turns.proofs.DoLines.{do-lines}
@@ -39,10 +40,10 @@ use Rattle.page_turns.proofs.ReadLemmas.{first_open, at_past}
 
 -- ---- the first
 
-pub holds_first : (es : Entities) (ahead : ℕ) (dir : List ℕ) (before : Seen) (t : Option (List ℕ)) (reader : PageReader) (l : Load) (s : Shown) → s ≡ first_shown es ahead → l ≡ no_load → IsUnread reader → Holds es ahead dir before before t t reader l s
-holds_first es ahead dir before t reader l s is none unread =
-    subst (λ z. Holds es ahead dir before before t t reader l z) (sym is) (subst (λ z. Holds es ahead dir before before t t reader z (first_shown es ahead)) (sym none) (record {
-      outside = record { page = first_open before reader unread; begun = refl; open_at = refl; fetches = fetches_same [] dir before []; keeps = entities-same before };
+pub holds_first : (es : Entities) (ahead : ℕ) (folder : Folder) (before : Seen) (t : Option (List ℕ)) (reader : PageReader) (l : Load) (s : Shown) → folder.given ≡ [] → s ≡ first_shown es ahead → l ≡ no_load → IsUnread reader → Holds es ahead folder before before t t reader l s
+holds_first es ahead folder before t reader l s nothing is none unread =
+    subst (λ z. Holds es ahead folder before before t t reader l z) (sym is) (subst (λ z. Holds es ahead folder before before t t reader z (first_shown es ahead)) (sym none) (record {
+      outside = record { page = first_open before reader unread; begun = refl; open_at = refl; fetches = fetches_same [] folder before []; keeps = entities-same before };
       inside = record {
         entities = refl;
         ahead_is = refl;
@@ -55,6 +56,7 @@ holds_first es ahead dir before t reader l s is none unread =
         asked = omega arith;
         lines = refl;
       };
+      early = λ name f given. absurd (subst (IsGiven name f) nothing given);
       faults = inl refl;
       took = took_nothing t;
     }))
@@ -70,11 +72,11 @@ not-so : (b : Bool) → not b ≡ true → b ≡ false
 not-so true e = absurd (true≢false (sym e))
 not-so false e = refl
 
-module _ (es : Entities) (ahead : ℕ) (dir : List ℕ) (before : Seen) (t : Option (List ℕ)) where
+module _ (es : Entities) (ahead : ℕ) (folder : Folder) (before : Seen) (t : Option (List ℕ)) where
   -- ---- Send
 
-  sent-first : (now : Seen) (t' : Option (List ℕ)) (reader : PageReader) (l : Load) (s : Shown) (ps : List Piece) → is_done s.desk.phase ≡ false → under_way l < ahead → s.desk.to_send ≡ ps → not (is_empty ps) ≡ true → Holds es ahead dir before now t t' reader l s
-      → Holds es ahead dir before now t t' reader (record l { requests = suc l.requests }) (journaled event.Send (sends_first ps s.desk) s)
+  sent-first : (now : Seen) (t' : Option (List ℕ)) (reader : PageReader) (l : Load) (s : Shown) (ps : List Piece) → is_done s.desk.phase ≡ false → under_way l < ahead → s.desk.to_send ≡ ps → not (is_empty ps) ≡ true → Holds es ahead folder before now t t' reader l s
+      → Holds es ahead folder before now t t' reader (record l { requests = suc l.requests }) (journaled event.Send (sends_first ps s.desk) s)
   sent-first now t' reader l s [] going less q some h = absurd (true≢false (sym some))
   sent-first now t' reader l s (x ∷ xs) going less q some h =
       let i = h.inside in
@@ -94,6 +96,7 @@ module _ (es : Entities) (ahead : ℕ) (dir : List ℕ) (before : Seen) (t : Opt
           asked = omega (arith, length-append s.desk.asked (x ∷ []));
           lines = i.lines;
         };
+        early = h.early;
         faults = faults-of h.faults;
         took = h.took;
       }
@@ -109,8 +112,8 @@ module _ (es : Entities) (ahead : ℕ) (dir : List ℕ) (before : Seen) (t : Opt
       let is = i.ahead_is in
       grind (arith, less, count, is)
 
-  pub holds_sent : (now : Seen) (t' : Option (List ℕ)) (reader : PageReader) (l : Load) (s : Shown) → IsTrue (can_send s.ahead s.desk) → Holds es ahead dir before now t t' reader l s
-      → Holds es ahead dir before now t t' reader (record l { requests = suc l.requests }) (journaled event.Send (sends s.desk) s)
+  pub holds_sent : (now : Seen) (t' : Option (List ℕ)) (reader : PageReader) (l : Load) (s : Shown) → IsTrue (can_send s.ahead s.desk) → Holds es ahead folder before now t t' reader l s
+      → Holds es ahead folder before now t t' reader (record l { requests = suc l.requests }) (journaled event.Send (sends s.desk) s)
   holds_sent now t' reader l s can h =
       let going = not-so (is_done s.desk.phase) (and_parts (not (is_done s.desk.phase)) (nat_lt (outstanding s.desk) s.ahead) (and_parts (not (is_done s.desk.phase) && nat_lt (outstanding s.desk) s.ahead) (not (is_empty s.desk.to_send)) can).0).0 in
       sent-first now t' reader l s s.desk.to_send going (credit-left l s h.inside can) refl (and_parts _ _ can).1 h
@@ -120,11 +123,11 @@ module _ (es : Entities) (ahead : ℕ) (dir : List ℕ) (before : Seen) (t : Opt
   open-page : (now : Seen) (reader : PageReader) (ps : List (List ℕ)) (o : Option Ending) → o ≡ None → PageAt before now reader ps o → PageOpen before now reader ps
   open-page now reader ps o none at = subst (λ z. PageAt before now reader ps z) none at
 
-  pub holds_open : (now : Seen) (t' : Option (List ℕ)) (reader : PageReader) (l : Load) (s : Shown) → s.journal.ending ≡ None → Holds es ahead dir before now t t' reader l s → PageOpen before now reader s.journal.pieces
+  pub holds_open : (now : Seen) (t' : Option (List ℕ)) (reader : PageReader) (l : Load) (s : Shown) → s.journal.ending ≡ None → Holds es ahead folder before now t t' reader l s → PageOpen before now reader s.journal.pieces
   holds_open now t' reader l s none h = open-page now reader s.journal.pieces s.journal.ending none h.outside.page
 
   pub holds_read : (now after : Seen) (t' : Option (List ℕ)) (reader reader' : PageReader) (l : Load) (s s' : Shown) → is_done s.desk.phase ≡ false → s.journal.ending ≡ None → ReadsPiece now after reader reader' s s' → KeepsOthers port.Page now after → after.begun ≡ now.begun → after.open_at ≡ now.open_at
-      → Holds es ahead dir before now t t' reader l s → Holds es ahead dir before after t t' reader' l s'
+      → Holds es ahead folder before now t t' reader l s → Holds es ahead folder before after t t' reader' l s'
   holds_read now after t' reader reader' l s s' going none reads keeps begun opened h =
       let i = h.inside in
       let x = reads.handed in
@@ -137,8 +140,8 @@ module _ (es : Entities) (ahead : ℕ) (dir : List ℕ) (before : Seen) (t : Opt
           page = reads.at before (holds_open now t' reader l s none h);
           begun = ap (λ b. b port.Page) begun ∙ h.outside.begun;
           open_at = ap (λ b. b port.Page) opened ∙ h.outside.open_at;
-          fetches = subst (λ m. Fetches [] dir before after [] m) (sym fetches_eq)
-              (fetches-then before now after later (later-others port.Page now after keeps) [] dir [] s.journal.fetches s.journal.fetches h.outside.fetches (fetches-past [] dir port.Page now after s.journal.fetches (λ e. cc e) keeps));
+          fetches = subst (λ m. Fetches [] folder before after [] m) (sym fetches_eq)
+              (fetches-then before now after later (later-others port.Page now after keeps) [] folder [] s.journal.fetches s.journal.fetches h.outside.fetches (fetches-past [] folder port.Page now after s.journal.fetches (λ e. cc e) keeps));
           keeps = entities-then before now after h.outside.keeps (entities-others port.Page now after (λ e. cc e) keeps);
         };
         inside = record {
@@ -153,6 +156,7 @@ module _ (es : Entities) (ahead : ℕ) (dir : List ℕ) (before : Seen) (t : Opt
           asked = subst (λ xs. length xs ≤ under_way l) (sym (ap (λ (z : Desk). z.asked) x.desk)) i.asked;
           lines = ap (λ (z : Desk). z.own.side.lines) x.desk ∙ (i.lines ∙ sym given_eq);
         };
+        early = λ name f given. subst (λ m. IsSome (found name m)) (sym fetches_eq) (h.early name f given);
         faults = faults-of (ap (λ (z : Desk). z.phase) x.desk) fetches_eq h.faults;
         took = subst (λ g. Took t t' (flat_map line_text g)) (sym given_eq) h.took;
       }
@@ -163,7 +167,7 @@ module _ (es : Entities) (ahead : ℕ) (dir : List ℕ) (before : Seen) (t : Opt
 
   -- ---- the parser's side
 
-  pub holds_answered : (now : Seen) (t' : Option (List ℕ)) (reader : PageReader) (l l' : Load) (s : Shown) → under_way l' ≡ under_way l → Holds es ahead dir before now t t' reader l s → Holds es ahead dir before now t t' reader l' s
+  pub holds_answered : (now : Seen) (t' : Option (List ℕ)) (reader : PageReader) (l l' : Load) (s : Shown) → under_way l' ≡ under_way l → Holds es ahead folder before now t t' reader l s → Holds es ahead folder before now t t' reader l' s
   holds_answered now t' reader l l' s same h =
       let i = h.inside in
       record {
@@ -180,6 +184,7 @@ module _ (es : Entities) (ahead : ℕ) (dir : List ℕ) (before : Seen) (t : Opt
           asked = subst (λ n. length s.desk.asked ≤ n) (sym same) i.asked;
           lines = i.lines;
         };
+        early = h.early;
         faults = h.faults;
         took = h.took;
       }
@@ -197,8 +202,8 @@ module _ (es : Entities) (ahead : ℕ) (dir : List ℕ) (before : Seen) (t : Opt
       let some : 0 < under_way l = subst (λ z. 0 < under_way z) (sym one) (omega arith) in
       desk.takes-first s.entities s.desk (under_way l) i.count i.asked some
 
-  pub holds_took : (now : Seen) (t' : Option (List ℕ)) (reader : PageReader) (l l' : Load) (s : Shown) → IsTrue (wants_reply s.desk) → l ≡ record l' { replies = suc l'.replies } → Holds es ahead dir before now t t' reader l s
-      → Holds es ahead dir before now t t' reader l' (journaled event.Take (takes s.entities s.desk) s)
+  pub holds_took : (now : Seen) (t' : Option (List ℕ)) (reader : PageReader) (l l' : Load) (s : Shown) → IsTrue (wants_reply s.desk) → l ≡ record l' { replies = suc l'.replies } → Holds es ahead folder before now t t' reader l s
+      → Holds es ahead folder before now t t' reader l' (journaled event.Take (takes s.entities s.desk) s)
   holds_took now t' reader l l' s wants one h =
       let i = h.inside in
       let k = took-desk l l' s one i in
@@ -222,6 +227,7 @@ module _ (es : Entities) (ahead : ℕ) (dir : List ℕ) (before : Seen) (t : Opt
           asked = omega arith;
           lines = ap (λ o. o.side.lines) k.own ∙ i.lines;
         };
+        early = h.early;
         faults = faults-of h.faults;
         took = h.took;
       }
@@ -252,7 +258,7 @@ module _ (es : Entities) (ahead : ℕ) (dir : List ℕ) (before : Seen) (t : Opt
   lines-then : (a b c : Option (List ℕ)) (x y : List Line) → Took a b (flat_map line_text x) → Took b c (flat_map line_text y) → Took a c (flat_map line_text (x ++ y))
   lines-then a b c x y p q = subst (λ u. Took a c u) (sym (flat_map-append line_text x y)) (took_then a b c (flat_map line_text x) (flat_map line_text y) p q)
 
-  pub holds_ran : (now : Seen) (t' t'' : Option (List ℕ)) (reader : PageReader) (l : Load) (s s' : Shown) → IsReplayed s → IsTrue (can_do s.desk) → RunsOn t' t'' s s' → Holds es ahead dir before now t t' reader l s → Holds es ahead dir before now t t'' reader l s'
+  pub holds_ran : (now : Seen) (t' t'' : Option (List ℕ)) (reader : PageReader) (l : Load) (s s' : Shown) → IsReplayed s → IsTrue (can_do s.desk) → RunsOn t' t'' s s' → Holds es ahead folder before now t t' reader l s → Holds es ahead folder before now t t'' reader l s'
   holds_ran now t' t'' reader l s s' replayed can ran h =
       let i = h.inside in
       let k = keeps-desk l s s' i ran.does in
@@ -271,7 +277,7 @@ module _ (es : Entities) (ahead : ℕ) (dir : List ℕ) (before : Seen) (t : Opt
           page = subst (λ ps. PageAt before now reader ps s'.journal.ending) (sym pieces_eq) (subst (λ e. PageAt before now reader s.journal.pieces e) (sym ending_eq) h.outside.page);
           begun = h.outside.begun;
           open_at = h.outside.open_at;
-          fetches = subst (λ m. Fetches [] dir before now [] m) (sym fetches_eq) h.outside.fetches;
+          fetches = subst (λ m. Fetches [] folder before now [] m) (sym fetches_eq) h.outside.fetches;
           keeps = h.outside.keeps;
         };
         inside = record {
@@ -286,6 +292,7 @@ module _ (es : Entities) (ahead : ℕ) (dir : List ℕ) (before : Seen) (t : Opt
           asked = omega arith;
           lines = sym given_eq;
         };
+        early = λ name f given. subst (λ m. IsSome (found name m)) (sym fetches_eq) (h.early name f given);
         faults = faults-of h.faults;
         took = subst (λ g. Took t t'' (flat_map line_text g)) (sym (given_eq ∙ ran.lines)) (lines-then t t' t'' s.given ran.more h.took ran.took);
       }
@@ -336,9 +343,21 @@ module _ (es : Entities) (ahead : ℕ) (dir : List ℕ) (before : Seen) (t : Opt
   awaiting-same : (a b : List ℕ) → awaiting a ≡ awaiting b → a ≡ b
   awaiting-same a b e = cc
 
-  pub holds_arrived : (now after : Seen) (t' : Option (List ℕ)) (reader : PageReader) (l : Load) (s s' : Shown) → Arrives dir now after s s' → BeginsTheAwaited dir now after s.desk → KeepsOthers port.Script now after
-      → Holds es ahead dir before now t t' reader l s → Holds es ahead dir before after t t' reader l s'
-  holds_arrived now after t' reader l s s' arr begins keeps h = subst (λ z. Holds es ahead dir before after t t' reader l z) (sym arr.arrived) here
+  -- it isn't there yet
+  apart-of : (s : Shown) (name : List ℕ) → s.desk.arrived ≡ names_of s.journal.fetches → is_among name s.desk.arrived ≡ false → found name s.journal.fetches ≡ None
+  apart-of s name same apart = none-found name s.journal.fetches (subst (λ names. is_among name names ≡ false) same apart)
+
+  -- While a script is awaited no fetch has failed.
+  quiet-while : (now : Seen) (s : Shown) (name : List ℕ) → standing_of s.desk ≡ awaiting name → s.desk.arrived ≡ names_of s.journal.fetches → NoFault port.Script before now ⊎ StopsIn s.desk.phase s → NoFault port.Script before now
+  quiet-while now s name awaits same (inl quiet) = quiet
+  quiet-while now s name awaits same (inr stops) =
+      let waits_for = awaits-in s.desk.phase s.desk name awaits in
+      let parts = not-arrived (is_lawful name) (is_among name s.desk.arrived) waits_for.2 in
+      absurd (cc (sym (apart-of s name same parts.1) ∙ subst (λ p. StopsIn p s) waits_for.1 stops))
+
+  pub holds_arrived : (now after : Seen) (t' : Option (List ℕ)) (reader : PageReader) (l : Load) (s s' : Shown) → Arrives folder now after s s' → BeginsTheAwaited folder.dir now after s.desk → KeepsOthers port.Script now after
+      → Holds es ahead folder before now t t' reader l s → Holds es ahead folder before after t t' reader l s'
+  holds_arrived now after t' reader l s s' arr begins keeps h = subst (λ z. Holds es ahead folder before after t t' reader l z) (sym arr.arrived) here
     where
       i : Inside es ahead l s
       i = h.inside
@@ -358,25 +377,24 @@ module _ (es : Entities) (ahead : ℕ) (dir : List ℕ) (before : Seen) (t : Opt
       none : found name s.journal.fetches ≡ None
       none = none-found name s.journal.fetches apart
 
-      begun_here : BeginsFile dir name now after
-      begun_here = subst (λ n. BeginsFile dir n now after) (awaiting-same begins.0 name (sym begins.1 ∙ arr.awaits)) begins.2
+      late : GivenEarly name folder.given → ⊥
+      late (f, given) = let there : is_some (found name s.journal.fetches) ≡ true = h.early name f given in cc (sym there ∙ ap is_some none)
 
-      quiet-before : NoFault port.Script before now ⊎ StopsIn s.desk.phase s → NoFault port.Script before now
-      quiet-before (inl quiet) = quiet
-      quiet-before (inr stops) = absurd (cc (sym none ∙ subst (λ p. StopsIn p s) waits_for.1 stops))
+      begun_here : BeginsFile folder.dir name now after
+      begun_here = subst (λ n. BeginsFile folder.dir n now after) (awaiting-same begins.0 name (sym begins.1 ∙ arr.awaits)) begins.2
 
       faults-of : NoFault port.Script now after ⊎ (arr.fetch ≡ faulted) → NoFault port.Script before after ⊎ StopsIn s.desk.phase (with_fetch name arr.fetch s)
-      faults-of (inl quiet) = inl (quiet ∙ quiet-before h.faults)
+      faults-of (inl quiet) = inl (quiet ∙ quiet-while now s name arr.awaits i.arrived h.faults)
       faults-of (inr is) = inr (subst (λ p. StopsIn p (with_fetch name arr.fetch s)) (sym waits_for.1) (found-first name arr.fetch s.journal.fetches ∙ ap Some is))
 
-      here : Holds es ahead dir before after t t' reader l (with_fetch name arr.fetch s)
+      here : Holds es ahead folder before after t t' reader l (with_fetch name arr.fetch s)
       here = record {
         outside = record {
           page = at_past before now after reader s.journal.pieces s.journal.ending keeps h.outside.page;
           begun = keeps.begun port.Page (λ e. cc e) ∙ h.outside.begun;
           open_at = keeps.open_at port.Page (λ e. cc e) ∙ h.outside.open_at;
-          fetches = fetches-then before now after (later-entities before now h.outside.keeps) (later-others port.Script now after keeps) [] dir [] s.journal.fetches ((name, arr.fetch) ∷ s.journal.fetches)
-              h.outside.fetches (fetch_one dir name now after parts.0 s.journal.fetches none arr.fetch arr.given begun_here);
+          fetches = fetches-then before now after (later-entities before now h.outside.keeps) (later-others port.Script now after keeps) [] folder [] s.journal.fetches ((name, arr.fetch) ∷ s.journal.fetches)
+              h.outside.fetches (fetch_one folder name now after parts.0 s.journal.fetches none arr.fetch arr.given late begun_here);
           keeps = entities-then before now after h.outside.keeps (entities-others port.Script now after (λ e. cc e) keeps);
         };
         inside = record {
@@ -391,6 +409,59 @@ module _ (es : Entities) (ahead : ℕ) (dir : List ℕ) (before : Seen) (t : Opt
           asked = i.asked;
           lines = i.lines;
         };
+        early = λ n f given. some-more name arr.fetch s.journal.fetches n (h.early n f given);
         faults = faults-of arr.faults;
         took = h.took;
       }
+
+-- ---- one comes early
+
+module _ (es : Entities) (ahead : ℕ) (dir : List ℕ) (given given' : Met) (before now after : Seen) (t t' : Option (List ℕ)) (reader : PageReader) (l : Load) (s : Shown) (name : List ℕ) (f : Fetched)
+    (one : GivesOneMore name f given given') (new : IsNew name s.journal.fetches) (same : after ≡ now) (keeps : KeepsOthers port.Script now after) (h : Holds es ahead (folder_with dir given) before now t t' reader l s) where
+  abbrev folder' : Folder
+  folder' = folder_with dir given'
+
+  -- what was fetched may be that of more that was given
+  pub fetches_given : Fetches [] folder' before now [] s.journal.fetches
+  fetches_given = fetches-more dir given given' name f one before now [] s.journal.fetches new.1 h.outside.fetches
+
+  pub holds_early : BeginsTheAwaited dir now after s.desk → Holds es ahead folder' before after t t' reader l (with_fetch name f s)
+  holds_early begins = record {
+    outside = record {
+      page = at_past before now after reader s.journal.pieces s.journal.ending keeps h.outside.page;
+      begun = keeps.begun port.Page (λ e. cc e) ∙ h.outside.begun;
+      open_at = keeps.open_at port.Page (λ e. cc e) ∙ h.outside.open_at;
+      fetches = fetches-then before now after (later-entities before now h.outside.keeps) (later-others port.Script now after keeps) [] folder' [] s.journal.fetches ((name, f) ∷ s.journal.fetches)
+          fetches_given (fetch_early folder' name now after new.0 s.journal.fetches new.1 f (may_meet_given folder' now after name f one.here) same);
+      keeps = entities-then before now after h.outside.keeps (entities-others port.Script now after (λ e. cc e) keeps);
+    };
+    inside = record {
+      entities = i.entities;
+      ahead_is = i.ahead_is;
+      going = i.going;
+      known = known_more name f s.journal.fetches new.0 (none-among name s.journal.fetches new.1) i.known;
+      arrived = ap (λ names. name ∷ names) i.arrived;
+      within = i.within;
+      count = i.count;
+      credit = i.credit;
+      asked = i.asked;
+      lines = i.lines;
+    };
+    early = early_of;
+    faults = inl (ap (λ (z : Seen). z.faults port.Script) same ∙ quiet-while es ahead (folder_with dir given) before t now s begins.0 begins.1 i.arrived h.faults);
+    took = h.took;
+  }
+    where
+      i : Inside es ahead l s
+      i = h.inside
+
+      early_of : (n : List ℕ) (g : Fetched) → IsGiven n g given' → IsSome (found n ((name, f) ∷ s.journal.fetches))
+      early_of n g is = elim (one.only n g is) [
+        | inl was ↦ some-more name f s.journal.fetches n (h.early n g was)
+        | inr here ↦ subst (λ m. IsSome (found m ((name, f) ∷ s.journal.fetches))) (sym here) (ap is_some (found-first name f s.journal.fetches))
+      ]
+
+-- what was given is the same
+pub holds_same : (es : Entities) (ahead : ℕ) (dir : List ℕ) (given given' : Met) (before now : Seen) (t t' : Option (List ℕ)) (reader : PageReader) (l : Load) (s : Shown) → given' ≡ given
+    → Holds es ahead (folder_with dir given) before now t t' reader l s → Holds es ahead (folder_with dir given') before now t t' reader l s
+holds_same es ahead dir given given' before now t t' reader l s same h = subst (λ g. Holds es ahead (folder_with dir g) before now t t' reader l s) (sym same) h

@@ -6,7 +6,7 @@ use Rattle.outside.specs.declared.traits.Port.TheVariants as port
 use Rattle.serial.specs.Scripts.{Fetched, got, missing}
 use Rattle.core_steps.specs.Journals.{found}
 use Rattle.page_turns.specs.Given.{AbsencesRose, file_at}
-use Rattle.page_turns.specs.Scripts.{Met, Alike, path_of, IsAbsent, MayFetch, AreScriptsOf, MayMeet, Fetches}
+use Rattle.page_turns.specs.Scripts.{Folder, Met, Alike, path_of, IsAbsent, MayFetch, MayCome, AreScriptsOf, MayMeet, Fetches}
 use Rattle.page_turns.proofs.ReachLemmas.{found_or, scripts_with}
 use Rattle.page_turns.proofs.SameWorlds.{alike-refl, alike-sym}
 
@@ -27,35 +27,35 @@ file_may dir before after name = by_file (file_at before (path_of dir name)) ref
     by_file (Some (Some bytes)) is = subst (λ f. IfSome f (λ file. file ≡ Some bytes)) (sym is) refl
 
 -- a script of the name that agrees with what was met
-record Agreed (dir : List ℕ) (before after : Seen) (met : Option Fetched) (name : List ℕ) : Type 0 where
+record Agreed (folder : Folder) (before after : Seen) (met : Option Fetched) (name : List ℕ) : Type 0 where
   given : Fetched
-  may : MayFetch dir before after name given
+  may : MayCome folder before after name given
   alike : Alike given (found_or given met)
 
-agreed : (dir : List ℕ) (before after : Seen) (met : Option Fetched) (name : List ℕ) → ((f : Fetched) → met ≡ Some f → MayMeet dir before after name f) → Agreed dir before after met name
-agreed dir before after None name meets =
-    let f = file_of (file_at before (path_of dir name)) in
-    record { given = f; may = file_may dir before after name; alike = alike-refl f }
-agreed dir before after (Some f) name meets =
+agreed : (folder : Folder) (before after : Seen) (met : Option Fetched) (name : List ℕ) → ((f : Fetched) → met ≡ Some f → MayMeet folder before after name f) → Agreed folder before after met name
+agreed folder before after None name meets =
+    let f = file_of (file_at before (path_of folder.dir name)) in
+    record { given = f; may = inl (file_may folder.dir before after name); alike = alike-refl f }
+agreed folder before after (Some f) name meets =
     let there = meets f refl in
     record { given = there.0; may = there.1; alike = alike-sym f there.0 there.2 }
 
 -- There are scripts of the folder that are to the parse as all that was met.
-pub record HasWorld (dir : List ℕ) (before after : Seen) (met : Met) : Type 0 where
+pub record HasWorld (folder : Folder) (before after : Seen) (met : Met) : Type 0 where
   pub scripts : List ℕ → Fetched
-  pub are_scripts : AreScriptsOf dir before after scripts
+  pub are_scripts : AreScriptsOf folder before after scripts
   pub alike : (name : List ℕ) → Alike (scripts name) (scripts_with met scripts name)
 
-pub has_world : {unmet : List (List ℕ)} (dir : List ℕ) (before after : Seen) (met : Met) → Fetches unmet dir before after [] met → HasWorld dir before after met
-has_world dir before after met fetches = record {
+pub has_world : {unmet : List (List ℕ)} (folder : Folder) (before after : Seen) (met : Met) → Fetches unmet folder before after [] met → HasWorld folder before after met
+has_world folder before after met fetches = record {
   scripts = λ name. (at name).given;
   are_scripts = record { each = λ name. (at name).may };
   alike = λ name. (at name).alike;
 }
   where
-    only_fresh : (name : List ℕ) (f : Fetched) → (found name [] ≡ Some f) ⊎ MayMeet dir before after name f → MayMeet dir before after name f
+    only_fresh : (name : List ℕ) (f : Fetched) → (found name [] ≡ Some f) ⊎ MayMeet folder before after name f → MayMeet folder before after name f
     only_fresh name f (inl was) = absurd (cc was)
     only_fresh name f (inr may) = may
 
-    at : (name : List ℕ) → Agreed dir before after (found name met) name
-    at name = agreed dir before after (found name met) name (λ f is. only_fresh name f (fetches.fresh name f is))
+    at : (name : List ℕ) → Agreed folder before after (found name met) name
+    at name = agreed folder before after (found name met) name (λ f is. only_fresh name f (fetches.fresh name f is))

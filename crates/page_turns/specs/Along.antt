@@ -14,6 +14,7 @@ use Rattle.run_laws.specs.Along.{MovesWith, sends_in, IsForFirst}
 use Rattle.speculation.specs.Asking.{Asked}
 use Rattle.core_steps.specs.Fetches.{names_of}
 use Rattle.core_steps.specs.Sides.{Shown, Shows, DoesShow, journaled}
+use Rattle.page_turns.specs.Scripts.{Met, GivenEarly}
 
 -- nothing of desk and journal was changed
 abbrev pub Stays : Shown → Shown → Type 0
@@ -54,13 +55,13 @@ abbrev pub IsAwaitedIn : List ℕ → Phase → Type 0
 IsAwaitedIn name (waits n held) = n ≡ name
 IsAwaitedIn name _ = ⊥
 
--- A script arrives where it is awaited, and no other does.
-abbrev pub FetchesAwaited : Event → Desk → Type 0
-FetchesAwaited (Arrive name) d = IsAwaitedIn name d.phase
-FetchesAwaited _ d = Unit {0}
+-- A script arrives where it is awaited, or it is one of those that were given early. No other does.
+abbrev pub FetchesAwaited : Met → Event → Desk → Type 0
+FetchesAwaited given (Arrive name) d = IsAwaitedIn name d.phase ⊎ GivenEarly name given
+FetchesAwaited given _ d = Unit {0}
 
-abbrev pub GoesSoFar : List Asked → List (List ℕ) → ℕ → Option Ending → Event → Desk → Type 0
-GoesSoFar asks pieces ahead ending v d = AsksOf asks pieces v d × LooksSoFar ahead ending v d × FetchesAwaited v d
+abbrev pub GoesSoFar : Met → List Asked → List (List ℕ) → ℕ → Option Ending → Event → Desk → Type 0
+GoesSoFar given asks pieces ahead ending v d = AsksOf asks pieces v d × LooksSoFar ahead ending v d × FetchesAwaited given v d
 
 abbrev pub requests_of : List Asked → List Request
 requests_of asks = map (λ a. a.request) asks
@@ -69,13 +70,13 @@ abbrev pub HasArrived : List ℕ → List Event → Type 0
 HasArrived name events = (earlier : List Event) × (later : List Event) × (events ≡ earlier ++ Arrive name ∷ later)
 
 -- The journal's Sends are those of the requests that were put, where they are told, its Does and arrivals look ahead, and no script
--- arrives that isn't awaited; each that was fetched has arrived.
-pub record Goes (asks : Option (List Asked)) (s : Shown) : Type 0 where
+-- arrives that is neither awaited nor was given early; each that was fetched has arrived.
+pub record Goes (given : Met) (asks : Option (List Asked)) (s : Shown) : Type 0 where
   pub asked : List Asked
   pub told : IfSome asks (λ all. all ≡ asked)
   pub count : length asked ≡ s.desk.sent
   pub sends : length asked ≡ sends_in s.journal.events
   pub arrived : AllByRecursion (λ name. HasArrived name s.journal.events) (names_of s.journal.fetches)
   pub along : (w : World) → w.entities ≡ s.entities → Knows s.journal.fetches w →
-      (d : Desk) × MovesWith (GoesSoFar asked s.journal.pieces s.ahead s.journal.ending) s.ahead w s.journal.events (first_desk (pieces_with s.journal.pieces s.journal.ending)) d
+      (d : Desk) × MovesWith (GoesSoFar given asked s.journal.pieces s.ahead s.journal.ending) s.ahead w s.journal.events (first_desk (pieces_with s.journal.pieces s.journal.ending)) d
       × Shows d s.desk

@@ -17,6 +17,8 @@ pub record Place : Type 0 where
   -- the requests that were put, and what was taken, where they are told
   pub asked : Option (List Asked)
   pub taken : Option (List Message)
+  -- whether no call was refused
+  pub ordered : Bool
 
 -- until memory runs out
 abbrev pub told_of : {A : Type 0} → Bool → List A → Option (List A)

@@ -2,6 +2,7 @@ pub mod Taken
 pub mod Calls
 pub mod Given
 pub mod Scripts
+pub mod Early
 pub mod Shown
 pub mod Pages
 pub mod Cuts

@@ -1,8 +1,12 @@
 -- The messages that the document's side takes from the parser's side, beside the journal.
-use Rattle.std.specs.Prelude.{◌≡◌, ◌⊎◌, ℕ, List, ◌∷◌, [], ◌++◌, length, map, Option, Some, IfSome, IsSomeAnd}
+use Rattle.std.specs.Prelude.{◌≡◌, ◌⊎◌, ℕ, Bool, List, ◌∷◌, [], ◌++◌, length, map, Option, Some, IfSome, IsSome, IsSomeAnd, IsTrue}
+use Rattle.standard.specs.Entities.{Entities}
 use Rattle.core_definitions.specs.declared.event.Event.{Event}
+use Rattle.core_definitions.specs.Core.{Request, first_work}
 use Rattle.run_laws.specs.Along.{takes_in}
-use Rattle.speculation.specs.Asking.{Told}
+use Rattle.speculation.specs.Asking.{Asked, Told}
+use Rattle.core_steps.specs.Working.{replies_to}
+use Rattle.page_turns.specs.Along.{requests_of}
 
 -- None in place of a reply is the word of want of memory.
 abbrev pub Message : Type 0
@@ -34,3 +38,25 @@ MayTakeMore taken events =
     IfSome taken (λ messages.
     AreReplies (takes_in events) messages
     ⊎ ((before : List Message) × (last : Message) × (messages ≡ before ++ last ∷ []) × AreReplies (takes_in events) before))
+
+-- ---- in order
+
+-- What was taken are the replies to the first requests that were put, each once, in order, by one parser's side.
+pub record AreInOrder (es : Entities) (asked : List Asked) (messages : List Message) : Type 0 where
+  pub said : List Told
+  pub messages_are : messages ≡ map Some said
+  pub answered : List Request
+  pub later : List Request
+  pub asked_are : requests_of asked ≡ answered ++ later
+  pub replies_are : map (λ (t : Told). t.reply) said ≡ replies_to es first_work.parser answered
+
+-- where both are told
+abbrev pub ToldInOrder : Entities → Option (List Asked) → Option (List Message) → Type 0
+ToldInOrder es put taken = IfSome put (λ asked. IfSome taken (λ messages. AreInOrder es asked messages))
+
+-- What was told is told on, and what was known to be in order still is.
+pub record TellsOn (es : Entities) (put put' : Option (List Asked)) (taken taken' : Option (List Message)) (ordered ordered' : Bool) : Type 0 where
+  pub put_told : IsSome put → IsSome put'
+  pub taken_told : IsSome taken → IsSome taken'
+  pub kept : ordered' ≡ ordered
+  pub in_order : IsTrue ordered' → ToldInOrder es put' taken'

@@ -22,7 +22,7 @@ use Rattle.outside.specs.declared.traits.Failed.{Failed}
 use Rattle.page_turns.specs.Calls.{CallsAt, AreReads, given_first, ReadWithin, has_failed, GaveNone}
 use Rattle.page_turns.specs.Given.{FaultsRose, NoFault}
 use Rattle.page_turns.specs.Taken.{Took, TookFront}
-use Rattle.page_turns.specs.Scripts.{AreScriptsOf, path_of}
+use Rattle.page_turns.specs.Scripts.{Folder, AreScriptsOf, path_of}
 use Rattle.page_turns.specs.Shown.{result_of}
 
 -- what the reads of a page gave, and whether a read behind that failed
@@ -98,23 +98,23 @@ pub record BeginsAwaited (w : World) (page : Page) (dir : List ℕ) (before afte
   pub awaited : AllByRecursion (λ name. (last : Serial) × Passes page w (awaits name last)) names
 
 -- So ended the page that was read at its port, with the scripts of the folder.
-pub record EndsWithScripts (es : Entities) (dir : List ℕ) (before after : Seen) (doc : Doc) (lines : List Line) (taken taken' : Option (List ℕ)) (told : Told) : Type 0 where
+pub record EndsWithScripts (es : Entities) (o : Folder) (before after : Seen) (doc : Doc) (lines : List Line) (taken taken' : Option (List ℕ)) (told : Told) : Type 0 where
   pub scripts : List ℕ → Fetched
-  pub are_scripts : AreScriptsOf dir before after scripts
+  pub are_scripts : AreScriptsOf o before after scripts
   pub page : PageRead
   pub read_from : IsReadFrom before after page
   pub ended : Ended (world_of es scripts) page doc lines taken taken' told
   pub faults : MeetsFaults (world_of es scripts) page ended.outcome before after
-  pub begins : BeginsAwaited (world_of es scripts) (page_at page) dir before after
+  pub begins : BeginsAwaited (world_of es scripts) (page_at page) o.dir before after
 
 -- The sink took a front of what is written of it.
-pub record FrontWithScripts (es : Entities) (dir : List ℕ) (before after : Seen) (taken taken' : Option (List ℕ)) : Type 0 where
+pub record FrontWithScripts (es : Entities) (o : Folder) (before after : Seen) (taken taken' : Option (List ℕ)) : Type 0 where
   pub scripts : List ℕ → Fetched
-  pub are_scripts : AreScriptsOf dir before after scripts
+  pub are_scripts : AreScriptsOf o before after scripts
   pub page : PageRead
   pub read_from : IsReadFrom before after page
-  pub begins : BeginsAwaited (world_of es scripts) (page_at page) dir before after
-  pub front : (dump : Bool) (o : Outcome) → ComesTo (world_of es scripts) page o → TookFront taken taken' (output_with dump o)
+  pub begins : BeginsAwaited (world_of es scripts) (page_at page) o.dir before after
+  pub front : (dump : Bool) (r : Outcome) → ComesTo (world_of es scripts) page r → TookFront taken taken' (output_with dump r)
 
 -- ---- reading on
 

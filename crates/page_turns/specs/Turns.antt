@@ -1,5 +1,5 @@
 -- The run of a page on one thread: what is under way, and what holds between two turns.
-use Rattle.std.specs.Prelude.{◌≡◌, ◌≤◌, ◌<◌, ◌+◌, ◌-◌, ◌*◌, ◌⊎◌, ℕ, suc, Bool, true, false, List, [], ◌++◌, length, flat_map, Option, Some, None}
+use Rattle.std.specs.Prelude.{◌≡◌, ◌≤◌, ◌<◌, ◌+◌, ◌-◌, ◌*◌, ◌⊎◌, ℕ, suc, Bool, true, false, List, [], ◌++◌, length, flat_map, Option, Some, None, IsSome}
 use Rattle.std.specs.List.{AllByRecursion}
 use Rattle.html_types.specs.declared.ending.Ending.{Ending}
 use Rattle.serial.specs.declared.script.Line.{Line}
@@ -26,7 +26,8 @@ use Rattle.page_turns.specs.declared.reader.PageReader.{PageReader}
 use Rattle.page_turns.specs.Calls.{ReadWithin, EachWithin}
 use Rattle.page_turns.specs.Given.{NoFault, KeepsEntities}
 use Rattle.page_turns.specs.Taken.{Took, TookFront}
-use Rattle.page_turns.specs.Scripts.{MayMeet, BeginsFile, Fetches, AreKnown, ReadScriptsTo, NamesOnce}
+use Rattle.page_turns.specs.Scripts.{Folder, Met, IsGiven, MayMeet, BeginsFile, Fetches, AreKnown, ReadScriptsTo, NamesOnce}
+use Rattle.page_turns.specs.Early.{GivesOneMore, IsNew}
 use Rattle.page_turns.specs.Shown.{result_of}
 use Rattle.page_turns.specs.Along.{Goes}
 use Rattle.page_turns.specs.Pages.{PageOpen, PageFor, PageAt, ReadsOn}
@@ -116,13 +117,22 @@ abbrev pub BeginsTheAwaited : List ℕ → Seen → Seen → Desk → Type 0
 BeginsTheAwaited dir before after d = (name : List ℕ) × (standing_of d ≡ awaiting name) × BeginsFile dir name before after
 
 -- A script that was awaited has arrived.
-pub record Arrives (dir : List ℕ) (before after : Seen) (old new : Shown) : Type 0 where
+pub record Arrives (o : Folder) (before after : Seen) (old new : Shown) : Type 0 where
   pub name : List ℕ
   pub fetch : Fetched
   pub awaits : standing_of old.desk ≡ awaiting name
-  pub given : MayMeet dir before after name fetch
+  pub given : MayMeet o before after name fetch
   pub faults : NoFault port.Script before after ⊎ (fetch ≡ faulted)
   pub arrived : new ≡ with_fetch name fetch old
+
+-- One of these was done where a script is awaited: it has arrived from its file; an answer of those who fetch early was taken, and the script
+-- that it is of has arrived, which may be another; or the answer says nothing. How much was given before stands beside the folder, and how many
+-- answers are to come, before and behind.
+pub data Brings (o : Folder) (before after : Seen) (given : Met) (n n' : ℕ) (old new : Shown) : Type 0 where
+  from_file : Arrives o before after old new → o.given ≡ given → n' ≤ n → Brings o before after given n n' old new
+  came_early : (name : List ℕ) (f : Fetched) → GivesOneMore name f given o.given → IsNew name old.journal.fetches → after ≡ before → new ≡ with_fetch name f old → n' < n
+      → Brings o before after given n n' old new
+  said_nothing : after ≡ before → o.given ≡ given → new ≡ old → n' < n → Brings o before after given n n' old new
 
 -- ---- between two turns
 
@@ -148,11 +158,11 @@ StopsIn (waits name held) s = found name s.journal.fetches ≡ Some faulted
 StopsIn (done r) s = StoppedAt s
 
 -- what was met outside since before
-pub record Outside (dir : List ℕ) (before now : Seen) (reader : PageReader) (j : Journal) : Type 0 where
+pub record Outside (o : Folder) (before now : Seen) (reader : PageReader) (j : Journal) : Type 0 where
   pub page : PageAt before now reader j.pieces j.ending
   pub begun : now.begun port.Page ≡ before.begun port.Page
   pub open_at : now.open_at port.Page ≡ before.open_at port.Page
-  pub fetches : Fetches [] dir before now [] j.fetches
+  pub fetches : Fetches [] o before now [] j.fetches
   pub keeps : KeepsEntities before now
 
 -- what the document's side and the parser's side have
@@ -168,9 +178,11 @@ pub record Inside (es : Entities) (ahead : ℕ) (l : Load) (s : Shown) : Type 0 
   pub asked : length s.desk.asked ≤ under_way l
   pub lines : s.desk.own.side.lines ≡ s.given
 
-pub record Holds (es : Entities) (ahead : ℕ) (dir : List ℕ) (before now : Seen) (taken taken' : Option (List ℕ)) (reader : PageReader) (l : Load) (s : Shown) : Type 0 where
-  pub outside : Outside dir before now reader s.journal
+pub record Holds (es : Entities) (ahead : ℕ) (o : Folder) (before now : Seen) (taken taken' : Option (List ℕ)) (reader : PageReader) (l : Load) (s : Shown) : Type 0 where
+  pub outside : Outside o before now reader s.journal
   pub inside : Inside es ahead l s
+  -- what was given early has arrived
+  pub early : (name : List ℕ) (f : Fetched) → IsGiven name f o.given → IsSome (found name s.journal.fetches)
   pub faults : NoFault port.Script before now ⊎ StopsIn s.desk.phase s
   pub took : Took taken taken' (flat_map line_text s.given)
 
@@ -195,13 +207,13 @@ turns_to_come reader l s = 300 * text_to_come s + steps_to_come reader l s
 -- ---- where it ends
 
 -- What was met outside and is in the journal, in any case.
-pub record Leaves (es : Entities) (ahead : ℕ) (dir : List ℕ) (before after : Seen) (s : Shown) : Type 0 where
+pub record Leaves (es : Entities) (ahead : ℕ) (o : Folder) (before after : Seen) (s : Shown) : Type 0 where
   pub entities : s.entities ≡ es
   pub ahead_is : s.ahead ≡ ahead
   pub page : PageFor before after s.journal.pieces s.journal.ending
   -- a script that was begun and whose fetch didn't return is the one that is awaited
   pub unmet : List (List ℕ)
-  pub fetches : Fetches unmet dir before after [] s.journal.fetches
+  pub fetches : Fetches unmet o before after [] s.journal.fetches
   pub awaited : AllByRecursion (λ name. standing_of s.desk ≡ awaiting name) unmet
   pub known : AreKnown s.journal.fetches
 
@@ -218,21 +230,21 @@ pub record LeavesAlone (dir : List ℕ) (before after : Seen) : Type 0 where
 
 -- The sink took a front of the lines of what is shown, or was before the last events: all lines of the events before the refused one, and a front
 -- of what that one was to write.
-pub record GivesUp (es : Entities) (ahead : ℕ) (dir : List ℕ) (before after : Seen) (taken taken' : Option (List ℕ)) (s : Shown) : Type 0 where
-  pub left : Leaves es ahead dir before after s
+pub record GivesUp (es : Entities) (ahead : ℕ) (o : Folder) (before after : Seen) (taken taken' : Option (List ℕ)) (s : Shown) : Type 0 where
+  pub left : Leaves es ahead o before after s
   pub shown : Shown
   pub replayed : IsReplayed s → IsReplayed shown
-  pub leaves : Leaves es ahead dir before after shown
-  pub goes : Goes None shown
-  pub alone : LeavesAlone dir before after
+  pub leaves : Leaves es ahead o before after shown
+  pub goes : Goes o.given None shown
+  pub alone : LeavesAlone o.dir before after
   pub front : TookFront taken taken' (flat_map line_text shown.desk.own.side.lines)
   pub part : IsReplayed s → WritesInPart es ahead taken taken' (IsDue s)
 
 -- The parse is over, and the sink took its lines.
-pub record RunsOut (es : Entities) (ahead : ℕ) (dir : List ℕ) (before after : Seen) (taken taken' : Option (List ℕ)) (s : Shown) (o : Told) : Type 0 where
-  pub leaves : Leaves es ahead dir before after s
-  pub alone : LeavesAlone dir before after
-  pub phase : s.desk.phase ≡ done (result_of o)
+pub record RunsOut (es : Entities) (ahead : ℕ) (o : Folder) (before after : Seen) (taken taken' : Option (List ℕ)) (s : Shown) (told : Told) : Type 0 where
+  pub leaves : Leaves es ahead o before after s
+  pub alone : LeavesAlone o.dir before after
+  pub phase : s.desk.phase ≡ done (result_of told)
   pub going : s.spent ≡ false
   pub faults : NoFault port.Script before after ⊎ StoppedAt s
   pub took : Took taken taken' (flat_map line_text s.desk.own.side.lines)

@@ -1,7 +1,7 @@
 // The parser's side, as the document's side has it.
-ghost use Rattle.std.specs.Prelude.{◌≡◌, ◌≤◌, ◌<◌, List, Option, Some, suc, nat_lt, IfOk, OnOk, OnErr};
+ghost use Rattle.std.specs.Prelude.{◌≡◌, ◌≤◌, ◌<◌, Bool, List, Option, Some, suc, nat_lt, IfOk, OnOk, OnErr};
 ghost use Rattle.speculation.specs.Asking.{Asked, Told};
-ghost use Rattle.page_turns.specs.Messages.{Adds};
+ghost use Rattle.page_turns.specs.Messages.{Adds, TellsOn};
 ghost use Rattle.page_turns.specs.Turns.{Load, under_way, Asks, Answers};
 
 use entity_table::Table;
@@ -19,6 +19,10 @@ pub trait Counterpart<E: InForce> {
     /// What was taken, where it is told: none in place of a reply is the word of want of memory.
     ghost taken: { Self → Option (List (Option Told)) };
 
+    /// Whether what was taken is known to be the replies to the first requests that were put, in
+    /// order, where both are told. It stays so, and what is told is told on, until a call is refused.
+    ghost ordered: { Self → Bool };
+
     /// Whether fewer than so many are under way.
     fn has_room(&self, ahead: usize) -> bool
         requires { under_way (load self.now) ≤ 64 }
@@ -29,14 +33,18 @@ pub trait Counterpart<E: InForce> {
         requires { under_way (load self.old) ≤ 64 }
         ensures load { OnOk result (Asks (load self.old) (load self.new)) }
         ensures put { Adds (put self.old) (put self.new) request }
-        ensures taken { taken self.new ≡ taken self.old };
+        ensures taken { taken self.new ≡ taken self.old }
+        ensures tells { OnOk result (TellsOn E.entities (put self.old) (put self.new)
+            (taken self.old) (taken self.new) (ordered self.old) (ordered self.new)) };
 
     /// Where the parser's side is in this thread, it makes one event: says whether there was one to make.
     fn answer(&mut self, table: &Table) -> Result<bool, NoMemory>
         requires { table.now ≡ E.entities }
         ensures load { IfOk result (λ some. Answers some (load self.old) (load self.new)) }
         ensures put { put self.new ≡ put self.old }
-        ensures taken { taken self.new ≡ taken self.old };
+        ensures taken { taken self.new ≡ taken self.old }
+        ensures tells { OnOk result (TellsOn E.entities (put self.old) (put self.new)
+            (taken self.old) (taken self.new) (ordered self.old) (ordered self.new)) };
 
     /// Takes the reply that is given next.
     fn take(&mut self) -> Result<Reply<E>, NoMemory>
@@ -45,6 +53,8 @@ pub trait Counterpart<E: InForce> {
         ensures put { put self.new ≡ put self.old }
         ensures taken { IfOk result (λ reply. Adds (taken self.old) (taken self.new)
             (Some reply.said)) }
+        ensures tells { OnOk result (TellsOn E.entities (put self.old) (put self.new)
+            (taken self.old) (taken self.new) (ordered self.old) (ordered self.new)) }
         // Want of memory is the last that is taken, or a reply that came to nothing.
         ensures refused { OnErr result ((last : Option Told)
             × Adds (taken self.old) (taken self.new) last) };

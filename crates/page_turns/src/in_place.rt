@@ -1,5 +1,5 @@
 // The parser's side in the calling thread.
-ghost use Rattle.std.specs.Prelude.{◌≡◌, [], Some};
+ghost use Rattle.std.specs.Prelude.{◌≡◌, [], Some, true};
 ghost use Rattle.page_turns.specs.Turns.{no_load};
 
 use crate::counterpart::Counterpart;
@@ -13,8 +13,8 @@ use std::marker::Model;
 use std::snapshot::Snapshot;
 
 /// The parser's side in the calling thread: the requests that it hasn't picked and the replies that weren't taken, in order. A contract sees how
-/// many they are, and, as long as memory lasts, which requests were put and which replies were taken. Each request is answered once, in order,
-/// by this one parser's side.
+/// many they are, and, as long as memory lasts, which requests were put and which replies were taken, and that these are the replies to the first
+/// of those, each once, in order, by this one parser's side.
 #[derive(Drop)]
 pub struct InPlace<E: InForce> {
     work: WorkSide,
@@ -30,7 +30,7 @@ pub struct InPlace<E: InForce> {
 }
 
 impl<E: InForce> Model for InPlace<E> {
-    ghost use Rattle.std.specs.Prelude.{◌≡◌, ◌++◌, false, length, map};
+    ghost use Rattle.std.specs.Prelude.{◌≡◌, ◌++◌, false, not, length, map};
     ghost use Rattle.page_turns.specs.Turns.{in_hand};
     ghost use Rattle.page_turns.specs.InPlaces.{Place, asked_in, taken_in, replies_in, told_of, IsAnswering};
 
@@ -44,6 +44,7 @@ impl<E: InForce> Model for InPlace<E> {
       };
       asked = told_of l.tells_asked (asked_in l.asked.items);
       taken = told_of l.tells_taken (taken_in l.taken.items);
+      ordered = not l.spent;
     } };
 
     // The replies given, those that were taken and those that stand, are the answers to the first
@@ -58,6 +59,7 @@ impl<E: InForce> InPlace<E> {
         ensures load { result.load ≡ no_load }
         ensures asked { result.asked ≡ Some [] }
         ensures taken { result.taken ≡ Some [] }
+        ensures ordered { result.ordered ≡ true }
     {
         InPlace {
             work: WorkSide::new(alloc),
@@ -78,6 +80,8 @@ impl<E: InForce> Counterpart<E> for InPlace<E> {
     ghost put = { λ l. l.asked };
 
     ghost taken = { λ l. l.taken };
+
+    ghost ordered = { λ l. l.ordered };
 
     fn has_room(&self, ahead: usize) -> bool {
         let hand = if self.work.can_pick() { 0 } else { 1 };

@@ -16,4 +16,6 @@ pub struct Job<'a> {
     pub ahead: usize,
     /// Whether the tree's dump is written in place of its text.
     pub dump: bool,
+    /// How many of the helpers fetch scripts before they are awaited: 0 to 8.
+    pub preload: usize,
 }

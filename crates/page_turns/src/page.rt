@@ -4,25 +4,29 @@ ghost use Rattle.std.specs.String.{string_bytes};
 ghost use Rattle.outside.specs.Outside.{Rose, KeepsOthers};
 ghost use Rattle.core_definitions.specs.declared.event.Event.TheVariants as event;
 ghost use Rattle.core_definitions.specs.Desk.{done, is_done, can_do, wants_reply, takes};
+ghost use Rattle.core_steps.specs.Fetches.{names_of};
 ghost use Rattle.core_steps.specs.Sides.{first_shown, journaled, IsReplayed, awaiting, standing_of};
 ghost use Rattle.page_turns.specs.declared.page.Failure.TheVariants as failures;
 ghost use Rattle.page_turns.specs.Shown.{result_of};
 ghost use Rattle.page_turns.specs.Pages.{IsUnread};
 ghost use Rattle.page_turns.specs.Cuts.{IsCut};
 ghost use Rattle.page_turns.specs.Along.{Stays, MayDo, Goes};
-ghost use Rattle.page_turns.specs.Messages.{TakesOne, TakesLast, TakenSoFar, MayTakeMore};
-ghost use Rattle.page_turns.specs.Turns.{no_load, under_way, StaysRead, RunsOn, RunsInPart, Arrives, BeginsTheAwaited, GivesUp, RunsOut};
+ghost use Rattle.page_turns.specs.Scripts.{folder_with, Met};
+ghost use Rattle.page_turns.specs.Early.{FailsToBring};
+ghost use Rattle.page_turns.specs.Messages.{TakesOne, TakesLast, TakenSoFar, MayTakeMore, TellsOn};
+ghost use Rattle.page_turns.specs.Turns.{no_load, under_way, StaysRead, RunsOn, RunsInPart, Arrives, Brings, BeginsTheAwaited, GivesUp, RunsOut};
 
 use crate::counterpart::Counterpart;
 use crate::job::Job;
 use crate::outcome::Outcome;
 use crate::output::write_lines;
+use crate::prefetch::{Early, Prefetch};
 use crate::reader::PageReader;
 use crate::scripts::fetch_script;
 use core_steps::{DocSide, State};
 use html_types::{NoMemory, Text};
 use outside::{Failed, Outside, Port, Sink};
-use speculation::InForce;
+use speculation::{InForce, Reply};
 use std::alloc::{AllocError, Global};
 
 /// Why a call that was going on gave up.
@@ -83,10 +87,22 @@ fn may_read<E: InForce, L: Counterpart<E>>(doc: &DocSide, lanes: &L, ahead: usiz
     lanes.has_room(ahead) && open
 }
 
-// Takes the reply that is given next.
-fn take_reply<E: InForce, L: Counterpart<E>>(
+// Tells those who fetch early of a reply that isn't dropped.
+fn hear<E: InForce, P: Prefetch<E>>(early: &mut P, reply: &Reply<E>, doc: &DocSide)
+    ensures given { P.given early.new ≡ P.given early.old }
+    ensures crew { P.crew early.new ≡ P.crew early.old }
+    ensures to_come { P.to_come early.new ≤ P.to_come early.old }
+{
+    if reply.said.epoch() == doc.epoch() {
+        early.hear(reply, doc.journal());
+    }
+}
+
+// Takes the reply that is given next. The scripts of one that isn't dropped may be fetched from then on.
+fn take_reply<E: InForce, L: Counterpart<E>, P: Prefetch<E>>(
     doc: &mut DocSide,
     lanes: &mut L,
+    early: &mut P,
 ) -> Result<(), NoMemory>
     requires entities { doc.old.entities ≡ E.entities }
     requires wanted { IsTrue (wants_reply doc.old.desk) }
@@ -96,9 +112,15 @@ fn take_reply<E: InForce, L: Counterpart<E>>(
     ensures stays { OnErr result (Stays doc.old doc.new) }
     ensures put { L.put lanes.new ≡ L.put lanes.old }
     ensures reply { OnOk result (TakesOne (L.taken lanes.old) (L.taken lanes.new)) }
+    ensures tells { OnOk result (TellsOn E.entities (L.put lanes.old) (L.put lanes.new)
+        (L.taken lanes.old) (L.taken lanes.new) (L.ordered lanes.old) (L.ordered lanes.new)) }
     ensures last { OnErr result (TakesLast (L.taken lanes.old) (L.taken lanes.new)) }
+    ensures given { P.given early.new ≡ P.given early.old }
+    ensures crew { P.crew early.new ≡ P.crew early.old }
+    ensures to_come { P.to_come early.new ≤ P.to_come early.old }
 {
     let reply = lanes.take()?;
+    hear::<E, P>(early, &reply, doc);
     doc.take(reply)
 }
 
@@ -129,33 +151,62 @@ fn awaited_name(alloc: Global, doc: &DocSide) -> Result<Text, NoMemory>
     }
 }
 
-// Fetches the script that is awaited.
-fn fetch_awaited<F: Outside>(
+// Fetches the script of that name, which is awaited, from its file.
+fn fetch_named<F: Outside>(
     alloc: Global,
     dir: &str,
     files: &mut F,
     doc: &mut DocSide,
+    name: Text,
 ) -> Result<(), NoMemory>
-    requires { (name : _) × (standing_of doc.old.desk ≡ awaiting name) }
-    ensures arrives { OnOk result (Arrives dir.now (F.seen files.old) (F.seen files.new) doc.old doc.new) }
+    requires awaits { standing_of doc.old.desk ≡ awaiting name }
+    ensures arrives { OnOk result ((given : Met) → Arrives (folder_with dir.now given) (F.seen files.old) (F.seen files.new) doc.old doc.new) }
+    ensures stays { OnErr result (Stays doc.old doc.new) }
+    ensures begins { BeginsTheAwaited dir.now (F.seen files.old) (F.seen files.new) doc.old.desk }
+    ensures others { KeepsOthers Port.Script (F.seen files.old) (F.seen files.new) }
+{
+    let fetch = fetch_script(alloc, files, dir, name.as_str())?;
+    doc.arrive(name, fetch)
+}
+
+// Goes on where a script is awaited: takes an answer of the one who was asked for it, where one is to come, and what comes early has arrived;
+// or else fetches it from its file.
+fn fetch_awaited<E: InForce, F: Outside, P: Prefetch<E>>(
+    alloc: Global,
+    dir: &str,
+    files: &mut F,
+    doc: &mut DocSide,
+    early: &mut P,
+) -> Result<(), NoMemory>
+    requires awaits { (name : _) × (standing_of doc.old.desk ≡ awaiting name) }
+    requires arrived { doc.old.desk.arrived ≡ names_of doc.old.journal.fetches }
+    ensures brings { OnOk result (Brings (folder_with dir.now (P.given early.new)) (F.seen files.old) (F.seen files.new)
+        (P.given early.old) (P.to_come early.old) (P.to_come early.new) doc.old doc.new) }
+    ensures fails { OnErr result (FailsToBring doc.old.journal.fetches (P.given early.old) (P.given early.new)
+        (F.seen files.old) (F.seen files.new)) }
+    ensures crew { P.crew early.new ≡ P.crew early.old }
     ensures stays { OnErr result (Stays doc.old doc.new) }
     ensures begins { BeginsTheAwaited dir.now (F.seen files.old) (F.seen files.new) doc.old.desk }
     ensures others { KeepsOthers Port.Script (F.seen files.old) (F.seen files.new) }
 {
     let name = awaited_name(alloc, doc)?;
-    let fetch = fetch_script(alloc, files, dir, name.as_str())?;
-    doc.arrive(name, fetch)
+    match early.next(name.as_str(), doc.journal())? {
+        Early::Unasked => fetch_named(alloc, dir, files, doc, name),
+        Early::Nothing => Ok(()),
+        Early::Came(other, fetch) => doc.arrive(other, fetch),
+    }
 }
 
 // Takes turns until the parse is over: Send and reading on come first, then the events of the parser's side, then Take, then Do, and where
-// nothing else can be done the script that is awaited is fetched.
-pub(crate) fn take_turns<E: InForce, L: Counterpart<E>, F: Outside, K: Sink>(
+// nothing else can be done a script is brought.
+pub(crate) fn take_turns<E: InForce, L: Counterpart<E>, P: Prefetch<E>, F: Outside, K: Sink>(
     alloc: Global,
     job: &Job<'_>,
     files: &mut F,
     out: &mut K,
     doc: &mut DocSide,
     lanes: &mut L,
+    early: &mut P,
     reader: &mut PageReader,
     room: &mut [u8],
 ) -> Result<Outcome, Failure>
@@ -165,21 +216,27 @@ pub(crate) fn take_turns<E: InForce, L: Counterpart<E>, F: Outside, K: Sink>(
     requires load { L.load lanes.old ≡ no_load }
     requires put { IfSome (L.put lanes.old) (λ asks. asks ≡ []) }
     requires taken { IfSome (L.taken lanes.old) (λ messages. messages ≡ []) }
+    requires given { P.given early.old ≡ [] }
     requires reader { IsUnread reader.old }
     requires some { 0 < job.now.ahead }
     requires few { job.now.ahead ≤ 64 }
-    ensures ok { IfOk result (λ o. RunsOut job.now.table.now job.now.ahead (string_bytes job.now.dir) (F.seen files.old) (F.seen files.new) (K.taken out.old) (K.taken out.new) doc.new o) }
-    ensures err { OnErr result (GivesUp job.now.table.now job.now.ahead (string_bytes job.now.dir) (F.seen files.old) (F.seen files.new) (K.taken out.old) (K.taken out.new) doc.new) }
+    ensures ok { IfOk result (λ o. RunsOut job.now.table.now job.now.ahead (folder_with (string_bytes job.now.dir) (P.given early.new))
+        (F.seen files.old) (F.seen files.new) (K.taken out.old) (K.taken out.new) doc.new o) }
+    ensures err { OnErr result (GivesUp job.now.table.now job.now.ahead (folder_with (string_bytes job.now.dir) (P.given early.new))
+        (F.seen files.old) (F.seen files.new) (K.taken out.old) (K.taken out.new) doc.new) }
     ensures cut { OnOk result (IsCut (length room.old) false (F.seen files.old) (F.seen files.new)
         doc.new.journal.pieces) }
     ensures cut_short { OnErr result (IsCut (length room.old) true (F.seen files.old) (F.seen files.new)
         doc.new.journal.pieces) }
     ensures write_cut { IsErrOf result Failure.Write → IsCut (length room.old) false
         (F.seen files.old) (F.seen files.new) doc.new.journal.pieces }
-    ensures goes { Goes (L.put lanes.new) doc.new }
+    ensures goes { Goes (P.given early.new) (L.put lanes.new) doc.new }
     ensures taken { OnOk result (TakenSoFar (L.taken lanes.new) doc.new.journal.events) }
     ensures write_taken { IsErrOf result Failure.Write → TakenSoFar (L.taken lanes.new) doc.new.journal.events }
     ensures more_taken { MayTakeMore (L.taken lanes.new) doc.new.journal.events }
+    ensures tells { OnOk result (TellsOn E.entities (L.put lanes.old) (L.put lanes.new)
+        (L.taken lanes.old) (L.taken lanes.new) (L.ordered lanes.old) (L.ordered lanes.new)) }
+    ensures crew { P.crew early.new ≡ P.crew early.old }
     ensures write { IsErrOf result Failure.Write → Rose (K.faults out.old) (K.faults out.new) }
     ensures faults { K.faults out.old ≤ K.faults out.new }
 {
@@ -196,11 +253,11 @@ pub(crate) fn take_turns<E: InForce, L: Counterpart<E>, F: Outside, K: Sink>(
         } else if lanes.answer(job.table)? {
             continue;
         } else if doc.wants_reply() {
-            take_reply::<E, L>(doc, lanes)?;
+            take_reply::<E, L, P>(doc, lanes, early)?;
         } else if doc.can_do() {
             run_on(alloc, out, doc)?;
         } else {
-            fetch_awaited(alloc, job.dir.as_str(), files, doc)?;
+            fetch_awaited::<E, F, P>(alloc, job.dir.as_str(), files, doc, early)?;
         }
     }
 }

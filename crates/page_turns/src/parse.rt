@@ -5,9 +5,10 @@ ghost use Rattle.outside.specs.Outside.{Rose};
 ghost use Rattle.core_steps.specs.Sides.{first_shown};
 ghost use Rattle.page_turns.specs.Pages.{EndsWithScripts, FrontWithScripts};
 ghost use Rattle.page_turns.specs.Cuts.{IsCut};
+ghost use Rattle.page_turns.specs.Scripts.{folder_with};
 ghost use Rattle.page_turns.specs.Turns.{no_load, LeavesAlone, Leaves, RunsOut};
 ghost use Rattle.page_turns.specs.Along.{Goes};
-ghost use Rattle.page_turns.specs.Messages.{TakenSoFar, MayTakeMore};
+ghost use Rattle.page_turns.specs.Messages.{TakenSoFar, MayTakeMore, TellsOn};
 ghost use Rattle.page_turns.specs.Replaying.{ReplaysTo};
 ghost use Rattle.page_turns.specs.WrittenInPart.{IsDue, WritesInPart};
 
@@ -15,6 +16,7 @@ use crate::counterpart::Counterpart;
 use crate::job::Job;
 use crate::outcome::Outcome;
 use crate::page::{Failure, take_turns};
+use crate::prefetch::Prefetch;
 use crate::reader::PageReader;
 use core_steps::DocSide;
 use outside::{Outside, Sink};
@@ -23,14 +25,15 @@ use std::alloc::Global;
 
 /// Parses the page that was begun, with this counterpart, and writes its lines. Where memory runs out or the sink fails it has taken a front of
 /// what is written of the page: all lines of the events before the refused one, and a front of what that one was to write. The document's side
-/// and the counterpart were just made.
-pub fn parse_page<E: InForce, L: Counterpart<E>, F: Outside, K: Sink>(
+/// and the counterpart were just made. Of the scripts some may have been fetched before they are awaited.
+pub fn parse_page<E: InForce, L: Counterpart<E>, P: Prefetch<E>, F: Outside, K: Sink>(
     alloc: Global,
     job: &Job<'_>,
     files: &mut F,
     out: &mut K,
     doc: &mut DocSide,
     lanes: &mut L,
+    early: &mut P,
     room: &mut [u8],
 ) -> Result<Outcome, Failure>
     requires table { job.now.table.now ≡ E.entities }
@@ -38,19 +41,24 @@ pub fn parse_page<E: InForce, L: Counterpart<E>, F: Outside, K: Sink>(
     requires load { L.load lanes.old ≡ no_load }
     requires put { IfSome (L.put lanes.old) (λ asks. asks ≡ []) }
     requires taken { IfSome (L.taken lanes.old) (λ messages. messages ≡ []) }
+    requires given { P.given early.old ≡ [] }
     requires room { 0 < length room.old }
     requires some { 0 < job.now.ahead }
     requires few { job.now.ahead ≤ 64 }
-    ensures ok { IfOk result (λ outcome. EndsWithScripts job.now.table.now (string_bytes job.now.dir) (F.seen files.old) (F.seen files.new)
+    ensures ok { IfOk result (λ outcome. EndsWithScripts job.now.table.now (folder_with (string_bytes job.now.dir) (P.given early.new))
+        (F.seen files.old) (F.seen files.new)
         doc.new.desk.own.side.doc doc.new.desk.own.side.lines (K.taken out.old) (K.taken out.new)
         outcome) }
-    ensures err { OnErr result (FrontWithScripts job.now.table.now (string_bytes job.now.dir) (F.seen files.old) (F.seen files.new)
+    ensures err { OnErr result (FrontWithScripts job.now.table.now (folder_with (string_bytes job.now.dir) (P.given early.new))
+        (F.seen files.old) (F.seen files.new)
         (K.taken out.old) (K.taken out.new)) }
     ensures part { OnErr result (WritesInPart job.now.table.now job.now.ahead (K.taken out.old) (K.taken out.new) (IsDue doc.new)) }
-    ensures out { IfOk result (λ outcome. RunsOut job.now.table.now job.now.ahead (string_bytes job.now.dir) (F.seen files.old) (F.seen files.new)
+    ensures out { IfOk result (λ outcome. RunsOut job.now.table.now job.now.ahead (folder_with (string_bytes job.now.dir) (P.given early.new))
+        (F.seen files.old) (F.seen files.new)
         (K.taken out.old) (K.taken out.new) doc.new outcome) }
     ensures replays { ReplaysTo job.now.table.now job.now.ahead doc.new }
-    ensures left { Leaves job.now.table.now job.now.ahead (string_bytes job.now.dir) (F.seen files.old) (F.seen files.new) doc.new }
+    ensures left { Leaves job.now.table.now job.now.ahead (folder_with (string_bytes job.now.dir) (P.given early.new))
+        (F.seen files.old) (F.seen files.new) doc.new }
     ensures alone { LeavesAlone (string_bytes job.now.dir) (F.seen files.old) (F.seen files.new) }
     ensures cut { OnOk result (IsCut (length room.old) false (F.seen files.old) (F.seen files.new)
         doc.new.journal.pieces) }
@@ -58,15 +66,29 @@ pub fn parse_page<E: InForce, L: Counterpart<E>, F: Outside, K: Sink>(
         doc.new.journal.pieces) }
     ensures write_cut { IsErrOf result Failure.Write → IsCut (length room.old) false
         (F.seen files.old) (F.seen files.new) doc.new.journal.pieces }
-    ensures goes { Goes (L.put lanes.new) doc.new }
+    ensures goes { Goes (P.given early.new) (L.put lanes.new) doc.new }
     ensures taken { OnOk result (TakenSoFar (L.taken lanes.new) doc.new.journal.events) }
     ensures write_taken { IsErrOf result Failure.Write → TakenSoFar (L.taken lanes.new) doc.new.journal.events }
     ensures more_taken { MayTakeMore (L.taken lanes.new) doc.new.journal.events }
+    // Until memory runs out the counterpart tells on, and what it gave stays in order.
+    ensures tells { OnOk result (TellsOn E.entities (L.put lanes.old) (L.put lanes.new)
+        (L.taken lanes.old) (L.taken lanes.new) (L.ordered lanes.old) (L.ordered lanes.new)) }
+    ensures crew { P.crew early.new ≡ P.crew early.old }
     ensures write { IsErrOf result Failure.Write → Rose (K.faults out.old) (K.faults out.new) }
     ensures faults { K.faults out.old ≤ K.faults out.new }
 {
     let mut reader = PageReader::new(alloc);
-    let ended = take_turns::<E, L, F, K>(alloc, job, files, out, doc, lanes, &mut reader, room);
+    let ended = take_turns::<E, L, P, F, K>(
+        alloc,
+        job,
+        files,
+        out,
+        doc,
+        lanes,
+        early,
+        &mut reader,
+        room,
+    );
     // What the journal replays to is known from here on.
     let _journal = doc.journal();
     ended

@@ -1,7 +1,7 @@
 // The files of external scripts.
-ghost use Rattle.std.specs.Prelude.{◌≡◌, true, IfOk};
+ghost use Rattle.std.specs.Prelude.{◌≡◌, [], ◌∷◌, true, IfOk, OnOk};
 ghost use Rattle.std.specs.Str.{chars};
-ghost use Rattle.outside.specs.Outside.{KeepsOthers};
+ghost use Rattle.outside.specs.Outside.{Begun, KeepsOthers};
 ghost use Rattle.serial.specs.Scripts.{is_lawful};
 ghost use Rattle.page_turns.specs.Given.{MayGive, given_of};
 ghost use Rattle.page_turns.specs.Scripts.{path_of, BeginsFile};
@@ -16,7 +16,7 @@ use std::alloc::Global;
 pub const SCRIPT_LIMIT: usize = 1_048_576;
 
 /// Fetches the script of that name, which is lawful, from the folder.
-pub(crate) fn fetch_script<F: Outside>(
+pub fn fetch_script<F: Outside>(
     alloc: Global,
     files: &mut F,
     dir: &str,
@@ -24,6 +24,7 @@ pub(crate) fn fetch_script<F: Outside>(
 ) -> Result<Fetch, NoMemory>
     requires { is_lawful (chars name.now) ≡ true }
     ensures given { IfOk result (λ fetch. MayGive SCRIPT_LIMIT Port.Script (path_of dir.now (chars name.now)) (F.seen files.old) (F.seen files.new) (given_of fetch)) }
+    ensures begun { OnOk result (Begun ((F.seen files.old).begun Port.Script) ((F.seen files.new).begun Port.Script) (path_of dir.now (chars name.now) ∷ [])) }
     ensures begins { BeginsFile dir.now (chars name.now) (F.seen files.old) (F.seen files.new) }
     ensures others { KeepsOthers Port.Script (F.seen files.old) (F.seen files.new) }
 {

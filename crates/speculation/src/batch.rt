@@ -1,6 +1,6 @@
 //! Batches: texts that were parsed, and whose operations aren't executed yet.
 
-ghost use Rattle.std.specs.Prelude.{◌≡◌, [], ◌∷◌, ◌++◌, length, OnOk, OnErr, MatchOption};
+ghost use Rattle.std.specs.Prelude.{◌≡◌, ◌<◌, [], ◌∷◌, ◌++◌, length, slice_get, Some, OnOk, OnErr, MatchOption};
 ghost use Rattle.core_definitions.specs.Settling.{is_empty as has_none};
 ghost use Rattle.parse_machine.specs.Machine.{halt_at};
 ghost use Rattle.speculation.specs.Halting.{halt_of};
@@ -74,6 +74,13 @@ impl Batch {
         self.halt
     }
 
+    /// Its operations, to read.
+    pub fn ops(&self) -> &Ops
+        ensures { result.now ≡ self.now.ops }
+    {
+        &self.ops
+    }
+
     /// Its operations, and the parser's state behind its text.
     pub fn into_parts(self) -> (Ops, Checkpoint)
         ensures ops { result.0 ≡ self.ops }
@@ -142,6 +149,14 @@ impl Batches {
         ensures { result ≡ has_none self.now }
     {
         self.list.is_empty()
+    }
+
+    /// The batch at a place, to read.
+    pub fn at(&self, place: usize) -> &Batch
+        requires { place < length self.now }
+        ensures { slice_get self.now place ≡ Some result.now }
+    {
+        &self.list[place]
     }
 
     /// Adds a batch at the end.

@@ -74,6 +74,13 @@ impl Said {
         }
     }
 
+    /// Its batches, to read.
+    pub fn batches(&self) -> &Batches
+        ensures { result.now ≡ self.now.reply.batches }
+    {
+        &self.batches
+    }
+
     /// Its batches.
     pub fn into_batches(self) -> Batches
         ensures { result ≡ self.reply.batches }

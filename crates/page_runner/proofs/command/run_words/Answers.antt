@@ -1,12 +1,13 @@
 use Rattle.std.proofs.Common.{map}
 use Rattle.std.specs.String.{string_bytes}
 use Rattle.command_words.specs.Words.{asked, shown, for_page}
+use Rattle.page_runner.proofs.HelpLemmas.{helpers_stay_of, helpers_asked}
 use Rattle.page_runner.proofs.RunLemmas.{runs_usage, runs_no_memory, runs_asked, runs_made, stops_at_once, stops_asked, begins_nothing, begins_asked, makes_none, makes_page, makes_made}
 use Rattle.page_runner.proofs.MakingLemmas.{makes-no_memory}
 use Rattle.page_runner.proofs.command.run_words.Goals as goal
 
 pub returns-in-Err-Usage-clause-answer : goal.returns-in-Err-Usage-clause-answer
-returns-in-Err-Usage-clause-answer g c = runs_usage (asked (map string_bytes c.args.words.now)) _ _ _ (c.in-Err-Usage.ensures.usage c.in-Err-Usage.field-0-is)
+returns-in-Err-Usage-clause-answer g c = runs_usage (asked (map string_bytes c.args.words.now)) _ _ _ _ _ (c.in-Err-Usage.ensures.usage c.in-Err-Usage.field-0-is)
 
 pub returns-in-Err-Usage-clause-no_further : goal.returns-in-Err-Usage-clause-no_further
 returns-in-Err-Usage-clause-no_further g c = stops_at_once (asked (map string_bytes c.args.words.now)) _
@@ -18,7 +19,7 @@ pub returns-in-Err-Usage-clause-makes : goal.returns-in-Err-Usage-clause-makes
 returns-in-Err-Usage-clause-makes g c = makes_none (asked (map string_bytes c.args.words.now)) _ _ _ _ _ _ _ (c.in-Err-Usage.ensures.usage c.in-Err-Usage.field-0-is)
 
 pub returns-in-Err-NoMemory-clause-answer : goal.returns-in-Err-NoMemory-clause-answer
-returns-in-Err-NoMemory-clause-answer g c = runs_no_memory (asked (map string_bytes c.args.words.now)) _ _ _
+returns-in-Err-NoMemory-clause-answer g c = runs_no_memory (asked (map string_bytes c.args.words.now)) _ _ _ _ _
 
 pub returns-in-Err-NoMemory-clause-no_further : goal.returns-in-Err-NoMemory-clause-no_further
 returns-in-Err-NoMemory-clause-no_further g c = stops_at_once (asked (map string_bytes c.args.words.now)) _
@@ -30,7 +31,7 @@ pub returns-in-Err-NoMemory-clause-makes : goal.returns-in-Err-NoMemory-clause-m
 returns-in-Err-NoMemory-clause-makes g c = makes-no_memory (asked (map string_bytes c.args.words.now)) _ _ _
 
 pub returns-in-Ok-Page-clause-answer : goal.returns-in-Ok-Page-clause-answer
-returns-in-Ok-Page-clause-answer g c = runs_asked (asked (map string_bytes c.args.words.now)) (shown c.in-Ok-Page.words) _ _ _ _ _ _ _ (rw c.in-Ok-Page.field-0-is at c.in-Ok-Page.ensures.ok) c.run_files.ensures.answer
+returns-in-Ok-Page-clause-answer g c = runs_asked (asked (map string_bytes c.args.words.now)) (shown c.in-Ok-Page.words) _ _ _ _ _ _ _ _ _ (rw c.in-Ok-Page.field-0-is at c.in-Ok-Page.ensures.ok) c.run_files.ensures.answer
 
 pub returns-in-Ok-Page-clause-no_further : goal.returns-in-Ok-Page-clause-no_further
 returns-in-Ok-Page-clause-no_further g c = stops_asked (asked (map string_bytes c.args.words.now)) (for_page (shown c.in-Ok-Page.words)) _ _ (rw c.in-Ok-Page.field-0-is at c.in-Ok-Page.ensures.ok) c.run_files.ensures.no_further
@@ -42,7 +43,7 @@ pub returns-in-Ok-Page-clause-makes : goal.returns-in-Ok-Page-clause-makes
 returns-in-Ok-Page-clause-makes g c = makes_page (asked (map string_bytes c.args.words.now)) (shown c.in-Ok-Page.words) _ _ _ _ _ _ _ (rw c.in-Ok-Page.field-0-is at c.in-Ok-Page.ensures.ok)
 
 pub returns-in-Ok-Make-clause-answer : goal.returns-in-Ok-Make-clause-answer
-returns-in-Ok-Make-clause-answer g c = runs_made (asked (map string_bytes c.args.words.now)) c.in-Ok-Make.words _ _ _ _ _ _ _ (rw c.in-Ok-Make.field-0-is at c.in-Ok-Make.ensures.ok)
+returns-in-Ok-Make-clause-answer g c = runs_made (asked (map string_bytes c.args.words.now)) c.in-Ok-Make.words _ _ _ _ _ _ _ _ _ (rw c.in-Ok-Make.field-0-is at c.in-Ok-Make.ensures.ok)
 
 pub returns-in-Ok-Make-clause-no_further : goal.returns-in-Ok-Make-clause-no_further
 returns-in-Ok-Make-clause-no_further g c = stops_at_once (asked (map string_bytes c.args.words.now)) _
@@ -52,3 +53,15 @@ returns-in-Ok-Make-clause-begins g c = begins_nothing (asked (map string_bytes c
 
 pub returns-in-Ok-Make-clause-makes : goal.returns-in-Ok-Make-clause-makes
 returns-in-Ok-Make-clause-makes g c = makes_made (asked (map string_bytes c.args.words.now)) c.in-Ok-Make.words _ _ _ _ _ _ (rw c.in-Ok-Make.field-0-is at c.in-Ok-Make.ensures.ok) c.run_make.ensures.makes
+
+pub returns-in-Err-Usage-clause-helpers : goal.returns-in-Err-Usage-clause-helpers
+returns-in-Err-Usage-clause-helpers g c = helpers_stay_of (asked (map string_bytes c.args.words.now)) _
+
+pub returns-in-Err-NoMemory-clause-helpers : goal.returns-in-Err-NoMemory-clause-helpers
+returns-in-Err-NoMemory-clause-helpers g c = helpers_stay_of (asked (map string_bytes c.args.words.now)) _
+
+pub returns-in-Ok-Make-clause-helpers : goal.returns-in-Ok-Make-clause-helpers
+returns-in-Ok-Make-clause-helpers g c = helpers_stay_of (asked (map string_bytes c.args.words.now)) _
+
+pub returns-in-Ok-Page-clause-helpers : goal.returns-in-Ok-Page-clause-helpers
+returns-in-Ok-Page-clause-helpers g c = helpers_asked (asked (map string_bytes c.args.words.now)) (shown c.in-Ok-Page.words) _ _ (rw c.in-Ok-Page.field-0-is at c.in-Ok-Page.ensures.ok) c.run_files.ensures.helpers

@@ -18,7 +18,7 @@ returns-clause-looks_ahead g c =
 pub returns-clause-fetches : goal.returns-clause-fetches
 returns-clause-fetches g c =
     let ran = c.run_with-outcome in
-    is_fetching_awaited _ _ ran.new.doc _ ran.ensures.goes ran.ensures.reports.entities ran.ensures.reports.ahead_is
+    is_fetching_awaited _ _ _ ran.new.doc _ ran.ensures.goes ran.ensures.reports.entities ran.ensures.reports.ahead_is
 
 pub returns-clause-cut : goal.returns-clause-cut
 returns-clause-cut g c = cut_as_asked _ _ _ _ _ _ (ap length c.deref_mut.ensures.value ∙ c.in-Ok.ensures.room) c.run_with-outcome.ensures.cut

@@ -1,7 +1,9 @@
-use Rattle.std.proofs.Common.{length, Some, ap, ◌∙◌}
-use Rattle.page_runner.proofs.RunLemmas.{reads_nothing}
+use Rattle.std.proofs.Common.{length, map, [], Some, ap, ◌∙◌}
+use Rattle.page_runner.proofs.RunLemmas.{reads_nothing, page_no_memory}
 use Rattle.page_runner.proofs.ReportLemmas.{cut_as_asked}
-use Rattle.page_runner.proofs.OnTwoLemmas.{is_journaled, drops_failed, is_looking_ahead, is_fetching_awaited}
+use Rattle.preload.specs.Teams.{crew_of}
+use Rattle.page_runner.proofs.HelpLemmas.{answers_in, reports_in, helped_in}
+use Rattle.page_runner.proofs.OnTwoLemmas.{is_journaled, drops_failed, is_looking_ahead, is_fetching_more}
 use Rattle.page_runner.proofs.on_two.run_on_two.Goals as goal
 
 pub returns-clause-journaled : goal.returns-clause-journaled
@@ -23,10 +25,36 @@ returns-clause-looks_ahead g c =
 pub returns-clause-fetches : goal.returns-clause-fetches
 returns-clause-fetches g c =
     let ran = c.run_with-outcome in
-    is_fetching_awaited _ _ ran.new.doc (Some ran.new.lanes.asks) ran.ensures.goes ran.ensures.reports.entities ran.ensures.reports.ahead_is
+    is_fetching_more ran.new.early.given _ _ _ ran.new.doc (Some ran.new.lanes.asks) c.finish-helped.ensures.through ran.ensures.goes ran.ensures.reports.entities ran.ensures.reports.ahead_is
 
 pub returns-clause-cut : goal.returns-clause-cut
 returns-clause-cut g c = cut_as_asked _ _ _ _ _ _ (ap length c.deref_mut.ensures.value ∙ c.in-Ok.ensures.room) c.run_with-outcome.ensures.cut
 
 pub returns-in_default-clause-reads : goal.returns-in_default-clause-reads
 returns-in_default-clause-reads g c = reads_nothing _ _ _
+
+pub returns-in_default-start-clause-reads : goal.returns-in_default-start-clause-reads
+returns-in_default-start-clause-reads g c = reads_nothing _ _ _
+
+pub returns-in_default-start-clause-answer : goal.returns-in_default-start-clause-answer
+returns-in_default-start-clause-answer g c = rw c.without_fetchers.ensures.outcome (page_no_memory _ _ _ _ _ _ _)
+
+-- ---- what was given early came of the helpers
+
+pub returns-clause-answer : goal.returns-clause-answer
+returns-clause-answer g c =
+    let ran = c.run_with-outcome in
+    answers_in (crew_of g.F.Outside c.in-Ok-start.early) (crew_of g.F.Outside ran.new.early) ran.new.early.given _ _ _ _ _ [] c.in-Ok-start.ensures.dir (ap (map g.F.Outside.seen) c.in-Ok-start.ensures.was) c.in-Ok-start.ensures.used ran.ensures.crew c.as_str.ensures.value
+    c.finish-helped.ensures.given _ _ _ _ _ _ _ _ _ _ ran.ensures.answer
+
+pub returns-clause-reports : goal.returns-clause-reports
+returns-clause-reports g c =
+    let ran = c.run_with-outcome in
+    reports_in (crew_of g.F.Outside c.in-Ok-start.early) (crew_of g.F.Outside ran.new.early) ran.new.early.given _ _ _ _ _ [] c.in-Ok-start.ensures.dir (ap (map g.F.Outside.seen) c.in-Ok-start.ensures.was) c.in-Ok-start.ensures.used ran.ensures.crew c.as_str.ensures.value
+    c.finish-helped.ensures.given _ _ _ _ _ _ _ _ _ _ ran.ensures.reports
+
+pub returns-clause-helped : goal.returns-clause-helped
+returns-clause-helped g c =
+    let ran = c.run_with-outcome in
+    helped_in (crew_of g.F.Outside c.in-Ok-start.early) (crew_of g.F.Outside ran.new.early) ran.new.early.given _ _ _ _ _ _ c.in-Ok-start.ensures.dir (ap (map g.F.Outside.seen) c.in-Ok-start.ensures.was) c.in-Ok-start.ensures.used ran.ensures.crew c.as_str.ensures.value
+    c.finish-helped.ensures.back

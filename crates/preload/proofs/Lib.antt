@@ -1,0 +1,5 @@
+pub mod Naming
+pub mod Giving
+pub mod AllTaken
+pub mod Crossing
+pub mod Teams

@@ -1,0 +1,4 @@
+pub mod Names
+pub mod Fetching
+pub mod Helping
+pub mod Teams
