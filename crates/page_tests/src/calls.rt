@@ -1,13 +1,12 @@
-//! The calls of the runs. Each stands alone here, in a function that promises nothing: what the runs promise is long, and would
-//! be known in all that stands behind the call.
+//! The calls of the runs. Each stands alone here, in a function that promises nothing: what the
+//! runs promise is long, and would be known in all that stands behind the call.
 
-ghost use Rattle.std.specs.Prelude.{◌≡◌, ◌<◌, ◌≤◌};
+ghost use Rattle.std.specs.Prelude.{◌<◌, ◌≤◌};
 
 use entity_table::Table;
 use html_types::NoMemory;
 use outside::{Gate, Outside, Sink};
-use page_runner::{Job, Report, Status, page_in_place, page_on_two, run};
-use speculation::InForce;
+use page_runner::{Job, Status, page_in_place, run};
 use std::alloc::Global;
 use std::sync::{Arc, Wait};
 use std::thread::Threads;
@@ -22,7 +21,6 @@ fn piece_of(piece: usize) -> usize
 
 /// A page with the scripts of a folder, in reads of so many bytes: 1 for 0, and 65,536 at most.
 pub fn job_of<'a>(page: String, dir: String, table: &'a Table, piece: usize, dump: bool) -> Job<'a>
-    ensures table { result.table.now ≡ table.now }
     ensures piece { (0 < result.piece) × (result.piece ≤ 65536) }
     ensures ahead { (0 < result.ahead) × (result.ahead ≤ 64) }
 {
@@ -43,7 +41,7 @@ pub fn path_of(alloc: Global, path: &str) -> Result<String, NoMemory> {
     Ok(String::from_str(alloc, path)?)
 }
 
-/// Runs the words' page on two threads.
+/// Runs the words' page on two threads, without helpers.
 pub fn status_on_two<
     R: Threads + Wait + Copy + Send + Sync + 'static,
     F: Outside + Drop + Send + 'static,
@@ -61,24 +59,6 @@ pub fn status_on_two<
     run(rt, alloc, words, files, out, gate, &mut none)
 }
 
-/// The same, with helpers.
-pub fn status_with_helpers<
-    R: Threads + Wait + Copy + Send + Sync + 'static,
-    F: Outside + Drop + Send + 'static,
-    K: Sink,
-    G: Gate + Drop + Send + Sync + 'static,
->(
-    rt: &R,
-    alloc: Global,
-    words: &[String],
-    files: &mut F,
-    out: &mut K,
-    gate: &Arc<G, Global>,
-    helpers: &mut Vec<F>,
-) -> Status {
-    run(rt, alloc, words, files, out, gate, helpers)
-}
-
 /// Runs the page on one thread.
 pub fn status_in_place<F: Outside, K: Sink>(
     alloc: Global,
@@ -90,50 +70,4 @@ pub fn status_in_place<F: Outside, K: Sink>(
     requires ahead { (0 < job.now.ahead) × (job.now.ahead ≤ 64) }
 {
     page_in_place(alloc, job, files, out).outcome
-}
-
-/// Runs the page on two threads, with the entities in force.
-pub fn report_on_two<
-    R: Threads + Wait + Copy + Send + Sync + 'static,
-    E: InForce + Send + 'static,
-    F: Outside + Drop + Send + 'static,
-    K: Sink,
-    G: Gate + Drop + Send + Sync + 'static,
->(
-    rt: &R,
-    alloc: Global,
-    job: &Job<'_>,
-    files: &mut F,
-    out: &mut K,
-    gate: &Arc<G, Global>,
-) -> Report<E>
-    requires table { job.now.table.now ≡ E.entities }
-    requires piece { (0 < job.now.piece) × (job.now.piece ≤ 65536) }
-    requires ahead { (0 < job.now.ahead) × (job.now.ahead ≤ 64) }
-{
-    let mut none = Vec::new(alloc);
-    page_on_two::<R, E, F, K, G>(rt, alloc, job, files, out, gate, &mut none)
-}
-
-/// The same, with helpers.
-pub fn report_with_helpers<
-    R: Threads + Wait + Copy + Send + Sync + 'static,
-    E: InForce + Send + 'static,
-    F: Outside + Drop + Send + 'static,
-    K: Sink,
-    G: Gate + Drop + Send + Sync + 'static,
->(
-    rt: &R,
-    alloc: Global,
-    job: &Job<'_>,
-    files: &mut F,
-    out: &mut K,
-    gate: &Arc<G, Global>,
-    helpers: &mut Vec<F>,
-) -> Report<E>
-    requires table { job.now.table.now ≡ E.entities }
-    requires piece { (0 < job.now.piece) × (job.now.piece ≤ 65536) }
-    requires ahead { (0 < job.now.ahead) × (job.now.ahead ≤ 64) }
-{
-    page_on_two::<R, E, F, K, G>(rt, alloc, job, files, out, gate, helpers)
 }

@@ -7,9 +7,11 @@ use page_runner::{Limit, Status};
 #[derive(Clone, Copy)]
 pub struct Case {
     pub row: Row,
-    /// What stands written where the page's reading fails behind so many bytes or more. Nothing does behind fewer.
+    /// What stands written where the page's reading fails behind so many bytes or more. Nothing
+    /// does behind fewer.
     pub fronts: &'static [(usize, &'static str)],
-    /// Where the page's reading fails behind so many bytes or more, the parse ends before the fault.
+    /// Where the page's reading fails behind so many bytes or more, the parse ends before the
+    /// fault.
     pub settled: usize,
     /// What stands written where the fetch of its script fails.
     pub unfetched: &'static str,
@@ -31,7 +33,8 @@ impl Case {
     }
 }
 
-// A page that is parsed to its end only where no call fails, and whose script isn't fetched before its first line.
+// A page that is parsed to its end only where no call fails, and whose script isn't fetched before
+// its first line.
 fn whole(row: Row, fronts: &'static [(usize, &'static str)]) -> Case {
     Case {
         row: Row {
@@ -66,7 +69,8 @@ pub fn written() -> [Case; 2] {
     ]
 }
 
-/// The same page, whose script in the file logs the tree besides, and a page with a script that a file writes.
+/// The same page, whose script in the file logs the tree besides, and a page with a script that a
+/// file writes.
 pub fn logged() -> [Case; 2] {
     [
         whole(
@@ -123,7 +127,8 @@ pub fn missing() -> [Case; 2] {
     ]
 }
 
-/// Pages with a bad byte at their end: behind a log, and behind a script that writes the beginning of a comment.
+/// Pages with a bad byte at their end: behind a log, and behind a script that writes the beginning
+/// of a comment.
 pub fn bad() -> [Case; 2] {
     [
         // The bad byte is the 66th.
@@ -171,7 +176,8 @@ pub fn foreign() -> [Case; 1] {
     }]
 }
 
-/// The file of a script: it writes that script again, 25 characters. The 41,944th write passes the limit.
+/// The file of a script: it writes that script again, 25 characters. The 41,944th write passes the
+/// limit.
 pub const WRITES_ITSELF: &[u8] = b"document.write(\"<script src=\\\"a\\\"><\\/script>\");";
 
 /// A page with that script. No fault of the page behind its end tag is come to.

@@ -10,7 +10,7 @@ use speculation::{InForce, Reply, Request};
 use std::alloc::Global;
 
 /// What passes between the two sides.
-#[derive(Clone, Copy, Debug, PartialEq, Eq)]
+#[derive(Clone, Copy, PartialEq, Eq)]
 pub enum Step {
     /// A request is sent.
     Send,
@@ -23,7 +23,7 @@ pub enum Step {
 }
 
 /// A request, by its numbers.
-#[derive(Clone, Copy, Debug, PartialEq, Eq)]
+#[derive(Clone, Copy)]
 pub struct Asked {
     /// From 1.
     pub number: u64,
@@ -35,7 +35,7 @@ pub struct Asked {
 }
 
 /// A step over a request.
-#[derive(Clone, Copy, Debug, PartialEq, Eq)]
+#[derive(Clone, Copy)]
 pub struct Passed {
     pub step: Step,
     pub asked: Asked,

@@ -1,4 +1,5 @@
-//! Runs in which something isn't there, or a call fails: which of several faults is answered, and which isn't come to.
+//! Runs in which something isn't there, or a call fails: which of several faults is answered, and
+//! which isn't come to.
 
 use crate::cases::WRITES_ITSELF;
 use crate::rows::{
@@ -63,7 +64,8 @@ fn faults() -> [Row; 9] {
                 "refused writes\n",
             )
         },
-        // What a script logs before the fault stands. The script's element is the first read's 65 bytes.
+        // What a script logs before the fault stands. The script's element is the first read's 65
+        // bytes.
         Row {
             met: Conditions {
                 piece: 65,

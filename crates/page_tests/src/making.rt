@@ -59,7 +59,8 @@ fn usage(words: &'static [&'static str]) -> Row {
     }
 }
 
-// Pages of the items of each kind, at both ends of what NUMBER may be, and a sink that fails within the line.
+// Pages of the items of each kind, at both ends of what NUMBER may be, and a sink that fails within
+// the line.
 fn pages() -> [Row; 9] {
     [
         made(

@@ -48,8 +48,8 @@ pub fn failing(fail: &'static [(Port, u64)]) -> Conditions<'static> {
     Conditions { fail, ..CALM }
 }
 
-/// A page (none: there is no such file), the files of its scripts, the entities file, whether the dump is asked for, what the run meets, and the status and
-/// text that are wanted.
+/// A page (none: there is no such file), the files of its scripts, the entities file, whether the
+/// dump is asked for, what the run meets, and the status and text that are wanted.
 #[derive(Clone, Copy)]
 pub struct Row {
     pub page: Option<&'static [u8]>,
@@ -256,7 +256,8 @@ pub fn wrong_at_a_piece<R: Threads + Wait + Copy + Send + Sync + 'static>(
     Ok(None)
 }
 
-/// The text of the first row that doesn't give what is wanted in what it meets. None where each does.
+/// The text of the first row that doesn't give what is wanted in what it meets. None where each
+/// does.
 pub fn wrong_as_met<R: Threads + Wait + Copy + Send + Sync + 'static>(
     rt: &R,
     alloc: Global,

@@ -6,7 +6,7 @@ use html_types::{NoMemory, Text};
 use std::alloc::Global;
 
 /// What became of a reply that was taken.
-#[derive(Clone, Copy, Debug, PartialEq, Eq)]
+#[derive(Clone, Copy)]
 pub enum Fate {
     /// It is of the epoch that it was taken in.
     Kept,
@@ -21,7 +21,8 @@ pub enum Row {
     Passed(Passed),
     /// A reply is taken.
     Taken(Asked, Fate),
-    /// A batch of the request in hand is executed, or a script is run; none is in hand before the first reply.
+    /// A batch of the request in hand is executed, or a script is run; none is in hand before the
+    /// first reply.
     Done(Option<Asked>),
     /// The script of that name, which was awaited, has arrived.
     Arrived(Text),
@@ -95,8 +96,9 @@ impl<'a> Rows<'a> {
     }
 }
 
-// An epoch ends where a script fails, behind which nothing is done until a reply of the next epoch is taken. So a reply is dropped where a request
-// of a later epoch was sent before it was taken, or is sent before anything else is done.
+// An epoch ends where a script fails, behind which nothing is done until a reply of the next epoch
+// is taken. So a reply is dropped where a request of a later epoch was sent before it was taken, or
+// is sent before anything else is done.
 fn drop_replies(rows: &mut [Row]) {
     let mut coming: u64 = 0;
     for row in rows.iter_mut().rev() {

@@ -20,7 +20,7 @@ use std::marker::Brand;
 const ENTITIES_LIMIT: usize = 4_194_304;
 
 /// Why there is no trace.
-#[derive(Clone, Copy, Debug, PartialEq, Eq)]
+#[derive(Clone, Copy, Debug)]
 pub enum Untraced {
     NoMemory,
     /// There is no such page, or no entities file that is one.
@@ -250,7 +250,8 @@ fn job_of<'a>(page: String, dir: String, table: &'a Table, piece: usize, ahead: 
     }
 }
 
-/// The rows of a run over these files, with reads of so many bytes and so many requests ahead at most.
+/// The rows of a run over these files, with reads of so many bytes and so many requests ahead at
+/// most.
 pub fn trace<F: Outside>(
     alloc: Global,
     files: &mut F,

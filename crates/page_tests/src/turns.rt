@@ -10,7 +10,8 @@ use std::sync::Wait;
 use std::test::Fail;
 use std::thread::Threads;
 
-// How many bytes of the page were read before that call at its port, of which the first begins it, a read giving so many bytes.
+// How many bytes of the page were read before that call at its port, of which the first begins it,
+// a read giving so many bytes.
 fn bytes_before(case: &Case, call: u64, most: usize) -> usize {
     let reads = call.saturating_sub(2) as usize;
     match case.row.page {
@@ -28,7 +29,8 @@ fn wanted(case: &Case, port: Port, call: u64, most: usize) -> (Status, &'static 
     }
 }
 
-// A run in which a call is to fail: whether that call was made, and whether what is wanted came of the run.
+// A run in which a call is to fail: whether that call was made, and whether what is wanted came of
+// the run.
 #[derive(Clone, Copy)]
 struct Tried {
     is_made: bool,
@@ -61,7 +63,8 @@ fn try_call<R: Threads + Wait + Copy + Send + Sync + 'static>(
     })
 }
 
-// Whether each run gives what is wanted in which the first call at the port fails, or the second, and so on until none that is made does.
+// Whether each run gives what is wanted in which the first call at the port fails, or the second,
+// and so on until none that is made does.
 fn gives_at_each_call<R: Threads + Wait + Copy + Send + Sync + 'static>(
     rt: &R,
     alloc: Global,
@@ -110,7 +113,8 @@ fn gives_at_each_limit<R: Threads + Wait + Copy + Send + Sync + 'static>(
     Ok(true)
 }
 
-// The text of the first page that doesn't come to what is wanted, whichever call fails. None where each does.
+// The text of the first page that doesn't come to what is wanted, whichever call fails. None where
+// each does.
 fn wrong_at_a_call<R: Threads + Wait + Copy + Send + Sync + 'static>(
     rt: &R,
     alloc: Global,
@@ -157,7 +161,8 @@ fn gives_each_front<R: Threads + Wait + Copy + Send + Sync + 'static>(
     Ok(true)
 }
 
-// Whether a sink of the text's size takes all of it, and one that can't be finished all of it too, which is a fault.
+// Whether a sink of the text's size takes all of it, and one that can't be finished all of it too,
+// which is a fault.
 fn gives_all<R: Threads + Wait + Copy + Send + Sync + 'static>(
     rt: &R,
     alloc: Global,

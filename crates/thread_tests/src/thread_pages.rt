@@ -4,7 +4,8 @@
 pub const ENTITIES: &str =
     "{\"&amp;\":{\"codepoints\":[38]},\"&amp\":{\"codepoints\":[38]},\"&notin;\":{\"codepoints\":[8713]},\"&not\":{\"codepoints\":[172]}}";
 
-/// The files of the scripts. What `bold` writes leaves an element open; `nested` writes a script that is awaited, and then more.
+/// The files of the scripts. What `bold` writes leaves an element open; `nested` writes a script
+/// that is awaited, and then more.
 pub const SCRIPTS: [(&str, &str); 5] = [
     ("a", ""),
     ("kept", "document.write(\"<i>k</i>\");"),
@@ -19,7 +20,8 @@ pub const SCRIPTS: [(&str, &str); 5] = [
     ),
 ];
 
-/// Pages whose scripts keep what was parsed ahead of them, or have it thrown away; with files of scripts, nested writes, and refusals.
+/// Pages whose scripts keep what was parsed ahead of them, or have it thrown away; with files of
+/// scripts, nested writes, and refusals.
 pub const PAGES: [&str; 20] = [
     "<p>a<script>document.write(\"<b>x</b>\");</script>b<p>c<script>document.write(\"d\");</script>e",
     "<p>a<script>document.write(\"<b>x\");</script>b<p>c<script>document.write(\"<i>y\");</script>d",
@@ -43,7 +45,8 @@ pub const PAGES: [&str; 20] = [
     "<p id=\"p\">a<script>document.write(\"<i id=\\\"q\\\">\");document.getElementById(\"p\").append(document.getElementById(\"q\"));</script>b<script src=\"bold\"></script>c",
 ];
 
-/// Pages of which no script fails: none, scripts that are kept, files that are awaited, nested writes, a table, svg, a template, and text that is no tag.
+/// Pages of which no script fails: none, scripts that are kept, files that are awaited, nested
+/// writes, a table, svg, a template, and text that is no tag.
 pub const STEADY: [&str; 8] = [
     "<!doctype html><title>a</title><body id=\"b\"><p>plain &amp; text&notin;<b>1<p>2</b>3<!-- c --><select><option>d<option>e",
     "<p>a<script>document.write(\"<b>x</b>\");</script>b<p>c<script>document.write(\"d\");</script>e",

@@ -17,20 +17,34 @@ use std::sync::{Arc, Wait};
 use std::test::Fail;
 use std::thread::Threads;
 
+const ENTITIES: &str = "{\"&amp;\":{\"codepoints\":[38]}}";
+
 // Two scripts of their own files.
 const PAGE: &str = "<script src=\"a\"></script><script src=\"b\"></script>";
 
 const TREE: &str =
     "tree \"<html><head><script src=\\\"a\\\"></script><script src=\\\"b\\\"></script></head><body></body></html>\"\n";
 
-// The page, its entities, and two files of scripts.
-fn files_with(alloc: Global, a: &str, b: &str, fail: &[(Port, u64)]) -> Result<MemFiles, NoMemory> {
+// A page, its entities, and two files with that script.
+fn files_with(
+    alloc: Global,
+    page: &str,
+    script: &str,
+    fail: &[(Port, u64)],
+) -> Result<MemFiles, NoMemory> {
     let mut files = MemFiles::new(alloc, fail)?;
-    files.add("e", b"{\"&amp;\":{\"codepoints\":[38]}}")?;
-    files.add("p", PAGE.as_bytes())?;
-    files.add("d/a", a.as_bytes())?;
-    files.add("d/b", b.as_bytes())?;
+    files.add("e", ENTITIES.as_bytes())?;
+    files.add("p", page.as_bytes())?;
+    files.add("d/a", script.as_bytes())?;
+    files.add("d/b", script.as_bytes())?;
     Ok(files)
+}
+
+// One helper with such files, whose calls don't fail.
+fn one_helper(alloc: Global, page: &str, script: &str) -> Result<Vec<MemFiles>, NoMemory> {
+    let mut helpers = Vec::new(alloc);
+    helpers.push(files_with(alloc, page, script, &[])?)?;
+    Ok(helpers)
 }
 
 fn words_of(alloc: Global, preload: &str) -> Result<Vec<String>, NoMemory> {
@@ -67,10 +81,10 @@ const ALL_FAIL: [(Port, u64); 4] = [
 #[test]
 fn helpers_that_fail_change_nothing(rt: HostRuntime) -> Result<(), Fail> {
     let alloc = rt.alloc();
-    let mut files = files_with(alloc, "", "", &[])?;
+    let mut files = files_with(alloc, PAGE, "", &[])?;
     let mut helpers = Vec::new(alloc);
-    helpers.push(files_with(alloc, "", "", &ALL_FAIL)?)?;
-    helpers.push(files_with(alloc, "", "", &ALL_FAIL)?)?;
+    helpers.push(files_with(alloc, PAGE, "", &ALL_FAIL)?)?;
+    helpers.push(files_with(alloc, PAGE, "", &ALL_FAIL)?)?;
     let (status, sink) = run_helped(&rt, alloc, "2", &mut files, &mut helpers)?;
     assert_eq!(rt; status.exit(), 0);
     assert_eq!(rt; sink.bytes(), TREE.as_bytes());
@@ -84,7 +98,7 @@ fn paired_files(
     role: Role,
     pairing: &Arc<Pairing, Global>,
 ) -> Result<PairedFiles<MemFiles>, NoMemory> {
-    let files = files_with(alloc, "", "", &[])?;
+    let files = files_with(alloc, PAGE, "", &[])?;
     Ok(PairedFiles::new(files, role, Arc::try_clone(pairing)?))
 }
 
@@ -121,19 +135,32 @@ const WRITES_HELPER: &str = "document.write(\"helper\");";
 
 const WRITES_OWN: &str = "document.write(\"own\");";
 
+// What the page comes to where the files of a helper differ.
+fn run_differing<R: Threads + Wait + Copy + Send + Sync + 'static>(
+    rt: &R,
+    alloc: Global,
+    preload: &str,
+) -> Result<(Status, MemSink), NoMemory> {
+    let mut files = files_with(alloc, PAGE, WRITES_OWN, &[])?;
+    let mut helpers = one_helper(alloc, PAGE, WRITES_HELPER)?;
+    run_helped(rt, alloc, preload, &mut files, &mut helpers)
+}
+
+// The page whose scripts write that word.
+fn text_with(alloc: Global, shown: &str) -> Result<String, NoMemory> {
+    Ok(format!(in alloc;
+        "tree \"<html><head><script src=\\\"a\\\"></script></head><body>{shown}<script src=\\\"b\\\"></script>{shown}</body></html>\"\n"
+    )?)
+}
+
 // Where a helper's file differs it shows whose script ran.
 #[test]
 fn the_script_of_the_helper_runs(rt: HostRuntime) -> Result<(), Fail> {
     let alloc = rt.alloc();
     for (preload, shown) in [("1", "helper"), ("0", "own")] {
-        let mut files = files_with(alloc, WRITES_OWN, WRITES_OWN, &[])?;
-        let mut helpers = Vec::new(alloc);
-        helpers.push(files_with(alloc, WRITES_HELPER, WRITES_HELPER, &[])?)?;
-        let (status, sink) = run_helped(&rt, alloc, preload, &mut files, &mut helpers)?;
+        let (status, sink) = run_differing(&rt, alloc, preload)?;
         assert_eq!(rt; status.exit(), 0);
-        let text = format!(in alloc;
-            "tree \"<html><head><script src=\\\"a\\\"></script></head><body>{shown}<script src=\\\"b\\\"></script>{shown}</body></html>\"\n"
-        )?;
+        let text = text_with(alloc, shown)?;
         assert_eq!(rt; sink.bytes(), text.as_bytes());
     }
     Ok(())
@@ -188,12 +215,9 @@ fn template_in_force<R: Threads + Wait + Copy + Send + Sync + 'static, E: InForc
 {
     let path = path_of(alloc, "p")?;
     let folder = path_of(alloc, "d")?;
-    let mut job = job_of(path, folder, table, 4096, false);
-    job.preload = preload;
-    let mut files = files_with(alloc, "", "", &[])?;
-    files.add("p", TEMPLATE_PAGE.as_bytes())?;
-    let mut helpers = Vec::new(alloc);
-    helpers.push(files_with(alloc, "", "", &[])?)?;
+    let job = job_of(path, folder, table, 4096, preload);
+    let mut files = files_with(alloc, TEMPLATE_PAGE, "", &[])?;
+    let mut helpers = one_helper(alloc, TEMPLATE_PAGE, "")?;
     let mut sink = MemSink::new(alloc, ROOM)?;
     let gate = Arc::new(alloc, OpenGate)?;
     arrivals_of_run::<R, E>(rt, alloc, &job, &mut files, &mut sink, &gate, &mut helpers).ok_or(

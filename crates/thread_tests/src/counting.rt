@@ -23,7 +23,8 @@ pub struct Count {
     pub parsed: u64,
 }
 
-// What the run came to: none where it isn't done, since what it didn't come to would count as nothing.
+// What the run came to: none where it isn't done, since what it didn't come to would count as
+// nothing.
 fn count_of<E: InForce>(report: &Report<E>) -> Option<Count> {
     if report.outcome != Status::Done {
         return None;
@@ -66,7 +67,7 @@ fn count_in_force<R: Threads + Wait + Copy + Send + Sync + 'static, E: InForce +
 {
     let path = path_of(alloc, "p")?;
     let folder = path_of(alloc, "d")?;
-    let job = job_of(path, folder, table, piece, false);
+    let job = job_of(path, folder, table, piece, 0);
     let mut files = files_of(alloc, page)?;
     let mut sink = MemSink::new(alloc, ROOM)?;
     let gate = Arc::new(alloc, OpenGate)?;
@@ -96,7 +97,8 @@ fn count_without<R: Threads + Wait + Copy + Send + Sync + 'static>(
     count_in_force::<R, Brand>(rt, alloc, table, page, piece)
 }
 
-/// What the page comes to on two threads, with no entities, and with reads of `piece` bytes. A run that isn't done is want of memory.
+/// What the page comes to on two threads, with no entities, and with reads of `piece` bytes. A run
+/// that isn't done is want of memory.
 pub fn count_page<R: Threads + Wait + Copy + Send + Sync + 'static>(
     rt: &R,
     alloc: Global,

@@ -1,7 +1,7 @@
 use Rattle.std.proofs.Common.{◌≡◌, ◌∙◌, ap, length, arith}
 use Rattle.std.specs.Str.{chars}
 use Rattle.core_definitions.specs.Batches.{Piece}
-use Rattle.page_tests.proofs.lanes.request_of.Goals as goal
+use Rattle.thread_tests.proofs.lanes.request_of.Goals as goal
 
 pub new-requires : goal.new-requires
 new-requires c =

@@ -5,7 +5,8 @@ use std::sync::atomic::{AtomicBool, Ordering};
 // How often a call that holds looks whether the other has begun, before it gives up.
 const POLLS: u32 = 100_000_000;
 
-/// What the second reply's gate and the call that is held know of one another. The gate is told on one thread, the call is made on another.
+/// What the second reply's gate and the call that is held know of one another. The gate is told on
+/// one thread, the call is made on another.
 #[derive(Drop)]
 pub struct Meeting {
     given: AtomicBool,

@@ -1,4 +1,5 @@
-//! Files, a sink and a gate whose calls take a while, drawn by a seeded generator. They answer what those that they stand for answer.
+//! Files, a sink and a gate whose calls take a while, drawn by a seeded generator. They answer what
+//! those that they stand for answer.
 
 use outside::{Failed, Gate, Outside, Port, Sink};
 use rand_core::utils::NextWord;
@@ -30,7 +31,8 @@ impl Delays {
         }
     }
 
-    // Mostly a short while: of 16 delays one gives the processor to another thread, and the others take up to 2 to 32,768 turns.
+    // Mostly a short while: of 16 delays one gives the processor to another thread, and the others
+    // take up to 2 to 32,768 turns.
     fn wait(&mut self) {
         let kind = self.random.next_word() % 16;
         if kind == 0 {

@@ -33,7 +33,8 @@ fn held_page(alloc: Global, held: Held) -> Result<String, NoMemory> {
     Ok(page)
 }
 
-// What a run begins with of which a call is held: the files of its page, a sink, and where the held call meets the gate.
+// What a run begins with of which a call is held: the files of its page, a sink, and where the held
+// call meets the gate.
 #[derive(Drop)]
 struct Trial {
     files: MemFiles,
@@ -82,7 +83,8 @@ fn run_held_write<R: Threads + Wait + Copy + Send + Sync + 'static>(
     status_on_two(rt, alloc, words, &mut files, &mut out, gate)
 }
 
-/// The status of a page on two threads, of which one call is held until the second reply was given, and that reply's gate until the call was begun.
+/// The status of a page on two threads, of which one call is held until the second reply was given,
+/// and that reply's gate until the call was begun.
 pub fn run_held<R: Threads + Wait + Copy + Send + Sync + 'static>(
     rt: &R,
     alloc: Global,

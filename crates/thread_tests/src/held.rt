@@ -1,14 +1,15 @@
 //! Files, a sink and a gate that hold one another until two threads are at work at once.
 
 ghost use Rattle.std.specs.Prelude.{◌+◌};
-ghost use Rattle.page_tests.specs.Faults.{with_faults};
+ghost use Rattle.thread_tests.specs.Faults.{with_faults};
 
 use crate::meeting::Meeting;
 use outside::{Failed, Gate, Outside, Port, Sink};
 use std::alloc::Global;
 use std::sync::Arc;
 
-/// Files of which the first script's is held, once it is begun, until the second reply was given. Where either gave up, the file can't be read.
+/// Files of which the first script's is held, once it is begun, until the second reply was given.
+/// Where either gave up, the file can't be read.
 #[derive(Drop)]
 pub struct HeldFiles<F: Drop> {
     files: F,
@@ -52,7 +53,8 @@ impl<F: Outside + Drop> Outside for HeldFiles<F> {
     }
 }
 
-/// A sink whose first write is held until the second reply was given. Where either gave up, the write fails.
+/// A sink whose first write is held until the second reply was given. Where either gave up, the
+/// write fails.
 #[derive(Drop)]
 pub struct HeldSink<K: Drop> {
     sink: K,
@@ -98,7 +100,8 @@ impl<K: Sink + Drop> Sink for HeldSink<K> {
     }
 }
 
-/// A gate that holds the parser's side behind its second reply until the call that is held has begun.
+/// A gate that holds the parser's side behind its second reply until the call that is held has
+/// begun.
 #[derive(Drop)]
 pub struct HeldGate(pub Arc<Meeting, Global>);
 

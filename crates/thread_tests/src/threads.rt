@@ -1,5 +1,5 @@
-//! Pages on two threads that hold one another, pages with delays, with helpers and without, and what
-//! the document's side parses itself.
+//! Pages on two threads that hold one another, pages with delays, with helpers and without, and
+//! what the document's side parses itself.
 
 use crate::counting::{count_page, count_pages, long_comment};
 use crate::running::{Sending, run_alone, run_slowly};

@@ -1,6 +1,6 @@
 //! Files of which two hold one another: each until the other's script is begun.
 
-ghost use Rattle.page_tests.specs.Faults.{with_faults};
+ghost use Rattle.thread_tests.specs.Faults.{with_faults};
 
 use outside::{Failed, Outside, Port};
 use std::alloc::Global;
@@ -46,7 +46,8 @@ pub enum Role {
     Second,
 }
 
-/// Files whose scripts are held until the other's are begun. Where that isn't seen they can't be read.
+/// Files whose scripts are held until the other's are begun. Where that isn't seen they can't be
+/// read.
 #[derive(Drop)]
 pub struct PairedFiles<F: Drop> {
     files: F,

@@ -85,7 +85,8 @@ pub fn table_of(alloc: Global) -> Result<Table, NoMemory> {
     }
 }
 
-/// Runs the page over the table on one thread, with the numbers that the command has where its words say nothing of them.
+/// Runs the page over the table on one thread, with the numbers that the command has where its
+/// words say nothing of them.
 pub fn run_in_place<F: Outside, K: Sink>(
     alloc: Global,
     table: &Table,
@@ -94,7 +95,7 @@ pub fn run_in_place<F: Outside, K: Sink>(
 ) -> Result<Status, NoMemory> {
     let path = path_of(alloc, "p")?;
     let folder = path_of(alloc, "d")?;
-    let job = job_of(path, folder, table, 4096, false);
+    let job = job_of(path, folder, table, 4096, 0);
     Ok(status_in_place(alloc, &job, files, out))
 }
 
