@@ -1,8 +1,8 @@
 /* rooms ENTITIES PAGE..: what the calls do with rooms, over pages that aren't refused, and over the
    same as fragments. A room that is one item too small gives SP_NO_ROOM, the exact sizes, and
-   untouched rooms; what stands behind a tree stays; a refusal has its status and writes nothing;
-   four threads at once make the same trees. The archive's list is what sp_entities makes of that
-   JSON file. */
+   untouched rooms; what stands behind a tree stays; a refusal has its status and writes nothing,
+   but of a run what was printed; four threads at once make and print the same. The archive's list
+   is what sp_entities makes of that JSON file. */
 #define _POSIX_C_SOURCE 200809L
 #include "specparse.h"
 #include <pthread.h>
@@ -195,6 +195,105 @@ static void try_entities(const char *path) {
     free(list);
 }
 
+/* ---- runs */
+
+static uint32_t run(const SpScripts *s, uint32_t flags, const char *page, uint8_t *text,
+                    size_t room, size_t *needed) {
+    return sp_run(sp_standard_entities, sp_standard_entities_length, (const uint8_t *)page,
+                  strlen(page), s->rows, s->count, s->bytes, s->length, flags, text, room, needed);
+}
+
+/* The page ends so, and that is printed; into a room that is too small nothing. */
+static void prints(const SpScripts *s, uint32_t flags, const char *page, uint32_t wanted,
+                   const char *printed) {
+    const uint32_t no_room = SP_NO_ROOM;
+    size_t size = strlen(printed), needed;
+    uint8_t *text;
+    for (size_t room = size - 1; room <= size + 1; room++) {
+        int done = room >= size;
+        text = (uint8_t *)marked(room);
+        CHECK(run(s, flags, page, text, room, &needed) == (done ? wanted : no_room));
+        CHECK(needed == size && is_marked(text, done ? size : 0, room + BEHIND));
+        CHECK(!done || !memcmp(text, printed, size));
+        free(text);
+    }
+    CHECK(sp_scripts_run(s, flags, page, strlen(page), &text, &needed) == wanted);
+    CHECK(needed == size && !memcmp(text, printed, size));
+    free(text);
+}
+
+static void no_words(const SpScripts *s, uint32_t flags) {
+    uint8_t room[1] = { MARK }, *text;
+    size_t needed = MARK;
+    CHECK(run(s, flags, "a", room, 1, &needed) == SP_CONTEXT);
+    CHECK(needed == 0 && room[0] == MARK);
+    CHECK(sp_scripts_run(s, flags, "a", 1, &text, &needed) == SP_CONTEXT && !text);
+}
+
+static void add(SpScripts *s, const char *name, const char *text) {
+    CHECK(sp_scripts_add(s, name, text, strlen(text)) == SP_DONE);
+}
+
+/* Scripts that aren't parts of the bytes, that have no name, and flags that there aren't. */
+static void try_words(void) {
+    SpScripts s;
+    memset(&s, 0, sizeof s);
+    add(&s, "s", "");
+    no_words(&s, 2);
+    s.rows[0].value.length++;
+    no_words(&s, 0);
+    s.rows[0].value.length--;
+    s.rows[0].name.start = UINT32_MAX;
+    no_words(&s, SP_DUMP);
+    s.rows[0].name.start = 0;
+    s.bytes[0] = 0xFF;
+    no_words(&s, 0);
+    sp_scripts_free(&s);
+}
+
+/* More is printed than is guessed; without scripts an empty page may be null. */
+static void try_printed(void) {
+    static const char *nothing = "tree \"<html><head></head><body></body></html>\"\n";
+    SpScripts s;
+    uint8_t *text;
+    size_t printed;
+    static const char *read = "console.log(document.documentElement.outerHTML);\n";
+    char reads[10000] = "";
+    for (int i = 0; i < 200; i++) strcat(reads, read);
+    memset(&s, 0, sizeof s);
+    CHECK(sp_scripts_run(&s, 0, NULL, 0, &text, &printed) == SP_DONE);
+    CHECK(printed == strlen(nothing) && !memcmp(text, nothing, printed));
+    free(text);
+    add(&s, "s", reads);
+    CHECK(sp_scripts_run(&s, 0, "<script src=s></script>", 23, &text, &printed) == SP_DONE);
+    CHECK(printed > 10000 && !memcmp(text + printed - 2, "\"\n", 2));
+    free(text);
+    sp_scripts_free(&s);
+}
+
+static void try_runs(void) {
+    static const char *page = "<p>a<script src=s></script>b";
+    char deep[23 + 600 * 3 + 1] = "<script src=t></script>";
+    SpScripts s;
+    for (int i = 0; i < 600; i++) memcpy(deep + 23 + 3 * i, "<i>", 4);
+    memset(&s, 0, sizeof s);
+    add(&s, "s", "document.write(\"x\");");
+    prints(&s, 0, page, SP_DONE,
+           "tree \"<html><head></head><body>"
+           "<p>a<script src=\\\"s\\\"></script>xb</p></body></html>\"\n");
+    add(&s, "s", "document.write(\"<!--y\");");
+    add(&s, "", "document.write(\"z\");");
+    prints(&s, SP_DUMP, page, SP_DONE,
+           "node 0 element \"html\"\nnode 1 element \"head\"\nnode 1 element \"body\"\n"
+           "node 2 element \"p\"\nnode 3 text \"a\"\nnode 3 element \"script\" \"src\" \"s\"\n"
+           "node 3 comment \"yb\"\nend\n");
+    prints(&s, 0, "<script src=t></script>\xff", SP_BAD_UTF8, "miss \"t\"\nrefused bad-utf8\n");
+    prints(&s, SP_DUMP, deep, SP_LIMIT, "miss \"t\"\nrefused depth\n");
+    sp_scripts_free(&s);
+    try_words();
+    try_printed();
+}
+
 /* ---- trees in room of their own */
 
 /* A page whose tree is larger than is guessed is parsed again; an empty one may be null. */
@@ -226,6 +325,7 @@ static SpTree trees[2 * MOST];
 static int count_of_jobs;
 
 static void *make_all(void *unused) {
+    try_runs();
     for (int i = 0; i < count_of_jobs; i++) {
         SpTree t;
         CHECK(tree_of(jobs[i], &t) == SP_DONE && same(&t, &trees[i]));
@@ -244,6 +344,7 @@ int main(int count, char **words) {
     CHECK(count > 1);
     try_entities(words[1]);
     try_refusals();
+    try_runs();
     try_guesses();
     for (int i = 2; i < count && i < MOST + 2; i++) {
         size_t length;

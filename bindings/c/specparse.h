@@ -1,5 +1,6 @@
-/* specparse.h: the tree of a page or of a fragment in the caller's room, and a page's text. Scripts
-   don't run. No call keeps anything; any thread may make one, and as many at once as one likes.
+/* specparse.h: the tree of a page or of a fragment in the caller's room, and a page's text, all
+   without its scripts; and what the command prints of a page that is run with its scripts. No call
+   keeps anything; any thread may make one, and as many at once as one likes.
    For Linux on x86-64, C99 or C++; link bindings/out/libspecparse.a, and nothing else.
 
    What a caller owes: each pointer is that of as many items as the number behind it says, is
@@ -18,9 +19,9 @@ extern "C" {
 
 #define SP_NONE UINT32_MAX /* no node */
 
-/* What a call answers: it is done; there is no such context; the bytes are no list of entities; the
-   page isn't UTF-8; it passes a limit (512 open elements, 1,073,741,824 bytes); want of memory; a
-   room is too small. */
+/* What a call answers: it is done; there is no such context, or no such script; the bytes are no
+   list of entities; the page isn't UTF-8; it passes a limit (512 open elements, 1,073,741,824 bytes
+   of a page, 1,048,576 characters that its scripts write); want of memory; a room is too small. */
 enum {
     SP_DONE = 0, SP_CONTEXT = 2, SP_ENTITIES = 3, SP_BAD_UTF8 = 4, SP_LIMIT = 5,
     SP_NO_MEMORY = 12, SP_NO_ROOM = 13
@@ -87,6 +88,22 @@ uint32_t sp_fragment(const uint8_t *entities, size_t entities_length,
                      SpNode *nodes, size_t nodes_room,
                      SpAttribute *attributes, size_t attributes_room,
                      uint8_t *text, size_t text_room, SpSizes *sizes);
+
+/* Flags of a run: the tree's dump in the place of its text. */
+enum { SP_DUMP = 1 };
+
+/* A page is run with its scripts, as the command does: what it prints, the lines of the scripts and
+   then the tree, of `needed` bytes. A script's `name` and `value`, its text, are parts of `bytes`;
+   of two of one name the later counts, and one that isn't among them is missing. Where the page is
+   refused, SP_BAD_UTF8 or SP_LIMIT, what is printed up to there and the reason are in the room.
+   SP_CONTEXT: a part isn't in the bytes, a name isn't UTF-8, or there are no such flags. At
+   SP_NO_ROOM `needed` says what is needed, and at the statuses left it is 0; nothing was written
+   to the room then. */
+uint32_t sp_run(const uint8_t *entities, size_t entities_length,
+                const uint8_t *page, size_t page_length,
+                const SpAttribute *scripts, size_t scripts_count,
+                const uint8_t *bytes, size_t bytes_length, uint32_t flags,
+                uint8_t *text, size_t text_room, size_t *needed);
 
 /* ---- a tree in room of its own */
 
@@ -172,6 +189,78 @@ static inline const uint8_t *sp_attribute(const SpTree *t, uint32_t n, const cha
         }
     }
     return NULL;
+}
+
+/* ---- a run in room of its own */
+
+/* Scripts under their names. All of it zero is none. */
+typedef struct {
+    SpAttribute *rows;
+    size_t count, rows_room;
+    uint8_t *bytes;
+    size_t length, bytes_room;
+} SpScripts;
+
+static inline void sp_scripts_free(SpScripts *s) {
+    free(s->rows);
+    free(s->bytes);
+    memset(s, 0, sizeof *s);
+}
+
+/* The same items in room for more than `wanted`, or null, at want of memory, when they stay. */
+static inline void *sp_grown(void *items, size_t *room, size_t wanted, size_t size) {
+    if (wanted < *room) return items;
+    void *grown = realloc(items, (wanted + wanted / 2 + 16) * size);
+    if (grown) *room = wanted + wanted / 2 + 16;
+    return grown;
+}
+
+/* Adds a script; of two of one name the later counts. SP_NO_MEMORY, when nothing is added, also
+   where all names and texts have more than 4,294,967,295 bytes. */
+static inline uint32_t sp_scripts_add(SpScripts *s, const char *name, const void *text,
+                                      size_t length) {
+    const size_t most = UINT32_MAX, start = s->length, named = strlen(name);
+    if (named > most - start || length > most - start - named) return SP_NO_MEMORY;
+    SpAttribute *rows = (SpAttribute *)sp_grown(s->rows, &s->rows_room, s->count, sizeof *rows);
+    if (!rows) return SP_NO_MEMORY;
+    s->rows = rows;
+    uint8_t *bytes = (uint8_t *)sp_grown(s->bytes, &s->bytes_room, start + named + length, 1);
+    if (!bytes) return SP_NO_MEMORY;
+    s->bytes = bytes;
+    memcpy(bytes + start, name, named);
+    if (length) memcpy(bytes + start + named, text, length);
+    s->length = start + named + length;
+    rows += s->count++;
+    rows->name.start = (uint32_t)start;
+    rows->name.length = (uint32_t)named;
+    rows->value.start = (uint32_t)(start + named);
+    rows->value.length = (uint32_t)length;
+    return SP_DONE;
+}
+
+/* What sp_run prints of a page with these scripts, of `*printed` bytes, to be freed: at SP_DONE,
+   and where the page is refused, SP_BAD_UTF8 or SP_LIMIT. At another status `*text` is null. Room
+   is guessed, and where that was too small the page is run again. */
+static inline uint32_t sp_scripts_run(const SpScripts *s, uint32_t flags, const void *page,
+                                      size_t length, uint8_t **text, size_t *printed) {
+    const SpAttribute none = { { 0, 0 }, { 0, 0 } };
+    const uint8_t *empty = (const uint8_t *)"";
+    size_t room = length + length / 4 + 4096;
+    for (;;) {
+        uint32_t status = SP_NO_MEMORY;
+        *printed = 0;
+        *text = (uint8_t *)malloc(room + 1);
+        if (*text)
+            status = sp_run(sp_standard_entities, sp_standard_entities_length,
+                            length ? (const uint8_t *)page : empty, length,
+                            s->count ? s->rows : &none, s->count,
+                            s->length ? s->bytes : empty, s->length, flags, *text, room, printed);
+        if (status == SP_DONE || status == SP_BAD_UTF8 || status == SP_LIMIT) return status;
+        free(*text);
+        *text = NULL;
+        if (status != SP_NO_ROOM) return status;
+        room = *printed;
+    }
 }
 
 #ifdef __cplusplus

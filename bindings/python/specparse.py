@@ -4,6 +4,7 @@
     page = specparse.parse(b"<p class=x>a<b>c")
     p = next(node for node in page.descendants() if node.name == "p")
     print(p.attributes, p.text_content())        # {'class': 'x'} ac
+    print(specparse.run(b"<p>a<script src=s></script>", {"s": b'document.write("b");'}))
 
 The shared object is bindings/out/libspecparse.so, or what SPECPARSE_SO names. Other threads of
 Python run while a page is parsed."""
@@ -19,11 +20,12 @@ _REFUSED = {2: "no such context", 4: "not UTF-8", 5: "a limit is passed"}
 
 
 class Refused(ValueError):
-    """There is no tree: the page isn't UTF-8, or passes a limit. `status` says which."""
+    """There is no tree: the page isn't UTF-8, or passes a limit. `status` says which, and `printed`
+    what a run printed up to there."""
 
-    def __init__(self, status):
+    def __init__(self, status, printed=""):
         super().__init__(_REFUSED.get(status, "status %d" % status))
-        self.status = status
+        self.status, self.printed = status, printed
 
 
 class _Sizes(ctypes.Structure):
@@ -38,7 +40,9 @@ def _load():
     library.sp_fragment.argtypes = (
         piece * 2 + [ctypes.c_uint32] * 2 + piece * 4 + [ctypes.POINTER(_Sizes)])
     library.sp_html.argtypes = piece * 3 + [ctypes.POINTER(ctypes.c_size_t)]
-    for call in (library.sp_parse, library.sp_fragment, library.sp_html):
+    library.sp_run.argtypes = (
+        piece * 4 + [ctypes.c_uint32] + piece + [ctypes.POINTER(ctypes.c_size_t)])
+    for call in (library.sp_parse, library.sp_fragment, library.sp_html, library.sp_run):
         call.restype = ctypes.c_uint32
     return library
 
@@ -102,17 +106,50 @@ def fragment(name, source, space="html", html_point=False, in_form=False, quirks
     return _tree(len(source), lambda *rooms: _LIBRARY.sp_fragment(*words, *rooms))
 
 
-def html(page):
-    """The HTML of a page's tree."""
-    page, needed = _bytes(page), ctypes.c_size_t(0)
-    needed.value = len(page) + len(page) // 4 + 256
+def _text(guess, call):
+    """What a call fills of its room, and its status."""
+    needed = ctypes.c_size_t(guess)
     while True:
         text = _room(needed.value + 1)
-        status = _LIBRARY.sp_html(*_ENTITIES, *_given(page), text, needed.value,
-                                  ctypes.byref(needed))
+        status = call(text, needed.value, ctypes.byref(needed))
         if status != 13:
-            _check(status)
-            return bytes(memoryview(text)[: needed.value]).decode()
+            return bytes(memoryview(text)[: needed.value]).decode(), status
+
+
+def html(page):
+    """The HTML of a page's tree."""
+    page = _bytes(page)
+    text, status = _text(len(page) + len(page) // 4 + 256,
+                         lambda *room: _LIBRARY.sp_html(*_ENTITIES, *_given(page), *room))
+    _check(status)
+    return text
+
+
+def _laid(scripts):
+    """Rows of four numbers, and the bytes of which they say the parts."""
+    rows, laid = [], bytearray()
+    for part in (_bytes(part) for script in scripts.items() for part in script):
+        rows += [len(laid), len(part)]
+        laid += part
+    if len(laid) > _NONE:
+        raise MemoryError
+    # One row more, so that no pointer is null.
+    return (ctypes.c_uint32 * (len(rows) + 4))(*rows), bytes(laid)
+
+
+def run(page, scripts=(), dump=False):
+    """Runs a page with its scripts, as the command does, and gives what it prints: a line for what
+    each script read, and then the tree's text, or its dump. `scripts` is a dict of names and texts;
+    one that isn't among them is missing."""
+    page, scripts = _bytes(page), dict(scripts)
+    rows, laid = _laid(scripts)
+    words = *_ENTITIES, *_given(page), rows, len(scripts), *_given(laid), bool(dump)
+    text, status = _text(len(page) + len(page) // 4 + 4096,
+                         lambda *room: _LIBRARY.sp_run(*words, *room))
+    if status in (4, 5):
+        raise Refused(status, text)
+    _check(status)
+    return text
 
 
 class Document:

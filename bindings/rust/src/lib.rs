@@ -7,6 +7,10 @@
 //! assert_eq!(p.text_content(), "ac");
 //! assert_eq!(specparse::html("a&lt;").unwrap(), "<html><head></head><body>a&lt;</body></html>");
 //! assert_eq!(specparse::Document::parse(b"\xFF").unwrap_err(), specparse::Error::BadUtf8);
+//!
+//! let (page, script) = ("<p>a<script src=s></script>c", b"document.write(\"b\");");
+//! let ran = specparse::run(page, &[("s", script)], specparse::Show::Dump).unwrap();
+//! assert!(ran.printed.ends_with("node 3 text \"bc\"\nend\n") && ran.refused.is_none());
 //! ```
 #![deny(missing_docs)]
 
@@ -24,9 +28,10 @@ pub enum Error {
     Context,
     /// The page isn't UTF-8.
     BadUtf8,
-    /// More than 512 open elements, or a page of more than 1,073,741,824 bytes.
+    /// More than 512 open elements, a page of more than 1,073,741,824 bytes, or more than 1,048,576
+    /// characters that scripts wrote.
     Limit,
-    /// Want of memory, or a tree that 32 bits can't number.
+    /// Want of memory, or a tree, or texts of scripts, that 32 bits can't number.
     NoMemory,
 }
 
@@ -276,4 +281,29 @@ impl<'a> Node<'a> {
 /// The HTML of a page's tree.
 pub fn html(page: impl AsRef<[u8]>) -> Result<String, Error> {
     raw::html(page.as_ref())
+}
+
+/// What is printed of a page's tree.
+#[derive(Clone, Copy, Debug, PartialEq, Eq)]
+pub enum Show {
+    /// Its text, as a JSON string.
+    Text,
+    /// A line for each node.
+    Dump,
+}
+
+/// A page that was run with its scripts.
+#[derive(Clone, Debug, PartialEq, Eq)]
+pub struct Ran {
+    /// What the command prints: a line for what each script read, and then the tree, or why the
+    /// page is refused.
+    pub printed: String,
+    /// `BadUtf8` or `Limit`, where the page is refused.
+    pub refused: Option<Error>,
+}
+
+/// Runs a page with its scripts, as the command does: names and texts, of two of one name the
+/// later; one that isn't among them is missing.
+pub fn run(page: impl AsRef<[u8]>, scripts: &[(&str, &[u8])], show: Show) -> Result<Ran, Error> {
+    raw::run(page.as_ref(), scripts, show)
 }

@@ -1,6 +1,6 @@
 //! The calls of the static library.
 
-use crate::{Context, Error};
+use crate::{Context, Error, Ran, Show};
 use std::ptr::addr_of;
 use std::slice;
 
@@ -63,6 +63,11 @@ extern "C" {
     fn sp_html(
         entities: *const u8, entities_length: usize, page: *const u8, page_length: usize,
         text: *mut u8, text_room: usize, needed: *mut usize,
+    ) -> u32;
+    fn sp_run(
+        entities: *const u8, entities_length: usize, page: *const u8, page_length: usize,
+        scripts: *const Attribute, scripts_count: usize, bytes: *const u8, bytes_length: usize,
+        flags: u32, text: *mut u8, text_room: usize, needed: *mut usize,
     ) -> u32;
 }
 
@@ -166,26 +171,69 @@ impl Rooms {
     }
 }
 
-pub fn html(page: &[u8]) -> Result<String, Error> {
-    let (list, mut needed) = (entities(), page.len() + page.len() / 4 + 256);
+/// Makes room of a guessed size, and once more where it was too small; what a call fills of it,
+/// as text, and its status, where that is one of these.
+fn text(
+    guess: usize,
+    full: &[u32],
+    call: impl Fn(&mut Vec<u8>, &mut usize) -> u32,
+) -> Result<(String, u32), Error> {
+    let mut needed = guess;
     loop {
         let mut text = room(needed)?;
-        // SAFETY: as above; at 0 so many bytes were written to the room's front.
-        #[rustfmt::skip]
-        let status = unsafe {
-            let status = sp_html(
-                list.as_ptr(), list.len(), page.as_ptr(), page.len(),
-                text.as_mut_ptr(), text.capacity(), &mut needed,
-            );
-            if status == 0 {
-                text.set_len(needed);
-            }
-            status
-        };
-        match status {
-            0 => return String::from_utf8(text).map_err(|_| Error::NoMemory),
+        match call(&mut text, &mut needed) {
             13 => {}
+            status if full.contains(&status) => {
+                // SAFETY: at these the call has written so many bytes to the room's front: so its
+                // clause says.
+                unsafe { text.set_len(needed) };
+                let text = String::from_utf8(text).map_err(|_| Error::NoMemory)?;
+                return Ok((text, status));
+            }
             status => return Err(error(status)),
         }
     }
+}
+
+pub fn html(page: &[u8]) -> Result<String, Error> {
+    let list = entities();
+    // SAFETY: as above.
+    #[rustfmt::skip]
+    let call = |text: &mut Vec<u8>, needed: &mut usize| unsafe {
+        sp_html(
+            list.as_ptr(), list.len(), page.as_ptr(), page.len(),
+            text.as_mut_ptr(), text.capacity(), needed,
+        )
+    };
+    Ok(text(page.len() + page.len() / 4 + 256, &[0], call)?.0)
+}
+
+/// Lays a text behind the others.
+fn put(bytes: &mut Vec<u8>, text: &[u8]) -> Result<Span, Error> {
+    let start = u32::try_from(bytes.len()).map_err(|_| Error::NoMemory)?;
+    let length = u32::try_from(text.len()).map_err(|_| Error::NoMemory)?;
+    bytes.try_reserve(text.len()).map_err(|_| Error::NoMemory)?;
+    bytes.extend_from_slice(text);
+    Ok(Span { start, length })
+}
+
+pub fn run(page: &[u8], scripts: &[(&str, &[u8])], show: Show) -> Result<Ran, Error> {
+    let (list, flags) = (entities(), show as u32);
+    let (mut rows, mut bytes) = (room(scripts.len())?, Vec::new());
+    for (name, text) in scripts {
+        let (name, value) = (put(&mut bytes, name.as_bytes())?, put(&mut bytes, text)?);
+        rows.push(Attribute { name, value });
+    }
+    // SAFETY: as above.
+    #[rustfmt::skip]
+    let call = |text: &mut Vec<u8>, needed: &mut usize| unsafe {
+        sp_run(
+            list.as_ptr(), list.len(), page.as_ptr(), page.len(),
+            rows.as_ptr(), rows.len(), bytes.as_ptr(), bytes.len(), flags,
+            text.as_mut_ptr(), text.capacity(), needed,
+        )
+    };
+    let (printed, status) = text(page.len() + page.len() / 4 + 4096, &[0, 4, 5], call)?;
+    let refused = (status != 0).then(|| error(status));
+    Ok(Ran { printed, refused })
 }

@@ -2,3 +2,4 @@ mod Failures
 mod Laying
 mod Calls
 mod Prepared
+mod RunLemmas

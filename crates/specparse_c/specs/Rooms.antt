@@ -8,7 +8,8 @@ use Rattle.html_document.specs.Flat.{Shows, node_attributes, node_bytes}
 use Rattle.specparse_c.specs.declared.failure.Failure.{Failure}
 use Rattle.specparse_c.specs.declared.results.Rooted.{Rooted}
 use Rattle.specparse_c.specs.declared.rooms.SpSizes.{SpSizes}
-use Rattle.specparse_c.specs.Statuses.{status_of}
+use Rattle.memory_runner.specs.declared.running.Ran.{Ran}
+use Rattle.specparse_c.specs.Statuses.{status_of, status_told}
 
 abbrev pub no_sizes : SpSizes
 no_sizes = record { nodes = 0; attributes = 0; text = 0; root = 0 }
@@ -45,6 +46,11 @@ pub record Keeps (status : ℕ) (s : SpSizes) (ns new_ns : List FlatNode) (as' n
   pub nodes : status ≢ 0 → new_ns ≡ ns
   pub attributes : status ≢ 0 → new_as ≡ as'
   pub text : status ≢ 0 → new_bs ≡ bs
+
+-- The same of what a run prints, which stands there where the status is 0, 4 or 5.
+pub record KeepsRun (status needed : ℕ) (bs new_bs : List ℕ) : Type 0 where
+  pub behind : drop needed new_bs ≡ drop needed bs
+  pub all : status ≢ 0 → status ≢ 4 → status ≢ 5 → new_bs ≡ bs
 
 pub record KeepsBytes (status needed : ℕ) (bs new_bs : List ℕ) : Type 0 where
   pub behind : status ≡ 0 → drop needed new_bs ≡ drop needed bs
@@ -87,3 +93,11 @@ items_of v = v.items
 
 abbrev pub GivesPrepared : Result (Vec ℕ Global) Failure → ℕ → ℕ → (bs new_bs : List ℕ) → Type 0
 GivesPrepared prepared status needed bs new_bs = GivesMade items_of prepared status needed bs new_bs
+
+abbrev pub GivesPrinted : Ran → ℕ → ℕ → (bs new_bs : List ℕ) → Type 0
+GivesPrinted ran status needed bs new_bs = (needed ≡ length ran.text.items)
+    × (((status ≡ status_told ran.outcome) × (new_bs ≡ ran.text.items ++ drop needed bs)) ⊎ ((status ≡ 13) × (length bs < needed) × (new_bs ≡ bs)))
+
+abbrev pub GivesRun : Result Ran Failure → ℕ → ℕ → (bs new_bs : List ℕ) → Type 0
+GivesRun (Ok ran) status needed bs new_bs = GivesPrinted ran status needed bs new_bs
+GivesRun (Err f) status needed bs new_bs = (status ≡ status_of f) × (needed ≡ 0) × (new_bs ≡ bs)

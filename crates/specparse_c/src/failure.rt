@@ -43,8 +43,8 @@ impl Failure {
         }
     }
 
-    // That its parse is refused for that.
-    fn by(why: Why) -> Failure
+    /// That its parse is refused for that.
+    pub fn by(why: Why) -> Failure
         ensures { result ≡ failure_by why }
     {
         match why {

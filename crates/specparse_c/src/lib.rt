@@ -4,12 +4,14 @@
 #![tactic(auto)]
 
 ghost use Rattle.std.specs.Prelude.{◌≡◌, ◌≢◌, ◌∷◌, [], Contains};
-ghost use Rattle.specparse_c.specs.Rooms.{no_sizes, Keeps, KeepsBytes};
+ghost use Rattle.specparse_c.specs.Rooms.{no_sizes, Keeps, KeepsBytes, KeepsRun};
+ghost use Rattle.specparse_c.specs.Runs.{PrintsAll, PrintsBad, PrintsLimit, LacksPrintRoom, AreNoWords};
 ghost use Rattle.specparse_c.specs.Calls.{HasPage, HasText, HasFragment, LacksRoom, LacksTextRoom, LacksFragmentRoom, NoEntities, IsBadUtf8, IsLimit, IsNoText, IsDeep, IsNoContext, HasEntities, LacksEntitiesRoom};
 
 mod failure;
 mod results;
 mod rooms;
+mod running;
 
 use html_document::{FlatAttribute, FlatNode};
 pub use rooms::SpSizes;
@@ -120,4 +122,37 @@ pub extern "C" fn sp_fragment(
 {
     let tree = results::fragment(alloc, entities, name, space, flags, source);
     rooms::give(tree, nodes, attributes, text, sizes)
+}
+
+/// Runs a page with its scripts, as the command does, and fills the front of `text` with what the
+/// command prints: the lines of the scripts, and the tree's text, or its dump where `flags` is 1. A
+/// script is a name and a text in `bytes`; of several of one name the last counts. Where the page
+/// is refused, 4 or 5, what is printed up to there stands in the room.
+#[unsafe(no_mangle)]
+pub extern "C" fn sp_run(
+    alloc: Global,
+    entities: &[u8],
+    page: &[u8],
+    scripts: &[FlatAttribute],
+    bytes: &[u8],
+    flags: u32,
+    text: &mut [u8],
+    needed: &mut usize,
+) -> u32
+    ensures done { result ≡ 0 → PrintsAll entities.now page.now bytes.now scripts.now flags
+        needed.new text.new }
+    ensures bad_utf8 { result ≡ 4 → PrintsBad entities.now page.now bytes.now scripts.now flags
+        needed.new text.new }
+    ensures limit { result ≡ 5 → PrintsLimit entities.now page.now bytes.now scripts.now flags
+        needed.new text.new }
+    ensures no_room { result ≡ 13 → LacksPrintRoom entities.now page.now bytes.now scripts.now
+        flags needed.new text.old }
+    ensures no_words { result ≡ 2 → AreNoWords bytes.now scripts.now flags }
+    ensures no_entities { result ≡ 3 → NoEntities entities.now }
+    ensures statuses { Contains (0 ∷ 2 ∷ 3 ∷ 4 ∷ 5 ∷ 12 ∷ 13 ∷ []) result }
+    ensures no_text { result ≢ 0 → result ≢ 4 → result ≢ 5 → result ≢ 13 → needed.new ≡ 0 }
+    ensures kept { KeepsRun result needed.new text.old text.new }
+{
+    let printed = running::ran(alloc, entities, page, scripts, bytes, flags);
+    rooms::give_run(printed, text, needed)
 }

@@ -43,7 +43,7 @@ fn table_in(alloc: Global, entities: &[u8]) -> Result<Table, TableFault>
     }
 }
 
-fn table_of(alloc: Global, entities: &[u8]) -> Result<Table, Failure>
+pub(crate) fn table_of(alloc: Global, entities: &[u8]) -> Result<Table, Failure>
     ensures table { IfOk result (λ t. entities_in entities.now ≡ Some t) }
     ensures failure { IfErr result (λ f. FailsAtTable entities.now f) }
 {
@@ -130,7 +130,7 @@ fn name_in(alloc: Global, space: Space, name: &str) -> Result<Name, NoMemory>
 }
 
 // The text of the bytes, where they are UTF-8.
-fn text_in(bytes: &[u8]) -> Option<&str>
+pub(crate) fn text_in(bytes: &[u8]) -> Option<&str>
     ensures { MatchOption result (IsUtf8 bytes.now → ⊥)
         (λ text. (text.now ≡ bytes.now) × IsUtf8 bytes.now) }
 {

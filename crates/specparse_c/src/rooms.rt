@@ -1,12 +1,15 @@
 //! The caller's room.
 
 ghost use Rattle.std.specs.Prelude.{◌≡◌, ◌≤◌, ◌++◌, length, drop};
-ghost use Rattle.specparse_c.specs.Rooms.{sizes_of, no_sizes, lacks, Gives, GivesTree, GivesText, GivesPrepared, GivesBytes};
+ghost use Rattle.specparse_c.specs.Rooms.{sizes_of, no_sizes, lacks, Gives, GivesTree, GivesText, GivesPrepared, GivesBytes, GivesPrinted, GivesRun};
+ghost use Rattle.specparse_c.specs.Statuses.{status_told};
 
 use crate::failure::Failure;
 use crate::results::Rooted;
 use html_document::{Flat, FlatAttribute, FlatNode};
 use html_types::Text;
+use memory_runner::Ran;
+use page_turns::Outcome;
 
 /// How much room a tree takes: numbers of nodes and of attributes, and bytes of text. What was
 /// parsed stands under the node `root`: a page's Document is 0.
@@ -155,4 +158,40 @@ pub fn give_prepared(prepared: Result<Vec<u8>, Failure>, room: &mut [u8], needed
             failure.status()
         }
     }
+}
+
+fn told(outcome: Outcome) -> u32
+    ensures { result ≡ status_told outcome }
+{
+    match outcome {
+        Outcome::Finished => 0,
+        Outcome::Refused(why) => Failure::by(why).status(),
+    }
+}
+
+/// Lays what was printed of a page into the room where that is large enough, and says how much it
+/// takes; or why there is nothing.
+pub fn give_run(ran: Result<Ran, Failure>, text: &mut [u8], needed: &mut usize) -> u32
+    ensures { GivesRun ran result needed.new text.old text.new }
+{
+    match ran {
+        Ok(ran) => give_printed(&ran, text, needed),
+        Err(failure) => {
+            *needed = 0;
+            failure.status()
+        }
+    }
+}
+
+fn give_printed(ran: &Ran, text: &mut [u8], needed: &mut usize) -> u32
+    ensures { GivesPrinted ran.now result needed.new text.old text.new }
+{
+    let bytes = ran.text.as_slice();
+    *needed = bytes.len();
+    let lacks = text.len() < bytes.len();
+    if lacks {
+        return 13;
+    }
+    fill(text, bytes);
+    told(ran.outcome)
 }
