@@ -256,7 +256,6 @@ fn tell<E: InForce>(alloc: Global, pair: &mut Pair<E>, counts: Counts) -> Result
     })
 }
 
-// Both sides stand in the caller, so that they are let go in one place alone.
 fn run_pair<E: InForce>(
     alloc: Global,
     pair: &mut Pair<E>,
@@ -272,6 +271,10 @@ fn run_pair<E: InForce>(
     tell(alloc, pair, counts)
 }
 
+// Lets a value go. Where both sides end in the function that has them, its proof spells out all of
+// their parts; here they are those of the type, once.
+fn let_go<T: Drop>(_value: T) {}
+
 fn run_in_force<E: InForce>(
     alloc: Global,
     table: &Table,
@@ -281,7 +284,9 @@ fn run_in_force<E: InForce>(
     requires { table.now ≡ E.entities }
 {
     let mut pair = begin::<E>(alloc, table, page)?;
-    run_pair(alloc, &mut pair, order)
+    let told = run_pair(alloc, &mut pair, order);
+    let_go(pair);
+    told
 }
 
 /// Runs a page until no event is enabled, each time taking the next event of `order`, behind whose last the first comes again, or where that one

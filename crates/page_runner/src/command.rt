@@ -14,6 +14,7 @@ ghost use Rattle.page_runner.specs.Answers.{status_for, table_of, is_finished, f
 
 use crate::making::run_make;
 use crate::on_two::page_on_two;
+use crate::running::let_go;
 use crate::status::{Limit, Status};
 use command_words::{CommandWords, PageWords, Refused, read_words};
 use core_steps::Fetch;
@@ -153,7 +154,10 @@ fn by_table<
     ensures clean { IsTrue (is_finished result) → IsTrue (K.clean out.new) }
     ensures helpers { HelpersBack job.now.preload (map F.seen helpers.old.items) (map F.seen helpers.new.items) }
 {
-    page_on_two::<R, E, F, K, G>(rt, alloc, job, files, out, gate, helpers).outcome
+    let report = page_on_two::<R, E, F, K, G>(rt, alloc, job, files, out, gate, helpers);
+    let outcome = report.outcome;
+    let_go(report);
+    outcome
 }
 
 // Runs the page over the table.

@@ -12,6 +12,7 @@ use crate::command::status_for;
 use crate::nowhere::Nowhere;
 use crate::on_two::page_on_two;
 use crate::report::Report;
+use crate::running::let_go;
 use crate::status::Status;
 use command_words::MakeWords;
 use core_steps::Tally;
@@ -176,7 +177,9 @@ fn parse_made<
         gate,
         &mut helpers,
     );
-    run_of(&report)
+    let run = run_of(&report);
+    let_go(report);
+    run
 }
 
 // The table of a file that lists no entity.

@@ -14,7 +14,7 @@ ghost use Rattle.page_runner.specs.OnTwo.{IfBoth, InOrder, IsAnswered, IsJournal
 
 use crate::command::end_at_fault;
 use crate::report::Report;
-use crate::running::{begin_run, run_with};
+use crate::running::{begin_run, let_go, run_with};
 use crate::status::Status;
 use core_steps::DocSide;
 use entity_table::Table;
@@ -163,8 +163,13 @@ fn begin_on_two<
     ensures first { IfOk result (λ begun. (begun.2.ask.put ≡ []) × (begun.2.replies.taken ≡ [])) }
 {
     let (room, side) = begin_run(alloc, job)?;
-    let running = start::<R, E, G>(rt, alloc, job.table, job.ahead, gate)?;
-    Ok((room, side, running))
+    match start::<R, E, G>(rt, alloc, job.table, job.ahead, gate) {
+        Ok(running) => Ok((room, side, running)),
+        Err(NoMemory) => {
+            let_go(side);
+            Err(NoMemory)
+        }
+    }
 }
 
 // Runs the page that was begun, and then has the parser's side stop.
@@ -218,6 +223,7 @@ fn run_on_two<
     };
     let mut lanes = OverLanes::new(rt, running);
     let Ok(mut early) = Fetchers::start(rt, alloc, job.dir.as_str(), job.preload, helpers) else {
+        let_go(side);
         return without_fetchers(alloc, lanes.finish());
     };
     let outcome = run_with::<E, _, _, F, K>(

@@ -20,6 +20,11 @@ use page_turns::{Counterpart, Job, Prefetch, parse_page};
 use speculation::InForce;
 use std::alloc::Global;
 
+/// Lets a value go. Where a document's side ends in the function that has it, the proof of that
+/// function spells out all of its parts, which takes minutes; here they are those of its type,
+/// once.
+pub(crate) fn let_go<T: Drop>(_value: T) {}
+
 // Parses the page that was begun, and writes what comes of it.
 pub(crate) fn run_with<E: InForce, L: Counterpart<E>, P: Prefetch<E>, F: Outside, K: Sink>(
     alloc: Global,

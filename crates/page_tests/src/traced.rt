@@ -4,7 +4,7 @@ ghost use Rattle.std.specs.Prelude.{◌≡◌, ◌<◌, ◌≤◌, [], None, IfO
 ghost use Rattle.core_steps.specs.Sides.{first_shown};
 ghost use Rattle.page_turns.specs.Turns.{no_load};
 
-use crate::calls::path_of;
+use crate::calls::{let_go, path_of};
 use crate::exchange::{Noted, Notes, note_all};
 use crate::trace::{Row, rows_of};
 use core_steps::{DocSide, Fetch};
@@ -180,7 +180,9 @@ fn run_noted<E: InForce, L: Counterpart<E> + Drop, F: Outside>(
     requires some { 0 < job.now.ahead }
     requires few { job.now.ahead ≤ 64 }
 {
-    rows_of_parse::<E, L, F>(alloc, job, files, &mut side, &mut noted, &mut room)
+    let rows = rows_of_parse::<E, L, F>(alloc, job, files, &mut side, &mut noted, &mut room);
+    let_go(side);
+    rows
 }
 
 // Runs the page that was begun, with this counterpart. Its lines go nowhere.

@@ -45,6 +45,11 @@ pub fn job_of<'a>(
     }
 }
 
+/// Lets a value go. Where a document's side ends in the function that has it, the proof of that
+/// function spells out all of its parts, which takes minutes; here they are those of its type,
+/// once.
+pub fn let_go<T: Drop>(_value: T) {}
+
 /// A path, as a job has it.
 pub fn path_of(alloc: Global, path: &str) -> Result<String, NoMemory> {
     Ok(String::from_str(alloc, path)?)
@@ -96,7 +101,10 @@ pub fn status_in_place<F: Outside, K: Sink>(
     requires piece { (0 < job.now.piece) × (job.now.piece ≤ 65536) }
     requires ahead { (0 < job.now.ahead) × (job.now.ahead ≤ 64) }
 {
-    page_in_place(alloc, job, files, out).outcome
+    let report = page_in_place(alloc, job, files, out);
+    let status = report.outcome;
+    let_go(report);
+    status
 }
 
 /// Runs the page on two threads, with these helpers and with the entities in force.

@@ -2,7 +2,7 @@
 
 ghost use Rattle.std.specs.Prelude.{◌≡◌, ◌<◌, ◌≤◌, [], IfOk};
 
-use crate::calls::{job_of, path_of, report_on_two};
+use crate::calls::{job_of, let_go, path_of, report_on_two};
 use crate::running::{ROOM, files_of};
 use entity_table::Table;
 use html_types::NoMemory;
@@ -38,7 +38,7 @@ fn count_of<E: InForce>(report: &Report<E>) -> Option<Count> {
     }
 }
 
-// What the run comes to. Of what it needs nothing is dropped here: what it promises is long.
+// What the run comes to. Of what it needs nothing is dropped here.
 fn count_of_run<R: Threads + Wait + Copy + Send + Sync + 'static, E: InForce + Send + 'static>(
     rt: &R,
     alloc: Global,
@@ -52,7 +52,9 @@ fn count_of_run<R: Threads + Wait + Copy + Send + Sync + 'static, E: InForce + S
     requires ahead { (0 < job.now.ahead) × (job.now.ahead ≤ 64) }
 {
     let report = report_on_two::<R, E, _, _, OpenGate>(rt, alloc, job, files, sink, gate);
-    count_of(&report)
+    let count = count_of(&report);
+    let_go(report);
+    count
 }
 
 // Runs the page, the entities of the table being those in force.

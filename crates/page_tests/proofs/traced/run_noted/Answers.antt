@@ -1,7 +1,7 @@
 use Rattle.page_tests.proofs.traced.run_noted.Goals as goal
 
-pub rows_of_parse-requires : goal.rows_of_parse-requires
-rows_of_parse-requires g c = record {
+pub rows_of_parse-rows-requires : goal.rows_of_parse-rows-requires
+rows_of_parse-rows-requires g c = record {
   table = c.requires.table;
   first = c.requires.first;
   load = c.requires.load;
