@@ -3,7 +3,7 @@ use Rattle.std.proofs.Common.{◌≡◌, true, false, [], ◌∷◌, Some, None,
 use Rattle.std.specs.Str.{chars}
 use Rattle.clap.specs.Faults.{walk_fault, flags_fault, defaults_fault}
 use Rattle.clap.specs.Walk.{walked}
-use Rattle.command_words.specs.Words.{for_page, for_make, asked}
+use Rattle.command_words.specs.Words.{for_page, for_make, for_batch, asked}
 
 plain : asked (codes "specparse" ∷ codes "page" ∷ codes "p" ∷ codes "d" ∷ codes "e" ∷ [])
     ≡ Some (for_page (record { page = codes "p"; dir = codes "d"; entities = codes "e"; piece = 4096; ahead = 8; preload = 0; dump = false }))
@@ -108,3 +108,19 @@ another_command = refl
 no_command : asked (codes "specparse" ∷ []) ≡ None
 unfolding walk_fault walked defaults_fault
 no_command = refl
+
+a_list : asked (codes "specparse" ∷ codes "batch" ∷ codes "l" ∷ codes "d" ∷ codes "e" ∷ []) ≡ Some (for_batch (record { list = codes "l"; dir = codes "d"; entities = codes "e" }))
+unfolding walk_fault walked defaults_fault
+a_list = refl
+
+no_list : asked (codes "specparse" ∷ codes "batch" ∷ codes "d" ∷ codes "e" ∷ []) ≡ None
+unfolding walk_fault walked defaults_fault
+no_list = refl
+
+a_dump_of_a_list : asked (codes "specparse" ∷ codes "batch" ∷ codes "--dump" ∷ codes "l" ∷ codes "d" ∷ codes "e" ∷ []) ≡ None
+unfolding walk_fault walked defaults_fault
+a_dump_of_a_list = refl
+
+too_many_words : asked (codes "specparse" ∷ codes "batch" ∷ codes "l" ∷ codes "d" ∷ codes "e" ∷ codes "f" ∷ []) ≡ None
+unfolding walk_fault walked defaults_fault
+too_many_words = refl

@@ -14,6 +14,7 @@ use Rattle.clap.specs.declared.builder.action.ArgAction.TheVariants as actions
 use Rattle.clap.specs.declared.builder.value_parser.ValueParser.TheVariants as parsers
 use Rattle.command_words.specs.declared.words.PageWords.{PageWords}
 use Rattle.command_words.specs.declared.words.MakeWords.{MakeWords}
+use Rattle.command_words.specs.declared.words.BatchWords.{BatchWords}
 use Rattle.command_words.specs.declared.words.CommandWords.{CommandWords}
 use Rattle.command_words.specs.declared.words.CommandWords.TheVariants as words
 
@@ -49,8 +50,16 @@ make_command = with_rule (with_rule (new_app (codes "make"))
     (required_number (codes "NUMBER") 0 2147483647))
     (required_number (codes "COUNT") 1 50000)
 
+-- batch LIST DIR ENTITIES
+abbrev pub batch_command : App
+batch_command = with_rule (with_rule (with_rule (new_app (codes "batch"))
+    (required (codes "LIST")))
+    (required (codes "DIR")))
+    (required (codes "ENTITIES"))
+
 abbrev pub specparse : App
-specparse = with_subcommand (with_subcommand (on_top (λ s. record s { subcommand_required = true }) (new_app (codes "specparse"))) page_command.top) make_command.top
+specparse = with_subcommand (with_subcommand (with_subcommand (on_top (λ s. record s { subcommand_required = true }) (new_app (codes "specparse")))
+    page_command.top) make_command.top) batch_command.top
 
 -- the words, the program's name first, are in the grammar
 abbrev pub AreInGrammar : List Text → Type 0
@@ -84,10 +93,17 @@ pub record PageAsked : Type 0 where
   pub preload : ℕ
   pub dump : Bool
 
--- what the words ask for: that a page is parsed, or that one is made
+-- what the words of the command `batch` ask for
+pub record BatchAsked : Type 0 where
+  pub list : List ℕ
+  pub dir : List ℕ
+  pub entities : List ℕ
+
+-- what the words ask for: that a page is parsed, that one is made, or that the pages of a list are parsed
 pub data Asked : Type 0 where
   for_page : PageAsked → Asked
   for_make : MakeWords → Asked
+  for_batch : BatchAsked → Asked
 
 abbrev pub page_asked : Option (Text × List Row) → PageAsked
 page_asked sub = record {
@@ -106,13 +122,25 @@ make_asked sub = record {
   count = number_from 1 50000 1 (value_of (codes "COUNT") sub);
 }
 
+abbrev pub batch_asked : Option (Text × List Row) → BatchAsked
+batch_asked sub = record {
+  list = text_from (value_of (codes "LIST") sub);
+  dir = text_from (value_of (codes "DIR") sub);
+  entities = text_from (value_of (codes "ENTITIES") sub);
+}
+
 -- whether the command `make` is named
 abbrev pub is_make : Option (Text × List Row) → Bool
 is_make None = false
 is_make (Some sub) = bytes_eq sub.0 (codes "make")
 
+-- whether the command `batch` is named
+abbrev pub is_batch : Option (Text × List Row) → Bool
+is_batch None = false
+is_batch (Some sub) = bytes_eq sub.0 (codes "batch")
+
 abbrev pub asked_by : Option (Text × List Row) → Asked
-asked_by sub = if is_make sub then for_make (make_asked sub) else for_page (page_asked sub)
+asked_by sub = if is_make sub then for_make (make_asked sub) else (if is_batch sub then for_batch (batch_asked sub) else for_page (page_asked sub))
 
 abbrev pub where_none : {A : Type 0} → Kinds → A → Option A
 where_none [] a = Some a
@@ -133,11 +161,16 @@ shown read = record {
   dump = read.dump;
 }
 
+abbrev pub batch_shown : BatchWords → BatchAsked
+batch_shown read = record { list = string_bytes read.list; dir = string_bytes read.dir; entities = string_bytes read.entities }
+
 abbrev pub asked_for : CommandWords → Asked
 asked_for (words.Page read) = for_page (shown read)
 asked_for (words.Make read) = for_make read
+asked_for (words.Batch read) = for_batch (batch_shown read)
 
 -- the numbers are those that the grammar takes
 abbrev pub AreWithin : CommandWords → Type 0
 AreWithin (words.Page read) = (1 ≤ read.piece) × (read.piece ≤ 65536) × (1 ≤ read.ahead) × (read.ahead ≤ 64) × (read.preload ≤ 8)
 AreWithin (words.Make read) = (read.number < 2 ^ 31) × (1 ≤ read.count) × (read.count ≤ 50000)
+AreWithin (words.Batch read) = Unit {0}

@@ -3,4 +3,4 @@
 
 mod words;
 
-pub use words::{CommandWords, MakeWords, PageWords, Refused, read_words};
+pub use words::{BatchWords, CommandWords, MakeWords, PageWords, Refused, read_words};

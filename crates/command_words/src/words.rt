@@ -5,7 +5,7 @@ ghost use Rattle.std.specs.Prelude.{◌≡◌, ◌≤◌, ◌<◌, ◌^◌, [], 
 ghost use Rattle.std.specs.String.{string_bytes};
 ghost use Rattle.clap.specs.Words.{app_of, rule_of};
 ghost use Rattle.clap.specs.declared.builder.command.Command.TheViews.{out-Command as fields_of};
-ghost use Rattle.command_words.specs.Words.{number_option, flag, required, required_number, page_command, make_command, specparse, AreInGrammar, value_of, text_from, number_from, flag_from, is_make, page_asked, make_asked, asked, shown, asked_for, AreWithin};
+ghost use Rattle.command_words.specs.Words.{number_option, flag, required, required_number, page_command, make_command, batch_command, specparse, AreInGrammar, value_of, text_from, number_from, flag_from, is_make, is_batch, page_asked, make_asked, batch_asked, asked, shown, batch_shown, asked_for, AreWithin};
 
 use clap::builder::ValueParser;
 use clap::error::ErrorKind;
@@ -19,6 +19,8 @@ pub enum CommandWords {
     Page(PageWords),
     /// The command `make`.
     Make(MakeWords),
+    /// The command `batch`.
+    Batch(BatchWords),
 }
 
 /// What the words of the command `page` ask for.
@@ -47,6 +49,17 @@ pub struct MakeWords {
     pub number: u32,
     /// How many items there are: 1 to 50,000.
     pub count: u32,
+}
+
+/// What the words of the command `batch` ask for: the pages of a list.
+#[derive(Drop)]
+pub struct BatchWords {
+    /// The list's path.
+    pub list: String,
+    /// The path of the scripts' folder.
+    pub dir: String,
+    /// The path of the entities file.
+    pub entities: String,
 }
 
 /// Why the words weren't read.
@@ -120,15 +133,26 @@ fn make_command<'a>(alloc: Global) -> Result<Command<'a>, AllocError>
         .arg(required_number(alloc, "COUNT", 1, 50_000))
 }
 
+fn batch_command<'a>(alloc: Global) -> Result<Command<'a>, AllocError>
+    ensures { IfOk result (λ c. (app_of c ≡ batch_command) × ((fields_of c).has_globals ≡ false)) }
+{
+    Command::new(alloc, "batch")
+        .arg(required(alloc, "LIST"))?
+        .arg(required(alloc, "DIR"))?
+        .arg(required(alloc, "ENTITIES"))
+}
+
 fn specparse<'a>(alloc: Global) -> Result<Command<'a>, AllocError>
     ensures { IfOk result (λ c. app_of c ≡ specparse) }
 {
     let page = page_command(alloc)?;
     let make = make_command(alloc)?;
+    let batch = batch_command(alloc)?;
     Command::new(alloc, "specparse")
         .subcommand_required(true)
         .subcommand(page)?
-        .subcommand(make)
+        .subcommand(make)?
+        .subcommand(batch)
 }
 
 // The matches, where the words are in the grammar.
@@ -215,6 +239,16 @@ fn is_make(matches: &ArgMatches<'_>) -> bool
     }
 }
 
+// Whether the command `batch` is asked for.
+fn is_batch(matches: &ArgMatches<'_>) -> bool
+    ensures { result ≡ is_batch (subcommand_rows_of matches.now) }
+{
+    match matches.subcommand() {
+        Some((name, _)) => name == "batch",
+        None => false,
+    }
+}
+
 fn page_words(alloc: Global, matches: &ArgMatches<'_>) -> Result<PageWords, AllocError>
     ensures { IfOk result (λ read. shown read ≡ page_asked (subcommand_rows_of matches.now)) }
 {
@@ -238,6 +272,16 @@ fn make_words(matches: &ArgMatches<'_>) -> MakeWords
     }
 }
 
+fn batch_words(alloc: Global, matches: &ArgMatches<'_>) -> Result<BatchWords, AllocError>
+    ensures { IfOk result (λ read. batch_shown read ≡ batch_asked (subcommand_rows_of matches.now)) }
+{
+    Ok(BatchWords {
+        list: String::from_str(alloc, text_of(matches, "LIST"))?,
+        dir: String::from_str(alloc, text_of(matches, "DIR"))?,
+        entities: String::from_str(alloc, text_of(matches, "ENTITIES"))?,
+    })
+}
+
 /// Reads the words of the command, of which the program's name is the first. `Usage` comes exactly where the command's
 /// grammar doesn't take them, but where memory runs out.
 pub fn read_words(alloc: Global, words: &[String]) -> Result<CommandWords, Refused>
@@ -251,6 +295,8 @@ pub fn read_words(alloc: Global, words: &[String]) -> Result<CommandWords, Refus
     };
     if is_make(&matches) {
         Ok(CommandWords::Make(make_words(&matches)))
+    } else if is_batch(&matches) {
+        Ok(CommandWords::Batch(batch_words(alloc, &matches)?))
     } else {
         Ok(CommandWords::Page(page_words(alloc, &matches)?))
     }

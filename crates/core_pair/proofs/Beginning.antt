@@ -7,7 +7,7 @@ use Rattle.core_definitions.specs.declared.event.Event.{Event}
 use Rattle.core_definitions.specs.Batches.{Piece, of_text, of_ending}
 use Rattle.core_definitions.specs.Desk.{first_desk, pieces_with}
 use Rattle.core_definitions.specs.Core.{Request, Reply, WorkSide, first_core, first_work}
-use Rattle.core_steps.specs.Sides.{Shown, first_shown, with_ending}
+use Rattle.core_steps.specs.Sides.{Shown, first_shown, with_piece, with_ending}
 use Rattle.core_pair.specs.Pairs.{setup_from, first_paired, told_of, with_pieces}
 
 -- so many more are to be sent, and those are the page's
@@ -25,25 +25,26 @@ ending-last : (ts : List (List ℕ)) (e : Ending) → pieces_with ts None ++ of_
 ending-last [] e = refl
 ending-last (t ∷ ts) e = ap (λ xs. of_text t ∷ xs) (ending-last ts e)
 
-module _ (es : Entities) (ahead : ℕ) (ts : List (List ℕ)) (first read : Shown) (is_first : first ≡ first_shown es ahead) (is_read : read ≡ with_pieces ts first) where
-  all-read : read ≡ with_parts (pieces_with ts None) ts (first_shown es ahead)
-  all-read = is_read ∙ (ap (with_pieces ts) is_first ∙ read-more ts [] [] (first_shown es ahead))
+-- how the page ends isn't known from its pieces
+pub ending-kept : (ts : List (List ℕ)) (s : Shown) → (with_pieces ts s).journal.ending ≡ s.journal.ending
+ending-kept [] s = refl
+ending-kept (t ∷ ts) s = ending-kept ts (with_piece t s)
 
-  pub no-ending : read.journal.ending ≡ None
-  no-ending = ap (λ (s : Shown). s.journal.ending) all-read
+module _ (es : Entities) (ahead : ℕ) (ts : List (List ℕ)) (e : Ending) (d : Shown) (ended : d ≡ with_ending e (with_pieces ts (first_shown es ahead))) where
+  all-read : with_pieces ts (first_shown es ahead) ≡ with_parts (pieces_with ts None) ts (first_shown es ahead)
+  all-read = read-more ts [] [] (first_shown es ahead)
 
-  module _ (e : Ending) (d : Shown) (ended : d ≡ with_ending e read) where
-    pub same-entities : d.entities ≡ es
-    same-entities = ap (λ (s : Shown). s.entities) (ended ∙ ap (with_ending e) all-read)
+  pub same-entities : d.entities ≡ es
+  same-entities = ap (λ (s : Shown). s.entities) (ended ∙ ap (with_ending e) all-read)
 
-    pub first-told : (files : List (List ℕ × Fetched)) (rs : List Request) (w : WorkSide) (bs : List Reply) (vs : List Event) → rs ≡ [] → w ≡ first_work → bs ≡ [] → vs ≡ [] → told_of d rs w bs files e vs ≡ first_paired es files ts e ahead
-    first-told files rs w bs vs no_requests blank no_replies no_events =
-        ap (λ (s : Shown). told_of s rs w bs files e vs) (ended ∙ ap (with_ending e) all-read)
-        ∙ (ap (λ l. told_of whole l w bs files e vs) no_requests
-        ∙ (ap (λ (z : WorkSide). told_of whole [] z bs files e vs) blank
-        ∙ (ap (λ l. told_of whole [] first_work l files e vs) no_replies
-        ∙ (ap (λ l. told_of whole [] first_work [] files e l) no_events
-        ∙ ap (λ xs. record (first_paired es files ts e ahead) { core = record (first_core (setup_from es files ts e ahead)) { desk = first_desk xs } }) (ending-last ts e)))))
-      where
-        whole : Shown
-        whole = with_ending e (with_parts (pieces_with ts None) ts (first_shown es ahead))
+  pub first-told : (files : List (List ℕ × Fetched)) (rs : List Request) (w : WorkSide) (bs : List Reply) (vs : List Event) → rs ≡ [] → w ≡ first_work → bs ≡ [] → vs ≡ [] → told_of d rs w bs files e vs ≡ first_paired es files ts e ahead
+  first-told files rs w bs vs no_requests blank no_replies no_events =
+      ap (λ (s : Shown). told_of s rs w bs files e vs) (ended ∙ ap (with_ending e) all-read)
+      ∙ (ap (λ l. told_of whole l w bs files e vs) no_requests
+      ∙ (ap (λ (z : WorkSide). told_of whole [] z bs files e vs) blank
+      ∙ (ap (λ l. told_of whole [] first_work l files e vs) no_replies
+      ∙ (ap (λ l. told_of whole [] first_work [] files e l) no_events
+      ∙ ap (λ xs. record (first_paired es files ts e ahead) { core = record (first_core (setup_from es files ts e ahead)) { desk = first_desk xs } }) (ending-last ts e)))))
+    where
+      whole : Shown
+      whole = with_ending e (with_parts (pieces_with ts None) ts (first_shown es ahead))

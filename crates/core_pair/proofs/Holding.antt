@@ -1,7 +1,9 @@
 -- What is known of a pair is kept over its events, and after want of memory.
-use Rattle.std.proofs.Common.{◌≡◌, ℕ, Bool, true, false, true≢false, List, refl, sym, ◌∙◌, ap, subst}
+use Rattle.std.proofs.Common.{◌≡◌, ℕ, Bool, true, false, true≢false, List, ◌++◌, refl, sym, ◌∙◌, ap, subst}
+use Rattle.std.specs.Prelude.{IsTrue, Result, Ok, Err, IfOk, OnOk, OnErr}
 use Rattle.serial.specs.declared.script.Line.{Line}
 use Rattle.standard.specs.Entities.{Entities}
+use Rattle.serial.specs.Scripts.{Fetched}
 use Rattle.core_definitions.specs.declared.event.Event.{Event}
 use Rattle.core_definitions.specs.declared.event.Event.TheVariants.{Send, Pick, Give, Take, Do, Arrive}
 use Rattle.core_definitions.specs.Core.{enabled}
@@ -9,7 +11,8 @@ use Rattle.core_definitions.specs.Desk.{Desk, can_send, can_do, can_arrive}
 use Rattle.core_definitions.specs.Journal.{Journal}
 use Rattle.core_steps.specs.Fetches.{names_of}
 use Rattle.core_pair.specs.declared.both.Could.{Could}
-use Rattle.core_pair.specs.Pairs.{Paired, setup_of, stepped, paired_of, IsRun, IsTold, IsKept}
+use Rattle.core_pair.specs.Pairs.{Paired, setup_of, stepped, brought, paired_of, IsRun, IsTold, IsKept}
+use Rattle.core_pair.proofs.Worlds.{run-brought}
 
 -- want of memory makes no difference to what is known
 pub run-told : (es : Entities) (p : Paired) (s : Bool) → IsRun es p → IsRun es (record p { spent = s })
@@ -105,3 +108,36 @@ arrive-told name k is = ap (can_arrive name) (desk-shown k is)
 pub arrived-told : {es : Entities} {both before v : Paired} {could : Could} {spent : Bool} → IsKept es both before could spent → paired_of both before spent ≡ v → both.core.desk.arrived ≡ names_of both.journal.fetches
 arrived-told k is =
     ap (λ (d : Desk). d.arrived) (desk-shown k is) ∙ ((run-shown k is).arrived ∙ sym (ap (λ (j : Journal). names_of j.fetches) (journal-shown k is)))
+
+-- ---- a script was brought, or not
+
+pub on-either : {T E : Type 0} (r : Result T E) (P Q R : Type 0) → OnOk r P → OnErr r Q → (P → R) → (Q → R) → R
+on-either (Ok x) P Q R p q there otherwise = there p
+on-either (Err e) P Q R p q there otherwise = otherwise q
+
+pub on-ok : {T E : Type 0} (r : Result T E) (P : Type 0) → P → OnOk r P
+on-ok (Ok x) P p = p
+on-ok (Err e) P p = tt
+
+kept-with : {could : Could} (es : Entities) (both new before v : Paired) (spent : Bool) (name : List ℕ) (f : Fetched) → spent ≡ false → paired_of both before spent ≡ v → IsTrue (can_arrive name v.core.desk) → IsKept es both before could spent → new ≡ brought name f both
+    → IsKept es new before could spent
+kept-with {could = could} es both new before v spent name f going shown can k is =
+    let here : IsTrue (can_arrive name both.core.desk) = subst (λ (z : Paired). IsTrue (can_arrive name z.core.desk)) (sym (both-shown k going shown)) can in
+    subst (λ s. IsKept es new before could s) (sym going)
+    (subst (λ (z : Paired). IsKept es z before could false) (sym is) (first-kept es (brought name f both) before (k.going going) (run-brought es both name f here (kept-run es both before spent going k))))
+
+pub kept-brought : {T E : Type 0} {could : Could} (r : Result T E) (es : Entities) (both new before v : Paired) (spent : Bool) (name : List ℕ) (f : Fetched) → spent ≡ false → paired_of both before spent ≡ v → IsTrue (can_arrive name v.core.desk)
+    → IsKept es both before could spent → OnOk r (new ≡ brought name f both) → OnErr r (new ≡ both) → IsKept es new before could spent
+kept-brought {could = could} r es both new before v spent name f going shown can k ok err =
+    on-either r (new ≡ brought name f both) (new ≡ both) (IsKept es new before could spent) ok err (kept-with es both new before v spent name f going shown can k) (λ is. subst (λ (z : Paired). IsKept es z before could spent) (sym is) k)
+
+-- ---- lines were taken, or not
+
+kept-given : {could : Could} (es : Entities) (both before : Paired) (spent : Bool) (ls : List Line) → spent ≡ false → IsKept es both before could spent → IsKept es (record both { given = ls }) before could spent
+kept-given {could = could} es both before spent ls going k =
+    subst (λ s. IsKept es (record both { given = ls }) before could s) (sym going) (first-kept es (record both { given = ls }) before (k.going going) (run-given es both ls (kept-run es both before spent going k)))
+
+pub kept-taken : {E : Type 0} {could : Could} (r : Result (List Line) E) (es : Entities) (both new before : Paired) (spent : Bool) → spent ≡ false → IsKept es both before could spent
+    → IfOk r (λ ls. new ≡ record both { given = both.given ++ ls }) → OnErr r (new ≡ both) → IsKept es new before could spent
+kept-taken {could = could} (Ok ls) es both new before spent going k ok err = subst (λ (z : Paired). IsKept es z before could spent) (sym ok) (kept-given es both before spent (both.given ++ ls) going k)
+kept-taken {could = could} (Err e) es both new before spent going k ok err = subst (λ (z : Paired). IsKept es z before could spent) (sym err) k

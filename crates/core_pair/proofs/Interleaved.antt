@@ -12,8 +12,9 @@ use Rattle.core_laws.specs.Bounds.{IsBounded}
 use Rattle.core_laws.specs.CoreLaws.{IsIdle, IsOverOrAwaits}
 use Rattle.core_laws.proofs.Bounding.{credit-is_kept, bounded-where_it_stands, bounded-by_the_parse}
 use Rattle.core_laws.proofs.Together.{core-stands_for, core-ends, core-end_stays, core-lines, never-stuck}
-use Rattle.core_pair.specs.Pairs.{Paired, setup_of, StepsShown, IsRun}
-use Rattle.core_pair.specs.Interleaving.{AlwaysStandsFor, EndsAsSerial, LinesBegin, EndStays, CreditIsKept, BoundedWhereItStands, BoundedByTheParse}
+use Rattle.core_pair.specs.Pairs.{Paired, setup_of, in_world, StepsShown, IsRun}
+use Rattle.core_pair.specs.Interleaving.{AlwaysStandsFor, EndsAsSerial, EndsInEach, LinesBegin, EndStays, CreditIsKept, BoundedWhereItStands, BoundedByTheParse}
+use Rattle.core_pair.proofs.Worlds.{reached-here}
 use Rattle.core_pair.proofs.Shown.{Parts, core-parts, enabled-shown, core-stands}
 
 -- the events before and behind a state
@@ -23,26 +24,33 @@ runs-apart x (v ∷ vs) us a c (d, can, step, h) = let (b, before, behind) = run
 
 pub always-stands_for : {es : Entities} {p : Paired} → IsRun es p → AlwaysStandsFor p
 always-stands_for {p = p} h vs us q =
-    let (last, runs, shows) = h.reached in
+    let (last, runs, shows) = reached-here h in
     let (c, before, behind) = runs-apart (setup_of p) vs us (first_core (setup_of p)) last (subst (λ ws. Runs (setup_of p) ws (first_core (setup_of p)) last) q runs) in
     let (m, m', passes, stood, leads, stands) = core-stands_for (setup_of p) vs us c last before behind in
     (c, m, m', before, passes, stood, leads, core-stands last p.core m' shows stands)
 
 pub ends-as-serial : {es : Entities} {p : Paired} → IsRun es p → EndsAsSerial p
 ends-as-serial {p = p} h r o q is =
-    let (c, runs, shows) = h.reached in
+    let (c, runs, shows) = reached-here h in
     let parts : Parts c.desk p.core.desk = core-parts c p.core shows in
     let (result, lines, tree) = core-ends (setup_of p) p.events c r o runs (ap (λ (z : Desk). z.phase) parts.is ∙ q) is in
     (result, sym parts.lines ∙ lines, sym (ap (λ (d : Doc). d.tree) parts.doc) ∙ tree)
 
+pub ends-in-each : {es : Entities} {p : Paired} → IsRun es p → EndsInEach p
+ends-in-each {p = p} h w entities knows r o q is =
+    let (c, runs, shows) = h.reached w entities knows in
+    let parts : Parts c.desk p.core.desk = core-parts c p.core shows in
+    let (result, lines, tree) = core-ends (in_world w (setup_of p)) p.events c r o runs (ap (λ (z : Desk). z.phase) parts.is ∙ q) is in
+    (result, sym parts.lines ∙ lines, sym (ap (λ (d : Doc). d.tree) parts.doc) ∙ tree)
+
 pub lines-begin : {es : Entities} {p : Paired} → IsRun es p → LinesBegin p
 lines-begin {p = p} h o is =
-    let (c, runs, shows) = h.reached in
+    let (c, runs, shows) = reached-here h in
     subst (λ ls. GoesOnFrom ls o.last.side.lines) (core-parts c p.core shows).lines (core-lines (setup_of p) p.events c o runs is)
 
 pub end-stays : {es : Entities} {p : Paired} (v : Event) (told' : Core) → IsRun es p → IsTrue (enabled (setup_of p) v p.core) → StepsShown (setup_of p) v p.core told' → EndStays p.core told'
 end-stays {p = p} v told' h can steps r q =
-    let (c, runs, shows) = h.reached in
+    let (c, runs, shows) = reached-here h in
     let (c', step, shows') = steps c shows in
     let parts : Parts c.desk p.core.desk = core-parts c p.core shows in
     let parts' : Parts c'.desk told'.desk = core-parts c' told' shows' in
@@ -59,19 +67,19 @@ shown-bounds x failed d v parts b = let is : IsBounded x failed (record v { own 
 
 pub credit-kept : {es : Entities} {p : Paired} → IsRun es p → CreditIsKept p
 credit-kept {p = p} h =
-    let (c, runs, shows) = h.reached in
+    let (c, runs, shows) = reached-here h in
     subst (λ (z : Desk). outstanding z ≤ p.ahead) (core-parts c p.core shows).is (credit-is_kept (setup_of p) p.events c runs)
 
 pub bounded-where-it-stands : {es : Entities} {p : Paired} → IsRun es p → BoundedWhereItStands p
 bounded-where-it-stands {p = p} h =
-    let (c, runs, shows) = h.reached in
+    let (c, runs, shows) = reached-here h in
     let parts : Parts c.desk p.core.desk = core-parts c p.core shows in
     let (m, v, known, stands, epochs, bound) = bounded-where_it_stands (setup_of p) p.events c runs in
     (m, v, known, core-stands c p.core m shows stands, epochs ∙ ap (λ (z : Desk). z.epoch) parts.is, shown-bounds (setup_of p) v.failed c.desk p.core.desk parts bound)
 
 pub bounded-by-the-parse : {es : Entities} {p : Paired} → IsRun es p → BoundedByTheParse p
 bounded-by-the-parse {p = p} h v verdicts =
-    let (c, runs, shows) = h.reached in
+    let (c, runs, shows) = reached-here h in
     shown-bounds (setup_of p) v.failed c.desk p.core.desk (core-parts c p.core shows) (bounded-by_the_parse (setup_of p) p.events c v runs verdicts)
 
 -- ---- never stuck
@@ -84,7 +92,7 @@ over-shown (done r) d v q h = h
 
 pub over-or-awaits : {es : Entities} {p : Paired} → IsRun es p → IsIdle (setup_of p) p.core → IsOverOrAwaits p.core.desk.phase p.core.desk
 over-or-awaits {p = p} h idle =
-    let (c, runs, shows) = h.reached in
+    let (c, runs, shows) = reached-here h in
     let parts : Parts c.desk p.core.desk = core-parts c p.core shows in
     let over = never-stuck (setup_of p) p.events c h.some runs (λ v can. idle v (sym (enabled-shown (setup_of p) v c p.core shows) ∙ can)) in
     over-shown p.core.desk.phase c.desk p.core.desk (ap (λ (z : Desk). z.arrived) parts.is) (subst (λ f. IsOverOrAwaits f c.desk) (ap (λ (z : Desk). z.phase) parts.is) over)

@@ -1,7 +1,10 @@
 pub mod Shown
+pub mod Worlds
 pub mod Running
+pub mod Nearing
 pub mod Interleaved
 pub mod Standings
 pub mod Holding
 pub mod Applying
 pub mod Beginning
+pub mod Crossing

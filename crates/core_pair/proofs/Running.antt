@@ -24,7 +24,8 @@ use Rattle.core_steps.specs.Acting.{fetch_or_missing}
 use Rattle.core_steps.specs.Fetches.{names_of}
 use Rattle.core_steps.specs.Journals.{found}
 use Rattle.core_steps.specs.Sides.{ShowsIn, Shows}
-use Rattle.core_pair.specs.Pairs.{Paired, setup_from, setup_of, first_paired, ShowsCore, StepsShown, fetches_noted, events_noted, stepped, behind_first, with_event, IsApplicable, Applied, Reaches, IsRun}
+use Rattle.core_pair.specs.Pairs.{Paired, setup_from, setup_of, in_world, first_paired, ShowsCore, StepsShown, fetches_noted, events_noted, stepped, behind_first, with_event, IsApplicable, Applied, Reaches, IsRun}
+use Rattle.core_pair.proofs.Worlds.{reached-here, enabled-world}
 use Rattle.core_pair.proofs.Shown.{core-whole, core-shows-itself, enabled-shown}
 
 -- ---- runs
@@ -197,19 +198,23 @@ own-then (Arrive name ∷ vs) v = ap (λ us. Arrive name ∷ us) (own-then vs v)
 abbrev pub Ran : Entities → Event → Paired → Paired → Type 0
 Ran es v p q = IsRun es q × StepsShown (setup_of p) v p.core q.core × (q ≡ stepped v q.core p)
 
-ran : (es : Entities) (v : Event) (p : Paired) (c : Core) → IsRun es p → IsTrue (enabled (setup_of p) v p.core) → StepsShown (setup_of p) v p.core c →
-    Knows (fetches_noted v p.scripts p.journal.fetches) (setup_of p).world → c.desk.arrived ≡ names_of (fetches_noted v p.scripts p.journal.fetches) →
+-- in each world in which the fetches are as they are now the event leads there
+abbrev StepsInEach : Event → Paired → Core → Type 0
+StepsInEach v p c = (w : World) → w.entities ≡ p.entities → Knows (fetches_noted v p.scripts p.journal.fetches) w → StepsShown (in_world w (setup_of p)) v p.core c
+
+ran : (es : Entities) (v : Event) (p : Paired) (c : Core) → IsRun es p → IsTrue (enabled (setup_of p) v p.core) → StepsInEach v p c →
+    ((w : World) → Knows (fetches_noted v p.scripts p.journal.fetches) w → Knows p.journal.fetches w) → Knows (fetches_noted v p.scripts p.journal.fetches) (setup_of p).world → c.desk.arrived ≡ names_of (fetches_noted v p.scripts p.journal.fetches) →
     events_noted v p.journal.events ≡ p.journal.events ++ own_events (v ∷ []) → Ran es v p (stepped v c p)
-ran es v p c h can steps knows arrived own = (
+ran es v p c h can steps less knows arrived own = (
   record {
     entities = h.entities;
     some = h.some;
     knows = knows;
     arrived = arrived;
     own = own ∙ (ap (λ vs. vs ++ own_events (v ∷ [])) h.own ∙ own-then p.events v);
-    reached = reaches-then (setup_of p) p.events v p.core c h.reached can steps;
+    reached = λ w entities k. reaches-then (in_world w (setup_of p)) p.events v p.core c (h.reached w entities (less w k)) (enabled-world w (setup_of p) v p.core ∙ can) (steps w entities k);
   },
-  steps,
+  steps (setup_of p).world refl knows,
   refl,
 )
 
@@ -220,36 +225,39 @@ pub applied-run : (es : Entities) (v : Event) (p q : Paired) → IsRun es p → 
 applied-run es Send p q h can is =
     let c : Core = sent_from p.core.desk.to_send p.core in
     subst (λ (z : Paired). Ran es Send p z) (sym is)
-    (ran es Send p c h can (send-steps (setup_of p) p.core can) h.knows (sent-arrived p.core.desk.to_send p.core ∙ h.arrived) refl)
+    (ran es Send p c h can (λ w e k. send-steps (in_world w (setup_of p)) p.core can) (λ w k. k) h.knows (sent-arrived p.core.desk.to_send p.core ∙ h.arrived) refl)
 applied-run es Pick p q h can is =
     let c : Core = picked_from p.core.requests p.core in
     subst (λ (z : Paired). Ran es Pick p z) (sym is)
-    (ran es Pick p c h can (pick-steps (setup_of p) p.core) h.knows (picked-arrived p.core.requests p.core ∙ h.arrived) (sym (append-nil p.journal.events)))
+    (ran es Pick p c h can (λ w e k. pick-steps (in_world w (setup_of p)) p.core) (λ w k. k) h.knows (picked-arrived p.core.requests p.core ∙ h.arrived) (sym (append-nil p.journal.events)))
 applied-run es Give p q h can is =
     let c : Core = given_to p.core.work.hand p.entities p.core in
     subst (λ (z : Paired). Ran es Give p z) (sym is)
-    (ran es Give p c h can (give-steps (setup_of p) p.core) h.knows (given-arrived p.core.work.hand p.entities p.core ∙ h.arrived) (sym (append-nil p.journal.events)))
+    (ran es Give p c h can
+    (λ w e k. subst (λ z. StepsShown (in_world w (setup_of p)) Give p.core (given_to p.core.work.hand z p.core)) e (give-steps (in_world w (setup_of p)) p.core)) (λ w k. k) h.knows (given-arrived p.core.work.hand p.entities p.core ∙ h.arrived) (sym (append-nil p.journal.events)))
 applied-run es Take p q h can is =
     let c : Core = record p.core { desk = takes p.entities p.core.desk; replies = behind_first p.core.replies } in
     subst (λ (z : Paired). Ran es Take p z) (sym is)
-    (ran es Take p c h can (take-steps (setup_of p) p.core p.events h.reached can) h.knows (takes-arrived p.entities p.core.desk ∙ h.arrived) refl)
+    (ran es Take p c h can
+    (λ w e k. subst (λ z. StepsShown (in_world w (setup_of p)) Take p.core (record p.core { desk = takes z p.core.desk; replies = behind_first p.core.replies })) e
+    (take-steps (in_world w (setup_of p)) p.core p.events (h.reached w e k) can)) (λ w k. k) h.knows (takes-arrived p.entities p.core.desk ∙ h.arrived) refl)
 applied-run es Do p q h can (d, shown, is) =
     let (d', does, shows) = shown (setup_of p).world refl h.knows in
     let c : Core = record p.core { desk = d } in
     let arrived : d.arrived ≡ p.core.desk.arrived = shows-arrived d' d d.phase shows ∙ does-arrived (setup_of p).world p.core.desk.phase p.core.desk d' does in
     subst (λ (z : Paired). Ran es Do p z) (sym is)
-    (ran es Do p c h can (do-steps (setup_of p) p.core d can (d', does, shows)) h.knows (arrived ∙ h.arrived) refl)
+    (ran es Do p c h can (λ w e k. do-steps (in_world w (setup_of p)) p.core d can (shown w e k)) (λ w k. k) h.knows (arrived ∙ h.arrived) refl)
 applied-run es (Arrive name) p q h can is =
     let c : Core = record p.core { desk = arrives name p.core.desk } in
     let f : Fetched = fetch_or_missing (found name p.scripts) in
     subst (λ (z : Paired). Ran es (Arrive name) p z) (sym is)
-    (ran es (Arrive name) p c h can (arrive-steps (setup_of p) p.core name)
+    (ran es (Arrive name) p c h can (λ w e k. arrive-steps (in_world w (setup_of p)) p.core name) (λ w k. k.1)
     (met (setup_of p).world name f (and_parts _ _ can).0 refl, h.knows) (ap (λ ns. name ∷ ns) h.arrived) refl)
 
 -- a reply is wanted where one is taken
 pub take-wanted : (es : Entities) (p : Paired) → IsRun es p → IsTrue (enabled (setup_of p) Take p.core) → IsTrue (wants_reply p.core.desk)
 take-wanted es p h can =
-    let (c, runs_, shows) = h.reached in
+    let (c, runs_, shows) = reached-here h in
     let same : c ≡ p.core = core-whole c p.core (take-going (setup_of p) p.core can) shows in
     (take-called (setup_of p) p.events p.core (subst (Runs (setup_of p) p.events (first_core (setup_of p))) same runs_) can).0
 
@@ -280,7 +288,7 @@ first-run es files pieces e ahead some = record {
   knows = tt;
   arrived = refl;
   own = refl;
-  reached = (first_core (setup_from es files pieces e ahead), refl, core-shows-itself (first_core (setup_from es files pieces e ahead)));
+  reached = λ w entities k. (first_core (setup_from es files pieces e ahead), refl, core-shows-itself (first_core (setup_from es files pieces e ahead)));
 }
 
 -- that was just made

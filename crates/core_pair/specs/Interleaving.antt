@@ -1,11 +1,12 @@
 -- What holds of a pair, whatever events were taken and in whatever order.
 use Rattle.std.specs.Prelude.{◌≡◌, ◌≤◌, ◌+◌, ℕ, Bool, true, false, List, ◌++◌}
-use Rattle.serial.specs.Serial.{Moment, Result, Outcome, IsSerial, Passes, Leads}
+use Rattle.serial.specs.Serial.{World, Moment, Result, Outcome, IsSerial, Passes, Leads}
 use Rattle.standard_laws.specs.Laws.{GoesOnFrom}
 use Rattle.core_definitions.specs.declared.event.Event.{Event}
 use Rattle.core_definitions.specs.Verdict.{Watch, IsKnownAt, AreVerdicts}
 use Rattle.core_definitions.specs.Desk.{Phase, free, tagged, waits, done, Desk, has_arrived, outstanding}
 use Rattle.core_definitions.specs.Core.{Setup, whole_page, Core, first_core, Runs}
+use Rattle.core_definitions.specs.Journal.{Knows}
 use Rattle.core_definitions.specs.StandsFor.{StandsFor}
 use Rattle.core_laws.specs.Bounds.{IsBounded}
 use Rattle.core_laws.specs.CoreLaws.{IsIdle}
@@ -51,6 +52,13 @@ AlwaysStandsFor p =
 abbrev pub EndsAsSerial : Paired → Type 0
 EndsAsSerial p =
     (r : Result) (o : Outcome) → p.core.desk.phase ≡ done r → IsSerial (whole_page (setup_of p)) (setup_of p).world o →
+    (r ≡ o.result) × (p.core.desk.own.side.lines ≡ o.last.side.lines) × (p.core.desk.own.side.doc.tree ≡ o.last.side.doc.tree)
+
+-- Where it is done, that is so in each world with those entities in which the fetches are as they were: whatever else would come of scripts.
+abbrev pub EndsInEach : Paired → Type 0
+EndsInEach p =
+    (w : World) → w.entities ≡ p.entities → Knows p.journal.fetches w →
+    (r : Result) (o : Outcome) → p.core.desk.phase ≡ done r → IsSerial (whole_page (setup_of p)) w o →
     (r ≡ o.result) × (p.core.desk.own.side.lines ≡ o.last.side.lines) × (p.core.desk.own.side.doc.tree ≡ o.last.side.doc.tree)
 
 -- its lines begin those of the outcome

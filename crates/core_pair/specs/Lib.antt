@@ -1,3 +1,4 @@
 pub mod Pairs
+pub mod Nearer
 pub mod Interleaving
 pub mod Files

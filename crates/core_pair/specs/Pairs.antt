@@ -5,6 +5,7 @@ use Rattle.serial.specs.declared.script.Line.{Line}
 use Rattle.html_types.specs.declared.ending.Ending.{Ending}
 use Rattle.standard.specs.Entities.{Entities}
 use Rattle.serial.specs.Scripts.{Fetched}
+use Rattle.serial.specs.Serial.{World}
 use Rattle.core_definitions.specs.declared.event.Event.{Event}
 use Rattle.core_definitions.specs.declared.event.Event.TheVariants.{Send, Pick, Give, Take, Do, Arrive}
 use Rattle.core_definitions.specs.Desk.{Desk, can_send, can_do, can_arrive, wants_reply, takes, arrives}
@@ -90,6 +91,10 @@ stepped v c p = record p { core = c; journal = journal_noted v p.scripts p.journ
 
 -- ---- where it stands
 
+-- what comes of fetching a script of that name is set anew
+abbrev pub brought : List ℕ → Fetched → Paired → Paired
+brought name f p = record p { scripts = (name, f) ∷ p.scripts }
+
 -- an event is enabled that needs no script
 abbrev pub is_busy : Setup → Core → Bool
 is_busy x c = enabled x Send c || (enabled x Pick c || enabled x Give c)
@@ -159,6 +164,10 @@ Applied (Arrive name) p q = q ≡ with_core (record p.core { desk = arrives name
 
 -- ---- what is known of it
 
+-- the same in another world
+abbrev pub in_world : World → Setup → Setup
+in_world w x = record x { world = w }
+
 -- from the first core these events lead, each of them enabled, to one that is shown so
 abbrev pub Reaches : Setup → List Event → Core → Type 0
 Reaches x vs told = (c : Core) × Runs x vs (first_core x) c × ShowsCore c told
@@ -169,7 +178,8 @@ pub record IsRun (es : Entities) (p : Paired) : Type 0 where
   pub knows : Knows p.journal.fetches (setup_of p).world
   pub arrived : p.core.desk.arrived ≡ names_of p.journal.fetches
   pub own : p.journal.events ≡ own_events p.events
-  pub reached : Reaches (setup_of p) p.events p.core
+  -- in each world with those entities, and in which the fetches are as they were
+  pub reached : (w : World) → w.entities ≡ p.entities → Knows p.journal.fetches w → Reaches (in_world w (setup_of p)) p.events p.core
 
 -- After want of memory the document's side tells what it told before, and these events were enabled then.
 pub record IsTold (both before : Paired) (could : Could) : Type 0 where

@@ -8,14 +8,15 @@ ghost use Rattle.core_definitions.specs.Desk.{can_send, can_do, can_arrive, want
 ghost use Rattle.core_definitions.specs.Settling.{is_empty as has_none};
 ghost use Rattle.speculation.specs.Asking.{page_limit};
 ghost use Rattle.core_steps.specs.States.{standing_told};
-ghost use Rattle.core_steps.specs.Fetches.{names_of};
-ghost use Rattle.core_steps.specs.Sides.{standing_of};
+ghost use Rattle.core_steps.specs.Fetches.{names_of, fetched_of};
+ghost use Rattle.core_steps.specs.Sides.{first_shown, standing_of, with_ending};
 ghost use Rattle.core_pair.specs.Interleaving.{unless_busy};
-ghost use Rattle.core_pair.specs.Pairs.{setup_of, first_paired, with_pieces, StepsShown, stepped, IsApplicable, Applied, IsRun};
+ghost use Rattle.core_pair.specs.Nearer.{IsNearer, LeavesLess};
+ghost use Rattle.core_pair.specs.Pairs.{setup_of, first_paired, with_pieces, StepsShown, stepped, IsApplicable, Applied, IsRun, brought};
 
 use crate::scripts::Scripts;
 use crate::setup::Setup;
-use core_steps::{DocSide, Event, State, WorkSide, is_lawful};
+use core_steps::{DocSide, Event, Fetch, State, WorkSide, is_lawful};
 use entity_table::Table;
 use html_types::{Ending, NoMemory, Text};
 use serial::Lines;
@@ -73,6 +74,47 @@ fn hand_in(doc: &mut DocSide, pieces: &[Text]) -> Result<(), NoMemory>
     Ok(())
 }
 
+// Hands in the page's pieces, and how it ends.
+fn hand_in_page(doc: &mut DocSide, pieces: &[Text], ending: Ending) -> Result<(), NoMemory>
+    requires no_ending { doc.old.journal.ending ≡ None }
+    requires within { length (joined doc.old.journal.pieces) + length (joined pieces.now)
+        ≤ page_limit }
+    ensures { OnOk result (doc.new ≡ with_ending ending (with_pieces pieces.now doc.old)) }
+{
+    hand_in(doc, pieces)?;
+    doc.end(ending)?;
+    Ok(())
+}
+
+// Lets a value go. Where a document's side ends in the function that has it, the proof of that
+// function spells out all of its parts, which takes minutes; here they are those of its type,
+// once.
+fn let_go<T: Drop>(_value: T) {}
+
+// The document's side before any event, with all of the page handed in.
+fn first_side(
+    alloc: Global,
+    table: &Table,
+    pieces: &[Text],
+    ending: Ending,
+    ahead: usize,
+) -> Result<DocSide, NoMemory>
+    requires some { 0 < ahead }
+    requires few { ahead ≤ 64 }
+    requires within { length (joined pieces.now) ≤ page_limit }
+    ensures { IfOk result (λ d.
+        d ≡ with_ending ending (with_pieces pieces.now (first_shown table.now ahead))) }
+{
+    let mut doc = DocSide::new(alloc, table, ahead)?;
+    match hand_in_page(&mut doc, pieces, ending) {
+        Ok(()) => Ok(doc),
+        Err(NoMemory) => {
+            let_go(doc);
+            Err(NoMemory)
+        }
+    }
+}
+
 impl<E: InForce> Both<E> {
     /// Before any event.
     pub fn new(alloc: Global, setup: Setup<'_>) -> Result<Both<E>, NoMemory>
@@ -89,9 +131,7 @@ impl<E: InForce> Both<E> {
             ahead,
         } = setup;
         let table = table.copy()?;
-        let mut doc = DocSide::new(alloc, &table, ahead)?;
-        hand_in(&mut doc, pieces.as_slice())?;
-        doc.end(ending)?;
+        let doc = first_side(alloc, &table, pieces.as_slice(), ending, ahead)?;
         Ok(Both {
             alloc,
             table,
@@ -186,6 +226,17 @@ impl<E: InForce> Both<E> {
     }
 }
 
+// What it is given on the way.
+impl<E: InForce> Both<E> {
+    /// Sets what comes of fetching the script of that name.
+    pub fn bring(&mut self, name: Text, fetch: Fetch) -> Result<(), NoMemory>
+        ensures ok { OnOk result (self.new ≡ brought name (fetched_of fetch) self.old) }
+        ensures err { OnErr result (self.new ≡ self.old) }
+    {
+        self.scripts.bring(name, fetch)
+    }
+}
+
 // The events.
 impl<E: InForce> Both<E> {
     // The document's side sends a piece.
@@ -246,6 +297,7 @@ impl<E: InForce> Both<E> {
     fn act(&mut self) -> Result<(), NoMemory>
         requires { IsTrue (can_do self.old.core.desk) }
         ensures applied { OnOk result (Applied event.Do self.old self.new) }
+        ensures less { OnOk result (LeavesLess event.Do self.old.core self.new.core) }
         ensures journal { OnErr result (self.new.journal ≡ self.old.journal) }
         ensures desk { OnErr result (self.new.core.desk ≡ self.old.core.desk) }
         ensures ahead { OnErr result (self.new.ahead ≡ self.old.ahead) }
@@ -270,6 +322,7 @@ impl<E: InForce> Both<E> {
     fn apply(&mut self, event: Event) -> Result<(), NoMemory>
         requires { IsApplicable E.entities event self.old }
         ensures applied { OnOk result (Applied event self.old self.new) }
+        ensures less { OnOk result (LeavesLess event self.old.core self.new.core) }
         ensures journal { OnErr result (self.new.journal ≡ self.old.journal) }
         ensures desk { OnErr result (self.new.core.desk ≡ self.old.core.desk) }
         ensures ahead { OnErr result (self.new.ahead ≡ self.old.ahead) }
@@ -294,6 +347,7 @@ impl<E: InForce> Both<E> {
         ensures run { OnOk result (IsRun E.entities self.new) }
         ensures steps { OnOk result (StepsShown (setup_of self.old) event self.old.core self.new.core) }
         ensures others { OnOk result (self.new ≡ stepped event self.new.core self.old) }
+        ensures nearer { OnOk result (IsNearer event self.old.core self.new.core) }
         ensures journal { OnErr result (self.new.journal ≡ self.old.journal) }
         ensures desk { OnErr result (self.new.core.desk ≡ self.old.core.desk) }
         ensures ahead { OnErr result (self.new.ahead ≡ self.old.ahead) }

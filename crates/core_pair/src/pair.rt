@@ -7,13 +7,16 @@ ghost use Rattle.core_laws.specs.CoreLaws.{IsIdle};
 ghost use Rattle.speculation.specs.Asking.{page_limit};
 ghost use Rattle.core_steps.specs.Sides.{running, awaiting};
 ghost use Rattle.core_steps.specs.States.{standing_told};
-ghost use Rattle.core_pair.specs.Interleaving.{standing_of_core, Awaits, IsReached, AlwaysStandsFor, EndsAsSerial, LinesBegin, EndStays, CreditIsKept, BoundedWhereItStands, BoundedByTheParse};
-ghost use Rattle.core_pair.specs.Pairs.{setup_of, first_paired, StepsShown, stepped, is_busy};
+ghost use Rattle.core_pair.specs.Interleaving.{standing_of_core, Awaits, IsReached, AlwaysStandsFor, EndsAsSerial, EndsInEach, LinesBegin, EndStays, CreditIsKept, BoundedWhereItStands, BoundedByTheParse};
+ghost use Rattle.core_pair.specs.Nearer.{IsNearer};
+ghost use Rattle.core_definitions.specs.Desk.{can_arrive};
+ghost use Rattle.core_steps.specs.Fetches.{fetched_of};
+ghost use Rattle.core_pair.specs.Pairs.{setup_of, first_paired, StepsShown, stepped, is_busy, brought};
 
 use crate::both::{Both, Could};
 use crate::setup::Setup;
-use core_steps::{Event, Journal, State};
-use html_types::NoMemory;
+use core_steps::{Event, Fetch, Journal, State};
+use html_types::{NoMemory, Text};
 use op_exec::Doc;
 use serial::Lines;
 use speculation::InForce;
@@ -109,6 +112,7 @@ impl<E: InForce> Pair<E> {
         ensures setup { OnOk result (setup_of self.new ≡ setup_of self.old) }
         ensures stands_for { OnOk result (AlwaysStandsFor self.new) }
         ensures stays { OnOk result (EndStays self.old.core self.new.core) }
+        ensures nearer { OnOk result (IsNearer event self.old.core self.new.core) }
         ensures err { OnErr result (self.new ≡ record self.old { spent = true }) }
     {
         if self.spent {
@@ -120,6 +124,19 @@ impl<E: InForce> Pair<E> {
         self.both.step(event)?;
         self.spent = false;
         Ok(())
+    }
+
+    /// Sets what comes of fetching the script of that name, which hasn't arrived. Of what was set for one name the last counts.
+    pub fn bring(&mut self, name: Text, fetch: Fetch) -> Result<(), NoMemory>
+        requires { IsTrue (can_arrive name self.old.core.desk) }
+        ensures ok { OnOk result (self.new ≡ brought name (fetched_of fetch) self.old) }
+        ensures stands_for { OnOk result (AlwaysStandsFor self.new) }
+        ensures err { OnErr result (self.new ≡ self.old) }
+    {
+        if self.spent {
+            return Err(NoMemory);
+        }
+        self.both.bring(name, fetch)
     }
 
     // Whether an event is enabled that needs no script.
@@ -146,6 +163,7 @@ impl<E: InForce> Pair<E> {
         ensures reached { IsReached self.now }
         ensures stands_for { AlwaysStandsFor self.now }
         ensures ends { EndsAsSerial self.now }
+        ensures in_each { EndsInEach self.now }
         ensures lines { LinesBegin self.now }
         ensures credit { CreditIsKept self.now }
         ensures so_far { BoundedWhereItStands self.now }

@@ -63,6 +63,15 @@ impl Scripts {
         Ok(())
     }
 
+    /// Sets what comes of fetching the script of that name.
+    pub fn bring(&mut self, name: Text, fetch: Fetch) -> Result<(), NoMemory>
+        ensures ok { OnOk result (self.new ≡ (name, fetched_of fetch) ∷ self.old) }
+        ensures err { OnErr result (self.new ≡ self.old) }
+    {
+        self.files.insert(0, FetchedFile { name, fetch })?;
+        Ok(())
+    }
+
     /// What comes of fetching the script of that name: it is missing where it isn't listed.
     pub fn fetch(&self, alloc: Global, name: &str) -> Result<Fetch, NoMemory>
         ensures { IfOk result (λ f. fetched_of f ≡ fetch_or_missing (found (chars name.now) self.now)) }

@@ -59,10 +59,15 @@ pub fn entities(alloc: Global) -> Result<Table, TableFault> {
     read_table(alloc, ENTITIES)
 }
 
+fn script_file(alloc: Global) -> Result<Fetch, NoMemory> {
+    let script = Vec::from_slice(alloc, SCRIPT.as_bytes())?;
+    Ok(Fetch::Got(script))
+}
+
+// Its file is another at first: the right one is brought on the way.
 fn script_files(alloc: Global) -> Result<Scripts, NoMemory> {
     let mut scripts = Scripts::new(alloc);
-    let script = Vec::from_slice(alloc, SCRIPT.as_bytes())?;
-    scripts.add(Text::from_str(alloc, "a")?, Fetch::Got(script))?;
+    scripts.add(Text::from_str(alloc, "a")?, Fetch::Missing)?;
     Ok(scripts)
 }
 
@@ -105,6 +110,25 @@ fn step<E: InForce>(pair: &mut Pair<E>, event: Event) -> Result<bool, NoMemory> 
     }
     pair.step(event)?;
     Ok(true)
+}
+
+// Brings what comes of the script, where it hasn't arrived.
+fn bring<E: InForce>(alloc: Global, pair: &mut Pair<E>, fetch: Fetch) -> Result<(), NoMemory> {
+    let name = Text::from_str(alloc, "a")?;
+    let arrives = Event::Arrive(name.copy(alloc)?);
+    if !pair.enabled(&arrives) {
+        return Ok(());
+    }
+    pair.bring(name, fetch)
+}
+
+// Before each event something else is brought, and before the script arrives its file.
+fn bring_before<E: InForce>(alloc: Global, pair: &mut Pair<E>, kind: Kind) -> Result<(), NoMemory> {
+    match kind {
+        Kind::Arrive => bring(alloc, pair, script_file(alloc)?),
+        Kind::Take => bring(alloc, pair, Fetch::Missing),
+        _ => bring(alloc, pair, Fetch::Faulted),
+    }
 }
 
 fn can_do<E: InForce>(pair: &Pair<E>) -> bool {
@@ -201,6 +225,7 @@ fn take<E: InForce>(
     counts: &mut Counts,
     kind: Kind,
 ) -> Result<bool, NoMemory> {
+    bring_before(alloc, pair, kind)?;
     let event = event_of(alloc, kind)?;
     let taken = step(pair, event)?;
     if taken {

@@ -33,14 +33,22 @@ fn words_are_read(rt: HostRuntime) -> Result<(), Fail> {
             assert_eq!(rt; read.piece, 16);
             assert_eq!(rt; read.ahead, 8);
         }
-        _ => assert!(rt; false),
+        _other => assert!(rt; false),
     }
     match read(alloc, &["specparse", "make", "2147483647", "50000"])? {
         Some(CommandWords::Make(read)) => {
             assert_eq!(rt; read.number, 2_147_483_647);
             assert_eq!(rt; read.count, 50_000);
         }
-        _ => assert!(rt; false),
+        _other => assert!(rt; false),
+    }
+    match read(alloc, &["specparse", "batch", "l", "d", "e"])? {
+        Some(CommandWords::Batch(read)) => {
+            assert_eq!(rt; read.list.as_str(), "l");
+            assert_eq!(rt; read.dir.as_str(), "d");
+            assert_eq!(rt; read.entities.as_str(), "e");
+        }
+        _other => assert!(rt; false),
     }
     assert!(rt; read(alloc, &["specparse", "--help"])?.is_none());
     Ok(())

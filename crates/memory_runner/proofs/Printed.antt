@@ -46,6 +46,7 @@ told rose t t' answer status.Entities k is gives = absurd (cc is)
 told rose t t' answer status.ReadFault k is gives = absurd (cc is)
 told rose t t' answer status.WriteFault k is gives = absurd (cc is)
 told rose t t' answer status.Absent k is gives = absurd (cc is)
+told rose t t' answer status.List k is gives = absurd (cc is)
 told rose t t' answer status.NoMemory k is gives = absurd (cc is)
 
 untold : {P : Type 0} (r s : Status) (k : Told) → outcome_of r ≡ Some k → r ≡ s → outcome_of s ≡ None → P

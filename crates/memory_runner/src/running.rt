@@ -58,6 +58,10 @@ fn job_with(alloc: Global, table: &Table, dump: bool) -> Result<Job<'_>, NoMemor
     })
 }
 
+// Lets a value go. Where a report ends in the function that has it, its proof spells out all of
+// the report's parts; here they are those of the type, once.
+fn let_go<T: Drop>(_value: T) {}
+
 // How the page of that job ends. What else is told of it goes.
 fn end_of<F: Outside, K: Sink>(alloc: Global, job: &Job<'_>, files: &mut F, out: &mut K) -> Status
     requires piece { (0 < job.now.piece) × (job.now.piece ≤ 65536) }
@@ -66,7 +70,10 @@ fn end_of<F: Outside, K: Sink>(alloc: Global, job: &Job<'_>, files: &mut F, out:
         (folder_with (string_bytes job.now.dir) []) (F.seen files.old) (F.seen files.new)
         (K.faults out.old) (K.faults out.new) (K.taken out.old) (K.taken out.new) result }
 {
-    page_in_place(alloc, job, files, out).outcome
+    let report = page_in_place(alloc, job, files, out);
+    let outcome = report.outcome;
+    let_go(report);
+    outcome
 }
 
 /// Runs a page with these scripts: what the program prints of it, with the tree's text or its

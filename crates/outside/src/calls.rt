@@ -64,6 +64,7 @@ impl PortCalls {
 #[derive(Drop)]
 pub struct CallLog {
     entities: PortCalls,
+    list: PortCalls,
     page: PortCalls,
     script: PortCalls,
 }
@@ -75,6 +76,7 @@ impl CallLog {
     {
         CallLog {
             entities: PortCalls::new(alloc),
+            list: PortCalls::new(alloc),
             page: PortCalls::new(alloc),
             script: PortCalls::new(alloc),
         }
@@ -94,6 +96,7 @@ impl CallLog {
     {
         match port {
             Port::Entities => self.entities.note_begin(alloc, path, answer),
+            Port::List => self.list.note_begin(alloc, path, answer),
             Port::Page => self.page.note_begin(alloc, path, answer),
             Port::Script => self.script.note_begin(alloc, path, answer),
         }
@@ -108,6 +111,7 @@ impl CallLog {
         let call = CallMade::Read(most, answer);
         match port {
             Port::Entities => self.entities.note(call),
+            Port::List => self.list.note(call),
             Port::Page => self.page.note(call),
             Port::Script => self.script.note(call),
         }

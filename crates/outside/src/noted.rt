@@ -46,6 +46,7 @@ impl NotedPaths {
 #[derive(Drop)]
 pub struct Noted {
     entities: NotedPaths,
+    list: NotedPaths,
     page: NotedPaths,
     script: NotedPaths,
 }
@@ -57,6 +58,7 @@ impl Noted {
     {
         Noted {
             entities: NotedPaths::new(alloc),
+            list: NotedPaths::new(alloc),
             page: NotedPaths::new(alloc),
             script: NotedPaths::new(alloc),
         }
@@ -69,6 +71,7 @@ impl Noted {
     {
         match port {
             Port::Entities => self.entities.note(alloc, path),
+            Port::List => self.list.note(alloc, path),
             Port::Page => self.page.note(alloc, path),
             Port::Script => self.script.note(alloc, path),
         }

@@ -8,6 +8,8 @@ ghost use Rattle.outside.specs.Outside.{Seen, Rose, Begun, begins, reads, Called
 pub enum Port {
     /// The file of the entities.
     Entities,
+    /// The list of pages.
+    List,
     /// The page.
     Page,
     /// The scripts.

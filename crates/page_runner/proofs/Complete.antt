@@ -16,7 +16,7 @@ use Rattle.standard_laws.proofs.Fuel.{one_outcome}
 use Rattle.page_runner.specs.declared.command.TheConstants.{ENTITIES_LIMIT}
 use Rattle.page_runner.specs.declared.status.Status.{Status}
 use Rattle.page_runner.specs.declared.status.Status.TheVariants as status
-use Rattle.command_words.specs.Words.{PageAsked, Asked, for_page, for_make}
+use Rattle.command_words.specs.Words.{PageAsked, Asked, for_page, for_make, for_batch}
 use Rattle.page_turns.specs.Given.{Given, unmet, missing, faulted, got, FaultsRose, NoFault, AbsencesRose, file_at, MayGive}
 use Rattle.page_turns.specs.Taken.{Took}
 use Rattle.page_turns.specs.Scripts.{Folder, Help, path_of, IsAbsent, MayFetch, MayCome, AreScriptsOf, Alike, fetched_of, world_in}
@@ -26,10 +26,10 @@ use Rattle.page_turns.specs.Pages.{page_at, world_of, ComesTo}
 use Rattle.page_runner.proofs.HelpLemmas.{helped_told}
 use Rattle.page_runner.specs.Answers.{folder_by, TellAll, IsPageOf, PageMet, MayGivePage, IsParsed, Answer, status_with, answer_to_page, answer_over, answer_to, table_of, Gives, RunsTo, CompletesRun}
 
-abbrev Only : Option (List ℕ) → Option (List ℕ) → Answer → Status → Type 0
+abbrev pub Only : Option (List ℕ) → Option (List ℕ) → Answer → Status → Type 0
 Only t t' answer r = (r ≡ status.NoMemory) ⊎ ((r ≡ answer.0) × Took t t' answer.1)
 
-gives_only : (rose : Type 0) (t t' : Option (List ℕ)) (answer : Answer) (r : Status) → Gives rose t t' answer r → ¬ rose → Only t t' answer r
+pub gives_only : (rose : Type 0) (t t' : Option (List ℕ)) (answer : Answer) (r : Status) → Gives rose t t' answer r → ¬ rose → Only t t' answer r
 gives_only rose t t' answer status.WriteFault gives unless = absurd (unless gives.0)
 gives_only rose t t' answer status.NoMemory gives unless = inl refl
 gives_only rose t t' answer status.Done gives unless = inr gives
@@ -39,23 +39,24 @@ gives_only rose t t' answer status.BadUtf8 gives unless = inr gives
 gives_only rose t t' answer (status.Limit which) gives unless = inr gives
 gives_only rose t t' answer status.ReadFault gives unless = inr gives
 gives_only rose t t' answer status.Absent gives unless = inr gives
+gives_only rose t t' answer status.List gives unless = inr gives
 
 -- nothing but want of memory
 memory_only : {P : Type 0} (rose : Type 0) (t t' : Option (List ℕ)) (r : Status) → Gives rose t t' (status.NoMemory, []) r → ¬ rose → (r ≡ status.NoMemory) ⊎ P
 memory_only rose t t' r gives unless = elim (gives_only rose t t' (status.NoMemory, []) r gives unless) [ inl is ↦ inl is | inr both ↦ inl both.0 ]
 
-all_taken : (limit : ℕ) (bytes : List ℕ) → nat_le (length bytes) limit ≡ true → take (limit + 1) bytes ≡ bytes
+pub all_taken : (limit : ℕ) (bytes : List ℕ) → nat_le (length bytes) limit ≡ true → take (limit + 1) bytes ≡ bytes
 all_taken limit bytes fits = let small = leb-true (length bytes) limit fits in take_all (limit + 1) bytes (omega arith)
 
 -- a table isn't too long
-table_fits : (bytes : List ℕ) (es : Table) → table_of bytes ≡ Some es → nat_le (length bytes) ENTITIES_LIMIT ≡ true
+pub table_fits : (bytes : List ℕ) (es : Table) → table_of bytes ≡ Some es → nat_le (length bytes) ENTITIES_LIMIT ≡ true
 table_fits bytes es is = by_test (nat_le (length bytes) ENTITIES_LIMIT) is
   where
     by_test : (b : Bool) → (if b then entities_of bytes else None) ≡ Some es → b ≡ true
     by_test true is = refl
     by_test false is = absurd (cc is)
 
-if_some : {A : Type 0} (o : Option A) (P : A → Type 0) → ((x : A) → o ≡ Some x → P x) → IfSome o P
+pub if_some : {A : Type 0} (o : Option A) (P : A → Type 0) → ((x : A) → o ≡ Some x → P x) → IfSome o P
 if_some None P h = tt
 if_some (Some x) P h = h x refl
 
@@ -138,6 +139,7 @@ module _ (asked : PageAsked) (was is : List Seen) (before after : Seen) (map : F
 pub completes : (asked : Option Asked) (was is : List Seen) (before after : Seen) (sink sink' : ℕ) (t t' : Option (List ℕ)) (r : Status) → RunsTo asked was is before after sink sink' t t' r → CompletesRun asked was is before after sink sink' t t' r
 completes None was is before after sink sink' t t' r runs = tt
 completes (Some (for_make asked)) was is before after sink sink' t t' r runs = tt
+completes (Some (for_batch asked)) was is before after sink sink' t t' r runs = tt
 completes (Some (for_page asked)) was is before after sink sink' t t' r runs = if_some before.files _ (λ map told entities page es o there table there' all comes none.
     met_entities asked was is before after map told (Rose sink sink') t t' r none.at_sink none.entities none.page none.script es page there' o comes all
     entities runs.entities runs.page there table runs.may_entities runs.may_page runs.parsed runs.gives)

@@ -17,7 +17,7 @@ use Rattle.page_turns.proofs.SameWorlds.{alike-refl}
 use Rattle.preload.specs.declared.helper.HelperLanes.{HelperLanes}
 use Rattle.preload.proofs.Giving.{keeps-none}
 use Rattle.preload.specs.Teams.{HelpedBy, HelpedEach, helps_first}
-use Rattle.command_words.specs.Words.{PageAsked, Asked, for_page, for_make}
+use Rattle.command_words.specs.Words.{PageAsked, Asked, for_page, for_make, for_batch}
 use Rattle.page_runner.specs.declared.status.Status.{Status}
 use Rattle.page_runner.specs.Answers.{PageMet, MayMeetPage, MayGivePage, PageAnswers, folder_by, HelpersBack, HelpersBackOf, TellAll, is_answered}
 use Rattle.page_runner.specs.Reports.{IsMet, EndsAsSerial, Reports}
@@ -148,6 +148,7 @@ helpers_stay n was = helped_back [] [] n was was (omega arith) refl
 pub helpers_stay_of : (asked : Option Asked) (was : List Seen) → HelpersBackOf asked was was
 helpers_stay_of None was = refl
 helpers_stay_of (Some (for_make asked)) was = refl
+helpers_stay_of (Some (for_batch asked)) was = refl
 helpers_stay_of (Some (for_page asked)) was = helpers_stay asked.preload was
 
 pub helpers_asked : (asked : Option Asked) (a : PageAsked) (was now : List Seen) → Some (for_page a) ≡ asked → HelpersBack a.preload was now → HelpersBackOf asked was now

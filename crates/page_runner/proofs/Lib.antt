@@ -5,5 +5,7 @@ pub mod TakenLemmas
 pub mod OnTwoLemmas
 pub mod ReportLemmas
 pub mod Complete
+pub mod BatchLemmas
+pub mod BatchRuns
 pub mod Causes
 pub mod MakingLemmas

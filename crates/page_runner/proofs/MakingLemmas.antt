@@ -49,7 +49,7 @@ use Rattle.page_runner.specs.declared.making.MadeRun.TheVariants as made
 use Rattle.page_runner.specs.declared.status.Status.{Status}
 use Rattle.page_runner.specs.declared.status.Status.TheVariants as status
 use Rattle.command_words.specs.declared.words.MakeWords.{MakeWords}
-use Rattle.command_words.specs.Words.{Asked, for_page, for_make}
+use Rattle.command_words.specs.Words.{Asked, for_page, for_make, for_batch}
 use Rattle.page_runner.specs.Answers.{IsPageOf, PageMet, MayGivePage, IsParsed, Answer, status_with, answer_to_page, Gives, PageAnswers}
 use Rattle.page_runner.specs.Shown.{status_of}
 use Rattle.page_runner.specs.Reports.{Reports}
@@ -110,6 +110,7 @@ makes-nothing asked rose t =
 pub makes-no_memory : (words : Option Asked) (before : Seen) (k : ℕ) (t : Option (List ℕ)) → MakesTo words before before k k t t status.NoMemory
 makes-no_memory None before k t = tt
 makes-no_memory (Some (for_page asked)) before k t = tt
+makes-no_memory (Some (for_batch asked)) before k t = tt
 makes-no_memory (Some (for_make asked)) before k t = (refl, makes-nothing asked (Rose k k) t)
 
 -- ---- the world of the files
@@ -138,6 +139,7 @@ given-or t t' rose answer status.BadUtf8 gives never = inl gives.0
 given-or t t' rose answer (status.Limit which) gives never = inl gives.0
 given-or t t' rose answer status.ReadFault gives never = inl gives.0
 given-or t t' rose answer status.Absent gives never = inl gives.0
+given-or t t' rose answer status.List gives never = inl gives.0
 
 pub never-rose : Rose 0 0 → ⊥
 never-rose (inl less) = absurd (omega (arith, less))

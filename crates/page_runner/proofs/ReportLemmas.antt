@@ -92,6 +92,7 @@ module _ (es : Entities) (ahead : ℕ) (dump : Bool) (path : List ℕ) (folder :
       front-of (status.Limit which) e gives = absurd (true≢false e)
       front-of status.ReadFault e gives = absurd (true≢false e)
       front-of status.Absent e gives = absurd (true≢false e)
+      front-of status.List e gives = absurd (true≢false e)
 
       part : TookFront now' t' (result_with dump (result_of o) s.desk.own.side.doc.tree) → WritesInPart es ahead t t' (IsDueNext dump s)
       part front = record {
@@ -115,6 +116,7 @@ module _ (es : Entities) (ahead : ℕ) (dump : Bool) (path : List ℕ) (folder :
       all-of (status.Limit which) e gives = gives
       all-of status.ReadFault e gives = gives
       all-of status.Absent e gives = gives
+      all-of status.List e gives = gives
 
       here : All r → IsWritten dump t t' s r
       here (is, took) = record { result = result_of o; going = out.going; phase = out.phase; outcome_is = is ∙ status_is o; took = took_then t now' t' _ _ out.took took }

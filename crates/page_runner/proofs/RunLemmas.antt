@@ -9,7 +9,7 @@ use Rattle.html_types.specs.declared.ending.Why.TheVariants as why
 use Rattle.outside.specs.Outside.{Rose, Files, Begun, begins, Seen, KeepsOthers}
 use Rattle.outside.specs.declared.traits.Failed.{Failed}
 use Rattle.outside.specs.declared.traits.Port.{Port}
-use Rattle.outside.specs.declared.traits.Port.TheVariants.{Entities, Page, Script}
+use Rattle.outside.specs.declared.traits.Port.TheVariants.{Entities, Page, Script, List as list_port}
 use Rattle.standard.specs.Act.{Doc}
 use Rattle.standard.specs.Entities.{Entities as Table}
 use Rattle.serial.specs.Scripts.{Fetched}
@@ -29,7 +29,8 @@ use Rattle.page_turns.specs.declared.page.Failure.TheVariants as failures
 use Rattle.page_runner.specs.declared.status.Status.{Status}
 use Rattle.page_runner.specs.declared.status.Status.TheVariants as status
 use Rattle.command_words.specs.declared.words.MakeWords.{MakeWords}
-use Rattle.command_words.specs.Words.{PageAsked, Asked, for_page, for_make}
+use Rattle.command_words.specs.Words.{PageAsked, BatchAsked, Asked, for_page, for_make, for_batch}
+use Rattle.page_batch.specs.declared.list.TheConstants.{LIST_LIMIT}
 use Rattle.page_runner.specs.Making.{Makes, MakesTo}
 use Rattle.page_turns.specs.Given.{Given, unmet, missing, faulted, got, FaultsRose, NoFault, AbsencesRose, file_at, MayGive, AreRead, ReadTo, untouched, unbegun, begun, KeepsEntities}
 use Rattle.page_turns.specs.Calls.{CallsAt, EachWithin}
@@ -41,7 +42,7 @@ use Rattle.page_turns.specs.Pages.{PageRead, page_at, world_of, AreTaken, ReadsO
 use Rattle.page_turns.specs.Turns.{LeavesAlone}
 use Rattle.page_runner.specs.Answers.{folder_by, IsPageOf, PageMet, MayMeetPage, MayGivePage, FaultsOver, FaultsMet, AwaitsOver, AwaitsEach, IsParsed, Answer, status_with, answer_to_page, answer_over, answer_to, table_of, status_for, Gives, is_answered, IsBegun, PageAnswers, ReadsPage, ReadsTable, ReadsNone, answer_without, Answers, RunsTo, StopsAtEach, StopsAtLimits, BeginsEach, BeginsOnce, is_finished}
 use Rattle.outside.proofs.KeepsLemmas.{keeps-same}
-use Rattle.page_turns.proofs.KeepsLemmas.{begun_none, begun_then, begun_stays, begun_since, begun_is, rose-on, rose-stays, entities-same, entities-then, entities-others}
+use Rattle.page_turns.proofs.KeepsLemmas.{begun_none, begun_then, begun_stays, begun_since, begun_is, rose-on, rose-stays, alone-same, alone-then, alone-others, entities-same, entities-then, entities-others}
 use Rattle.page_turns.proofs.MeetLemmas.{names_none}
 use Rattle.page_turns.proofs.CallLemmas.{called_none, called_then, called_stays, called_since, each_none, failed_since, unbegun_each}
 use Rattle.page_turns.proofs.PageTakenLemmas.{took_nothing, front_nothing, took_then, front_then}
@@ -86,6 +87,7 @@ gives_behind rose rose' t now t' first a b status.BadUtf8 on took gives = (gives
 gives_behind rose rose' t now t' first a b (status.Limit which) on took gives = (gives.0, took_then t now t' a b took gives.1)
 gives_behind rose rose' t now t' first a b status.ReadFault on took gives = (gives.0, took_then t now t' a b took gives.1)
 gives_behind rose rose' t now t' first a b status.Absent on took gives = (gives.0, took_then t now t' a b took gives.1)
+gives_behind rose rose' t now t' first a b status.List on took gives = (gives.0, took_then t now t' a b took gives.1)
 
 pub failure_unanswered : (f : Failure) → IsTrue (is_answered (status_for f)) → ⊥
 failure_unanswered failures.Memory e = cc
@@ -319,7 +321,7 @@ module _ (es : Table) (dump : Bool) (path : List ℕ) (folder : Folder) (before 
   pub page_unbegun : (path' : List ℕ) → path' ≡ path → IfSome (after.left Page) (λ rest. rest ≡ []) → AbsencesRose Page before after ⊎ FaultsRose Page before after → Begun (before.begun Page) (after.begun Page) (path' ∷ [])
       → (answer : Result Bool Failed) → CallsAt Page before after (begins path' answer ∷ []) → ReadsPage path folder.dir (path ∷ []) before after
   page_unbegun path' same none cause paths answer made = record {
-    others = entities-others Page before after (λ e. cc e) keeps;
+    others = entities-others Page before after (λ e. cc e) (λ e. cc e) keeps;
     page = unbegun none cause;
     within = unbegun_each Page path' before after PAGE_LIMIT answer made;
     scripts = none_begun (keeps.left Script (λ e. cc e));
@@ -435,6 +437,7 @@ each_still limit port before now after same each = record { calls = each.calls; 
 
 pub stops_early : (asked : PageAsked) (before after : Seen) → ReadTo ENTITIES_LIMIT Entities asked.entities before after → EachWithin ENTITIES_LIMIT Entities before after → KeepsOthers Entities before after → StopsAtEach asked before after
 stops_early asked before after reads within keeps = record {
+  list = alone-others list_port Entities before after (λ e. cc e) keeps;
   entities = reads;
   page = untouched (keeps.left Page (λ e. cc e));
   scripts = none_begun (keeps.left Script (λ e. cc e));
@@ -447,6 +450,7 @@ stops_early asked before after reads within keeps = record {
 pub stops_on : (asked : PageAsked) (before now after : Seen) → ReadTo ENTITIES_LIMIT Entities asked.entities before now → EachWithin ENTITIES_LIMIT Entities before now → KeepsOthers Entities before now
     → ReadsPage asked.page asked.dir (asked.page ∷ []) now after → StopsAtEach asked before after
 stops_on asked before now after reads within keeps page = record {
+  list = alone-then list_port before now after (alone-others list_port Entities before now (λ e. cc e) keeps) page.others.list;
   entities = read_still ENTITIES_LIMIT asked.entities before now after reads page.others;
   page = page_since_entities asked.page before now after keeps page.page;
   scripts = scripts_since_entities asked.dir before now after keeps page.scripts;
@@ -475,7 +479,7 @@ begins_on asked path before now after same paths keeps page = record {
 pub reads_since : (path dir path' : List ℕ) (before now after : Seen) → path' ≡ path → KeepsOthers Page before now → Begun (before.begun Page) (now.begun Page) (path' ∷ []) → (answer : Result Bool Failed) → CallsAt Page before now (begins path' answer ∷ []) → IsBegun path now
     → ReadsPage path dir [] now after → ReadsPage path dir (path ∷ []) before after
 reads_since path dir path' before now after same keeps paths answer made found reads = record {
-  others = entities-then before now after (entities-others Page before now (λ e. cc e) keeps) reads.others;
+  others = entities-then before now after (entities-others Page before now (λ e. cc e) (λ e. cc e) keeps) reads.others;
   page = begun_page_read path before now after keeps found reads.page;
   within = record { calls = begins path' answer ∷ reads.within.calls; made = called_then _ _ _ (begins path' answer ∷ []) reads.within.calls made reads.within.made; within = λ k. reads.within.within };
   scripts = scripts_since_page dir before now after keeps reads.scripts;
@@ -507,6 +511,7 @@ runs_usage asked was is before k t none = subst (λ a. RunsTo a was is before be
 pub runs_no_memory : (asked : Option Asked) (was is : List Seen) (before : Seen) (k : ℕ) (t : Option (List ℕ)) → RunsTo asked was is before before k k t t status.NoMemory
 runs_no_memory None was is before k t = front_nothing t []
 runs_no_memory (Some (for_make asked)) was is before k t = tt
+runs_no_memory (Some (for_batch asked)) was is before k t = tt
 runs_no_memory (Some (for_page asked)) was is before k t = answers_without asked was is before before (keeps-same Entities before) k k t t status.NoMemory unread.NoMemory tt (front_nothing t [])
 
 pub runs_asked : (asked : Option Asked) (a : PageAsked) (was is : List Seen) (before after : Seen) (k k' : ℕ) (t t' : Option (List ℕ)) (result : Status) → Some (for_page a) ≡ asked → Answers a was is before after k k' t t' result → RunsTo asked was is before after k k' t t' result
@@ -515,6 +520,7 @@ runs_asked asked a was is before after k k' t t' result same answers = subst (λ
 pub begins_nothing : (asked : Option Asked) (before : Seen) → BeginsOnce asked before before
 begins_nothing None before = refl
 begins_nothing (Some (for_make asked)) before = refl
+begins_nothing (Some (for_batch asked)) before = record { entities = inl (begun_none _ _ refl); list = inl (begun_none _ _ refl); pages = inl (begun_none _ _ refl); scripts = names_none asked.dir _ _ refl }
 begins_nothing (Some (for_page asked)) before = record { entities = inl (begun_none _ _ refl); page = inl (begun_none _ _ refl); scripts = names_none asked.dir _ _ refl }
 
 pub begins_asked : (asked : Option Asked) (a : Asked) (before after : Seen) → Some a ≡ asked → BeginsOnce (Some a) before after → BeginsOnce asked before after
@@ -523,7 +529,17 @@ begins_asked asked a before after is once = subst (λ o. BeginsOnce o before aft
 pub stops_at_once : (asked : Option Asked) (before : Seen) → StopsAtLimits asked before before
 stops_at_once None before = (refl, refl)
 stops_at_once (Some (for_make asked)) before = (refl, refl)
+stops_at_once (Some (for_batch asked)) before = record {
+  entities = untouched refl;
+  list = untouched refl;
+  scripts = none_begun refl;
+  entities_within = each_none ENTITIES_LIMIT Entities before before refl;
+  list_within = each_none LIST_LIMIT list_port before before refl;
+  page_within = each_none PAGE_LIMIT Page before before refl;
+  scripts_within = each_none SCRIPT_LIMIT Script before before refl;
+}
 stops_at_once (Some (for_page asked)) before = record {
+  list = alone-same list_port before;
   entities = untouched refl;
   page = untouched refl;
   scripts = none_begun refl;
@@ -538,6 +554,13 @@ stops_asked asked a before after is stops = subst (λ o. StopsAtLimits o before 
 -- of the command `make` no more is said by these
 pub runs_made : (asked : Option Asked) (a : MakeWords) (was is : List Seen) (before after : Seen) (k k' : ℕ) (t t' : Option (List ℕ)) (result : Status) → Some (for_make a) ≡ asked → RunsTo asked was is before after k k' t t' result
 runs_made asked a was is before after k k' t t' result same = subst (λ o. RunsTo o was is before after k k' t t' result) same tt
+
+-- what comes of a list is said elsewhere
+pub runs_listed : (asked : Option Asked) (a : BatchAsked) (was is : List Seen) (before after : Seen) (k k' : ℕ) (t t' : Option (List ℕ)) (result : Status) → Some (for_batch a) ≡ asked → RunsTo asked was is before after k k' t t' result
+runs_listed asked a was is before after k k' t t' result same = subst (λ o. RunsTo o was is before after k k' t t' result) same tt
+
+pub makes_listed : (asked : Option Asked) (a : BatchAsked) (before after : Seen) (k k' : ℕ) (t t' : Option (List ℕ)) (result : Status) → Some (for_batch a) ≡ asked → MakesTo asked before after k k' t t' result
+makes_listed asked a before after k k' t t' result is = subst (λ o. MakesTo o before after k k' t t' result) is tt
 
 pub makes_none : (asked : Option Asked) (before after : Seen) (k k' : ℕ) (t t' : Option (List ℕ)) (result : Status) → asked ≡ None → MakesTo asked before after k k' t t' result
 makes_none asked before after k k' t t' result is = subst (λ o. MakesTo o before after k k' t t' result) (sym is) tt

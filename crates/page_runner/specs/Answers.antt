@@ -3,7 +3,7 @@ use Rattle.std.specs.Prelude.{◌≡◌, ◌⊎◌, ℕ, zero, suc, Bool, true, 
 use Rattle.html_types.specs.declared.ending.Why.TheVariants as why
 use Rattle.std.specs.List.{AllByRecursion}
 use Rattle.outside.specs.Outside.{Rose, Begun, Files, Seen, KeepsOthers}
-use Rattle.outside.specs.declared.traits.Port.TheVariants.{Entities, Page, Script}
+use Rattle.outside.specs.declared.traits.Port.TheVariants.{Entities, Page, Script, List as list_port}
 use Rattle.standard.specs.Entities.{Entities as Table, entities_of}
 use Rattle.serial.specs.Scripts.{Fetched}
 use Rattle.serial.specs.Serial.{Result, finished, refused, Outcome}
@@ -19,8 +19,11 @@ use Rattle.page_turns.specs.declared.scripts.TheConstants.{SCRIPT_LIMIT}
 use Rattle.page_runner.specs.declared.status.Limit.TheVariants as limits
 use Rattle.page_runner.specs.declared.status.Status.{Status}
 use Rattle.page_runner.specs.declared.status.Status.TheVariants as status
-use Rattle.command_words.specs.Words.{PageAsked, Asked, for_page, for_make}
-use Rattle.page_turns.specs.Given.{Given, unmet, missing, faulted, got, FaultsRose, NoFault, AbsencesRose, file_at, MayGive, ReadTo, BegunOnce, KeepsEntities}
+use Rattle.command_words.specs.Words.{PageAsked, BatchAsked, Asked, for_page, for_make, for_batch}
+use Rattle.page_batch.specs.declared.list.TheConstants.{LIST_LIMIT}
+use Rattle.page_batch.specs.Lists.{paths_in}
+use Rattle.page_batch.specs.Batches.{BeginsFront}
+use Rattle.page_turns.specs.Given.{Given, unmet, missing, faulted, got, FaultsRose, NoFault, AbsencesRose, file_at, MayGive, ReadTo, BegunOnce, IsLeftAlone, KeepsEntities}
 use Rattle.page_turns.specs.Calls.{ReadWithin, EachWithin}
 use Rattle.page_turns.specs.Taken.{Took, TookFront}
 use Rattle.page_turns.specs.Scripts.{Folder, Help, AreScriptsOf, ReadScriptsTo, NamesOnce, world_in}
@@ -212,11 +215,12 @@ pub record Answers (asked : PageAsked) (was now : List Seen) (before after : See
   pub parsed : (bytes : List ℕ) (es : Table) → entities ≡ got bytes → table_of bytes ≡ Some es → IsParsed es page
   pub gives : Gives (Rose sink sink') taken taken' (answer_to asked.dump entities page) result
 
--- The words come before all. What comes of the command `make` is said by a clause of its own (`Making`).
+-- The words come before all. What comes of the commands `make` and `batch` is said by clauses of their own (`Making`, `Batches`).
 abbrev pub RunsTo : Option Asked → List Seen → List Seen → Seen → Seen → ℕ → ℕ → Option (List ℕ) → Option (List ℕ) → Status → Type 0
 RunsTo None was now before after sink sink' taken taken' result = Gives (Rose sink sink') taken taken' (status.Usage, []) result
 RunsTo (Some (for_page asked)) was now before after sink sink' taken taken' result = Answers asked was now before after sink sink' taken taken' result
 RunsTo (Some (for_make asked)) was now before after sink sink' taken taken' result = Unit {0}
+RunsTo (Some (for_batch asked)) was now before after sink sink' taken taken' result = Unit {0}
 
 -- the statuses before which the sink is finished
 abbrev pub is_finished : Status → Bool
@@ -227,12 +231,23 @@ is_finished status.ReadFault = true
 is_finished _ = false
 
 -- No file is read further than one byte past its limit: by what a port has left, of the file that was begun last; and where the calls are told,
--- each file that was begun.
+-- each file that was begun. No list of pages is read.
 pub record StopsAtEach (asked : PageAsked) (before after : Seen) : Type 0 where
+  pub list : IsLeftAlone list_port before after
   pub entities : ReadTo ENTITIES_LIMIT Entities asked.entities before after
   pub page : ReadTo PAGE_LIMIT Page asked.page before after
   pub scripts : ReadScriptsTo SCRIPT_LIMIT asked.dir before after
   pub entities_within : EachWithin ENTITIES_LIMIT Entities before after
+  pub page_within : EachWithin PAGE_LIMIT Page before after
+  pub scripts_within : EachWithin SCRIPT_LIMIT Script before after
+
+-- the same of a list of pages
+pub record StopsInList (asked : BatchAsked) (before after : Seen) : Type 0 where
+  pub entities : ReadTo ENTITIES_LIMIT Entities asked.entities before after
+  pub list : ReadTo LIST_LIMIT list_port asked.list before after
+  pub scripts : ReadScriptsTo SCRIPT_LIMIT asked.dir before after
+  pub entities_within : EachWithin ENTITIES_LIMIT Entities before after
+  pub list_within : EachWithin LIST_LIMIT list_port before after
   pub page_within : EachWithin PAGE_LIMIT Page before after
   pub scripts_within : EachWithin SCRIPT_LIMIT Script before after
 
@@ -244,6 +259,7 @@ abbrev pub StopsAtLimits : Option Asked → Seen → Seen → Type 0
 StopsAtLimits None before after = ReadsNothing before after
 StopsAtLimits (Some (for_page asked)) before after = StopsAtEach asked before after
 StopsAtLimits (Some (for_make asked)) before after = ReadsNothing before after
+StopsAtLimits (Some (for_batch asked)) before after = StopsInList asked before after
 
 -- The entities and the page are begun once at most, so is each script, by a lawful name, and nothing else ever is.
 pub record BeginsEach (asked : PageAsked) (before after : Seen) : Type 0 where
@@ -251,10 +267,23 @@ pub record BeginsEach (asked : PageAsked) (before after : Seen) : Type 0 where
   pub page : BegunOnce asked.page (before.begun Page) (after.begun Page)
   pub scripts : NamesOnce asked.dir (before.begun Script) (after.begun Script)
 
+-- None was begun, or a front of the paths of a list that its port may give, each as often as it stands there.
+abbrev pub BeginsPages : List ℕ → Seen → Seen → Type 0
+BeginsPages list before after = Begun (before.begun Page) (after.begun Page) []
+    ⊎ ((bytes : List ℕ) × (paths : List (List ℕ)) × MayGive LIST_LIMIT list_port list before after (got bytes) × (paths_in bytes ≡ Some paths) × BeginsFront paths before after)
+
+-- Entities and list are begun once at most, so is each script, by a lawful name, and of pages a front of the list's; and nothing else ever is.
+pub record BeginsListed (asked : BatchAsked) (before after : Seen) : Type 0 where
+  pub entities : BegunOnce asked.entities (before.begun Entities) (after.begun Entities)
+  pub list : BegunOnce asked.list (before.begun list_port) (after.begun list_port)
+  pub pages : BeginsPages asked.list before after
+  pub scripts : NamesOnce asked.dir (before.begun Script) (after.begun Script)
+
 abbrev pub BeginsOnce : Option Asked → Seen → Seen → Type 0
 BeginsOnce None before after = after.begun ≡ before.begun
 BeginsOnce (Some (for_page asked)) before after = BeginsEach asked before after
 BeginsOnce (Some (for_make asked)) before after = after.begun ≡ before.begun
+BeginsOnce (Some (for_batch asked)) before after = BeginsListed asked before after
 
 -- ---- what follows of it
 
@@ -289,10 +318,12 @@ pub record Exactly (wanted result : Status) (fact : Type 0) : Type 0 where
   pub nowhere_else : result ≡ wanted → fact
   pub there : fact → (result ≡ wanted) ⊎ (result ≡ status.WriteFault) ⊎ (result ≡ status.NoMemory)
 
--- An absence was counted at the port of the entities or of the page. A script that isn't there ends no run.
-abbrev pub AbsenceRose : Seen → Seen → Type 0
-AbsenceRose before after = AbsencesRose Entities before after ⊎ AbsencesRose Page before after
+-- An absence was counted at the port of the entities, or of the page or the list. A script that isn't there ends no run, nor does a page of a list.
+abbrev pub AbsenceRose : Option Asked → Seen → Seen → Type 0
+AbsenceRose (Some (for_batch asked)) before after = AbsencesRose Entities before after ⊎ AbsencesRose list_port before after
+AbsenceRose _ before after = AbsencesRose Entities before after ⊎ AbsencesRose Page before after
 
--- a fault was counted at one of the ports
-abbrev pub FaultRose : Seen → Seen → Type 0
-FaultRose before after = FaultsRose Entities before after ⊎ FaultsRose Page before after ⊎ FaultsRose Script before after
+-- a fault was counted at one of the ports; a page or a script that couldn't be read ends no run of a list
+abbrev pub FaultRose : Option Asked → Seen → Seen → Type 0
+FaultRose (Some (for_batch asked)) before after = FaultsRose Entities before after ⊎ FaultsRose list_port before after
+FaultRose _ before after = FaultsRose Entities before after ⊎ FaultsRose Page before after ⊎ FaultsRose Script before after

@@ -5,3 +5,4 @@ pub mod Making
 pub mod Reports
 pub mod Exchanges
 pub mod OnTwo
+pub mod Batches

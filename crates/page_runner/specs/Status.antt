@@ -12,4 +12,5 @@ exit_of (status.Limit which) = 5
 exit_of status.ReadFault = 7
 exit_of status.WriteFault = 8
 exit_of status.Absent = 9
+exit_of status.List = 11
 exit_of status.NoMemory = 12

@@ -10,8 +10,10 @@ ghost use Rattle.page_turns.specs.Taken.{Took, TookFront};
 ghost use Rattle.page_turns.specs.Shown.{result_of};
 ghost use Rattle.page_runner.specs.Shown.{status_of};
 ghost use Rattle.page_runner.specs.Making.{MakesTo};
+ghost use Rattle.page_runner.specs.Batches.{BatchesTo};
 ghost use Rattle.page_runner.specs.Answers.{status_for, table_of, is_finished, folder_by, HelpersBack, HelpersBackOf, Gives, PageAnswers, ReadsPage, ReadsTable, ReadsNone, answer_without, Answers, RunsTo, StopsAtLimits, BeginsOnce, CompletesRun, Exactly, AbsenceRose, FaultRose};
 
+use crate::batch::run_batch;
 use crate::making::run_make;
 use crate::on_two::page_on_two;
 use crate::running::let_go;
@@ -116,7 +118,7 @@ pub(crate) fn end_at_fault<K: Sink>(out: &mut K) -> Status
 }
 
 // There is no table, so the page isn't begun.
-fn end_without<K: Sink>(out: &mut K, unread: Unread) -> Status
+pub(crate) fn end_without<K: Sink>(out: &mut K, unread: Unread) -> Status
     ensures gives { Gives (Rose (K.faults out.old) (K.faults out.new)) (K.taken out.old) (K.taken out.new) (answer_without unread) result }
     ensures clean { IsTrue (is_finished result) → IsTrue (K.clean out.new) }
 {
@@ -209,7 +211,11 @@ fn table_of(alloc: Global, bytes: &[u8]) -> Result<Table, TableFault>
 }
 
 // Reads the entities.
-fn read_entities<F: Outside>(alloc: Global, files: &mut F, path: &str) -> Result<Table, Unread>
+pub(crate) fn read_entities<F: Outside>(
+    alloc: Global,
+    files: &mut F,
+    path: &str,
+) -> Result<Table, Unread>
     ensures table { IfOk result (λ table. ReadsTable path.now (F.seen files.old) (F.seen files.new) table) }
     ensures none { IfErr result (λ unread. ReadsNone path.now (F.seen files.old) (F.seen files.new) unread) }
     ensures no_further { ReadTo ENTITIES_LIMIT Port.Entities path.now (F.seen files.old) (F.seen files.new) }
@@ -283,6 +289,8 @@ fn run_words<
     ensures begins { BeginsOnce (asked (map string_bytes words.now)) (F.seen files.old) (F.seen files.new) }
     ensures makes { MakesTo (asked (map string_bytes words.now)) (F.seen files.old) (F.seen files.new)
         (K.faults out.old) (K.faults out.new) (K.taken out.old) (K.taken out.new) result }
+    ensures batches { BatchesTo (asked (map string_bytes words.now)) (F.seen files.old) (F.seen files.new)
+        (K.faults out.old) (K.faults out.new) (K.taken out.old) (K.taken out.new) result }
     ensures clean { IsTrue (is_finished result) → IsTrue (K.clean out.new) }
     ensures helpers { HelpersBackOf (asked (map string_bytes words.now)) (map F.seen helpers.old.items) (map F.seen helpers.new.items) }
 {
@@ -291,12 +299,14 @@ fn run_words<
         Err(Refused::NoMemory) => Status::NoMemory,
         Ok(CommandWords::Page(words)) => run_files(rt, alloc, files, out, gate, helpers, words),
         Ok(CommandWords::Make(words)) => run_make(rt, alloc, out, gate, words),
+        Ok(CommandWords::Batch(words)) => run_batch(rt, alloc, files, out, &words),
     }
 }
 
 /// Runs the command that the words give, of which the program's name is the first: the entities file is read, and then
-/// the page is begun, parsed and written, its scripts with it; or a page is made, parsed, and what that comes to in numbers written. The sink is
-/// finished where the parse came to an end. Of the helpers the first so many as the words say fetch scripts before they are awaited.
+/// the page is begun, parsed and written, its scripts with it; or the pages of a list are; or a page is made, parsed, and what that comes to in
+/// numbers written. The sink is finished where the parse came to an end. Of the helpers the first so many as the words say fetch scripts before
+/// they are awaited.
 pub fn run<
     R: Threads + Wait + Copy + Send + Sync + 'static,
     F: Outside + Drop + Send + 'static,
@@ -314,6 +324,10 @@ pub fn run<
     // The status and the bytes that the sink took are the answer to what the run met, and the text is that of the serial parse.
     ensures answer { RunsTo (asked (map string_bytes words.now)) (map F.seen helpers.old.items) (map F.seen helpers.new.items)
         (F.seen files.old) (F.seen files.new)
+        (K.faults out.old) (K.faults out.new) (K.taken out.old) (K.taken out.new) result }
+
+    // The same of the pages of a list, each with the answer that a run of it alone has.
+    ensures batches { BatchesTo (asked (map string_bytes words.now)) (F.seen files.old) (F.seen files.new)
         (K.faults out.old) (K.faults out.new) (K.taken out.old) (K.taken out.new) result }
 
     // The same of a page that is made from a number.
@@ -335,8 +349,8 @@ pub fn run<
 
     // What follows for single statuses.
     ensures usage { Exactly Status.Usage result (asked (map string_bytes words.now) ≡ None) }
-    ensures absent { result ≡ Status.Absent → AbsenceRose (F.seen files.old) (F.seen files.new) }
-    ensures read_fault { result ≡ Status.ReadFault → FaultRose (F.seen files.old) (F.seen files.new) }
+    ensures absent { result ≡ Status.Absent → AbsenceRose (asked (map string_bytes words.now)) (F.seen files.old) (F.seen files.new) }
+    ensures read_fault { result ≡ Status.ReadFault → FaultRose (asked (map string_bytes words.now)) (F.seen files.old) (F.seen files.new) }
     ensures write_fault { result ≡ Status.WriteFault → Rose (K.faults out.old) (K.faults out.new) }
 {
     run_words(rt, alloc, words, files, out, gate, helpers)

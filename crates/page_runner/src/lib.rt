@@ -1,6 +1,7 @@
 //! Runs a page from its files to its text.
 #![tactic(auto)]
 
+mod batch;
 mod command;
 mod in_place;
 mod making;

@@ -32,6 +32,8 @@ pub enum Status {
     WriteFault,
     /// There is no such page, or no such entities file.
     Absent,
+    /// The list of pages isn't one.
+    List,
     /// Memory ran out.
     NoMemory,
 }
@@ -50,6 +52,7 @@ impl Status {
             Status::ReadFault => 7,
             Status::WriteFault => 8,
             Status::Absent => 9,
+            Status::List => 11,
             Status::NoMemory => 12,
         }
     }

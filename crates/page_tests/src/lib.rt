@@ -15,6 +15,8 @@ mod faults;
 #[cfg(test)]
 mod files;
 #[cfg(test)]
+mod lists;
+#[cfg(test)]
 mod making;
 #[cfg(test)]
 mod rows;

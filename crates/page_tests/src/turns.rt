@@ -23,7 +23,7 @@ fn bytes_before(case: &Case, call: u64, most: usize) -> usize {
 // What comes of a page where that call at the port fails, a read giving so many bytes.
 fn wanted(case: &Case, port: Port, call: u64, most: usize) -> (Status, &'static str) {
     match port {
-        Port::Entities => (Status::ReadFault, ""),
+        Port::Entities | Port::List => (Status::ReadFault, ""),
         Port::Script => (Status::ReadFault, case.unfetched),
         Port::Page => case.behind(bytes_before(case, call, most)),
     }

@@ -147,7 +147,7 @@ module _ (es : Entities) (ahead : ℕ) (folder : Folder) (before : Seen) (t : Op
             replayed = λ r. r;
             leaves = left;
             goes = goes;
-            alone = alone-of after s'.journal.fetches s'.journal.pieces s'.journal.ending (entities-then before now after h.outside.keeps (entities-others port.Page now after (λ e. cc e) keeps)) (ap (λ b. b port.Page) begun ∙ h.outside.begun) (ap (λ b. b port.Page) opened ∙ h.outside.open_at) left.page left.fetches;
+            alone = alone-of after s'.journal.fetches s'.journal.pieces s'.journal.ending (entities-then before now after h.outside.keeps (entities-others port.Page now after (λ e. cc e) (λ e. cc e) keeps)) (ap (λ b. b port.Page) begun ∙ h.outside.begun) (ap (λ b. b port.Page) opened ∙ h.outside.open_at) left.page left.fetches;
             front = subst (λ (x : Serial). TookFront t t' (flat_map line_text x.side.lines)) (sym part.own) (front-of t' s h.inside.lines h.took);
             part = part_none s' left.entities left.ahead_is (ap (λ (x : Serial). x.side.lines) part.own);
           }
@@ -170,7 +170,7 @@ module _ (es : Entities) (ahead : ℕ) (folder : Folder) (before : Seen) (t : Op
             replayed = λ _. replayed;
             leaves = leaves;
             goes = goes;
-            alone = alone-of after s.journal.fetches s.journal.pieces s.journal.ending (entities-then before now after h.outside.keeps (entities-others port.Script now after (λ e. cc e) keeps)) (keeps.begun port.Page (λ e. cc e) ∙ h.outside.begun) (keeps.open_at port.Page (λ e. cc e) ∙ h.outside.open_at) for fetches;
+            alone = alone-of after s.journal.fetches s.journal.pieces s.journal.ending (entities-then before now after h.outside.keeps (entities-others port.Script now after (λ e. cc e) (λ e. cc e) keeps)) (keeps.begun port.Page (λ e. cc e) ∙ h.outside.begun) (keeps.open_at port.Page (λ e. cc e) ∙ h.outside.open_at) for fetches;
             front = front-of t' s h.inside.lines h.took;
             part = part_none s' left.entities left.ahead_is (ap (λ (z : Shown). z.desk.own.side.lines) stays);
           }

@@ -2,8 +2,8 @@
 use Rattle.std.proofs.Common.{◌≡◌, ℕ, ◌≤◌, List, [], ◌∷◌, ◌++◌, Some, None, refl, sym, ap, subst, ◌∙◌, arith, inl, inr, append_assoc, append-nil}
 use Rattle.outside.specs.Outside.{Rose, Paths, Begun, Seen, NeverFall, KeepsOthers}
 use Rattle.outside.specs.declared.traits.Port.{Port}
-use Rattle.outside.specs.declared.traits.Port.TheVariants.{Entities}
-use Rattle.page_turns.specs.Given.{KeepsEntities}
+use Rattle.outside.specs.declared.traits.Port.TheVariants.{Entities, List as list_port}
+use Rattle.page_turns.specs.Given.{IsLeftAlone, KeepsEntities}
 
 -- ---- paths that were begun
 
@@ -55,10 +55,22 @@ later-others port before after keeps = record { files = keeps.files; faults = ke
 pub later-entities : (before after : Seen) → KeepsEntities before after → Later before after
 later-entities before after keeps = record { files = keeps.files; faults = keeps.faults; absences = keeps.absences }
 
--- ---- the port of the entities
+-- ---- a port at which nothing was done
+
+pub alone-same : (port : Port) (s : Seen) → IsLeftAlone port s s
+alone-same port s = record { left = refl; begun = refl; calls = refl; no_fault = refl }
+
+pub alone-then : (port : Port) (before now after : Seen) → IsLeftAlone port before now → IsLeftAlone port now after → IsLeftAlone port before after
+alone-then port before now after a b = record { left = b.left ∙ a.left; begun = b.begun ∙ a.begun; calls = b.calls ∙ a.calls; no_fault = b.no_fault ∙ a.no_fault }
+
+pub alone-others : (port other : Port) (before after : Seen) → (port ≡ other → ⊥) → KeepsOthers other before after → IsLeftAlone port before after
+alone-others port other before after apart keeps =
+    record { left = keeps.left port apart; begun = keeps.begun port apart; calls = keeps.calls port apart; no_fault = keeps.other_faults port apart }
+
+-- ---- the ports of the entities and of the list of pages
 
 pub entities-same : (s : Seen) → KeepsEntities s s
-entities-same s = record { files = refl; left = refl; begun = refl; calls = refl; no_fault = refl; faults = λ p. omega arith; absences = λ p. omega arith }
+entities-same s = record { files = refl; left = refl; begun = refl; calls = refl; no_fault = refl; list = alone-same list_port s; faults = λ p. omega arith; absences = λ p. omega arith }
 
 pub entities-then : (before now after : Seen) → KeepsEntities before now → KeepsEntities now after → KeepsEntities before after
 entities-then before now after a b = record {
@@ -67,9 +79,19 @@ entities-then before now after a b = record {
   begun = b.begun ∙ a.begun;
   calls = b.calls ∙ a.calls;
   no_fault = b.no_fault ∙ a.no_fault;
+  list = alone-then list_port before now after a.list b.list;
   faults = λ p. let first = a.faults p in let second = b.faults p in omega arith;
   absences = λ p. let first = a.absences p in let second = b.absences p in omega arith;
 }
 
-pub entities-others : (port : Port) (before after : Seen) → (Entities ≡ port → ⊥) → KeepsOthers port before after → KeepsEntities before after
-entities-others port before after other keeps = record { files = keeps.files; left = keeps.left Entities other; begun = keeps.begun Entities other; calls = keeps.calls Entities other; no_fault = keeps.other_faults Entities other; faults = keeps.faults; absences = keeps.absences }
+pub entities-others : (port : Port) (before after : Seen) → (Entities ≡ port → ⊥) → (list_port ≡ port → ⊥) → KeepsOthers port before after → KeepsEntities before after
+entities-others port before after other apart keeps = record {
+  files = keeps.files;
+  left = keeps.left Entities other;
+  begun = keeps.begun Entities other;
+  calls = keeps.calls Entities other;
+  no_fault = keeps.other_faults Entities other;
+  list = alone-others list_port port before after apart keeps;
+  faults = keeps.faults;
+  absences = keeps.absences;
+}

@@ -142,7 +142,7 @@ module _ (es : Entities) (ahead : ℕ) (folder : Folder) (before : Seen) (t : Op
           open_at = ap (λ b. b port.Page) opened ∙ h.outside.open_at;
           fetches = subst (λ m. Fetches [] folder before after [] m) (sym fetches_eq)
               (fetches-then before now after later (later-others port.Page now after keeps) [] folder [] s.journal.fetches s.journal.fetches h.outside.fetches (fetches-past [] folder port.Page now after s.journal.fetches (λ e. cc e) keeps));
-          keeps = entities-then before now after h.outside.keeps (entities-others port.Page now after (λ e. cc e) keeps);
+          keeps = entities-then before now after h.outside.keeps (entities-others port.Page now after (λ e. cc e) (λ e. cc e) keeps);
         };
         inside = record {
           entities = ap (λ (z : Shown). z.entities) o ∙ i.entities;
@@ -395,7 +395,7 @@ module _ (es : Entities) (ahead : ℕ) (folder : Folder) (before : Seen) (t : Op
           open_at = keeps.open_at port.Page (λ e. cc e) ∙ h.outside.open_at;
           fetches = fetches-then before now after (later-entities before now h.outside.keeps) (later-others port.Script now after keeps) [] folder [] s.journal.fetches ((name, arr.fetch) ∷ s.journal.fetches)
               h.outside.fetches (fetch_one folder name now after parts.0 s.journal.fetches none arr.fetch arr.given late begun_here);
-          keeps = entities-then before now after h.outside.keeps (entities-others port.Script now after (λ e. cc e) keeps);
+          keeps = entities-then before now after h.outside.keeps (entities-others port.Script now after (λ e. cc e) (λ e. cc e) keeps);
         };
         inside = record {
           entities = i.entities;
@@ -433,7 +433,7 @@ module _ (es : Entities) (ahead : ℕ) (dir : List ℕ) (given given' : Met) (be
       open_at = keeps.open_at port.Page (λ e. cc e) ∙ h.outside.open_at;
       fetches = fetches-then before now after (later-entities before now h.outside.keeps) (later-others port.Script now after keeps) [] folder' [] s.journal.fetches ((name, f) ∷ s.journal.fetches)
           fetches_given (fetch_early folder' name now after new.0 s.journal.fetches new.1 f (may_meet_given folder' now after name f one.here) same);
-      keeps = entities-then before now after h.outside.keeps (entities-others port.Script now after (λ e. cc e) keeps);
+      keeps = entities-then before now after h.outside.keeps (entities-others port.Script now after (λ e. cc e) (λ e. cc e) keeps);
     };
     inside = record {
       entities = i.entities;

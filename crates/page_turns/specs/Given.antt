@@ -3,7 +3,7 @@ use Rattle.std.specs.Prelude.{◌≡◌, ◌+◌, ◌≤◌, ◌⊎◌, ℕ, Lis
 use Rattle.std.specs.Option.{option_map}
 use Rattle.outside.specs.Outside.{Rose, NeverFall, Paths, Begun, Seen}
 use Rattle.outside.specs.declared.traits.Port.{Port}
-use Rattle.outside.specs.declared.traits.Port.TheVariants.{Entities}
+use Rattle.outside.specs.declared.traits.Port.TheVariants.{Entities, List as list_port}
 use Rattle.core_steps.specs.declared.fetch.Fetch.{Fetch}
 use Rattle.core_steps.specs.declared.fetch.Fetch.TheVariants as fetches
 use Rattle.page_turns.specs.Calls.{HasFailed}
@@ -57,12 +57,20 @@ pub data ReadTo (limit : ℕ) (port : Port) (path : List ℕ) (before after : Se
 abbrev pub BegunOnce : List ℕ → Paths → Paths → Type 0
 BegunOnce path before after = Begun before after [] ⊎ Begun before after (path ∷ [])
 
--- What reading a page and its scripts leaves alone: the files, the port of the entities, and that no count falls.
+-- Nothing was done at a port.
+pub record IsLeftAlone (port : Port) (before after : Seen) : Type 0 where
+  pub left : after.left port ≡ before.left port
+  pub begun : after.begun port ≡ before.begun port
+  pub calls : after.calls port ≡ before.calls port
+  pub no_fault : NoFault port before after
+
+-- What reading a page and its scripts leaves alone: the files, the ports of the entities and of the list of pages, and that no count falls.
 pub record KeepsEntities (before after : Seen) : Type 0 where
   pub files : after.files ≡ before.files
   pub left : after.left Entities ≡ before.left Entities
   pub begun : after.begun Entities ≡ before.begun Entities
   pub calls : after.calls Entities ≡ before.calls Entities
   pub no_fault : NoFault Entities before after
+  pub list : IsLeftAlone list_port before after
   pub faults : NeverFall before.faults after.faults
   pub absences : NeverFall before.absences after.absences

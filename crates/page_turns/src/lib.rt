@@ -20,7 +20,7 @@ pub use fetch::read_whole;
 pub use in_place::InPlace;
 pub use job::Job;
 pub use outcome::Outcome;
-pub use output::show_outcome;
+pub use output::{json_line, line_text, show_outcome};
 pub use page::{Failure, PAGE_LIMIT};
 pub use parse::parse_page;
 pub use prefetch::{Early, Nobody, Prefetch};

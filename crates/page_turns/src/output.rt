@@ -16,8 +16,8 @@ use serial::Line;
 use serialiser::with_json;
 use std::alloc::Global;
 
-// The line that begins so and ends with a text as a JSON string.
-fn json_line(start: String, text: &str) -> Result<Vec<u8>, NoMemory>
+/// The line that begins so and ends with a text as a JSON string.
+pub fn json_line(start: String, text: &str) -> Result<Vec<u8>, NoMemory>
     ensures { IfOk result (λ line. line.items ≡ string_bytes start ++ json_string (chars text.now) ++ codes "\n") }
 {
     let mut line = with_json(start.into_bytes(), text)?;
@@ -25,8 +25,8 @@ fn json_line(start: String, text: &str) -> Result<Vec<u8>, NoMemory>
     Ok(line)
 }
 
-// The text of a script's line.
-fn line_text(alloc: Global, line: &Line) -> Result<Vec<u8>, NoMemory>
+/// The text of a script's line.
+pub fn line_text(alloc: Global, line: &Line) -> Result<Vec<u8>, NoMemory>
     ensures { IfOk result (λ bytes. bytes.items ≡ line_text line.now) }
 {
     match line {

@@ -21,6 +21,8 @@ mod preloads;
 #[cfg(test)]
 mod running;
 #[cfg(test)]
+mod slow_lists;
+#[cfg(test)]
 mod thread_pages;
 #[cfg(test)]
 mod threads;

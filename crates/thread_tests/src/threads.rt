@@ -3,6 +3,7 @@
 
 use crate::counting::{count_page, count_pages, long_comment};
 use crate::running::{Sending, run_alone, run_slowly};
+use crate::slow_lists::{is_same, text_of_list};
 use crate::thread_pages::{PAGES, STEADY};
 use crate::trials::{Held, run_held, run_held_in_place};
 use html_types::NoMemory;
@@ -19,6 +20,9 @@ const HELD_RUNS: u32 = 20;
 
 // How many runs have delays.
 const SLOW_RUNS: u32 = 200;
+
+// How many runs of a list have delays.
+const LIST_RUNS: u32 = 10;
 
 // How many runs of the page of which that call is held are done.
 fn count_held<R: Threads + Wait + Copy + Send + Sync + 'static>(
@@ -58,6 +62,21 @@ fn count_slow<R: Threads + Wait + Copy + Send + Sync + 'static>(
         let seed = u64::from(seed);
         let written = run_slowly(rt, alloc, page, sending_of(seed), seed)?;
         if written.status == wanted.status && written.sink.bytes() == wanted.sink.bytes() {
+            same = same.saturating_add(1);
+        }
+    }
+    Ok(same)
+}
+
+// How many runs of a list with delays, each of another seed, give the text of its pages.
+fn count_lists<R: Threads + Wait + Copy + Send + Sync + 'static>(
+    rt: &R,
+    alloc: Global,
+) -> Result<u32, NoMemory> {
+    let text = text_of_list(alloc)?;
+    let mut same: u32 = 0;
+    for seed in 0..LIST_RUNS {
+        if is_same(rt, alloc, &text, u64::from(seed))? {
             same = same.saturating_add(1);
         }
     }
@@ -105,5 +124,11 @@ fn a_long_comment_is_parsed_here(rt: HostRuntime) -> Result<(), Fail> {
 #[test]
 fn delays_change_no_answer(rt: HostRuntime) -> Result<(), Fail> {
     assert_eq!(rt; count_slow(&rt, rt.alloc())?, SLOW_RUNS);
+    Ok(())
+}
+
+#[test]
+fn delays_change_no_list(rt: HostRuntime) -> Result<(), Fail> {
+    assert_eq!(rt; count_lists(&rt, rt.alloc())?, LIST_RUNS);
     Ok(())
 }

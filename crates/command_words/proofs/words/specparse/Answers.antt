@@ -14,4 +14,5 @@ pub returns : goal.returns
 returns c =
     let required : app_of c.subcommand_required.result ≡ requires_one (app_of c.new.result) = ap app_of_fields c.subcommand_required.ensures in
     let page = c.in_ok-subcommand.ensures.shape c.in_ok-page.ensures.1 ∙ ap₂ with_subcommand (required ∙ ap requires_one c.new.ensures.app) (ap top c.in_ok-page.ensures.0) in
-    IfOk-weaker c.subcommand-2.result _ _ (λ r h. h.shape c.in_ok-make.ensures.1 ∙ ap₂ with_subcommand page (ap top c.in_ok-make.ensures.0)) c.subcommand-2.ensures
+    let make = c.in_ok-subcommand-2.ensures.shape c.in_ok-make.ensures.1 ∙ ap₂ with_subcommand page (ap top c.in_ok-make.ensures.0) in
+    IfOk-weaker c.subcommand-3.result _ _ (λ r h. h.shape c.in_ok-batch.ensures.1 ∙ ap₂ with_subcommand make (ap top c.in_ok-batch.ensures.0)) c.subcommand-3.ensures

@@ -1,5 +1,5 @@
 use Rattle.core_pair.proofs.Holding.{run-shown}
-use Rattle.core_pair.proofs.Interleaved.{always-stands_for, ends-as-serial, lines-begin, credit-kept, bounded-where-it-stands, bounded-by-the-parse}
+use Rattle.core_pair.proofs.Interleaved.{always-stands_for, ends-as-serial, ends-in-each, lines-begin, credit-kept, bounded-where-it-stands, bounded-by-the-parse}
 use Rattle.core_pair.proofs.pair.Pair.every_interleaving.Goals as goal
 
 pub returns-clause-stands_for : goal.returns-clause-stands_for
@@ -7,6 +7,9 @@ returns-clause-stands_for g c = always-stands_for (run-shown c.self.invariant c.
 
 pub returns-clause-ends : goal.returns-clause-ends
 returns-clause-ends g c = ends-as-serial (run-shown c.self.invariant c.self.view_is)
+
+pub returns-clause-in_each : goal.returns-clause-in_each
+returns-clause-in_each g c = ends-in-each (run-shown c.self.invariant c.self.view_is)
 
 pub returns-clause-lines : goal.returns-clause-lines
 returns-clause-lines g c = lines-begin (run-shown c.self.invariant c.self.view_is)

@@ -1,5 +1,6 @@
 use Rattle.std.proofs.Common.{sym, ◌∙◌, ap, subst, false}
 use Rattle.core_pair.specs.Pairs.{Paired, setup_of, StepsShown}
+use Rattle.core_pair.specs.Nearer.{IsNearer}
 use Rattle.core_pair.proofs.Holding.{run-told, run-shown, kept-run, failed-kept, told-before, both-shown, stepped-shown}
 use Rattle.core_pair.proofs.Interleaved.{always-stands_for, end-stays}
 use Rattle.core_pair.proofs.pair.Pair.step.Goals as goal
@@ -33,6 +34,10 @@ returns-clause-setup g c =
 
 pub returns-clause-stands_for : goal.returns-clause-stands_for
 returns-clause-stands_for g c = always-stands_for (run-told g.E.InForce.entities c.step.new.self false c.in_ok-step.ensures.run)
+
+pub returns-clause-nearer : goal.returns-clause-nearer
+returns-clause-nearer g c =
+    subst (λ (p : Paired). IsNearer c.args.event p.core c.step.new.self.core) (both-shown c.self.invariant c.if-self.false c.self.view_is) c.in_ok-step.ensures.nearer
 
 pub returns-clause-stays : goal.returns-clause-stays
 returns-clause-stays g c =
