@@ -3,7 +3,11 @@ _specparse() {
     local word=${COMP_WORDS[COMP_CWORD]} before=${COMP_WORDS[COMP_CWORD - 1]}
     COMPREPLY=()
     if [ "$COMP_CWORD" = 1 ]; then
-        mapfile -t COMPREPLY < <(compgen -W "page make" -- "$word")
+        mapfile -t COMPREPLY < <(compgen -W "page batch make" -- "$word")
+        return
+    fi
+    if [ "${COMP_WORDS[1]}" = batch ]; then
+        mapfile -t COMPREPLY < <(compgen -f -- "$word")
         return
     fi
     [ "${COMP_WORDS[1]}" = page ] || return
