@@ -73,6 +73,18 @@ pub(crate) struct Side {
     pub journal: Journal,
 }
 
+// Puts a value in a place, and lets the one go that was there. An assignment has the function
+// that it stands in spell out all parts of what it lets go, which takes minutes of its proof; here
+// they are those of the type, once.
+fn put<T: Drop>(place: &mut T, value: T)
+    ensures { place.new ≡ value }
+{
+    *place = value;
+}
+
+// Lets a value go, for the same reason.
+fn let_go<T: Drop>(_value: T) {}
+
 fn why_of(overrun: Overrun) -> Why
     ensures { result ≡ why_of overrun }
 {
@@ -90,8 +102,15 @@ impl Side {
         ensures sound { IfOk result (λ s. IsSound s) }
     {
         let table = table.copy()?;
-        let writer = Writer::new(alloc, 0)?;
-        let ledger = Ledger::new(alloc, ahead)?;
+        let Ok(writer) = Writer::new(alloc, 0) else {
+            let_go(table);
+            return Err(NoMemory);
+        };
+        let Ok(ledger) = Ledger::new(alloc, ahead) else {
+            let_go(table);
+            let_go(writer);
+            return Err(NoMemory);
+        };
         Ok(Side {
             alloc,
             table,
@@ -273,7 +292,8 @@ impl Side {
     {
         // A reply to a request of an epoch that has ended isn't the one called for.
         let _current = self.ledger.took();
-        self.ready = self.batches_of(reply);
+        let batches = self.batches_of(reply);
+        put(&mut self.ready, batches);
         self.journal.add_event(Event::Take)
     }
 
@@ -440,8 +460,8 @@ impl Side {
     fn end_parse(&mut self, why: Option<Why>, in_hand: bool)
         ensures { self.new ≡ ended why in_hand self.old }
     {
-        self.ready = Batches::new(self.alloc);
-        self.stage = Stage::Done(why, in_hand);
+        put(&mut self.ready, Batches::new(self.alloc));
+        self.set_stage(Stage::Done(why, in_hand));
     }
 
     // A realm that no element's id has, and the next behind it.
@@ -459,7 +479,7 @@ impl Side {
     fn set_stage(&mut self, stage: Stage)
         ensures { self.new ≡ at_stage stage self.old }
     {
-        self.stage = stage;
+        put(&mut self.stage, stage);
     }
 
     // The end tag of a script was met. One that runs is in hand from here on, and what it writes has ids of its own.
@@ -544,7 +564,7 @@ impl Side {
     {
         match self.writer.feed_left(&self.table)? {
             Left::Empty => self.judge(held)?,
-            Left::Awaits(name) => self.stage = Stage::Waits(name, held),
+            Left::Awaits(name) => self.set_stage(Stage::Waits(name, held)),
             Left::Limit(overrun) => self.end_parse(Some(why_of(overrun)), true),
         }
         Ok(())
@@ -559,7 +579,7 @@ impl Side {
         match decide(&held, self.writer.machine()) {
             Verdict::Keep => {
                 self.writer.load(held);
-                self.stage = Stage::Free;
+                self.set_stage(Stage::Free);
                 Ok(())
             }
             Verdict::Rewind => self.rewind(),
@@ -576,14 +596,21 @@ impl Side {
         let realm = self.new_realm()?;
         self.writer.renew(realm);
         self.writer.share()?;
-        let begins = self.writer.machine().copy(self.alloc)?;
         self.ledger.rewind(self.alloc)?;
-        self.ready = Batches::new(self.alloc);
-        self.begins = Some(begins);
+        let begins = self.writer.machine().copy(self.alloc)?;
+        self.begin_epoch(epoch, begins);
+        Ok(())
+    }
+
+    // An epoch begins with nothing in hand, and from there.
+    fn begin_epoch(&mut self, epoch: u64, begins: Machine)
+        ensures { self.new ≡ record self.old { ready = []; begins = Some begins; stage = Stage.Free; counts = record self.old.counts { epoch = epoch; sent_to = self.old.counts.place } } }
+    {
+        put(&mut self.ready, Batches::new(self.alloc));
+        put(&mut self.begins, Some(begins));
+        self.set_stage(Stage::Free);
         self.counts.epoch = epoch;
         self.counts.sent_to = self.counts.place;
-        self.stage = Stage::Free;
-        Ok(())
     }
 
     // Do by what is in hand.

@@ -9,29 +9,29 @@ returns-clause-first c =
     let s : Side = record {
       alloc = c.args.alloc;
       table = c.in_ok-table.table;
-      writer = c.in_ok-writer.writer;
+      writer = c.in-Ok.writer;
       given = c.new-3.result;
-      ledger = c.in_ok-ledger.ledger;
+      ledger = c.in-Ok-new.ledger;
       stage = Free;
       ready = c.new-4.result;
       begins = Some c.new-5.result;
       counts = record { epoch = 1; realm = 1; place = 0; sent_to = 0 };
       journal = c.new-6.result;
     } in
-    first-told s c.args.table.now c.args.ahead c.in_ok-table.ensures c.in_ok-writer.ensures c.new-3.ensures.items c.in_ok-ledger.ensures refl (ap Some c.new-5.ensures) refl c.new-6.ensures
+    first-told s c.args.table.now c.args.ahead c.in_ok-table.ensures c.in-Ok.ensures c.new-3.ensures.items c.in-Ok-new.ensures refl (ap Some c.new-5.ensures) refl c.new-6.ensures
 
 pub returns-clause-sound : goal.returns-clause-sound
 returns-clause-sound c =
     let s : Side = record {
       alloc = c.args.alloc;
       table = c.in_ok-table.table;
-      writer = c.in_ok-writer.writer;
+      writer = c.in-Ok.writer;
       given = c.new-3.result;
-      ledger = c.in_ok-ledger.ledger;
+      ledger = c.in-Ok-new.ledger;
       stage = Free;
       ready = c.new-4.result;
       begins = Some c.new-5.result;
       counts = record { epoch = 1; realm = 1; place = 0; sent_to = 0 };
       journal = c.new-6.result;
     } in
-    first-sound s c.args.ahead c.in_ok-writer.ensures c.in_ok-ledger.ensures refl c.new-4.ensures refl c.new-6.ensures
+    first-sound s c.args.ahead c.in-Ok.ensures c.in-Ok-new.ensures refl c.new-4.ensures refl c.new-6.ensures
