@@ -5,6 +5,7 @@ import os, subprocess, sys
 # a file of each package
 PACKAGES = {
     "cargo": "/usr/bin/cargo", "rustc": "/usr/bin/rustc", "gcc": "/usr/bin/gcc", "patch": "/usr/bin/patch", "libgumbo-dev": "/usr/include/gumbo.h",
+    "libmodest-dev": "/usr/include/myhtml/api.h",
     "librust-html5ever-dev": "/usr/share/doc/librust-html5ever-dev",
     "librust-markup5ever-rcdom-dev": "/usr/share/doc/librust-markup5ever-rcdom-dev",
 }

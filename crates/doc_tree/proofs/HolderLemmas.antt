@@ -17,9 +17,12 @@ use Rattle.doc_tree.proofs.Links.{cases_option}
 use Rattle.doc_tree.proofs.Walks.{find_id-some}
 use Rattle.doc_tree.proofs.Members.{find-there, find-apart, find-none}
 use Rattle.doc_tree.specs.declared.ids.Ids.{Ids}
+use Rattle.text_store.specs.declared.lists.Store.{Store}
 use Rattle.doc_tree.specs.Rows.{Rows, seen}
 use Rattle.doc_tree.specs.Holders.{held, MayHold, IsTold, KeepsHolders, id_of, AllTold, IsKept}
-use Rattle.doc_tree.proofs.Done.{Shows}
+use Rattle.std.specs.Prelude.{Result, OnErr, Ok, Err}
+use Rattle.text_store.specs.Lists.{KeepsAll}
+use Rattle.doc_tree.proofs.Done.{Shows, store_written}
 
 -- ---- attributes that are added
 
@@ -105,7 +108,7 @@ module _ (ids ids' : Ids) (kept : KeepsHolders ids ids') (t t' : Nodes) (told : 
     | inr other ↦ kept id n (told n id (sym (others n other) ∙ is))
   ]
 
-kept_all : (ids : Ids) → KeepsHolders ids ids
+pub kept_all : (ids : Ids) → KeepsHolders ids ids
 kept_all ids id n holds = holds
 
 -- ---- each change
@@ -161,11 +164,21 @@ told_template ids ids' kept t told kind here =
 
 -- ---- rows and their index
 
-pub kept_rows : (r : Rows) (ids : Ids) (t : Nodes) → Shows r t → AllTold ids t → IsKept r ids
-kept_rows r ids t shows told = record { linked = shows.linked; told = subst (AllTold ids) (sym shows.view) told }
+pub kept_rows : (store : Store) (r : Rows) (ids : Ids) (t : Nodes) → Shows store r t → AllTold ids t → IsKept store r ids
+kept_rows store r ids t shows told = record { linked = shows.linked; told = subst (AllTold ids) (sym shows.view) told }
 
-pub told_of : (r : Rows) (ids : Ids) (t : Nodes) → seen r ≡ t → IsKept r ids → AllTold ids t
-told_of r ids t view kept = subst (AllTold ids) view kept.told
+pub told_of : (store : Store) (r : Rows) (ids : Ids) (t : Nodes) → seen store r ≡ t → IsKept store r ids → AllTold ids t
+told_of store r ids t view kept = subst (AllTold ids) view kept.told
+
+-- a store that has grown shows the same rows
+pub grown_rows : (store store' : Store) → KeepsAll store store' → (r : Rows) (ids ids' : Ids) → KeepsHolders ids ids' → (t : Nodes) → seen store r ≡ t → IsKept store r ids → IsKept store' r ids' × (seen store' r ≡ t)
+grown_rows store store' keeps r ids ids' more t view kept =
+    let shows = store_written store r t view kept.linked store' keeps in
+    (kept_rows store' r ids' t shows (λ n id is. more id n (told_of store r ids t view kept n id is)), shows.view)
+
+pub on_err_held : {T E P : Type 0} (r : Result T E) → P → OnErr r P
+on_err_held (Ok x) p = tt
+on_err_held (Err e) p = p
 
 -- ---- what is asked
 

@@ -8,6 +8,7 @@ use Rattle.standard.specs.Tree.{Nodes, kind_of, attributes_of, attribute}
 use Rattle.doc_tree.specs.declared.ids.Holder.{Holder}
 use Rattle.doc_tree.specs.declared.ids.Holder.TheVariants.{One, Several}
 use Rattle.doc_tree.specs.declared.ids.Ids.{Ids}
+use Rattle.text_store.specs.declared.lists.Store.{Store}
 use Rattle.doc_tree.specs.Rows.{Rows, seen, IsLinked}
 
 -- the number that an id comes to
@@ -41,6 +42,6 @@ abbrev pub AllTold : Ids → Nodes → Type 0
 AllTold ids t = (n : ℕ) → IsTold ids (id_of t n) n
 
 -- the links are those of the lists of children, and the index knows all ids
-pub record IsKept (r : Rows) (ids : Ids) : Type 0 where
-  pub linked : IsLinked r
-  pub told : AllTold ids (seen r)
+pub record IsKept (store : Store) (r : Rows) (ids : Ids) : Type 0 where
+  pub linked : IsLinked store r
+  pub told : AllTold ids (seen store r)

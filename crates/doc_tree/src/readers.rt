@@ -4,42 +4,58 @@ ghost use Rattle.std.specs.Prelude.{◌≡◌, ◌≢◌, ◌<◌, ◌≤◌, �
 ghost use Rattle.std.specs.Str.{chars};
 ghost use Rattle.std.specs.Option.{ForSome};
 ghost use Rattle.doc_tree.specs.Rows.{next_of};
+ghost use Rattle.html_types.specs.Text.{same_text};
 ghost use Rattle.standard.specs.Tree.{text_of};
+ghost use Rattle.text_store.specs.Views.{seen_kind};
 
-use crate::attributes::value_of;
 use crate::ids::Holder;
-use crate::tree::{Tree, is_element};
-use html_types::{Kind, NoMemory, Text};
+use crate::tree::Tree;
+use html_types::{Name, NoMemory, Text};
+use text_store::Seen;
 
-fn push_text(joined: &mut Text, kind: &Kind) -> Result<(), NoMemory>
-    ensures { OnOk result (joined.new ≡ joined.old ++ text_of kind.now) }
+fn push_text(joined: &mut Text, kind: &Seen<'_>) -> Result<(), NoMemory>
+    ensures { OnOk result (joined.new ≡ joined.old ++ text_of (seen_kind kind.now)) }
 {
-    if let Kind::Text(text) = kind {
-        joined.push_str(text.as_str())?;
+    if let Seen::Text(text) = kind {
+        joined.push_str(*text)?;
     }
     Ok(())
 }
 
-fn has_text(kind: &Kind) -> bool
-    ensures { IsFalse result ↔ (text_of kind.now ≡ []) }
+// Whether a text has no characters.
+fn is_empty(text: &str) -> bool
+    ensures { IsTrue result ↔ (chars text.now ≡ []) }
+{
+    text.is_empty()
+}
+
+fn has_text(kind: &Seen<'_>) -> bool
+    ensures { IsFalse result ↔ (text_of (seen_kind kind.now) ≡ []) }
 {
     match kind {
-        Kind::Text(text) => !text.is_empty(),
+        Seen::Text(text) => !is_empty(*text),
         _ => false,
     }
 }
 
 ghost use Rattle.standard.specs.Tree.{is_value, attributes_of, attribute};
 
-// Whether the node is an element with that `id`.
-fn has_id(kind: &Kind, id: &str) -> bool
-    ensures { result ≡ is_value (chars id.now) (attribute (codes "id") (attributes_of kind.now)) }
+// Whether two texts are the same.
+fn is_text(value: &str, text: &str) -> bool
+    ensures { result ≡ same_text (chars value.now) (chars text.now) }
 {
-    let Kind::Element { attributes, .. } = kind else {
+    value == text
+}
+
+// Whether the node is an element with that `id`.
+fn has_id(kind: &Seen<'_>, id: &str) -> bool
+    ensures { result ≡ is_value (chars id.now) (attribute (codes "id") (attributes_of (seen_kind kind.now))) }
+{
+    let Seen::Element(_, attributes) = kind else {
         return false;
     };
-    match value_of(attributes, "id") {
-        Some(value) => value.is(id),
+    match attributes.value_of("id") {
+        Some(value) => is_text(value, id),
         None => false,
     }
 }
@@ -74,7 +90,7 @@ impl Tree {
         if node >= self.nodes.len() {
             return None;
         }
-        if !has_id(self.nodes.kind(node), id) {
+        if !has_id(&self.nodes.kind(node), id) {
             return None;
         }
         self.connected(node).then_some(node)
@@ -91,7 +107,7 @@ impl Tree {
         }
         let mut left = Some(0);
         'walk: while let Some(node) = left {
-            if has_id(self.nodes.kind(node), id) {
+            if has_id(&self.nodes.kind(node), id) {
                 return Some(node);
             }
             left = self.next(node);
@@ -107,7 +123,7 @@ impl Tree {
         let mut joined = Text::new(self.alloc);
         let mut child = self.nodes.first_child(node);
         'children: while let Some(at) = child {
-            push_text(&mut joined, self.nodes.kind(at))?;
+            push_text(&mut joined, &self.nodes.kind(at))?;
             child = self.nodes.next_sibling(at);
         }
         Ok(joined)
@@ -121,7 +137,7 @@ impl Tree {
     {
         let mut child = self.nodes.first_child(node);
         'children: while let Some(at) = child {
-            if has_text(self.nodes.kind(at)) {
+            if has_text(&self.nodes.kind(at)) {
                 return true;
             }
             child = self.nodes.next_sibling(at);
@@ -132,6 +148,7 @@ impl Tree {
 
 // Readers.
 impl Tree {
+    ghost use Rattle.standard.specs.Fragment.{name_in};
     ghost use Rattle.standard.specs.Tree.{IsTree, is_connected, kind_of, parent_of, children_of, contents_of, shown_of, first_of, last_of, after_node, previous_of, first_element};
 
     /// How many nodes there are; they have the numbers below that.
@@ -143,11 +160,19 @@ impl Tree {
     }
 
     /// What the node is.
-    pub fn kind(&self, node: usize) -> &Kind
+    pub fn kind(&self, node: usize) -> Seen<'_>
         requires { node < length self.now }
-        ensures { result.now ≡ kind_of self.now node }
+        ensures { seen_kind result ≡ kind_of self.now node }
     {
         self.nodes.kind(node)
+    }
+
+    /// The name of an element; of any other node one without characters. A long one is shared.
+    pub fn name_in(&self, node: usize) -> Result<Name, NoMemory>
+        requires { node < length self.now }
+        ensures { IfOk result (λ name. name ≡ name_in (kind_of self.now node)) }
+    {
+        self.nodes.name_in(node)
     }
 
     /// The node's parent; none where it stands nowhere, and none of the Document and of a template's contents.
@@ -262,7 +287,7 @@ impl Tree {
         }
         let mut child = self.nodes.first_child(0);
         'children: while let Some(at) = child {
-            if is_element(self.nodes.kind(at)) {
+            if self.nodes.is_element(at) {
                 return Some(at);
             }
             child = self.nodes.next_sibling(at);

@@ -4,11 +4,11 @@ ghost use Rattle.std.specs.Prelude.{◌≡◌, ◌≢◌, ◌<◌, ◌≤◌, �
 ghost use Rattle.std.specs.Str.{chars};
 ghost use Rattle.std.specs.Option.{ForSome};
 
-use crate::attributes::value_of;
 use crate::nodes::Nodes;
 use html_types::{Attributes, Kind, NoMemory, Text};
 use std::alloc::Global;
 use std::marker::Model;
+use text_store::Seen;
 
 /// A tree: a contract sees the list of its nodes. The nodes have the numbers below `len`, and the Document is number 0.
 #[derive(Drop)]
@@ -36,26 +36,6 @@ pub enum Put {
     Done,
     /// The place lies under the node, or in a Document that has an element and would get another.
     Impossible,
-}
-
-ghost use Rattle.standard.specs.Tree.{is_element, is_document, is_text};
-
-pub(crate) fn is_element(kind: &Kind) -> bool
-    ensures { result ≡ is_element kind.now }
-{
-    matches!(kind, Kind::Element { .. })
-}
-
-fn is_document(kind: &Kind) -> bool
-    ensures { result ≡ is_document kind.now }
-{
-    matches!(kind, Kind::Document)
-}
-
-fn is_text(kind: &Kind) -> bool
-    ensures { result ≡ is_text kind.now }
-{
-    matches!(kind, Kind::Text(_))
 }
 
 ghost use Rattle.html_types.specs.Numbers.{place_of};
@@ -139,7 +119,7 @@ impl Tree {
         requires { child < length self.now }
         ensures { result ≡ is_other_element self.now node child }
     {
-        child != node && is_element(self.nodes.kind(child))
+        child != node && self.nodes.is_element(child)
     }
 
     // Whether the parent is a Document that has an element other than the node, which is one too.
@@ -148,7 +128,7 @@ impl Tree {
         requires parent_here { parent < length self.now }
         ensures { result ≡ is_second_element self.now node parent }
     {
-        if !is_document(self.nodes.kind(parent)) || !is_element(self.nodes.kind(node)) {
+        if !self.nodes.is_document(parent) || !self.nodes.is_element(node) {
             return false;
         }
         let mut child = self.nodes.first_child(parent);
@@ -306,7 +286,7 @@ impl Tree {
     {
         match self.before(parent, before) {
             Some(previous) => {
-                if is_text(self.nodes.kind(previous)) {
+                if self.nodes.is_text(previous) {
                     Some(previous)
                 } else {
                     None
@@ -356,7 +336,7 @@ impl Tree {
         if text.is_empty() {
             return Ok(());
         }
-        if is_document(self.nodes.kind(parent)) {
+        if self.nodes.is_document(parent) {
             return Ok(());
         }
         self.put_text(parent, before, text)?;
@@ -417,12 +397,12 @@ impl Tree {
     ghost use Rattle.standard.specs.Tree.{Keeps, kind_of, attributes_of, attribute, with_lacking, attributes_added};
 
     /// The value of an element's attribute.
-    pub fn attribute(&self, node: usize, name: &str) -> Option<&Text>
+    pub fn attribute(&self, node: usize, name: &str) -> Option<&str>
         requires { node < length self.now }
-        ensures { option_map (λ text. text.now) result ≡ attribute (chars name.now) (attributes_of (kind_of self.now node)) }
+        ensures { option_map (λ text. chars text.now) result ≡ attribute (chars name.now) (attributes_of (kind_of self.now node)) }
     {
         match self.nodes.kind(node) {
-            Kind::Element { attributes, .. } => value_of(attributes, name),
+            Seen::Element(_, attributes) => attributes.value_of(name),
             _ => None,
         }
     }

@@ -1,5 +1,6 @@
 -- How the flat lists of a tree grow.
 use Rattle.std.proofs.Common.{◌≡◌, ◌<◌, ◌≤◌, ◌+◌, ◌⊎◌, inl, inr, ℕ, suc, List, [], ◌∷◌, ◌++◌, length, take, drop, refl, sym, ◌∙◌, ap, subst, arith, append-nil, append_assoc, length-append, length-drop, flat_map, encode_utf8_all}
+use Rattle.std.specs.Prelude.{Result, IfOk, Ok, Err}
 use Rattle.std.proofs.Math.Seq.{take-suc, take-length, drop-append_seam, get_or-append_seam}
 use Rattle.std.proofs.Math.ListN.{get_or-append}
 use Rattle.std.proofs.lemmas.List.{take_all, take-append-le, drop-append-le}
@@ -8,6 +9,10 @@ use Rattle.std.proofs.lemmas.Bool.{cases_lt}
 use Rattle.html_types.specs.declared.attributes.Attribute.{Attribute}
 use Rattle.html_types.specs.declared.tree.Kind.{Kind}
 use Rattle.standard.specs.Tree.{Nodes, no_node, node_at, kind_of, attributes_of}
+use Rattle.text_store.specs.declared.seen.SeenName.{SeenName}
+use Rattle.text_store.specs.declared.seen.Seen.{Seen}
+use Rattle.text_store.specs.declared.seen.Seen.TheVariants as seen
+use Rattle.text_store.specs.Views.{seen_kind}
 use Rattle.html_document.specs.declared.spans.Span.{Span}
 use Rattle.html_document.specs.declared.spans.FlatNode.{FlatNode}
 use Rattle.html_document.specs.declared.spans.FlatAttribute.{FlatAttribute}
@@ -81,6 +86,20 @@ have-stay as' more bs bytes s own h = record {
 
 pub none-added : (as' : List FlatAttribute) (bs : List ℕ) → AttributesAdded as' bs [] as' bs
 none-added as' bs = record { list = []; attributes = sym (append-nil as'); text = sym (append-nil bs); read = tt }
+
+-- what is no element has none
+pub none-of : (k : Seen) → ((name : SeenName) (list : List Attribute) → k ≡ seen.Element name list → ⊥) → attributes_of (seen_kind k) ≡ []
+none-of seen.Document other = refl
+none-of seen.Contents other = refl
+none-of (seen.Doctype name) other = refl
+none-of (seen.Element name list) other = absurd (other name list refl)
+none-of (seen.Text text) other = refl
+none-of (seen.Comment text) other = refl
+
+pub none-pushed : {E : Type 0} (as' : List FlatAttribute) (bs : List ℕ) (own : List Attribute) (result : Result Span E) → own ≡ [] → IfOk result (λ (s : Span). s.start ≡ length as') → IfOk result (λ (s : Span). s.length ≡ 0)
+    → IfOk result (λ (s : Span). AttributesAdded as' bs own as' bs × (s.start ≡ length as') × (s.length ≡ length own))
+none-pushed as' bs own (Ok s) none start size = (subst (λ (l : List Attribute). AttributesAdded as' bs l as' bs) (sym none) (none-added as' bs), start, size ∙ sym (ap length none))
+none-pushed as' bs own (Err e) none start size = tt
 
 pub one-added : (as' new_as : List FlatAttribute) (bs named all n v : List ℕ) (a : Attribute) (name value : Span) → n ≡ a.name → v ≡ a.value → named ≡ bs ++ encode_utf8_all n → IsText named name n
     → all ≡ named ++ encode_utf8_all v → IsText all value v → new_as ≡ as' ++ record { name = name; value = value } ∷ [] → AttributesAdded as' bs (a ∷ []) new_as all

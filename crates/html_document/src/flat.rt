@@ -4,13 +4,15 @@ ghost use Rattle.std.specs.Prelude.{◌≡◌, ◌<◌, ◌≤◌, ◌++◌, ◌
 ghost use Rattle.std.specs.Str.{chars};
 ghost use Rattle.html_types.specs.declared.name.Space.{Space};
 ghost use Rattle.standard.specs.Tree.{attributes_of};
+ghost use Rattle.text_store.specs.Views.{seen_attribute, seen_kind};
 ghost use Rattle.html_document.specs.declared.spans.TheConstants.{NONE};
 ghost use Rattle.html_document.specs.Flat.{space_number, space_at, kind_number, words_of, link_number, IsText, AttributesAdded, IsNode, RowAdded, Shows};
 
 use crate::spans::{FlatAttribute, FlatNode, NONE, Span};
 use doc_tree::Tree;
-use html_types::{Attribute, Kind, NoMemory, Space};
+use html_types::{NoMemory, Space};
 use std::alloc::Global;
+use text_store::{Listed, Seen, SeenAttribute};
 
 /// A tree in three lists.
 #[derive(Drop)]
@@ -49,49 +51,40 @@ fn space_number(space: Space) -> u32
     }
 }
 
-fn space_at(kind: &Kind) -> u32
-    ensures { result ≡ space_at kind.now }
+fn space_at(kind: &Seen<'_>) -> u32
+    ensures { result ≡ space_at (seen_kind kind.now) }
 {
     match kind {
-        Kind::Element { name, .. } => space_number(name.space()),
+        Seen::Element(name, _) => space_number((*name).space()),
         _ => 0,
     }
 }
 
-fn kind_number(kind: &Kind) -> u32
-    ensures { result ≡ kind_number kind.now }
+fn kind_number(kind: &Seen<'_>) -> u32
+    ensures { result ≡ kind_number (seen_kind kind.now) }
 {
     match kind {
-        Kind::Document => 0,
-        Kind::Element { .. } => 1,
-        Kind::Text(_) => 2,
-        Kind::Comment(_) => 3,
-        Kind::Doctype(_) => 4,
-        Kind::Contents => 5,
+        Seen::Document => 0,
+        Seen::Element(_, _) => 1,
+        Seen::Text(_) => 2,
+        Seen::Comment(_) => 3,
+        Seen::Doctype(_) => 4,
+        Seen::Contents => 5,
     }
 }
 
 // A node's name or text.
 #[tactic(auto, using(std::proofs::lemmas::Grind::common_steps, crate::proofs::Literals::no_text))]
-fn words_in(kind: &Kind) -> &str
-    ensures { chars result.now ≡ words_of kind.now }
+fn words_in<'a>(kind: &Seen<'a>) -> &'a str
+    ensures { chars result.now ≡ words_of (seen_kind kind.now) }
 {
     match kind {
-        Kind::Document => "",
-        Kind::Contents => "",
-        Kind::Doctype(name) => name.as_str(),
-        Kind::Element { name, .. } => name.as_str(),
-        Kind::Text(text) => text.as_str(),
-        Kind::Comment(text) => text.as_str(),
-    }
-}
-
-fn attributes_in(kind: &Kind) -> &[Attribute]
-    ensures { result.now ≡ attributes_of kind.now }
-{
-    match kind {
-        Kind::Element { attributes, .. } => attributes.as_slice(),
-        _ => &[],
+        Seen::Document => "",
+        Seen::Contents => "",
+        Seen::Doctype(name) => *name,
+        Seen::Element(name, _) => (*name).as_str(),
+        Seen::Text(text) => *text,
+        Seen::Comment(text) => *text,
     }
 }
 
@@ -114,7 +107,7 @@ fn push_text(text: &mut Vec<u8>, added: &str) -> Result<Span, NoMemory>
 fn push_attributes(
     attributes: &mut Vec<FlatAttribute>,
     text: &mut Vec<u8>,
-    added: &[Attribute],
+    added: &Listed<'_>,
 ) -> Result<Span, NoMemory>
     ensures { IfOk result (λ span.
         AttributesAdded attributes.old.items text.old.items added.now attributes.new.items
@@ -122,23 +115,51 @@ fn push_attributes(
         × (span.start ≡ length attributes.old.items) × (span.length ≡ length added.now)) }
 {
     let start = short(attributes.len())?;
-    let length = short(added.len())?;
-    for attribute in added {
-        push_attribute(attributes, text, attribute)?;
+    let count = added.len();
+    let length = short(count)?;
+    for index in 0..count {
+        push_attribute(attributes, text, added.at(index))?;
     }
     Ok(Span { start, length })
+}
+
+// Adds none at the end of the list.
+fn push_none(attributes: &Vec<FlatAttribute>) -> Result<Span, NoMemory>
+    ensures start { IfOk result (λ span. span.start ≡ length attributes.now.items) }
+    ensures length { IfOk result (λ span. span.length ≡ 0) }
+{
+    let start = short(attributes.len())?;
+    Ok(Span { start, length: 0 })
+}
+
+// Adds the attributes of a node.
+fn push_all(
+    attributes: &mut Vec<FlatAttribute>,
+    text: &mut Vec<u8>,
+    kind: &Seen<'_>,
+) -> Result<Span, NoMemory>
+    ensures { IfOk result (λ span.
+        AttributesAdded attributes.old.items text.old.items (attributes_of (seen_kind kind.now))
+        attributes.new.items text.new.items
+        × (span.start ≡ length attributes.old.items)
+        × (span.length ≡ length (attributes_of (seen_kind kind.now)))) }
+{
+    match kind {
+        Seen::Element(_, added) => push_attributes(attributes, text, added),
+        _ => push_none(&*attributes),
+    }
 }
 
 fn push_attribute(
     attributes: &mut Vec<FlatAttribute>,
     text: &mut Vec<u8>,
-    added: &Attribute,
+    added: SeenAttribute<'_>,
 ) -> Result<(), NoMemory>
-    ensures { OnOk result (AttributesAdded attributes.old.items text.old.items (added.now ∷ [])
-        attributes.new.items text.new.items) }
+    ensures { OnOk result (AttributesAdded attributes.old.items text.old.items
+        (seen_attribute added.entry ∷ []) attributes.new.items text.new.items) }
 {
-    let name = push_text(text, added.name.as_str())?;
-    let value = push_text(text, added.value.as_str())?;
+    let name = push_text(text, added.name)?;
+    let value = push_text(text, added.value)?;
     attributes.push(FlatAttribute { name, value })?;
     Ok(())
 }
@@ -158,8 +179,8 @@ fn row_of(tree: &Tree, node: usize, text: Span, attributes: Span) -> Result<Flat
     let next = link(tree.next_sibling(node))?;
     let contents = link(tree.contents(node))?;
     Ok(FlatNode {
-        kind: kind_number(kind),
-        space: space_at(kind),
+        kind: kind_number(&kind),
+        space: space_at(&kind),
         parent,
         first_child,
         last_child,
@@ -177,8 +198,8 @@ fn push_node(flat: &mut Flat, tree: &Tree, node: usize) -> Result<(), NoMemory>
     ensures { OnOk result (RowAdded tree.now node flat.old flat.new) }
 {
     let kind = tree.kind(node);
-    let text = push_text(&mut flat.text, words_in(kind))?;
-    let attributes = push_attributes(&mut flat.attributes, &mut flat.text, attributes_in(kind))?;
+    let text = push_text(&mut flat.text, words_in(&kind))?;
+    let attributes = push_all(&mut flat.attributes, &mut flat.text, &kind)?;
     let row = row_of(tree, node, text, attributes)?;
     flat.nodes.push(row)?;
     Ok(())

@@ -1,5 +1,5 @@
 -- The characters of the names that the code writes out.
-use Rattle.std.proofs.Common.{◌≡◌, [], refl}
+use Rattle.std.proofs.Common.{◌≡◌, refl}
 use Rattle.std.specs.Prelude.{codes}
 use Rattle.std.specs.Str.{chars}
 
@@ -23,6 +23,10 @@ pub defer_text : chars (codes "defer") ≡ codes "defer"
 unfolding chars
 defer_text = refl
 
-pub no_text : chars (codes "") ≡ []
+pub annotation_text : chars (codes "annotation-xml") ≡ codes "annotation-xml"
 unfolding chars
-no_text = refl
+annotation_text = refl
+
+pub encoding_text : chars (codes "encoding") ≡ codes "encoding"
+unfolding chars
+encoding_text = refl

@@ -362,7 +362,7 @@ impl Doc {
         requires { node < length self.now.tree }
         ensures { IfOk result (λ context. context ≡ context_at self.now.tree node quirks) }
     {
-        context_of(self.alloc, &self.tree, node, quirks)
+        context_of(&self.tree, node, quirks)
     }
 
     // The node's children are taken out (a template's: its contents' children), and the root's are put there.
@@ -469,7 +469,7 @@ impl Doc {
     {
         match self.tree.attribute(self.node(id), "src") {
             None => Ok(None),
-            Some(src) => Ok(Some(src.copy(self.alloc)?)),
+            Some(src) => Ok(Some(Text::from_str(self.alloc, src)?)),
         }
     }
 }

@@ -1,44 +1,103 @@
 //! Fragments (13.4): what their parse asks of an element, and their operations in their root.
 
-ghost use Rattle.std.specs.Prelude.{◌≡◌, ◌<◌, [], ◌∷◌, ◌++◌, length, IfOk, OnOk, MatchOption};
+ghost use Rattle.std.specs.Prelude.{◌≡◌, ◌<◌, [], ◌∷◌, ◌++◌, codes, length, map, nat_lt, IfOk, IsTrue, OnOk, MatchOption, Some};
+ghost use Rattle.std.specs.Char.{to_ascii_lowercase};
+ghost use Rattle.std.specs.List.{list_all};
+ghost use Rattle.std.specs.Str.{chars};
+ghost use Rattle.html_types.specs.Text.{same_text};
+ghost use Rattle.html_types.specs.declared.word.Word.TheVariants.{Form};
 ghost use Rattle.html_types.specs.declared.name.Name.TheVariants.{Known};
 ghost use Rattle.html_types.specs.declared.operation.Op.TheVariants as op;
 ghost use Rattle.html_types.specs.Operations.{spelled_one};
-ghost use Rattle.standard.specs.Fragment.{is_form, name_in, is_annotation_point, in_form_by, context_at, roots_made, place_in_root, all_in_root};
+ghost use Rattle.standard.specs.Elements.{is_word};
+ghost use Rattle.standard.specs.Foreign.{is_annotation, is_html_encoding};
+ghost use Rattle.standard.specs.Fragment.{is_form, is_annotation_point, in_form_by, context_at, roots_made, place_in_root, all_in_root};
+ghost use Rattle.standard.specs.Tree.{attribute};
+ghost use Rattle.text_store.specs.Views.{seen_kind, seen_name};
 
 use doc_tree::Tree;
-use html_types::{Attributes, Context, Kind, Name, NoMemory, NodeId, Op, Ops, Place, Space, Word};
+use html_types::{Attributes, Context, Name, NoMemory, NodeId, Op, Ops, Place, Space, Word};
 use std::alloc::Global;
-use tag_sets::{is_html_annotation, is_the};
+use text_store::{Listed, Seen, SeenName};
+
+// Whether an element of that name is a form.
+fn is_the_form(name: SeenName<'_>) -> bool
+    ensures { result ≡ is_word Form (seen_name name.entry) }
+{
+    match name {
+        SeenName::Known(word) => word.same(Word::Form),
+        SeenName::Other(_, _) => false,
+    }
+}
 
 // Whether it is a form.
-fn is_form(kind: &Kind) -> bool
-    ensures { result ≡ is_form kind.now }
+fn is_form(kind: &Seen<'_>) -> bool
+    ensures { result ≡ is_form (seen_kind kind.now) }
 {
     match kind {
-        Kind::Element { name, .. } => is_the(Word::Form, name),
+        Seen::Element(name, _) => is_the_form(*name),
         _ => false,
+    }
+}
+
+// Whether a text is written so.
+fn is_text(text: &str, name: &str) -> bool
+    ensures { result ≡ same_text (chars text.now) (chars name.now) }
+{
+    text == name
+}
+
+#[tactic(auto, using(std::proofs::lemmas::Grind::common_steps, crate::proofs::Literals::annotation_text))]
+fn is_annotation_text(text: &str) -> bool
+    ensures { result ≡ same_text (chars text.now) (codes "annotation-xml") }
+{
+    is_text(text, "annotation-xml")
+}
+
+// Whether this is the name of an annotation-xml of MathML.
+fn is_annotation(name: SeenName<'_>) -> bool
+    ensures { result ≡ is_annotation (seen_name name.entry) }
+{
+    match name {
+        SeenName::Other(Space::MathMl, text) => is_annotation_text(text),
+        _ => false,
+    }
+}
+
+// Whether the text is that name of ASCII characters, in any ASCII case.
+fn is_spelled(text: &str, name: &str) -> bool
+    requires { IsTrue (list_all (λ b. nat_lt b 128) name.now) }
+    ensures { result ≡ same_text (map to_ascii_lowercase (chars text.now)) (map to_ascii_lowercase name.now) }
+{
+    text.eq_ignore_ascii_case(name)
+}
+
+// Whether a text is one of the encodings of HTML, in any ASCII case.
+fn is_html_encoding(text: &str) -> bool
+    ensures { result ≡ is_html_encoding (Some (chars text.now)) }
+{
+    is_spelled(text, "text/html") || is_spelled(text, "application/xhtml+xml")
+}
+
+// Whether the `encoding` is one of HTML.
+#[tactic(auto, using(std::proofs::lemmas::Grind::common_steps, crate::proofs::Literals::encoding_text))]
+fn has_html_encoding(attributes: &Listed<'_>) -> bool
+    ensures { result ≡ is_html_encoding (attribute (codes "encoding") attributes.now) }
+{
+    match attributes.value_of("encoding") {
+        None => false,
+        Some(text) => is_html_encoding(text),
     }
 }
 
 // Whether it is an annotation-xml that is an HTML integration point (13.2.6).
-fn is_annotation_point(kind: &Kind) -> bool
-    ensures { result ≡ is_annotation_point kind.now }
+#[tactic(auto, unfolding(standard::specs::Foreign::is_html_annotation))]
+fn is_annotation_point(kind: &Seen<'_>) -> bool
+    ensures { result ≡ is_annotation_point (seen_kind kind.now) }
 {
     match kind {
-        Kind::Element { name, attributes } => is_html_annotation(name, attributes.as_slice()),
+        Seen::Element(name, attributes) => is_annotation(*name) && has_html_encoding(attributes),
         _ => false,
-    }
-}
-
-// Its name, where it is an element.
-#[tactic(auto, using(std::proofs::lemmas::Grind::common_steps, crate::proofs::Literals::no_text))]
-fn name_in(alloc: Global, kind: &Kind) -> Result<Name, NoMemory>
-    ensures { IfOk result (λ name. name ≡ name_in kind.now) }
-{
-    match kind {
-        Kind::Element { name, .. } => name.copy(),
-        _ => Name::other(alloc, Space::Html, ""),
     }
 }
 
@@ -49,7 +108,7 @@ fn stands_in_form(tree: &Tree, node: usize) -> bool
 {
     let mut at = node;
     for _ in 0..tree.len() {
-        if is_form(tree.kind(at)) {
+        if is_form(&tree.kind(at)) {
             return true;
         }
         match tree.parent(at) {
@@ -62,20 +121,14 @@ fn stands_in_form(tree: &Tree, node: usize) -> bool
 
 /// What the parse of a fragment asks of that element as its context.
 #[tactic(auto, unfolding(standard::specs::Fragment::context_at))]
-pub(crate) fn context_of(
-    alloc: Global,
-    tree: &Tree,
-    node: usize,
-    quirks: bool,
-) -> Result<Context, NoMemory>
+pub(crate) fn context_of(tree: &Tree, node: usize, quirks: bool) -> Result<Context, NoMemory>
     requires { node < length tree.now }
     ensures { IfOk result (λ context. context ≡ context_at tree.now node quirks) }
 {
-    let kind = tree.kind(node);
-    let name = name_in(alloc, kind)?;
+    let name = tree.name_in(node)?;
     Ok(Context {
         name,
-        html_point: is_annotation_point(kind),
+        html_point: is_annotation_point(&tree.kind(node)),
         form: stands_in_form(tree, node),
         quirks,
     })

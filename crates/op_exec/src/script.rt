@@ -1,6 +1,6 @@
 //! Which scripts run (4.12.1.1, prepare the script element).
 
-ghost use Rattle.std.specs.Prelude.{◌≡◌, map, nat_lt, IsTrue, Some};
+ghost use Rattle.std.specs.Prelude.{◌≡◌, ◌↔◌, [], map, nat_lt, IsTrue, Some};
 ghost use Rattle.std.specs.List.{list_any, list_all};
 ghost use Rattle.std.specs.Str.{chars};
 ghost use Rattle.html_types.specs.Text.{same_text};
@@ -89,7 +89,7 @@ fn has_javascript_type(tree: &Tree, node: usize) -> bool
 {
     match tree.attribute(node, "type") {
         None => true,
-        Some(text) => is_javascript(text.as_str()),
+        Some(text) => is_javascript(text),
     }
 }
 
@@ -110,6 +110,13 @@ fn is_later(tree: &Tree, node: usize) -> bool
     has(tree, node, "async") || has(tree, node, "defer")
 }
 
+// Whether a text has no characters.
+fn is_empty(text: &str) -> bool
+    ensures { IsTrue result ↔ (chars text.now ≡ []) }
+{
+    text.is_empty()
+}
+
 // How a connected script runs that is JavaScript.
 fn runnable_kind(tree: &Tree, node: usize) -> ScriptKind
     requires { node < length tree.now }
@@ -125,7 +132,7 @@ fn runnable_kind(tree: &Tree, node: usize) -> ScriptKind
             }
         }
         Some(src) => {
-            if src.is_empty() {
+            if is_empty(src) {
                 return ScriptKind::Still;
             }
             if is_later(tree, node) {

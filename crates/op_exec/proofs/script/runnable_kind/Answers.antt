@@ -33,18 +33,18 @@ returns-then-is_empty c =
     let as' = attributes_of (kind_of c.args.tree.now c.args.node) in
     let later = has "async" as' || has "defer" as' in
     let text = script_text c.args.tree.now c.args.node in
-    sym (kind-no_src later c.in-Some.src.now text (c.is_empty.ensures.0 c.if-is_empty.true)) ∙ by_src (Some c.in-Some.src.now) as' later text c.in-Some.ensures
+    sym (kind-no_src later (chars c.in-Some.src.now) text (c.is_empty.ensures.0 c.if-is_empty.true)) ∙ by_src (Some (chars c.in-Some.src.now)) as' later text c.in-Some.ensures
 
 pub returns-then-is_later : goal.returns-then-is_later
 returns-then-is_later c =
     let as' = attributes_of (kind_of c.args.tree.now c.args.node) in
     let later = has "async" as' || has "defer" as' in
     let text = script_text c.args.tree.now c.args.node in
-    sym (kind-later later c.in-Some.src.now text (sym c.is_later.ensures ∙ c.if-is_later.true)) ∙ by_src (Some c.in-Some.src.now) as' later text c.in-Some.ensures
+    sym (kind-later later (chars c.in-Some.src.now) text (sym c.is_later.ensures ∙ c.if-is_later.true)) ∙ by_src (Some (chars c.in-Some.src.now)) as' later text c.in-Some.ensures
 
 pub returns-else-is_later : goal.returns-else-is_later
 returns-else-is_later c =
     let as' = attributes_of (kind_of c.args.tree.now c.args.node) in
     let later = has "async" as' || has "defer" as' in
     let text = script_text c.args.tree.now c.args.node in
-    sym (kind-external later c.in-Some.src.now text (sym c.is_later.ensures ∙ c.if-is_later.false) (λ none. both_ways _ c.if-is_empty.false (c.is_empty.ensures.1 none))) ∙ by_src (Some c.in-Some.src.now) as' later text c.in-Some.ensures
+    sym (kind-external later (chars c.in-Some.src.now) text (sym c.is_later.ensures ∙ c.if-is_later.false) (λ none. both_ways _ c.if-is_empty.false (c.is_empty.ensures.1 none))) ∙ by_src (Some (chars c.in-Some.src.now)) as' later text c.in-Some.ensures

@@ -1,0 +1,5 @@
+pub mod Pieces
+pub mod Stores
+pub mod Lists
+pub mod Kinds
+pub mod Views

@@ -1,0 +1,16 @@
+//! Texts and lists of attributes in a few buffers, named by where they lie. What a name once named it names for good.
+#![tactic(auto)]
+
+mod apart;
+mod kinds;
+mod listed;
+mod lists;
+mod pieces;
+mod seen;
+mod store;
+
+pub use kinds::Kept;
+pub use listed::{Listed, SeenAttribute};
+pub use lists::{Mark, Run, Store};
+pub use seen::{Seen, SeenName};
+pub use store::{Piece, TextStore};
