@@ -15,9 +15,10 @@ _specparse() {
     --piece) mapfile -t COMPREPLY < <(compgen -W "1 4096 16384 65536" -- "$word") ;;
     --preload) mapfile -t COMPREPLY < <(compgen -W "0 2 4 8" -- "$word") ;;
     --ahead) mapfile -t COMPREPLY < <(compgen -W "1 2 8 64" -- "$word") ;;
+    --watch) mapfile -t COMPREPLY < <(compgen -W "0 1 2 4 8" -- "$word") ;;
     *)
         case $word in
-        -*) mapfile -t COMPREPLY < <(compgen -W "--piece --ahead --preload --dump" -- "$word") ;;
+        -*) mapfile -t COMPREPLY < <(compgen -W "--piece --ahead --preload --dump --watch" -- "$word") ;;
         *) mapfile -t COMPREPLY < <(compgen -f -- "$word") ;;
         esac
         ;;

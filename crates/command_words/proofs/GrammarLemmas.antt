@@ -1,10 +1,10 @@
 -- The grammar, and the values of words in it.
-use Rattle.std.proofs.Common.{◌≡◌, ◌<◌, ◌≤◌, ◌^◌, ℕ, Bool, true, false, ◌||◌, List, [], ◌∷◌, refl, ap, Option, Some, None, option_map, codes, lit≤, arith}
+use Rattle.std.proofs.Common.{◌≡◌, ◌<◌, ◌≤◌, ◌^◌, ℕ, Bool, true, false, ◌||◌, List, [], ◌∷◌, refl, ap, subst, Option, Some, None, option_map, codes, lit≤, arith}
 use Rattle.std.specs.Prelude.{if◌then◌else◌}
 use Rattle.std.specs.Str.Parse.{IsNumeral, digits_value, without_leading_plus}
 use Rattle.clap.specs.Faults.{fault_of, is_simple_and_free}
 use Rattle.clap.specs.Kinds.{Kinds}
-use Rattle.clap.specs.Simple.{subcommand_of}
+use Rattle.clap.specs.Simple.{App, is_simple, subcommand_of}
 use Rattle.clap.specs.Values.{IsUnsignedIn}
 use Rattle.clap.specs.ValueTests.{is_unsigned_in}
 use Rattle.clap.specs.Walk.{Row, Text, first_of}
@@ -20,6 +20,16 @@ or_false x y z is a b = rw (is, a, b) refl
 
 pub specparse_is_simple : is_simple_and_free specparse ≡ true
 specparse_is_simple = refl
+
+simple : is_simple specparse ≡ true
+simple = refl
+
+-- words that a command with this grammar takes, and its rows
+pub taken_by : (app : App) (words : List Text) → app ≡ specparse → (is_simple_and_free app ≡ true → fault_of app words ≡ []) → AreInGrammar words
+taken_by app words is none = subst (λ a. is_simple_and_free a ≡ true → fault_of a words ≡ []) is none specparse_is_simple
+
+pub rows_by : (app : App) (words : List Text) (rows : Option (Text × List Row)) → app ≡ specparse → (is_simple app ≡ true → rows ≡ subcommand_of app words) → rows ≡ subcommand_of specparse words
+rows_by app words rows is found = subst (λ a. is_simple a ≡ true → rows ≡ subcommand_of a words) is found simple
 
 -- the value by the rows of the subcommand
 pub value_at : (name : Text) (rows : List Row) (sub : Option (Text × List Row)) → Some rows ≡ option_map (λ p. p.1) sub → first_of name rows ≡ value_of name sub
@@ -67,7 +77,9 @@ page_within read sub is =
     let piece_is : read.piece ≡ number_from 1 65536 4096 (value_of (codes "piece") sub) = ap (λ (p : PageAsked). p.piece) is in
     let ahead_is : read.ahead ≡ number_from 1 64 8 (value_of (codes "ahead") sub) = ap (λ (p : PageAsked). p.ahead) is in
     let preload_is : read.preload ≡ number_from 0 8 0 (value_of (codes "preload") sub) = ap (λ (p : PageAsked). p.preload) is in
-    (rw piece_is piece.0, rw piece_is piece.1, rw ahead_is ahead.0, rw ahead_is ahead.1, rw preload_is preload.1)
+    let watch = number_within 0 8 0 (value_of (codes "watch") sub) (lit≤ tt) (lit≤ tt) in
+    let watch_is : read.watch ≡ number_from 0 8 0 (value_of (codes "watch") sub) = ap (λ (p : PageAsked). p.watch) is in
+    (rw piece_is piece.0, rw piece_is piece.1, rw ahead_is ahead.0, rw ahead_is ahead.1, rw preload_is preload.1, rw watch_is watch.1)
 
 -- and of a page that is to be made
 pub make_within : (made : MakeWords) (sub : Option (Text × List Row)) → made ≡ make_asked sub → AreWithin (words.Make made)

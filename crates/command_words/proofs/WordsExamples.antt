@@ -6,28 +6,41 @@ use Rattle.clap.specs.Walk.{walked}
 use Rattle.command_words.specs.Words.{for_page, for_make, for_batch, asked}
 
 plain : asked (codes "specparse" ∷ codes "page" ∷ codes "p" ∷ codes "d" ∷ codes "e" ∷ [])
-    ≡ Some (for_page (record { page = codes "p"; dir = codes "d"; entities = codes "e"; piece = 4096; ahead = 8; preload = 0; dump = false }))
+    ≡ Some (for_page (record { page = codes "p"; dir = codes "d"; entities = codes "e"; piece = 4096; ahead = 8; preload = 0; dump = false; watch = 0 }))
 unfolding walk_fault walked defaults_fault
 plain = refl
 
 with_options : asked (codes "specparse" ∷ codes "page" ∷ codes "--piece=+5" ∷ codes "p" ∷ codes "d" ∷ codes "--ahead" ∷ codes "007" ∷ codes "e" ∷ [])
-    ≡ Some (for_page (record { page = codes "p"; dir = codes "d"; entities = codes "e"; piece = 5; ahead = 7; preload = 0; dump = false }))
+    ≡ Some (for_page (record { page = codes "p"; dir = codes "d"; entities = codes "e"; piece = 5; ahead = 7; preload = 0; dump = false; watch = 0 }))
 unfolding walk_fault walked defaults_fault
 with_options = refl
 
 with_dump : asked (codes "specparse" ∷ codes "page" ∷ codes "p" ∷ codes "--dump" ∷ codes "d" ∷ codes "e" ∷ [])
-    ≡ Some (for_page (record { page = codes "p"; dir = codes "d"; entities = codes "e"; piece = 4096; ahead = 8; preload = 0; dump = true }))
+    ≡ Some (for_page (record { page = codes "p"; dir = codes "d"; entities = codes "e"; piece = 4096; ahead = 8; preload = 0; dump = true; watch = 0 }))
 unfolding walk_fault walked defaults_fault
 with_dump = refl
 
 with_preload : asked (codes "specparse" ∷ codes "page" ∷ codes "--preload" ∷ codes "8" ∷ codes "p" ∷ codes "d" ∷ codes "e" ∷ [])
-    ≡ Some (for_page (record { page = codes "p"; dir = codes "d"; entities = codes "e"; piece = 4096; ahead = 8; preload = 8; dump = false }))
+    ≡ Some (for_page (record { page = codes "p"; dir = codes "d"; entities = codes "e"; piece = 4096; ahead = 8; preload = 8; dump = false; watch = 0 }))
 unfolding walk_fault walked defaults_fault
 with_preload = refl
 
 too_large_a_preload : asked (codes "specparse" ∷ codes "page" ∷ codes "--preload=9" ∷ codes "p" ∷ codes "d" ∷ codes "e" ∷ []) ≡ None
 unfolding walk_fault walked defaults_fault
 too_large_a_preload = refl
+
+with_watchers : asked (codes "specparse" ∷ codes "page" ∷ codes "--watch" ∷ codes "8" ∷ codes "p" ∷ codes "d" ∷ codes "e" ∷ [])
+    ≡ Some (for_page (record { page = codes "p"; dir = codes "d"; entities = codes "e"; piece = 4096; ahead = 8; preload = 0; dump = false; watch = 8 }))
+unfolding walk_fault walked defaults_fault
+with_watchers = refl
+
+too_many_watchers : asked (codes "specparse" ∷ codes "page" ∷ codes "--watch" ∷ codes "9" ∷ codes "p" ∷ codes "d" ∷ codes "e" ∷ []) ≡ None
+unfolding walk_fault walked defaults_fault
+too_many_watchers = refl
+
+no_number_of_watchers : asked (codes "specparse" ∷ codes "page" ∷ codes "--watch" ∷ codes "x" ∷ codes "p" ∷ codes "d" ∷ codes "e" ∷ []) ≡ None
+unfolding walk_fault walked defaults_fault
+no_number_of_watchers = refl
 
 dump_twice : asked (codes "specparse" ∷ codes "page" ∷ codes "--dump" ∷ codes "--dump" ∷ codes "p" ∷ codes "d" ∷ codes "e" ∷ []) ≡ None
 unfolding walk_fault walked defaults_fault
@@ -120,6 +133,10 @@ no_list = refl
 a_dump_of_a_list : asked (codes "specparse" ∷ codes "batch" ∷ codes "--dump" ∷ codes "l" ∷ codes "d" ∷ codes "e" ∷ []) ≡ None
 unfolding walk_fault walked defaults_fault
 a_dump_of_a_list = refl
+
+watchers_of_a_list : asked (codes "specparse" ∷ codes "batch" ∷ codes "--watch" ∷ codes "1" ∷ codes "l" ∷ codes "d" ∷ codes "e" ∷ []) ≡ None
+unfolding walk_fault walked defaults_fault
+watchers_of_a_list = refl
 
 too_many_words : asked (codes "specparse" ∷ codes "batch" ∷ codes "l" ∷ codes "d" ∷ codes "e" ∷ codes "f" ∷ []) ≡ None
 unfolding walk_fault walked defaults_fault

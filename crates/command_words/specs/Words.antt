@@ -33,13 +33,14 @@ required name = record (new_rule name) { required = true }
 abbrev pub required_number : List ℕ → ℕ → ℕ → Rule
 required_number name least most = record (new_rule name) { required = true; parser = Some (parsers.Unsigned least most) }
 
--- page [--piece N] [--ahead K] [--preload N] [--dump] PAGE DIR ENTITIES
+-- page [--piece N] [--ahead K] [--preload N] [--dump] [--watch N] PAGE DIR ENTITIES
 abbrev pub page_command : App
-page_command = with_rule (with_rule (with_rule (with_rule (with_rule (with_rule (with_rule (new_app (codes "page"))
+page_command = with_rule (with_rule (with_rule (with_rule (with_rule (with_rule (with_rule (with_rule (new_app (codes "page"))
     (number_option (codes "piece") 1 65536))
     (number_option (codes "ahead") 1 64))
     (number_option (codes "preload") 0 8))
     (flag (codes "dump")))
+    (number_option (codes "watch") 0 8))
     (required (codes "PAGE")))
     (required (codes "DIR")))
     (required (codes "ENTITIES"))
@@ -92,6 +93,8 @@ pub record PageAsked : Type 0 where
   pub ahead : ℕ
   pub preload : ℕ
   pub dump : Bool
+  -- so many watch the tree while it grows
+  pub watch : ℕ
 
 -- what the words of the command `batch` ask for
 pub record BatchAsked : Type 0 where
@@ -114,6 +117,7 @@ page_asked sub = record {
   ahead = number_from 1 64 8 (value_of (codes "ahead") sub);
   preload = number_from 0 8 0 (value_of (codes "preload") sub);
   dump = flag_from (value_of (codes "dump") sub);
+  watch = number_from 0 8 0 (value_of (codes "watch") sub);
 }
 
 abbrev pub make_asked : Option (Text × List Row) → MakeWords
@@ -159,6 +163,7 @@ shown read = record {
   ahead = read.ahead;
   preload = read.preload;
   dump = read.dump;
+  watch = read.watch;
 }
 
 abbrev pub batch_shown : BatchWords → BatchAsked
@@ -171,6 +176,6 @@ asked_for (words.Batch read) = for_batch (batch_shown read)
 
 -- the numbers are those that the grammar takes
 abbrev pub AreWithin : CommandWords → Type 0
-AreWithin (words.Page read) = (1 ≤ read.piece) × (read.piece ≤ 65536) × (1 ≤ read.ahead) × (read.ahead ≤ 64) × (read.preload ≤ 8)
+AreWithin (words.Page read) = (1 ≤ read.piece) × (read.piece ≤ 65536) × (1 ≤ read.ahead) × (read.ahead ≤ 64) × (read.preload ≤ 8) × (read.watch ≤ 8)
 AreWithin (words.Make read) = (read.number < 2 ^ 31) × (1 ≤ read.count) × (read.count ≤ 50000)
 AreWithin (words.Batch read) = Unit {0}

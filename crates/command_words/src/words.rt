@@ -40,6 +40,8 @@ pub struct PageWords {
     pub preload: usize,
     /// Whether the tree's dump is written in place of its text.
     pub dump: bool,
+    /// How many watch the tree while it grows: 0 to 8.
+    pub watch: usize,
 }
 
 /// What the words of the command `make` ask for: a page that is made from a number.
@@ -120,6 +122,7 @@ fn page_command<'a>(alloc: Global) -> Result<Command<'a>, AllocError>
         .arg(number_option(alloc, "ahead", 1, 64))?
         .arg(number_option(alloc, "preload", 0, 8))?
         .arg(flag(alloc, "dump"))?
+        .arg(number_option(alloc, "watch", 0, 8))?
         .arg(required(alloc, "PAGE"))?
         .arg(required(alloc, "DIR"))?
         .arg(required(alloc, "ENTITIES"))
@@ -260,6 +263,7 @@ fn page_words(alloc: Global, matches: &ArgMatches<'_>) -> Result<PageWords, Allo
         ahead: number_of(matches, "ahead", 1, 64, 8),
         preload: number_of(matches, "preload", 0, 8, 0),
         dump: is_given(matches, "dump"),
+        watch: number_of(matches, "watch", 0, 8, 0),
     })
 }
 

@@ -9,8 +9,10 @@ use Rattle.html_types.specs.declared.ending.Ending.{Ending}
 use Rattle.html_types.specs.declared.ending.Ending.TheVariants as ending
 use Rattle.html_types.specs.declared.ending.Why.{Why}
 use Rattle.html_types.specs.declared.ending.Why.TheVariants as why
+use Rattle.html_types.specs.declared.instruction.Finish.TheVariants as finale
 use Rattle.standard.specs.Entities.{Entities}
 use Rattle.standard.specs.Parser.{Parser, Finished, finish, Parsed, parse}
+use Rattle.serial.specs.Serial.{Result, finished, refused}
 
 -- a piece of the page: some of its text, and perhaps the page's ending behind it
 pub record Piece : Type 0 where
@@ -23,12 +25,11 @@ of_text t = record { text = t; ending = None }
 abbrev pub of_ending : Ending → Piece
 of_ending e = record { text = []; ending = Some e }
 
--- Why a batch ends: the parser used all its text or stopped in it, or it came to the end of the page (13.2.7), or the page ends
--- in a way that refuses it.
+-- Why a batch ends: the parser used all its text or stopped in it, or the parse is over behind
+-- it, since it carries the page's ending.
 pub data Halt : Type 0 where
   at : Stop → Halt
-  finishing : Finish → Halt
-  refusing : Why → Halt
+  over_with : Result → Halt
 
 -- a text that was parsed: the parser's state before it and behind it, and the operations, none of which is executed yet
 pub record Batch : Type 0 where
@@ -43,11 +44,16 @@ text_batch p t r = record { start = p; text = t; ops = r.ops; after = r.parser; 
 
 -- ---- the page's ending, which a batch of empty text carries
 
+-- what the end of the input comes to (13.2.7)
+abbrev pub result_at : Finish → Result
+result_at finale.Finished = finished
+result_at finale.Deep = refused why.Depth
+
 abbrev pub finish_batch : Parser → Finished → Batch
-finish_batch p f = record { start = p; text = []; ops = f.ops; after = f.parser; halt = finishing f.finish }
+finish_batch p f = record { start = p; text = []; ops = f.ops; after = f.parser; halt = over_with (result_at f.finish) }
 
 abbrev pub refusal_batch : Parser → Why → Batch
-refusal_batch p w = record { start = p; text = []; ops = []; after = p; halt = refusing w }
+refusal_batch p w = record { start = p; text = []; ops = []; after = p; halt = over_with (refused w) }
 
 abbrev pub end_batch : Entities → Parser → Ending → Batch
 end_batch es p ending.End = finish_batch p (finish es p)

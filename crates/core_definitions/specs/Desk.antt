@@ -5,7 +5,6 @@ use Rattle.std.specs.Prelude.{◌≡◌, ℕ, suc, ◌-◌, nat_lt, Bool, true, 
 use Rattle.html_types.specs.Text.{same_text}
 use Rattle.html_types.specs.declared.operation.NodeId.{NodeId}
 use Rattle.html_types.specs.declared.instruction.Stop.TheVariants as stop
-use Rattle.html_types.specs.declared.instruction.Finish.TheVariants as finale
 use Rattle.html_types.specs.declared.ending.Ending.{Ending}
 use Rattle.html_types.specs.declared.ending.Why.TheVariants as why
 use Rattle.standard.specs.Entities.{Entities}
@@ -17,7 +16,7 @@ use Rattle.core_definitions.specs.declared.event.Event.{Event}
 use Rattle.core_definitions.specs.declared.event.Event.TheVariants.{Send, Pick, Give, Take, Do, Arrive}
 use Rattle.core_definitions.specs.declared.verdict.Verdict.{Verdict}
 use Rattle.core_definitions.specs.declared.verdict.Verdict.TheVariants.{Keep, Rewind}
-use Rattle.core_definitions.specs.Batches.{Piece, of_text, of_ending, Batch, Halt, at, finishing, refusing, answer}
+use Rattle.core_definitions.specs.Batches.{Piece, of_text, of_ending, Batch, Halt, at, answer, over_with}
 use Rattle.core_definitions.specs.Verdict.{IsVerdict, runs}
 use Rattle.core_definitions.specs.Settling.{is_empty, Settles}
 
@@ -191,9 +190,7 @@ abbrev pub behind_halt : Halt → Desk → Desk
 behind_halt (at stop.InputEnd) d = d
 behind_halt (at (stop.Script i)) d = at_end_tag (runs (prepared i d.own)) i d
 behind_halt (at stop.Deep) d = in_phase (done (refused why.Depth)) d
-behind_halt (finishing finale.Finished) d = in_phase (done finished) d
-behind_halt (finishing finale.Deep) d = in_phase (done (refused why.Depth)) d
-behind_halt (refusing w) d = in_phase (done (refused w)) d
+behind_halt (over_with r) d = in_phase (done r) d
 
 -- the operations are executed on the document, and the parser stands behind the text
 abbrev pub with_executed : Batch → List Batch → Desk → Desk

@@ -6,7 +6,6 @@ use Rattle.std.proofs.lemmas.Bool.{and_parts}
 use Rattle.std.specs.Prelude.{◌&&◌, is_none, if◌then◌else◌}
 use Rattle.html_types.specs.declared.operation.NodeId.{NodeId}
 use Rattle.html_types.specs.declared.instruction.Stop.TheVariants as stop
-use Rattle.html_types.specs.declared.instruction.Finish.TheVariants as finale
 use Rattle.html_types.specs.declared.ending.Ending.{Ending}
 use Rattle.standard.specs.Entities.{Entities}
 use Rattle.standard.specs.Parser.{Parser}
@@ -15,7 +14,7 @@ use Rattle.core_definitions.specs.declared.event.Event.{Event}
 use Rattle.core_definitions.specs.declared.event.Event.TheVariants.{Send, Pick, Give, Take, Do, Arrive}
 use Rattle.core_definitions.specs.declared.verdict.Verdict.{Verdict}
 use Rattle.core_definitions.specs.declared.verdict.Verdict.TheVariants.{Keep, Rewind}
-use Rattle.core_definitions.specs.Batches.{Piece, Batch, Halt, at, finishing, refusing}
+use Rattle.core_definitions.specs.Batches.{Piece, Batch, Halt, at, over_with}
 use Rattle.core_definitions.specs.Verdict.{runs}
 use Rattle.core_definitions.specs.Settling.{is_empty}
 use Rattle.core_definitions.specs.Desk.{Phase, free, tagged, waits, done, Desk, first_desk, pieces_with, outstanding, stale, sends_first, with_batches, drops, answer_called_for, takes, at_end_tag, behind_halt, with_executed, executes, sent_again, decided, Concludes, DoesIn, Moves, MovesBy}
@@ -121,9 +120,7 @@ module _ (k ahead : ℕ) where
   halt-counts (at stop.InputEnd) d c = c
   halt-counts (at (stop.Script i)) d c = tag-counts d i (runs (prepared i d.own)) c
   halt-counts (at stop.Deep) d c = counts-with d (behind_halt (at stop.Deep) d).phase d.own d.hand d.left d.begins d.realm d.arrived (same-left d) c
-  halt-counts (finishing finale.Finished) d c = counts-with d (behind_halt (finishing finale.Finished) d).phase d.own d.hand d.left d.begins d.realm d.arrived (same-left d) c
-  halt-counts (finishing finale.Deep) d c = counts-with d (behind_halt (finishing finale.Deep) d).phase d.own d.hand d.left d.begins d.realm d.arrived (same-left d) c
-  halt-counts (refusing y) d c = counts-with d (behind_halt (refusing y) d).phase d.own d.hand d.left d.begins d.realm d.arrived (same-left d) c
+  halt-counts (over_with y) d c = counts-with d (behind_halt (over_with y) d).phase d.own d.hand d.left d.begins d.realm d.arrived (same-left d) c
 
   executes-count : (d : Desk) (bs : List Batch) → Counted d → Counted (executes bs d)
   executes-count d [] c = c

@@ -6,7 +6,7 @@ use Rattle.html_types.specs.declared.instruction.Stop.TheVariants as stop
 use Rattle.html_types.specs.declared.ending.Ending.{Ending}
 use Rattle.standard.specs.Entities.{Entities}
 use Rattle.standard.specs.Parser.{Parser, Took, took, take_character, Parsed, and_rest, parse}
-use Rattle.core_definitions.specs.Batches.{Piece, Batch, text_batch, end_batch, Halt, at, finishing, refusing, Answered, and_behind, cut, and_ending, answer}
+use Rattle.core_definitions.specs.Batches.{Piece, Batch, text_batch, end_batch, Halt, at, Answered, and_behind, cut, and_ending, answer, over_with}
 use Rattle.core_definitions.specs.Settling.{is_empty}
 use Rattle.core_definitions.specs.Desk.{blank}
 use Rattle.moment_laws.proofs.Through.{parse-front}
@@ -97,8 +97,7 @@ goes : (h : Halt) (C : Type 0) → C → GoesOn h C
 goes (at stop.InputEnd) C x = x
 goes (at (stop.Script i)) C x = x
 goes (at stop.Deep) C x = tt
-goes (finishing f) C x = tt
-goes (refusing w) C x = tt
+goes (over_with w) C x = tt
 
 module _ (es : Entities) (p : Parser) (c : ℕ) (cs : List ℕ) (o : Option Ending) where
   abbrev r : Parsed

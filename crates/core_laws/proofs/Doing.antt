@@ -25,7 +25,7 @@ use Rattle.rule_laws.proofs.FreshnessDocs.{texts-served}
 use Rattle.rule_laws.proofs.FreshnessTexts.{before-follows}
 use Rattle.rule_laws.proofs.RenamingTexts.{texts-renamed, ends-renamed}
 use Rattle.act_laws.proofs.Renamed.{acts-renamed}
-use Rattle.core_definitions.specs.Batches.{Piece, Batch, text_batch, finish_batch, refusal_batch, end_batch, at, finishing}
+use Rattle.core_definitions.specs.Batches.{Piece, Batch, text_batch, finish_batch, refusal_batch, end_batch, at, over_with, result_at}
 use Rattle.core_definitions.specs.Verdict.{Watch, runs, at_tag, Watched, Reads as WatchReads, Watches}
 use Rattle.core_definitions.specs.Desk.{Phase, free, done, Desk, at_end_tag, behind_halt, executes}
 use Rattle.core_laws.specs.Alike.{own_of, Okay}
@@ -172,7 +172,7 @@ module _ (e : Ending) (w : World) (m0 : Moment) (v0 : Watch) where
   -- ---- the batch of the ending
 
   finishes : (r : NodeId → NodeId) (d : Desk) (own s : Serial) (p : Parser) (doc : Doc) (f : Finish) (v : Watch) → Names r d.realm → own.side.lines ≡ s.side.lines → SameUpTo r doc own.side.doc →
-      v.failed + 1 ≡ d.epoch → Watches e w m0 v0 (over (outcome_at s p doc f)) v → Stood e w m0 v0 [] (behind_halt (finishing f) (at_rest d own))
+      v.failed + 1 ≡ d.epoch → Watches e w m0 v0 (over (outcome_at s p doc f)) v → Stood e w m0 v0 [] (behind_halt (over_with (result_at f)) (at_rest d own))
   finishes r d own s p doc finale.Finished v names lines same g seen = ends r [] d own (outcome_at s p doc finale.Finished) v names lines same g seen
   finishes r d own s p doc finale.Deep v names lines same g seen = ends r [] d own (outcome_at s p doc finale.Deep) v names lines same g seen
 

@@ -4,7 +4,6 @@ use Rattle.std.proofs.lemmas.Bool.{and_parts}
 use Rattle.std.specs.Prelude.{IsTrue, not, ◌&&◌, if◌then◌else◌}
 use Rattle.html_types.specs.declared.operation.NodeId.{NodeId}
 use Rattle.html_types.specs.declared.instruction.Stop.TheVariants as stop
-use Rattle.html_types.specs.declared.instruction.Finish.TheVariants as finale
 use Rattle.standard.specs.Entities.{Entities}
 use Rattle.standard.specs.Parser.{Parser}
 use Rattle.serial.specs.Serial.{World, Serial, prepared, Moment, reading, tag_ended, awaits, over}
@@ -12,7 +11,7 @@ use Rattle.core_definitions.specs.declared.event.Event.{Event}
 use Rattle.core_definitions.specs.declared.event.Event.TheVariants.{Send, Pick, Give, Take, Do, Arrive}
 use Rattle.core_definitions.specs.declared.verdict.Verdict.{Verdict}
 use Rattle.core_definitions.specs.declared.verdict.Verdict.TheVariants.{Keep, Rewind}
-use Rattle.core_definitions.specs.Batches.{Piece, Batch, Halt, at, finishing, refusing}
+use Rattle.core_definitions.specs.Batches.{Piece, Batch, Halt, at, over_with}
 use Rattle.core_definitions.specs.Verdict.{runs}
 use Rattle.core_definitions.specs.Settling.{is_empty}
 use Rattle.core_definitions.specs.Desk.{Phase, free, tagged, waits, done, Desk, with_more, is_done, outstanding, stale, sends_first, with_batches, drops, answer_called_for, at_end_tag, behind_halt, with_executed, executes, sent_again, decided, Concludes, RunsOn, DoesIn, Moves, can_do_in}
@@ -41,9 +40,7 @@ module _ (xs : List Piece) where
   halt-more (at stop.InputEnd) d = refl
   halt-more (at (stop.Script i)) d = tag-more i d (runs (prepared i d.own))
   halt-more (at stop.Deep) d = refl
-  halt-more (finishing finale.Finished) d = refl
-  halt-more (finishing finale.Deep) d = refl
-  halt-more (refusing w) d = refl
+  halt-more (over_with w) d = refl
 
   executes-more : (bs : List Batch) (d : Desk) → executes bs (with_more xs d) ≡ with_more xs (executes bs d)
   executes-more [] d = refl

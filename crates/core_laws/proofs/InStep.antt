@@ -4,15 +4,13 @@ use Rattle.std.proofs.lemmas.List.{length-append, drop_at}
 use Rattle.std.specs.Prelude.{if◌then◌else◌}
 use Rattle.html_types.specs.declared.operation.NodeId.{NodeId}
 use Rattle.html_types.specs.declared.instruction.Stop.TheVariants as stop
-use Rattle.html_types.specs.declared.instruction.Finish.{Finish}
-use Rattle.html_types.specs.declared.instruction.Finish.TheVariants as finale
 use Rattle.html_types.specs.declared.ending.Ending.{Ending}
 use Rattle.html_types.specs.declared.ending.Ending.TheVariants as ending
 use Rattle.standard.specs.Entities.{Entities}
 use Rattle.standard.specs.Parser.{finish, Parser}
 use Rattle.serial.specs.Serial.{World, Serial, prepared, Moment, reading, tag_ended, awaits, over}
 use Rattle.core_definitions.specs.declared.verdict.Verdict.TheVariants.{Keep, Rewind}
-use Rattle.core_definitions.specs.Batches.{Piece, Batch, Halt, at, finishing, refusing, answer, end_batch}
+use Rattle.core_definitions.specs.Batches.{Piece, Batch, Halt, at, answer, end_batch, over_with}
 use Rattle.core_definitions.specs.Verdict.{runs}
 use Rattle.core_definitions.specs.Desk.{Phase, free, tagged, waits, done, Desk, renewed, stale, with_batches, drops, answer_called_for, takes, at_end_tag, behind_halt, with_executed, executes, decided, Concludes, RunsOn, DoesIn}
 use Rattle.core_definitions.specs.Core.{Request, Reply, Core, started, answer_to, reply_to, request_for, takes_reply}
@@ -296,16 +294,13 @@ module _ (es : Entities) (all : List Reply) (last : Option Parser) where
   halt-in-step (at stop.InputEnd) d s = s
   halt-in-step (at (stop.Script i)) d s = tag-in-step i d (runs (prepared i d.own)) s
   halt-in-step (at stop.Deep) d s = tt
-  halt-in-step (finishing finale.Finished) d s = tt
-  halt-in-step (finishing finale.Deep) d s = tt
-  halt-in-step (refusing y) d s = tt
+  halt-in-step (over_with y) d s = tt
 
   map-goes : (h : Halt) (C D : Type 0) → (C → D) → GoesOn h C → GoesOn h D
   map-goes (at stop.InputEnd) C D f x = f x
   map-goes (at (stop.Script i)) C D f x = f x
   map-goes (at stop.Deep) C D f x = tt
-  map-goes (finishing y) C D f x = tt
-  map-goes (refusing y) C D f x = tt
+  map-goes (over_with y) C D f x = tt
 
   text-in-step : (d : Desk) (b : Batch) (bs : List Batch) → InStep es (at_rest free d) all last → IsText es d.own.parser d.left b bs → Tracks (executes (b ∷ bs) (at_rest free d))
   text-in-step d b bs h t =
@@ -316,11 +311,7 @@ module _ (es : Entities) (all : List Reply) (last : Option Parser) where
       (ap (λ x. (answer es (Some b.after) (record d.left { text = x })).parser) left ∙ sym ends)) t.ends)
 
   end-in-step : (x : Ending) (p : Parser) (d : Desk) → Tracks (behind_halt (end_batch es p x).halt d)
-  end-in-step ending.End p d = by (finish es p).finish
-    where
-      by : (f : Finish) → Tracks (behind_halt (finishing f) d)
-      by finale.Finished = tt
-      by finale.Deep = tt
+  end-in-step ending.End p d = tt
   end-in-step ending.Bad p d = tt
   end-in-step ending.Long p d = tt
   end-in-step ending.Fault p d = tt

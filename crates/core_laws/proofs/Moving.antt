@@ -5,8 +5,6 @@ use Rattle.std.proofs.lemmas.Bool.{and_parts}
 use Rattle.std.specs.Prelude.{IsTrue, if◌then◌else◌}
 use Rattle.html_types.specs.declared.operation.NodeId.{NodeId}
 use Rattle.html_types.specs.declared.instruction.Stop.TheVariants as stop
-use Rattle.html_types.specs.declared.instruction.Finish.{Finish}
-use Rattle.html_types.specs.declared.instruction.Finish.TheVariants as finale
 use Rattle.html_types.specs.declared.ending.Ending.{Ending}
 use Rattle.html_types.specs.declared.ending.Ending.TheVariants as ending
 use Rattle.standard.specs.Entities.{Entities}
@@ -16,7 +14,7 @@ use Rattle.core_definitions.specs.declared.event.Event.{Event}
 use Rattle.core_definitions.specs.declared.event.Event.TheVariants.{Send, Pick, Give, Take, Do, Arrive}
 use Rattle.core_definitions.specs.declared.verdict.Verdict.{Verdict}
 use Rattle.core_definitions.specs.declared.verdict.Verdict.TheVariants.{Keep, Rewind}
-use Rattle.core_definitions.specs.Batches.{Piece, Batch, Halt, at, finishing, refusing, answer, end_batch}
+use Rattle.core_definitions.specs.Batches.{Piece, Batch, Halt, at, answer, end_batch, over_with}
 use Rattle.core_definitions.specs.Verdict.{Watch, runs}
 use Rattle.core_definitions.specs.Settling.{is_empty}
 use Rattle.core_definitions.specs.Desk.{Phase, free, tagged, waits, done, Desk, blank, is_free, stale, wants_reply, sends_first, with_batches, drops, answer_called_for, takes, at_end_tag, behind_halt, with_executed, executes, decided, Concludes, RunsOn, DoesIn, Moves, MovesBy, renewed}
@@ -134,9 +132,7 @@ module _ (e : Ending) (w : World) (m0 : Moment) (v0 : Watch) where
   halt-pipe (at stop.InputEnd) d ps g = record { hand = g; pieces = ps }
   halt-pipe (at (stop.Script i)) d ps g = tag-pipe d i (runs (prepared i d.own)) (record { hand = g; pieces = ps })
   halt-pipe (at stop.Deep) d ps g = tt
-  halt-pipe (finishing finale.Finished) d ps g = tt
-  halt-pipe (finishing finale.Deep) d ps g = tt
-  halt-pipe (refusing y) d ps g = tt
+  halt-pipe (over_with y) d ps g = tt
 
   tag-page : (d : Desk) (i : NodeId) (run : Bool) → page_left (at_end_tag run i d) ≡ page_left d
   tag-page d i true = refl
@@ -146,9 +142,7 @@ module _ (e : Ending) (w : World) (m0 : Moment) (v0 : Watch) where
   halt-page (at stop.InputEnd) d = refl
   halt-page (at (stop.Script i)) d = tag-page d i (runs (prepared i d.own))
   halt-page (at stop.Deep) d = refl
-  halt-page (finishing finale.Finished) d = refl
-  halt-page (finishing finale.Deep) d = refl
-  halt-page (refusing y) d = refl
+  halt-page (over_with y) d = refl
 
   text-holds : (d : Desk) (b : Batch) (bs : List Batch) → d.phase ≡ free → d.hand ≡ b ∷ bs → Piped w.entities e d.own.parser d → Stood e w m0 v0 (page_left d) d → IsText w.entities d.own.parser d.left b bs →
       Holds (executes (b ∷ bs) d)
@@ -168,12 +162,8 @@ module _ (e : Ending) (w : World) (m0 : Moment) (v0 : Watch) where
         pipe = subst (λ (f : Phase). Pipe w.entities e (behind_halt b.halt (record d1 { phase = f })).phase (behind_halt b.halt (record d1 { phase = f }))) (sym q) (halt-pipe b.halt d1 p.pieces onward);
       }
 
-  finish-pipe : (f : Finish) (d : Desk) → Pipe w.entities e (behind_halt (finishing f) d).phase (behind_halt (finishing f) d)
-  finish-pipe finale.Finished d = tt
-  finish-pipe finale.Deep d = tt
-
   end-pipe : (x : Ending) (p : Parser) (d : Desk) → Pipe w.entities e (behind_halt (end_batch w.entities p x).halt d).phase (behind_halt (end_batch w.entities p x).halt d)
-  end-pipe ending.End p d = finish-pipe (finish w.entities p).finish d
+  end-pipe ending.End p d = tt
   end-pipe ending.Bad p d = tt
   end-pipe ending.Long p d = tt
   end-pipe ending.Fault p d = tt

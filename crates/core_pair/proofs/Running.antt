@@ -4,7 +4,6 @@ use Rattle.std.proofs.lemmas.Bool.{and_parts}
 use Rattle.std.specs.Prelude.{IsTrue, not, is_some, if◌then◌else◌}
 use Rattle.html_types.specs.declared.operation.NodeId.{NodeId}
 use Rattle.html_types.specs.declared.instruction.Stop.TheVariants as stop
-use Rattle.html_types.specs.declared.instruction.Finish.TheVariants as finale
 use Rattle.html_types.specs.declared.ending.Ending.{Ending}
 use Rattle.standard.specs.Entities.{Entities}
 use Rattle.standard.specs.Parser.{Parser}
@@ -13,7 +12,7 @@ use Rattle.serial.specs.Serial.{World, prepared, fetched, fetched_if, Moment, re
 use Rattle.core_definitions.specs.declared.event.Event.{Event}
 use Rattle.core_definitions.specs.declared.event.Event.TheVariants.{Send, Pick, Give, Take, Do, Arrive}
 use Rattle.core_definitions.specs.declared.verdict.Verdict.TheVariants.{Keep, Rewind}
-use Rattle.core_definitions.specs.Batches.{Piece, Batch, Halt, at, finishing, refusing}
+use Rattle.core_definitions.specs.Batches.{Piece, Batch, Halt, at, over_with}
 use Rattle.core_definitions.specs.Verdict.{runs}
 use Rattle.core_definitions.specs.Settling.{is_empty}
 use Rattle.core_definitions.specs.Desk.{Phase, free, tagged, waits, done, Desk, is_free, is_done, can_do_in, wants_reply, sends_first, takes, with_batches, drops, answer_called_for, stale, arrives, at_end_tag, behind_halt, with_executed, executes, Concludes, DoesIn, Does}
@@ -149,9 +148,7 @@ halt-arrived : (h : Halt) (d : Desk) → (behind_halt h d).arrived ≡ d.arrived
 halt-arrived (at stop.InputEnd) d = refl
 halt-arrived (at (stop.Script i)) d = tag-arrived (runs (prepared i d.own)) i d
 halt-arrived (at stop.Deep) d = refl
-halt-arrived (finishing finale.Finished) d = refl
-halt-arrived (finishing finale.Deep) d = refl
-halt-arrived (refusing w) d = refl
+halt-arrived (over_with w) d = refl
 
 executes-arrived : (bs : List Batch) (d : Desk) → (executes bs d).arrived ≡ d.arrived
 executes-arrived [] d = refl

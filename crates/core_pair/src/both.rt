@@ -17,6 +17,7 @@ ghost use Rattle.core_pair.specs.Pairs.{setup_of, first_paired, with_pieces, Ste
 use crate::scripts::Scripts;
 use crate::setup::Setup;
 use core_steps::{DocSide, Event, Fetch, State, WorkSide, is_lawful};
+use doc_changes::Log;
 use entity_table::Table;
 use html_types::{Ending, NoMemory, Text};
 use serial::Lines;
@@ -302,7 +303,8 @@ impl<E: InForce> Both<E> {
         ensures desk { OnErr result (self.new.core.desk ≡ self.old.core.desk) }
         ensures ahead { OnErr result (self.new.ahead ≡ self.old.ahead) }
     {
-        self.doc.act()?;
+        let mut unwanted = Log::new(self.alloc, false);
+        self.doc.act(&mut unwanted)?;
         Ok(())
     }
 

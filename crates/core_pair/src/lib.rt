@@ -7,7 +7,7 @@ pub mod pair;
 pub mod scripts;
 pub mod setup;
 
-pub use core_steps::{Event, Fetch, FetchedFile, Journal, State};
+pub use core_steps::{End, Event, Fetch, FetchedFile, Journal, State};
 pub use pair::Pair;
 pub use scripts::Scripts;
 pub use setup::Setup;

@@ -3,7 +3,6 @@ use Rattle.std.proofs.Common.{◌≡◌, ℕ, suc, Bool, true, false, List, [], 
 use Rattle.std.proofs.Math.Seq.{drop-append_seam}
 use Rattle.html_types.specs.declared.operation.NodeId.{NodeId}
 use Rattle.html_types.specs.declared.instruction.Stop.TheVariants as stop
-use Rattle.html_types.specs.declared.instruction.Finish.TheVariants as finale
 use Rattle.html_types.specs.declared.ending.Why.{Why}
 use Rattle.html_types.specs.declared.ending.Why.TheVariants as why
 use Rattle.serial.specs.declared.script.Line.{Line}
@@ -13,22 +12,25 @@ use Rattle.serial.specs.Scripts.{Fetched, got, missing, faulted, file_statements
 use Rattle.serial.specs.Serial.{World, fetched, Serial, Moment, reading, tag_ended, awaits, over, refused, prepared}
 use Rattle.core_definitions.specs.declared.verdict.Verdict.{Verdict}
 use Rattle.core_definitions.specs.declared.verdict.Verdict.TheVariants.{Keep, Rewind}
-use Rattle.core_definitions.specs.Batches.{Batch, Halt, at, finishing, refusing, answer}
+use Rattle.core_definitions.specs.Batches.{Batch, Halt, at, answer}
 use Rattle.core_definitions.specs.Verdict.{runs}
 use Rattle.core_definitions.specs.Desk.{Desk, Phase, free, tagged, waits, done, blank, in_phase, at_end_tag, behind_halt, with_executed, executes, decided, Does, DoesIn, RunsOn, Concludes}
 use Rattle.core_definitions.specs.Settling.{Settles}
 use Rattle.core_laws.proofs.Cutting.{GoesOn, blank-answer}
 use Rattle.write_parser.specs.declared.left.Left.{Left}
 use Rattle.write_parser.specs.declared.left.Left.TheVariants as left
-use Rattle.write_parser.specs.Writing.{View, serial_of, AtTag, Stands, LeadsTo, LeftIs, HasRun, HasMissed, why_of}
+use Rattle.write_parser.specs.Writing.{View, serial_of, AtTag, Stands, LeadsTo, LeftIs, HasRun, HasMissed}
 use Rattle.speculation.specs.declared.batch.Halt as code
 use Rattle.speculation.specs.declared.batch.Halt.TheVariants as halt
 use Rattle.speculation.specs.Halting.{halt_of}
 use Rattle.core_steps.specs.declared.stage.Stage.{Stage}
 use Rattle.core_steps.specs.declared.stage.Stage.TheVariants.{Free, Tagged, Waits, Done}
 use Rattle.core_steps.specs.declared.side.Side.{Side}
-use Rattle.core_steps.specs.Sides.{lines_given, result_of, desk_of, hand_of, phase_of, ShowsIn, Shows}
+use Rattle.parse_machine.specs.declared.end.End.{End}
+use Rattle.parse_machine.specs.declared.end.End.TheVariants as end
+use Rattle.core_steps.specs.Sides.{lines_given, desk_of, hand_of, phase_of, ShowsIn, Shows}
 use Rattle.core_steps.specs.Acting.{ended, at_stage, free_hand, Executed, MeetsTag, runs_there, Halts, RunsBatch, with_writer, JudgedAs, Judged, LeavesBy, Settled, RunsTagged, met, RunsText, Misses, RunsFetched, ActsBy}
+use Rattle.parse_machine.specs.Ends.{result_of}
 use Rattle.core_steps.proofs.Counts.{counts-same}
 use Rattle.core_steps.proofs.Settles.{EndsAt, SettlesAt, tag-settles, miss-settles, ran-settles, fault-settles}
 
@@ -72,7 +74,7 @@ module _ (s0 : Side) (b : Batch) (bs : List Batch) (mid : Side) where
       shows-all (at_end_tag true i d1) (desk_of new)
       (ap (at_end_tag true i) is ∙ (ap (λ h. record (at_end_tag true i (desk_of mid)) { hand = h }) more ∙ ap desk_of (sym m)))
 
-  done-shows : (r : Option Why) (in_hand : Bool) (new : Side) → IsBehind → new ≡ ended r in_hand mid → Shows (in_phase (done (result_of r)) d1) (desk_of new)
+  done-shows : (r : End) (in_hand : Bool) (new : Side) → IsBehind → new ≡ ended r in_hand mid → Shows (in_phase (done (result_of r)) d1) (desk_of new)
   done-shows r in_hand new is m =
       subst (λ (z : Side). Shows (in_phase (done (result_of r)) d1) (desk_of z)) (sym m)
       (subst (λ (z : Desk). Shows (in_phase (done (result_of r)) z) (desk_of (ended r in_hand mid))) (sym is) (refl, refl, refl, counts-same (result_of r) (desk_of (ended r in_hand mid)).own.side (desk_of (ended r in_hand mid)).own.side refl))
@@ -84,10 +86,8 @@ module _ (s0 : Side) (b : Batch) (bs : List Batch) (mid : Side) where
   halt-shows (halt.At stop.InputEnd) new is more stage same halts = shows-all d1 (desk_of new) (behind-all is more stage ∙ ap desk_of (sym halts))
   halt-shows (halt.At (stop.Script i)) new is more stage same halts =
       tag-shows i new (runs (prepared i d1.own)) is more stage (subst (λ run. MeetsTag run i mid new) (sym (same i)) halts)
-  halt-shows (halt.At stop.Deep) new is more stage same halts = done-shows (Some why.Depth) false new is halts
-  halt-shows (halt.Finishing finale.Finished) new is more stage same halts = done-shows None false new is halts
-  halt-shows (halt.Finishing finale.Deep) new is more stage same halts = done-shows (Some why.Depth) false new is halts
-  halt-shows (halt.Refusing w) new is more stage same halts = done-shows (Some w) false new is halts
+  halt-shows (halt.At stop.Deep) new is more stage same halts = done-shows (end.Refused why.Depth) false new is halts
+  halt-shows (halt.Over e) new is more stage same halts = done-shows e false new is halts
 
 free-shows : (w : World) (s0 : Side) (h : code.Halt) (mid new : Side) → Executed (at_stage Free s0) h mid → Halts h mid new → ShownBehind w (desk_of (at_stage Free s0)) new
 free-shows w s0 h mid new x halts =
@@ -137,8 +137,8 @@ module _ (s : Side) (held : Parser) (p : Phase) (mid : View) where
   concludes (left.Awaits name) m new ends is =
       let d' : Desk = record (held_desk s held p) { own = own; phase = waits name held } in
       (d', subst (λ n. Concludes held n (held_desk s held p) d') (sym ends) refl, shows-all d' (desk_of new) (ap desk_of (sym is)))
-  concludes (left.Limit l) m new ends is =
-      let d' : Desk = record (held_desk s held p) { own = ends.last; phase = done (refused (why_of l)) } in (
+  concludes (left.Refused l) m new ends is =
+      let d' : Desk = record (held_desk s held p) { own = ends.last; phase = done (refused l) } in (
         d',
         subst (λ n. Concludes held n (held_desk s held p) d') (sym ends.is) refl,
         subst (λ (z : Side). Shows d' (desk_of z)) (sym is) (refl, ends.doc, ends.lines, tt),

@@ -1,7 +1,6 @@
 -- What Do leaves as it is, and what the side shows behind it.
 use Rattle.std.proofs.Common.{◌≡◌, ◌<◌, ℕ, suc, Bool, true, false, true≢false, List, [], ◌∷◌, ◌++◌, Option, Some, None, Result, Ok, Err, OnOk, refl, sym, ◌∙◌, ap, subst, IsTrue}
 use Rattle.html_types.specs.declared.instruction.Stop.TheVariants as stop
-use Rattle.html_types.specs.declared.instruction.Finish.TheVariants as finale
 use Rattle.html_types.specs.declared.operation.NodeId.{NodeId}
 use Rattle.serial.specs.declared.script.Line.{Line}
 use Rattle.html_types.specs.declared.ending.Why.{Why}
@@ -17,12 +16,14 @@ use Rattle.core_definitions.specs.Desk.{Desk, Does, can_do}
 use Rattle.core_definitions.specs.Journal.{Journal, Knows}
 use Rattle.write_parser.specs.declared.left.Left.{Left}
 use Rattle.write_parser.specs.declared.left.Left.TheVariants as left
-use Rattle.write_parser.specs.Writing.{View, why_of}
+use Rattle.write_parser.specs.Writing.{View}
 use Rattle.speculation.specs.declared.batch.Halt as code
 use Rattle.speculation.specs.declared.batch.Halt.TheVariants as halt
 use Rattle.core_steps.specs.declared.stage.Stage.{Stage}
 use Rattle.core_steps.specs.declared.stage.Stage.TheVariants.{Free, Tagged, Waits, Done}
 use Rattle.core_steps.specs.declared.side.Side.{Side}
+use Rattle.parse_machine.specs.declared.end.End.{End}
+use Rattle.parse_machine.specs.declared.end.End.TheVariants as end
 use Rattle.core_steps.specs.Fetches.{names_of}
 use Rattle.core_steps.specs.Sides.{Shows, DoesShow, journaled, lines_given, desk_of, shown_of, left_to_do, IsPlaced, IsSound}
 use Rattle.core_steps.specs.Acting.{ended, at_stage, Executed, MeetsTag, runs_there, Halts, RunsBatch, with_writer, JudgedAs, LeavesBy, Settled, RunsTagged, met, RunsFetched, ActsBy}
@@ -49,7 +50,7 @@ stays-then a b c x y = record { table = y.table ∙ x.table; given = y.given ∙
 stays-as : (old mid new : Side) → new ≡ mid → Stays old mid → Stays old new
 stays-as old mid new is x = subst (Stays old) (sym is) x
 
-ended-stays : (w : Option Why) (in_hand : Bool) (old new : Side) → new ≡ ended w in_hand old → Stays old new
+ended-stays : (w : End) (in_hand : Bool) (old new : Side) → new ≡ ended w in_hand old → Stays old new
 ended-stays w in_hand old new is = stays-as old (ended w in_hand old) new is (record { table = refl; given = refl; ahead = refl })
 
 executed-stays : (old new : Side) (h : code.Halt) → Executed old h new → Stays old new
@@ -70,10 +71,8 @@ tag-stays true i old new is = record {
 halts-stay : (h : code.Halt) (old new : Side) → Halts h old new → Stays old new
 halts-stay (halt.At stop.InputEnd) old new is = stays-as old old new is (stays-same old)
 halts-stay (halt.At (stop.Script i)) old new is = tag-stays (runs_there i old) i old new is
-halts-stay (halt.At stop.Deep) old new is = ended-stays (Some why.Depth) false old new is
-halts-stay (halt.Finishing finale.Finished) old new is = ended-stays None false old new is
-halts-stay (halt.Finishing finale.Deep) old new is = ended-stays (Some why.Depth) false old new is
-halts-stay (halt.Refusing w) old new is = ended-stays (Some w) false old new is
+halts-stay (halt.At stop.Deep) old new is = ended-stays (end.Refused why.Depth) false old new is
+halts-stay (halt.Over e) old new is = ended-stays e false old new is
 
 judged-stays : (c : Verdict) (held : Parser) (old new : Side) → JudgedAs c held old new → Stays old new
 judged-stays Keep held old new is = record {
@@ -94,7 +93,7 @@ leaves-stay (left.Awaits name) held old new is = record {
   given = ap (λ (z : Side). lines_given z.given.items) is;
   ahead = ap (λ (z : Side). z.ledger.ahead) is;
 }
-leaves-stay (left.Limit l) held old new is = ended-stays (Some (why_of l)) true old new is
+leaves-stay (left.Refused l) held old new is = ended-stays (end.Refused l) true old new is
 
 settled-stays : (held : Parser) (v : View) (old new : Side) → Settled held (with_writer v old) new → Stays old new
 settled-stays held v old new x = by (leaves-stay x.answer held (with_writer x.mid old) new x.leaves)
@@ -105,7 +104,7 @@ settled-stays held v old new x = by (leaves-stay x.answer held (with_writer x.mi
 fetched-stays : (f : Fetched) (name : List ℕ) (held : Parser) (old new : Side) → RunsFetched f name held old new → Stays old new
 fetched-stays (got bytes) name held old new x = settled-stays held x.mid old new x.settled
 fetched-stays missing name held old new x = settled-stays held x.mid old new x.settled
-fetched-stays faulted name held old new x = ended-stays (Some why.Fault) true old new x
+fetched-stays faulted name held old new x = ended-stays (end.Refused why.Fault) true old new x
 
 acts-stay : (stage : Stage) (old new : Side) → ActsBy stage old new → Stays old new
 acts-stay Free old new x = stays-then old x.mid new (executed-stays old x.mid x.halt x.executed) (halts-stay x.halt x.mid new x.halts)

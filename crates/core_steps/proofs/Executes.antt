@@ -9,13 +9,13 @@ use Rattle.html_types.specs.declared.ending.Ending.{Ending}
 use Rattle.standard.specs.Act.{Doc, acts, is_bound}
 use Rattle.standard.specs.Entities.{Entities}
 use Rattle.standard.specs.Parser.{Parser, Parsed, parse}
-use Rattle.core_definitions.specs.Batches.{Piece, Batch, Halt, at, finishing, refusing, end_batch, answer}
+use Rattle.core_definitions.specs.Batches.{Piece, Batch, Halt, at, end_batch, answer, over_with}
 use Rattle.core_definitions.specs.Settling.{is_empty}
 use Rattle.core_laws.proofs.Cutting.{GoesOn}
 use Rattle.moment_laws.specs.Served.{IsRoomy}
-use Rattle.parse_machine.specs.declared.machine.PageEnd.{PageEnd}
+use Rattle.parse_machine.specs.declared.end.End.{End}
 use Rattle.parse_machine.specs.declared.machine.Ran.{Ran}
-use Rattle.parse_machine.specs.Machine.{halt_at}
+use Rattle.parse_machine.specs.Ends.{result_of}
 use Rattle.write_parser.specs.Writing.{View, Parses, Finishes}
 use Rattle.speculation.specs.declared.batch.Halt as code
 use Rattle.speculation.specs.declared.batch.Halt.TheVariants as halt
@@ -29,8 +29,7 @@ goes-map : (h : Halt) (C D : Type 0) → (C → D) → GoesOn h C → GoesOn h D
 goes-map (at stop.InputEnd) C D f c = f c
 goes-map (at (stop.Script i)) C D f c = f c
 goes-map (at stop.Deep) C D f c = tt
-goes-map (finishing k) C D f c = tt
-goes-map (refusing w) C D f c = tt
+goes-map (over_with w) C D f c = tt
 
 -- the parser stands behind the batch, and its operations are done
 abbrev pub behind : Batch → Side → Side
@@ -141,7 +140,7 @@ module _ (old new : Side) (none : old.ledger.left.text ≡ []) (free : IsFree ol
   placed-as : (v : View) → new ≡ record old { writer = v } → IsPlaced new.counts.place new.counts.sent_to new.ledger new.journal
   placed-as v m = subst (λ (z : Side). IsPlaced z.counts.place z.counts.sent_to z.ledger z.journal) (sym m) placed
 
-  pub ending-executed : (v : View) (e : Ending) (end : PageEnd) (h : code.Halt) → old.ledger.left.ending ≡ Some e → Finishes old.table e old.writer v end → halt_of h ≡ halt_at end → new ≡ record old { writer = v } → Executed old h new
+  pub ending-executed : (v : View) (e : Ending) (end : End) (h : code.Halt) → old.ledger.left.ending ≡ Some e → Finishes old.table e old.writer v end → halt_of h ≡ over_with (result_of end) → new ≡ record old { writer = v } → Executed old h new
   ending-executed v e end h carries fin halts m =
       let b : Batch = end_batch old.table old.writer.parser e in
       ended-from old new h e none carries (halts ∙ fin.taken.answer) free ahead

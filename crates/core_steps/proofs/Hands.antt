@@ -11,7 +11,7 @@ use Rattle.standard.specs.Act.{Doc, acts, is_bound, AreOpsBound}
 use Rattle.standard.specs.Entities.{Entities}
 use Rattle.standard.specs.Parser.{Parser, Took, took, take_character, Parsed, and_rest, parse}
 use Rattle.rule_laws.specs.Naming.{IsStopBound}
-use Rattle.core_definitions.specs.Batches.{Piece, Batch, text_batch, end_batch, Halt, at, finishing, refusing, Answered, and_behind, cut, and_ending, answer}
+use Rattle.core_definitions.specs.Batches.{Piece, Batch, text_batch, end_batch, Halt, at, Answered, and_behind, cut, and_ending, answer, over_with}
 use Rattle.core_definitions.specs.Settling.{is_empty}
 use Rattle.core_laws.proofs.Cutting.{GoesOn, IsText, IsLast, first-batch, answered-by-nothing}
 use Rattle.moment_laws.specs.Served.{IsRoomy}
@@ -125,8 +125,7 @@ goes : (h : Halt) (C : Type 0) → C → GoesOn h C
 goes (at stop.InputEnd) C x = x
 goes (at (stop.Script i)) C x = x
 goes (at stop.Deep) C x = tt
-goes (finishing f) C x = tt
-goes (refusing w) C x = tt
+goes (over_with w) C x = tt
 
 some-of : (es : Entities) (p : Parser) (t : List ℕ) (o : Option Ending) (b : Batch) (bs : List Batch) → (answer es (Some p) (record { text = t; ending = o })).batches ≡ b ∷ bs → GoesOn b.halt (1 ≤ length b.text)
 unfolding first_or

@@ -17,3 +17,4 @@ pub mod Uses
 pub mod Ready
 pub mod Scripts
 pub mod Does
+pub mod Logged

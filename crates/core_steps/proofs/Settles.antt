@@ -13,20 +13,20 @@ use Rattle.core_definitions.specs.Settling.{is_settled, Through, here, onward, S
 use Rattle.moment_laws.proofs.Through.{goes-on, through-settles}
 use Rattle.write_parser.specs.declared.left.Left.{Left}
 use Rattle.write_parser.specs.declared.left.Left.TheVariants as left
-use Rattle.write_parser.specs.Writing.{View, serial_of, moment_by, moment_of, IsOver, StandsBy, Stands, AtTag, LeadsTo, LeftIs, IsRefusal, ComesBy, Comes, Runs, HasRun, HasMissed, why_of}
+use Rattle.write_parser.specs.Writing.{View, serial_of, moment_by, moment_of, IsOver, StandsBy, Stands, AtTag, LeadsTo, LeftIs, IsRefusal, ComesBy, Comes, Runs, HasRun, HasMissed}
 
 -- the moment at which what was written was parsed as far as it goes
 abbrev pub EndsAt : Left → View → List Line → Moment → Type 0
 EndsAt left.Empty v given m = m ≡ reading (serial_of v given [])
 EndsAt (left.Awaits name) v given m = m ≡ awaits name (serial_of v given [])
-EndsAt (left.Limit l) v given m = IsOver (why_of l) v given m
+EndsAt (left.Refused l) v given m = IsOver l v given m
 
 pub ends-at : (answer : Left) (v : View) (given : List Line) (m : Moment) → LeftIs v answer → Stands v given [] m → EndsAt answer v given m
 ends-at left.Empty v given m (halted, pending, rest) stands =
     subst (λ h. StandsBy h v given [] m) halted stands ∙ ap (λ p. moment_by p (serial_of v given [])) pending
 ends-at (left.Awaits name) v given m (halted, pending) stands =
     subst (λ h. StandsBy h v given [] m) halted stands ∙ ap (λ p. moment_by p (serial_of v given [])) pending
-ends-at (left.Limit l) v given m halted stands = subst (λ h. StandsBy h v given [] m) halted stands
+ends-at (left.Refused l) v given m halted stands = subst (λ h. StandsBy h v given [] m) halted stands
 
 empty-settled : (v : View) (given : List Line) → v.rest ≡ [] → is_settled (reading (serial_of v given [])) ≡ true
 empty-settled v given none = ap (λ t. is_settled (reading (record (serial_of v given []) { input = t ++ [] }))) none
@@ -35,7 +35,7 @@ empty-settled v given none = ap (λ t. is_settled (reading (record (serial_of v 
 pub ends-settled : (answer : Left) (v : View) (given : List Line) (m : Moment) → LeftIs v answer → EndsAt answer v given m → is_settled m ≡ true
 ends-settled left.Empty v given m (halted, pending, rest) at = ap is_settled at ∙ empty-settled v given rest
 ends-settled (left.Awaits name) v given m l at = ap is_settled at
-ends-settled (left.Limit l) v given m h at = ap is_settled at.is
+ends-settled (left.Refused l) v given m h at = ap is_settled at.is
 
 -- ---- behind an end tag
 

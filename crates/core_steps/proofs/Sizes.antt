@@ -2,7 +2,6 @@
 use Rattle.std.proofs.Common.{◌≡◌, ◌<◌, ◌≤◌, ◌+◌, ◌*◌, ◌-◌, ℕ, suc, Bool, true, false, List, [], ◌∷◌, ◌++◌, length, Option, Some, None, refl, sym, ◌∙◌, ap, subst, arith, length-append}
 use Rattle.html_types.specs.declared.operation.NodeId.{NodeId}
 use Rattle.html_types.specs.declared.instruction.Stop.TheVariants as stop
-use Rattle.html_types.specs.declared.instruction.Finish.TheVariants as finale
 use Rattle.html_types.specs.declared.ending.Why.{Why}
 use Rattle.html_types.specs.declared.ending.Why.TheVariants as why
 use Rattle.standard.specs.Parser.{Parser}
@@ -17,13 +16,15 @@ use Rattle.core_laws.proofs.Cutting.{GoesOn}
 use Rattle.page_pieces.specs.Keeping.{Kept, rewound}
 use Rattle.write_parser.specs.declared.left.Left.{Left}
 use Rattle.write_parser.specs.declared.left.Left.TheVariants as left
-use Rattle.write_parser.specs.Writing.{View, LeftIs, why_of, scripts_awaited, HasMissed, left_to_do as left_to_parse}
+use Rattle.write_parser.specs.Writing.{View, LeftIs, scripts_awaited, HasMissed, left_to_do as left_to_parse}
 use Rattle.speculation.specs.declared.batch.Halt as code
 use Rattle.speculation.specs.declared.batch.Halt.TheVariants as halt
 use Rattle.speculation.specs.Halting.{halt_of}
 use Rattle.core_steps.specs.declared.stage.Stage.{Stage}
 use Rattle.core_steps.specs.declared.stage.Stage.TheVariants.{Free, Tagged, Waits, Done}
 use Rattle.core_steps.specs.declared.side.Side.{Side}
+use Rattle.parse_machine.specs.declared.end.End.{End}
+use Rattle.parse_machine.specs.declared.end.End.TheVariants as end
 use Rattle.core_steps.specs.Sides.{desk_of, left_to_do, IsIdle, IsTagged, IsWaiting, IsSound}
 use Rattle.core_steps.specs.Acting.{ended, at_stage, Executed, MeetsTag, runs_there, Halts, RunsBatch, with_writer, JudgedAs, LeavesBy, Settled, RunsTagged, met, RunsFetched, ActsBy}
 use Rattle.core_steps.proofs.Sound.{text-append, text-again}
@@ -78,7 +79,7 @@ tag-less n n' i true mid new stage m is less =
     let kept : pages new.ledger ≡ pages mid.ledger = ap (λ (z : Side). pages z.ledger) m in
     omega (arith, now, is, written, kept, less)
 
-done-less : (n : ℕ) (w : Option Why) (in_hand : Bool) (mid new : Side) → new ≡ ended w in_hand mid → 0 < n → left_to_do (desk_of new) < n
+done-less : (n : ℕ) (w : End) (in_hand : Bool) (mid new : Side) → new ≡ ended w in_hand mid → 0 < n → left_to_do (desk_of new) < n
 done-less n w in_hand mid new m some =
     let now : left_to_do (desk_of new) ≡ 0 = ap (λ (z : Side). left_to_do (desk_of z)) m in
     omega (arith, now, some)
@@ -92,10 +93,8 @@ halt-less n (halt.At stop.InputEnd) k mid new stage some m is =
 halt-less n (halt.At (stop.Script i)) k mid new stage some m is =
     let one : 1 ≤ k = some in
     tag-less n (left_to_do (desk_of new)) i (runs_there i mid) mid new stage m refl (omega (arith, one, is))
-halt-less n (halt.At stop.Deep) k mid new stage some m is = done-less n (Some why.Depth) false mid new m (omega (arith, is))
-halt-less n (halt.Finishing finale.Finished) k mid new stage some m is = done-less n None false mid new m (omega (arith, is))
-halt-less n (halt.Finishing finale.Deep) k mid new stage some m is = done-less n (Some why.Depth) false mid new m (omega (arith, is))
-halt-less n (halt.Refusing w) k mid new stage some m is = done-less n (Some w) false mid new m (omega (arith, is))
+halt-less n (halt.At stop.Deep) k mid new stage some m is = done-less n (end.Refused why.Depth) false mid new m (omega (arith, is))
+halt-less n (halt.Over e) k mid new stage some m is = done-less n e false mid new m (omega (arith, is))
 
 batch-less : (s new : Side) → s.stage ≡ Free → RunsBatch s new → left_to_do (desk_of new) < left_to_do (desk_of s)
 batch-less s new stage x =
@@ -132,7 +131,7 @@ leaves-less n (left.Awaits name) held s new mid (halted, pending) m less =
     let kept : pages new.ledger ≡ pages s.ledger = ap (λ (z : Side). pages z.ledger) m in
     let one : scripts_awaited mid.pending ≡ 1 = ap scripts_awaited pending in
     omega (arith, now, written, kept, one, less)
-leaves-less n (left.Limit l) held s new mid halted m less = done-less n (Some (why_of l)) true (with_writer mid s) new m (omega (arith, less))
+leaves-less n (left.Refused l) held s new mid halted m less = done-less n (end.Refused l) true (with_writer mid s) new m (omega (arith, less))
 
 settled-less : (n : ℕ) (held : Parser) (s new : Side) → Settled held s new → left_to_parse s.writer + 3 * pages s.ledger + 1 < n → left_to_do (desk_of new) < n
 settled-less n held s new x less = leaves-less n x.answer held s new x.mid x.left x.leaves (omega (arith, x.no_more, less))
@@ -154,7 +153,7 @@ fetched-less missing s new name held waits x =
     waited-less (left_to_do (desk_of (at_stage (Waits name held) s))) held s new x.mid x.less x.settled (sym (weighs (Waits name held) (at_stage (Waits name held) s) refl)) (ap scripts_awaited waits)
 fetched-less faulted s new name held waits x =
     let before = weighs (Waits name held) (at_stage (Waits name held) s) refl in
-    done-less (left_to_do (desk_of (at_stage (Waits name held) s))) (Some why.Fault) true s new x (omega (arith, before))
+    done-less (left_to_do (desk_of (at_stage (Waits name held) s))) (end.Refused why.Fault) true s new x (omega (arith, before))
 
 pub acts-less : (stage : Stage) (s new : Side) → s.stage ≡ Free → IsSound (at_stage stage s) → ActsBy stage s new → left_to_do (desk_of new) < left_to_do (desk_of (at_stage stage s))
 acts-less Free s new free sound x =

@@ -4,7 +4,6 @@ use Rattle.std.specs.Prelude.{◌&&◌, is_none, if◌then◌else◌}
 use Rattle.std.proofs.lemmas.Bool.{and_parts}
 use Rattle.html_types.specs.declared.operation.NodeId.{NodeId}
 use Rattle.html_types.specs.declared.instruction.Stop.TheVariants as stop
-use Rattle.html_types.specs.declared.instruction.Finish.TheVariants as finale
 use Rattle.html_types.specs.declared.ending.Ending.{Ending}
 use Rattle.html_types.specs.declared.ending.Ending.TheVariants as ending
 use Rattle.html_types.specs.declared.ending.Why.{Why}
@@ -33,13 +32,15 @@ use Rattle.page_pieces.specs.Keeping.{Kept, rewound}
 use Rattle.write_parser.specs.declared.left.Left.{Left}
 use Rattle.write_parser.specs.declared.left.Left.TheVariants as left
 use Rattle.std.proofs.lemmas.Option.{none-some}
-use Rattle.write_parser.specs.Writing.{View, serial_of, moment_by, moment_of, StandsBy, Stands, AtTag, LeadsTo, LeftIs, HasRun, HasMissed, StaysBy, why_of}
+use Rattle.write_parser.specs.Writing.{View, serial_of, moment_by, moment_of, StandsBy, Stands, AtTag, LeadsTo, LeftIs, HasRun, HasMissed, StaysBy}
 use Rattle.speculation.specs.declared.batch.Halt as code
 use Rattle.speculation.specs.declared.batch.Halt.TheVariants as halt
 use Rattle.speculation.specs.Halting.{halt_of}
 use Rattle.core_steps.specs.declared.stage.Stage.{Stage}
 use Rattle.core_steps.specs.declared.stage.Stage.TheVariants.{Free, Tagged, Waits, Done}
 use Rattle.core_steps.specs.declared.side.Side.{Side}
+use Rattle.parse_machine.specs.declared.end.End.{End}
+use Rattle.parse_machine.specs.declared.end.End.TheVariants as end
 use Rattle.core_steps.specs.Sides.{hand_of, IsIdle, IsHolding, IsTagged, IsWaiting, IsFree, StandsIn, AreAhead, IsPlaced, IsSound}
 use Rattle.core_steps.specs.Acting.{ended, at_stage, free_hand, Executed, IsHaltBound, MeetsTag, runs_there, Halts, RunsBatch, with_writer, JudgedAs, Judged, LeavesBy, Settled, RunsTagged, met, RunsText, Misses, RunsFetched, ActsBy}
 use Rattle.core_steps.proofs.Settles.{ComesNext, comes-next, fetch-after}
@@ -189,7 +190,7 @@ tag-sound i true mid new stage going free ahead placed bound m = subst IsSound (
   placed = placed;
 })
 
-done-sound : (w : Option Why) (in_hand : Bool) (mid new : Side) → mid.writer.spent ≡ false → IsPlaced mid.counts.place mid.counts.sent_to mid.ledger mid.journal → new ≡ ended w in_hand mid → IsSound new
+done-sound : (w : End) (in_hand : Bool) (mid new : Side) → mid.writer.spent ≡ false → IsPlaced mid.counts.place mid.counts.sent_to mid.ledger mid.journal → new ≡ ended w in_hand mid → IsSound new
 done-sound w in_hand mid new going placed m = subst IsSound (sym m) (record { going = going; stands = tt; ahead = tt; placed = placed })
 
 halt-sound : (h : code.Halt) (mid new : Side) → mid.stage ≡ Free → mid.writer.spent ≡ false → IsFree mid.counts.realm mid.writer → GoesOn (halt_of h) (AreAhead mid.ready (free_hand mid)) →
@@ -201,10 +202,8 @@ halt-sound (halt.At stop.InputEnd) mid new stage going free ahead placed bound m
   placed = placed;
 })
 halt-sound (halt.At (stop.Script i)) mid new stage going free ahead placed bound m = tag-sound i (runs_there i mid) mid new stage going free ahead placed bound m
-halt-sound (halt.At stop.Deep) mid new stage going free ahead placed bound m = done-sound (Some why.Depth) false mid new going placed m
-halt-sound (halt.Finishing finale.Finished) mid new stage going free ahead placed bound m = done-sound None false mid new going placed m
-halt-sound (halt.Finishing finale.Deep) mid new stage going free ahead placed bound m = done-sound (Some why.Depth) false mid new going placed m
-halt-sound (halt.Refusing w) mid new stage going free ahead placed bound m = done-sound (Some w) false mid new going placed m
+halt-sound (halt.At stop.Deep) mid new stage going free ahead placed bound m = done-sound (end.Refused why.Depth) false mid new going placed m
+halt-sound (halt.Over e) mid new stage going free ahead placed bound m = done-sound e false mid new going placed m
 
 batch-sound : (s new : Side) → s.stage ≡ Free → s.writer.spent ≡ false → IsIdle s.writer → RunsBatch s new → IsSound new
 batch-sound s new stage going idle x =
@@ -246,13 +245,13 @@ settled-sound held s new ahead placed x = by x.answer x.left x.leaves
       ahead = ahead;
       placed = placed;
     })
-    by (left.Limit l) halted m = done-sound (Some (why_of l)) true (with_writer x.mid s) new x.kept placed m
+    by (left.Refused l) halted m = done-sound (end.Refused l) true (with_writer x.mid s) new x.kept placed m
 
 fetched-sound : (f : Fetched) (name : List ℕ) (held : Parser) (s new : Side) → s.writer.spent ≡ false → AreAhead s.ready (answer s.table (Some held) s.ledger.left).batches →
     IsPlaced s.counts.place s.counts.sent_to s.ledger s.journal → RunsFetched f name held s new → IsSound new
 fetched-sound (got bytes) name held s new going ahead placed x = settled-sound held (with_writer x.mid s) new ahead placed x.settled
 fetched-sound missing name held s new going ahead placed x = settled-sound held (with_writer x.mid s) new ahead placed x.settled
-fetched-sound faulted name held s new going ahead placed x = done-sound (Some why.Fault) true s new going placed x
+fetched-sound faulted name held s new going ahead placed x = done-sound (end.Refused why.Fault) true s new going placed x
 
 pub acts-sound : (stage : Stage) (s new : Side) → s.stage ≡ Free → IsSound (at_stage stage s) → ActsBy stage s new → IsSound new
 acts-sound Free s new free sound x = batch-sound s new free sound.going sound.stands.idle x

@@ -3,7 +3,6 @@ use Rattle.std.specs.Prelude.{◌≡◌, ◌≤◌, ◌+◌, ℕ, suc, Bool, tru
 use Rattle.std.specs.Str.{chars, IsUtf8}
 use Rattle.html_types.specs.declared.operation.NodeId.{NodeId}
 use Rattle.html_types.specs.declared.instruction.Stop.TheVariants as stop
-use Rattle.html_types.specs.declared.instruction.Finish.TheVariants as finale
 use Rattle.html_types.specs.declared.ending.Why.{Why}
 use Rattle.html_types.specs.declared.ending.Why.TheVariants as why
 use Rattle.standard.specs.Act.{acts, is_bound, node_of}
@@ -12,7 +11,7 @@ use Rattle.standard.specs.Prepare.{prepare}
 use Rattle.serial.specs.Scripts.{Fetched, got, missing, faulted, file_statements}
 use Rattle.core_definitions.specs.declared.verdict.Verdict.{Verdict}
 use Rattle.core_definitions.specs.declared.verdict.Verdict.TheVariants.{Keep, Rewind}
-use Rattle.core_definitions.specs.Batches.{Batch, Halt, at, finishing, refusing, answer}
+use Rattle.core_definitions.specs.Batches.{Batch, Halt, at, answer}
 use Rattle.core_definitions.specs.Verdict.{IsVerdict, runs}
 use Rattle.core_definitions.specs.Desk.{renewed}
 use Rattle.core_laws.proofs.Cutting.{GoesOn}
@@ -23,16 +22,18 @@ use Rattle.speculation.specs.declared.batch.Halt.TheVariants as halt
 use Rattle.speculation.specs.Halting.{halt_of}
 use Rattle.write_parser.specs.declared.left.Left.{Left}
 use Rattle.write_parser.specs.declared.left.Left.TheVariants as left
-use Rattle.write_parser.specs.Writing.{View, AtTag, Stands, LeadsTo, LeftIs, HasRun, HasMissed, why_of, left_to_do}
+use Rattle.write_parser.specs.Writing.{View, AtTag, Stands, LeadsTo, LeftIs, HasRun, HasMissed, left_to_do}
 use Rattle.core_steps.specs.declared.stage.Stage.{Stage}
 use Rattle.core_steps.specs.declared.stage.Stage.TheVariants.{Free, Tagged, Waits, Done}
 use Rattle.core_steps.specs.declared.side.Side.{Side}
+use Rattle.parse_machine.specs.declared.end.End.{End}
+use Rattle.parse_machine.specs.declared.end.End.TheVariants as end
 use Rattle.core_steps.specs.Journals.{found}
 use Rattle.core_steps.specs.Sides.{IsHolding, AreAhead, IsPlaced}
 
 -- the parse is over, perhaps with a script in hand
-abbrev pub ended : Option Why → Bool → Side → Side
-ended w in_hand s = record s { ready = []; stage = Done w in_hand }
+abbrev pub ended : End → Bool → Side → Side
+ended e in_hand s = record s { ready = []; stage = Done e in_hand }
 
 abbrev pub at_stage : Stage → Side → Side
 at_stage t s = record s { stage = t }
@@ -109,10 +110,8 @@ runs_there i s = runs (prepare s.writer.doc.tree (node_of s.writer.doc.bound i))
 abbrev pub Halts : code.Halt → Side → Side → Type 0
 Halts (halt.At stop.InputEnd) old new = new ≡ old
 Halts (halt.At (stop.Script i)) old new = MeetsTag (runs_there i old) i old new
-Halts (halt.At stop.Deep) old new = new ≡ ended (Some why.Depth) false old
-Halts (halt.Finishing finale.Finished) old new = new ≡ ended None false old
-Halts (halt.Finishing finale.Deep) old new = new ≡ ended (Some why.Depth) false old
-Halts (halt.Refusing w) old new = new ≡ ended (Some w) false old
+Halts (halt.At stop.Deep) old new = new ≡ ended (end.Refused why.Depth) false old
+Halts (halt.Over e) old new = new ≡ ended e false old
 
 -- a batch was executed, and what its end asks for was done
 pub record RunsBatch (old new : Side) : Type 0 where
@@ -146,7 +145,7 @@ Judged held old new = (c : Verdict) × IsVerdict held old.writer.parser c × Jud
 abbrev pub LeavesBy : Left → Parser → Side → Side → Type 0
 LeavesBy left.Empty held old new = Judged held old new
 LeavesBy (left.Awaits name) held old new = new ≡ record old { stage = Waits name held }
-LeavesBy (left.Limit l) held old new = new ≡ ended (Some (why_of l)) true old
+LeavesBy (left.Refused l) held old new = new ≡ ended (end.Refused l) true old
 
 -- What was written was parsed as far as it goes.
 pub record Settled (held : Parser) (old new : Side) : Type 0 where
@@ -191,7 +190,7 @@ pub record Misses (name : List ℕ) (held : Parser) (old new : Side) : Type 0 wh
 abbrev pub RunsFetched : Fetched → List ℕ → Parser → Side → Side → Type 0
 RunsFetched (got bytes) name held old new = RunsText bytes held old new
 RunsFetched missing name held old new = Misses name held old new
-RunsFetched faulted name held old new = new ≡ ended (Some why.Fault) true old
+RunsFetched faulted name held old new = new ≡ ended (end.Refused why.Fault) true old
 
 -- ---- by what is in hand
 

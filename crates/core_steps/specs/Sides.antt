@@ -27,6 +27,7 @@ use Rattle.core_steps.specs.declared.side.Side.{Side}
 use Rattle.core_steps.specs.declared.side.Could.{Could}
 use Rattle.core_steps.specs.Fetches.{names_of}
 use Rattle.core_steps.specs.Journals.{empty_journal}
+use Rattle.parse_machine.specs.Ends.{result_of}
 
 -- ---- what it shows
 
@@ -137,15 +138,11 @@ abbrev pub lines_given : List (Snapshot (List Line)) → List Line
 lines_given [] = []
 lines_given (g ∷ gs) = g.value ++ lines_given gs
 
-abbrev pub result_of : Option Why → Result
-result_of None = finished
-result_of (Some w) = refused w
-
 abbrev pub phase_of : Stage → Phase
 phase_of Free = free
 phase_of (Tagged i held) = tagged i held
 phase_of (Waits name held) = waits name held
-phase_of (Done why in_hand) = done (result_of why)
+phase_of (Done e in_hand) = done (result_of e)
 
 -- The batches in hand are those that the rest of the piece in hand comes to, from where the text behind the script in hand was parsed.
 abbrev pub hand_of : Entities → Stage → Parser → Piece → List Batch

@@ -6,6 +6,7 @@ ghost use Rattle.core_definitions.specs.declared.event.Event.TheVariants as even
 ghost use Rattle.core_definitions.specs.Core.{joined};
 ghost use Rattle.core_definitions.specs.Desk.{can_send, can_do, wants_reply, can_arrive, sends, takes};
 ghost use Rattle.speculation.specs.Asking.{page_limit};
+ghost use Rattle.doc_changes.specs.Logs.{Logs};
 ghost use Rattle.core_steps.specs.Fetches.{fetched_of};
 ghost use Rattle.core_steps.specs.Sides.{first_shown, with_piece, with_ending, journaled, with_fetch, IsRequestFor, sent_before, DoesShow, awaiting, standing_of, left_to_do, IsReplayed};
 ghost use Rattle.core_steps.specs.States.{standing_told};
@@ -16,6 +17,7 @@ use crate::journal::Journal;
 use crate::side::{Could, Side};
 use crate::state::State;
 use crate::tally::Tally;
+use doc_changes::Log;
 use entity_table::Table;
 use html_types::{Ending, NoMemory, Text};
 use op_exec::Doc;
@@ -184,12 +186,15 @@ impl DocSide {
     }
 
     /// Executes a batch, or runs the script that is in hand, until it ends or a script is awaited.
-    pub fn act(&mut self) -> Result<(), NoMemory>
+    /// The log gains what that changed in the document.
+    pub fn act(&mut self, log: &mut Log) -> Result<(), NoMemory>
         requires can { IsTrue (can_do self.old.desk) }
         ensures spent { self.old.spent ≡ true → IsErr result }
         ensures does { OnOk result (DoesShow self.old.entities self.old.journal.fetches self.old.desk self.new.desk) }
         ensures others { OnOk result (self.new ≡ journaled event.Do self.new.desk self.old) }
         ensures less { OnOk result (left_to_do self.new.desk < left_to_do self.old.desk) }
+        ensures logged { OnOk result (Logs log.old self.old.desk.own.side.doc
+            log.new self.new.desk.own.side.doc) }
         ensures err { OnErr result (self.new ≡ record self.old { spent = true }) }
     {
         if self.spent {
@@ -198,7 +203,7 @@ impl DocSide {
         self.before = Snapshot::of(&self.side);
         self.could = self.side.could();
         self.spent = true;
-        self.side.act()?;
+        self.side.act(log)?;
         self.spent = false;
         Ok(())
     }

@@ -17,6 +17,7 @@ pub use doc_side::DocSide;
 pub use fetch::{Fetch, FetchedFile};
 pub use file::is_lawful;
 pub use journal::Journal;
+pub use parse_machine::End;
 pub use state::State;
 pub use tally::Tally;
 pub use work_side::WorkSide;

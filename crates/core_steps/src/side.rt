@@ -5,10 +5,10 @@ ghost use Rattle.std.specs.Str.{chars};
 ghost use Rattle.core_definitions.specs.declared.event.Event.TheVariants as event;
 ghost use Rattle.core_definitions.specs.Batches.{answer};
 ghost use Rattle.core_definitions.specs.Core.{joined};
-ghost use Rattle.write_parser.specs.Writing.{why_of};
 ghost use Rattle.core_definitions.specs.Desk.{is_done, has_arrived, can_send, can_do, wants_reply, sends, takes};
 ghost use Rattle.core_definitions.specs.Settling.{is_empty as has_none};
 ghost use Rattle.speculation.specs.Asking.{page_limit};
+ghost use Rattle.doc_changes.specs.Logs.{Logs};
 ghost use Rattle.core_steps.specs.Fetches.{fetched_of};
 ghost use Rattle.core_steps.specs.States.{standing_told};
 ghost use Rattle.core_steps.specs.Tallies.{AreInHand, IsTallyOf};
@@ -27,17 +27,18 @@ use crate::stage::Stage;
 use crate::state::State;
 use crate::tally::{Tally, count_nodes};
 use core_definitions::{Event, Verdict};
+use doc_changes::Log;
 use entity_table::Table;
-use html_types::{Ending, Finish, NoMemory, NodeId, Stop, Text, Why};
+use html_types::{Ending, NoMemory, NodeId, Stop, Text, Why};
 use op_exec::ScriptKind;
 use page_pieces::{Ledger, Piece, SharedText};
-use parse_machine::Machine;
+use parse_machine::{End, Machine};
 use serial::Lines;
 use speculation::{Batch, Batches, Halt, InForce, Reply, Request, Said, decide};
 use std::alloc::Global;
 use std::mem;
 use std::snapshot::Snapshot;
-use write_parser::{Left, Overrun, Writer};
+use write_parser::{Left, Writer};
 
 /// The epoch, the next realm of ids, and two places in the page: of what is left of the piece in hand, and of the pieces to be sent.
 #[derive(Drop)]
@@ -84,15 +85,6 @@ fn put<T: Drop>(place: &mut T, value: T)
 
 // Lets a value go, for the same reason.
 fn let_go<T: Drop>(_value: T) {}
-
-fn why_of(overrun: Overrun) -> Why
-    ensures { result ≡ why_of overrun }
-{
-    match overrun {
-        Overrun::Depth => Why::Depth,
-        Overrun::Writes => Why::Writes,
-    }
-}
 
 // What is handed in, and what is known of it.
 impl Side {
@@ -229,8 +221,7 @@ impl Side {
                     State::Awaits(name)
                 }
             }
-            Stage::Done(None, _) => State::Done,
-            Stage::Done(Some(why), _) => State::Refused(*why),
+            Stage::Done(end, _) => State::Over(*end),
             _ => State::Running,
         }
     }
@@ -323,8 +314,8 @@ impl Side {
             Stage::Free => 0,
             Stage::Tagged(_, _) => 1,
             Stage::Waits(_, _) => 1,
-            Stage::Done(None, _) => 0,
-            Stage::Done(Some(_), in_hand) => u64::from(*in_hand),
+            Stage::Done(End::Finished, _) => 0,
+            Stage::Done(End::Refused(_), in_hand) => u64::from(*in_hand),
         }
     }
 
@@ -365,35 +356,37 @@ impl Side {
 // Do, with no script in hand.
 impl Side {
     // Executes the first batch in hand.
-    fn execute_batch(&mut self) -> Result<Halt, NoMemory>
+    fn execute_batch(&mut self, log: &mut Log) -> Result<Halt, NoMemory>
         requires sound { IsSound self.old }
         requires free { self.old.stage ≡ Stage.Free }
         requires some { has_none (free_hand self.old) ≡ false }
         ensures executed { IfOk result (λ halt. Executed self.old halt self.new) }
         ensures journal { self.new.journal ≡ self.old.journal }
+        ensures logged { OnOk result (Logs log.old self.old.writer.doc log.new self.new.writer.doc) }
     {
         match self.ready.pop() {
-            Some(batch) => self.execute_ready(batch),
-            None => self.parse_left(),
+            Some(batch) => self.execute_ready(log, batch),
+            None => self.parse_left(log),
         }
     }
 
     // Executes a batch that was made ahead. Where it holds no machine its text is parsed here.
-    fn execute_ready(&mut self, batch: Batch) -> Result<Halt, NoMemory>
+    fn execute_ready(&mut self, log: &mut Log, batch: Batch) -> Result<Halt, NoMemory>
         requires going { self.old.writer.spent ≡ false }
         requires free { IsFree self.old.counts.realm self.old.writer }
         requires first { free_hand self.old ≡ batch ∷ self.old.ready }
         requires placed { IsPlaced self.old.counts.place self.old.counts.sent_to self.old.ledger self.old.journal }
         ensures executed { IfOk result (λ halt. Executed self.old halt self.new) }
         ensures journal { self.new.journal ≡ self.old.journal }
+        ensures logged { OnOk result (Logs log.old self.old.writer.doc log.new self.new.writer.doc) }
     {
         let halt = batch.halt();
         let used = batch.text().as_str().len();
         let (ops, after) = batch.into_parts();
         match after.into_machine() {
-            None => self.parse_left(),
+            None => self.parse_left(log),
             Some(machine) => {
-                self.writer.execute(ops, machine)?;
+                self.writer.execute(log, ops, machine)?;
                 self.use_up(used);
                 Ok(halt)
             }
@@ -415,7 +408,7 @@ impl Side {
     }
 
     // Parses what is left of the piece in hand up to the first stop, and does the operations.
-    fn parse_left(&mut self) -> Result<Halt, NoMemory>
+    fn parse_left(&mut self, log: &mut Log) -> Result<Halt, NoMemory>
         requires going { self.old.writer.spent ≡ false }
         requires free { IsFree self.old.counts.realm self.old.writer }
         requires some { has_none (free_hand self.old) ≡ false }
@@ -423,13 +416,14 @@ impl Side {
         requires placed { IsPlaced self.old.counts.place self.old.counts.sent_to self.old.ledger self.old.journal }
         ensures executed { IfOk result (λ halt. Executed self.old halt self.new) }
         ensures journal { self.new.journal ≡ self.old.journal }
+        ensures logged { OnOk result (Logs log.old self.old.writer.doc log.new self.new.writer.doc) }
     {
         if self.ledger.left().text().is_empty() {
-            return self.parse_ending();
+            return self.parse_ending(log);
         }
         let text = self.ledger.left().text().as_str();
         let before = self.counts.place;
-        let ran = self.writer.parse(&self.table, text)?;
+        let ran = self.writer.parse(log, &self.table, text)?;
         self.use_up(ran.used);
         self.journal
             .count_parsed(self.counts.place.saturating_sub(before));
@@ -437,7 +431,7 @@ impl Side {
     }
 
     // Takes the page's ending, which the piece in hand carries.
-    fn parse_ending(&mut self) -> Result<Halt, NoMemory>
+    fn parse_ending(&mut self, log: &mut Log) -> Result<Halt, NoMemory>
         requires going { self.old.writer.spent ≡ false }
         requires free { IsFree self.old.counts.realm self.old.writer }
         requires some { has_none (free_hand self.old) ≡ false }
@@ -446,22 +440,23 @@ impl Side {
         requires placed { IsPlaced self.old.counts.place self.old.counts.sent_to self.old.ledger self.old.journal }
         ensures executed { IfOk result (λ halt. Executed self.old halt self.new) }
         ensures journal { self.new.journal ≡ self.old.journal }
+        ensures logged { OnOk result (Logs log.old self.old.writer.doc log.new self.new.writer.doc) }
     {
         match self.ledger.left().ending() {
             Some(ending) => {
-                let end = self.writer.finish(&self.table, ending)?;
-                Ok(Halt::of(end))
+                let end = self.writer.finish(log, &self.table, ending)?;
+                Ok(Halt::Over(end))
             }
             None => Err(NoMemory),
         }
     }
 
     // The parse is over, perhaps with a script in hand.
-    fn end_parse(&mut self, why: Option<Why>, in_hand: bool)
-        ensures { self.new ≡ ended why in_hand self.old }
+    fn end_parse(&mut self, end: End, in_hand: bool)
+        ensures { self.new ≡ ended end in_hand self.old }
     {
         put(&mut self.ready, Batches::new(self.alloc));
-        self.set_stage(Stage::Done(why, in_hand));
+        self.set_stage(Stage::Done(end, in_hand));
     }
 
     // A realm that no element's id has, and the next behind it.
@@ -501,20 +496,19 @@ impl Side {
     }
 
     // Executes a batch, and does what its end asks for.
-    fn run_batch(&mut self) -> Result<(), NoMemory>
+    fn run_batch(&mut self, log: &mut Log) -> Result<(), NoMemory>
         requires sound { IsSound self.old }
         requires free { self.old.stage ≡ Stage.Free }
         requires some { has_none (free_hand self.old) ≡ false }
         ensures runs { OnOk result (RunsBatch self.old self.new) }
         ensures journal { self.new.journal ≡ self.old.journal }
+        ensures logged { OnOk result (Logs log.old self.old.writer.doc log.new self.new.writer.doc) }
     {
-        match self.execute_batch()? {
+        match self.execute_batch(log)? {
             Halt::At(Stop::InputEnd) => {}
             Halt::At(Stop::Script(id)) => self.meet_end_tag(id)?,
-            Halt::At(Stop::Deep) => self.end_parse(Some(Why::Depth), false),
-            Halt::Finishing(Finish::Finished) => self.end_parse(None, false),
-            Halt::Finishing(Finish::Deep) => self.end_parse(Some(Why::Depth), false),
-            Halt::Refusing(why) => self.end_parse(Some(why), false),
+            Halt::At(Stop::Deep) => self.end_parse(End::Refused(Why::Depth), false),
+            Halt::Over(end) => self.end_parse(end, false),
         }
         Ok(())
     }
@@ -523,49 +517,52 @@ impl Side {
 // Do, with a script in hand.
 impl Side {
     // Runs the script whose end tag was met.
-    fn run_tagged(&mut self, id: NodeId, held: Machine) -> Result<(), NoMemory>
+    fn run_tagged(&mut self, log: &mut Log, id: NodeId, held: Machine) -> Result<(), NoMemory>
         requires { IsTagged self.old.counts.realm held self.old.writer (is_bound self.old.writer.doc.bound id) }
         ensures runs { OnOk result (RunsTagged id held self.old self.new) }
         ensures journal { self.new.journal ≡ self.old.journal }
+        ensures logged { OnOk result (Logs log.old self.old.writer.doc log.new self.new.writer.doc) }
     {
-        self.writer.end_tag(&self.table, id)?;
-        self.settle(held)
+        self.writer.end_tag(log, &self.table, id)?;
+        self.settle(log, held)
     }
 
     // Runs the script that was awaited.
-    fn run_awaited(&mut self, name: &Text, held: Machine) -> Result<(), NoMemory>
+    fn run_awaited(&mut self, log: &mut Log, name: &Text, held: Machine) -> Result<(), NoMemory>
         requires { IsWaiting self.old.counts.realm name.now held self.old.writer }
         ensures runs { OnOk result (RunsFetched (met self.old name.now) name.now held self.old self.new) }
         ensures journal { self.new.journal ≡ self.old.journal }
+        ensures logged { OnOk result (Logs log.old self.old.writer.doc log.new self.new.writer.doc) }
     {
         match self.journal.find(name.as_str()) {
             // A name that isn't lawful is missing.
             None | Some(Fetch::Missing) => {
                 self.writer.miss()?;
-                self.settle(held)
+                self.settle(log, held)
             }
             Some(Fetch::Got(bytes)) => {
                 let text = text_of(self.alloc, bytes.as_slice())?;
-                self.writer.run_script(&self.table, text.as_str())?;
-                self.settle(held)
+                self.writer.run_script(log, &self.table, text.as_str())?;
+                self.settle(log, held)
             }
             Some(Fetch::Faulted) => {
-                self.end_parse(Some(Why::Fault), true);
+                self.end_parse(End::Refused(Why::Fault), true);
                 Ok(())
             }
         }
     }
 
     // Parses what was written, until it is used, a script is awaited, or the page is refused.
-    fn settle(&mut self, held: Machine) -> Result<(), NoMemory>
+    fn settle(&mut self, log: &mut Log, held: Machine) -> Result<(), NoMemory>
         requires { self.old.writer.halted ≡ None → IsHolding self.old.counts.realm held self.old.writer }
         ensures settled { OnOk result (Settled held self.old self.new) }
         ensures journal { self.new.journal ≡ self.old.journal }
+        ensures logged { OnOk result (Logs log.old self.old.writer.doc log.new self.new.writer.doc) }
     {
-        match self.writer.feed_left(&self.table)? {
+        match self.writer.feed_left(log, &self.table)? {
             Left::Empty => self.judge(held)?,
             Left::Awaits(name) => self.set_stage(Stage::Waits(name, held)),
-            Left::Limit(overrun) => self.end_parse(Some(why_of(overrun)), true),
+            Left::Refused(why) => self.end_parse(End::Refused(why), true),
         }
         Ok(())
     }
@@ -614,23 +611,24 @@ impl Side {
     }
 
     // Do by what is in hand.
-    fn act_in(&mut self, stage: Stage) -> Result<(), NoMemory>
+    fn act_in(&mut self, log: &mut Log, stage: Stage) -> Result<(), NoMemory>
         requires free { self.old.stage ≡ Stage.Free }
         requires sound { IsSound (at_stage stage self.old) }
         requires can { IsTrue (can_do (desk_of (at_stage stage self.old))) }
         ensures acts { OnOk result (ActsBy stage self.old self.new) }
         ensures journal { self.new.journal ≡ self.old.journal }
+        ensures logged { OnOk result (Logs log.old self.old.writer.doc log.new self.new.writer.doc) }
     {
         match stage {
-            Stage::Free => self.run_batch(),
-            Stage::Tagged(id, held) => self.run_tagged(id, held),
-            Stage::Waits(name, held) => self.run_awaited(&name, held),
+            Stage::Free => self.run_batch(log),
+            Stage::Tagged(id, held) => self.run_tagged(log, id, held),
+            Stage::Waits(name, held) => self.run_awaited(log, &name, held),
             Stage::Done(_, _) => Ok(()),
         }
     }
 
     /// Executes a batch, or runs the script that is in hand, until it ends or a script is awaited.
-    pub fn act(&mut self) -> Result<(), NoMemory>
+    pub fn act(&mut self, log: &mut Log) -> Result<(), NoMemory>
         requires sound { IsSound self.old }
         requires can { IsTrue (can_do (desk_of self.old)) }
         ensures sound { OnOk result (IsSound self.new) }
@@ -638,9 +636,10 @@ impl Side {
         ensures others { OnOk result (shown_of self.new false ≡ journaled event.Do (desk_of self.new) (shown_of self.old false)) }
         ensures less { OnOk result (left_to_do (desk_of self.new) < left_to_do (desk_of self.old)) }
         ensures journal { OnErr result (self.new.journal ≡ self.old.journal) }
+        ensures logged { OnOk result (Logs log.old self.old.writer.doc log.new self.new.writer.doc) }
     {
         let stage = mem::replace(&mut self.stage, Stage::Free);
-        self.act_in(stage)?;
+        self.act_in(log, stage)?;
         self.journal.add_event(Event::Do)
     }
 }

@@ -1,7 +1,7 @@
 //! What the document's side has in hand besides batches.
 
-use html_types::{NodeId, Text, Why};
-use parse_machine::Machine;
+use html_types::{NodeId, Text};
+use parse_machine::{End, Machine};
 
 /// Where the document's side stands.
 #[derive(Drop)]
@@ -12,6 +12,6 @@ pub(crate) enum Stage {
     Tagged(NodeId, Machine),
     /// A script that awaits the file of that name, and that parser.
     Waits(Text, Machine),
-    /// The parse is over: why it is refused, if it is, and whether a script was in hand then.
-    Done(Option<Why>, bool),
+    /// The parse is over, and whether a script was in hand then.
+    Done(End, bool),
 }

@@ -1,6 +1,7 @@
 //! Where a run stands.
 
-use html_types::{Text, Why};
+use html_types::Text;
+use parse_machine::End;
 
 /// Where a run stands, as its caller is to know it.
 #[derive(Clone, Copy)]
@@ -9,8 +10,6 @@ pub enum State<'a> {
     Running,
     /// The script of that name is awaited.
     Awaits(&'a Text),
-    /// The page is parsed.
-    Done,
-    /// The page is refused.
-    Refused(Why),
+    /// The parse is over.
+    Over(End),
 }

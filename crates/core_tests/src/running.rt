@@ -6,7 +6,7 @@ ghost use Rattle.speculation.specs.Asking.{page_limit};
 
 use crate::events::{KINDS, Kind, event_of};
 use crate::written::Written;
-use core_pair::{Event, Fetch, Pair, Scripts, Setup, State};
+use core_pair::{End, Event, Fetch, Pair, Scripts, Setup, State};
 use entity_table::{Table, TableFault};
 use html_types::{Ending, NoMemory, Text, Why};
 use speculation::InForce;
@@ -136,12 +136,12 @@ fn can_do<E: InForce>(pair: &Pair<E>) -> bool {
 }
 
 fn is_done<E: InForce>(pair: &Pair<E>) -> bool {
-    matches!(pair.status(), State::Done)
+    matches!(pair.status(), State::Over(End::Finished))
 }
 
 fn why_refused<E: InForce>(pair: &Pair<E>) -> Option<Why> {
     match pair.status() {
-        State::Refused(why) => Some(why),
+        State::Over(End::Refused(why)) => Some(why),
         _ => None,
     }
 }

@@ -6,11 +6,11 @@ use Rattle.serial.specs.Scripts.{Fetched}
 use Rattle.serial.specs.Serial.{Outcome}
 use Rattle.serial.specs.Output.{output_with}
 use Rattle.outside.specs.Memory.{files_of}
-use Rattle.page_turns.specs.declared.outcome.Outcome.{Outcome as Told}
-use Rattle.page_turns.specs.declared.outcome.Outcome.TheVariants.{Finished, Refused}
+use Rattle.parse_machine.specs.declared.end.End.{End}
+use Rattle.parse_machine.specs.declared.end.End.TheVariants.{Finished, Refused}
 use Rattle.page_turns.specs.Scripts.{path_of, fetched_of}
 use Rattle.page_turns.specs.Pages.{world_of, ComesTo}
-use Rattle.page_turns.specs.Shown.{result_of}
+use Rattle.parse_machine.specs.Ends.{result_of}
 use Rattle.page_runner.specs.declared.status.Limit.TheVariants as limits
 use Rattle.page_runner.specs.declared.status.Status.{Status}
 use Rattle.page_runner.specs.declared.status.Status.TheVariants as status
@@ -26,7 +26,7 @@ abbrev pub scripts_in : Scripts → List ℕ → Fetched
 scripts_in all name = fetched_of (files_of all.files (path_in name))
 
 -- what the parse came to, where the run told it
-abbrev pub outcome_of : Status → Option Told
+abbrev pub outcome_of : Status → Option End
 outcome_of status.Done = Some Finished
 outcome_of status.BadUtf8 = Some (Refused why.BadUtf8)
 outcome_of (status.Limit limits.Depth) = Some (Refused why.Depth)

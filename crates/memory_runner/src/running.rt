@@ -4,6 +4,7 @@ ghost use Rattle.std.specs.Prelude.{◌≡◌, ◌<◌, ◌≤◌, [], codes, If
 ghost use Rattle.std.specs.String.{string_bytes};
 ghost use Rattle.page_turns.specs.Scripts.{folder_with};
 ghost use Rattle.page_runner.specs.Answers.{PageAnswers};
+ghost use Rattle.page_runner.specs.Manner.{manner};
 ghost use Rattle.memory_runner.specs.Runs.{scripts_in, outcome_of, Runs};
 
 use crate::keeper::Keeper;
@@ -12,27 +13,27 @@ use entity_table::Table;
 use html_types::{NoMemory, Why};
 use outside::{Outside, Sink};
 use page_runner::{Limit, Status, page_in_place};
-use page_turns::{Job, Outcome};
+use page_turns::{End, Job};
 use std::alloc::Global;
 
 /// What came of a page that was run.
 #[derive(Drop)]
 pub struct Ran {
-    pub outcome: Outcome,
+    pub outcome: End,
     /// What the program prints.
     pub text: Vec<u8>,
 }
 
 // What a parse came to whose run ended so.
-fn outcome_of(status: Status) -> Option<Outcome>
+fn outcome_of(status: Status) -> Option<End>
     ensures { result ≡ outcome_of status }
 {
     match status {
-        Status::Done => Some(Outcome::Finished),
-        Status::BadUtf8 => Some(Outcome::Refused(Why::BadUtf8)),
-        Status::Limit(Limit::Depth) => Some(Outcome::Refused(Why::Depth)),
-        Status::Limit(Limit::Writes) => Some(Outcome::Refused(Why::Writes)),
-        Status::Limit(Limit::Page) => Some(Outcome::Refused(Why::Page)),
+        Status::Done => Some(End::Finished),
+        Status::BadUtf8 => Some(End::Refused(Why::BadUtf8)),
+        Status::Limit(Limit::Depth) => Some(End::Refused(Why::Depth)),
+        Status::Limit(Limit::Writes) => Some(End::Refused(Why::Writes)),
+        Status::Limit(Limit::Page) => Some(End::Refused(Why::Page)),
         _ => None,
     }
 }
@@ -66,7 +67,7 @@ fn let_go<T: Drop>(_value: T) {}
 fn end_of<F: Outside, K: Sink>(alloc: Global, job: &Job<'_>, files: &mut F, out: &mut K) -> Status
     requires piece { (0 < job.now.piece) × (job.now.piece ≤ 65536) }
     requires ahead { (0 < job.now.ahead) × (job.now.ahead ≤ 64) }
-    ensures { PageAnswers job.now.table.now job.now.dump (string_bytes job.now.page)
+    ensures { PageAnswers job.now.table.now (manner job.now.dump 0) (string_bytes job.now.page)
         (folder_with (string_bytes job.now.dir) []) (F.seen files.old) (F.seen files.new)
         (K.faults out.old) (K.faults out.new) (K.taken out.old) (K.taken out.new) result }
 {

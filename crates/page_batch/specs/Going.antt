@@ -17,7 +17,7 @@ use Rattle.core_pair.specs.Nearer.{NearsDo, IsNearer}
 use Rattle.core_pair.specs.Pairs.{Paired, setup_of, stepped}
 use Rattle.page_turns.specs.Scripts.{Met}
 use Rattle.page_turns.specs.Pages.{PageRead, page_at, ComesTo}
-use Rattle.page_turns.specs.Shown.{result_of}
+use Rattle.parse_machine.specs.Ends.{result_of}
 use Rattle.page_batch.specs.declared.read.PageBytes.{PageBytes}
 use Rattle.page_batch.specs.declared.going.Stop.{Stop}
 use Rattle.page_batch.specs.declared.going.Stop.TheVariants.{Over, Awaits}

@@ -4,7 +4,7 @@ ghost use Rattle.std.specs.Bool.{OnTrue, OnFalse};
 ghost use Rattle.core_definitions.specs.Desk.{done};
 ghost use Rattle.core_steps.specs.Fetches.{fetched_of};
 ghost use Rattle.core_steps.specs.Sides.{left_to_do};
-ghost use Rattle.page_turns.specs.Shown.{result_of};
+ghost use Rattle.parse_machine.specs.Ends.{result_of};
 ghost use Rattle.page_batch.specs.Going.{StepTaken, SamePage, Nears, Receives, GoesBy, IsGoing, IsFirst, StopsAt, TurnEnds, Settled, used_of};
 
 use crate::output::{end_number, push_lines};
@@ -14,7 +14,7 @@ use crate::table::ScriptTable;
 use core_pair::{Event, Fetch, Journal, Pair, Scripts, Setup, State};
 use entity_table::Table;
 use html_types::{NoMemory, Text};
-use page_turns::{Outcome, show_outcome};
+use page_turns::{End, show_outcome};
 use speculation::InForce;
 use std::alloc::Global;
 use std::snapshot::Snapshot;
@@ -45,7 +45,7 @@ pub(crate) struct Going<E: InForce> {
 #[derive(Drop)]
 pub(crate) enum Stop {
     /// Its parse is over.
-    Over(Outcome),
+    Over(End),
     /// It awaits the script of that name, which isn't in the table.
     Awaits(Text),
 }
@@ -203,8 +203,7 @@ fn take_turn<E: InForce>(
         return Ok(Turn::Went);
     }
     let name = match pair.status() {
-        State::Done => return Ok(Turn::Stopped(Stop::Over(Outcome::Finished))),
-        State::Refused(why) => return Ok(Turn::Stopped(Stop::Over(Outcome::Refused(why)))),
+        State::Over(end) => return Ok(Turn::Stopped(Stop::Over(end))),
         State::Awaits(name) => name.copy(alloc)?,
         // No event is enabled, so it isn't running.
         State::Running => return Err(NoMemory),
@@ -240,7 +239,7 @@ fn part_from<E: InForce>(
     alloc: Global,
     pair: &mut Pair<E>,
     text: Vec<u8>,
-    outcome: Outcome,
+    outcome: End,
 ) -> Result<Part, NoMemory>
     requires { pair.old.core.desk.phase ≡ done (result_of outcome) }
     ensures settled { IfOk result (λ part. (read : _) → IsGoing E.entities read pair.old text.items
@@ -264,7 +263,7 @@ pub(crate) fn part_of<E: InForce>(
     alloc: Global,
     pair: Pair<E>,
     text: Vec<u8>,
-    outcome: Outcome,
+    outcome: End,
 ) -> Result<Part, NoMemory>
     requires { pair.core.desk.phase ≡ done (result_of outcome) }
     ensures settled { IfOk result (λ part. (read : _) → IsGoing E.entities read pair text.items

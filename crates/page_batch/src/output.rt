@@ -3,26 +3,26 @@ ghost use Rattle.std.specs.Prelude.{◌≡◌, ◌++◌, ◌≤◌, IfOk, OnOk, 
 ghost use Rattle.serial.specs.Output.{line_text};
 ghost use Rattle.outside.specs.Outside.{Rose};
 ghost use Rattle.page_turns.specs.Taken.{Took, TookFront};
-ghost use Rattle.page_turns.specs.Shown.{result_of};
+ghost use Rattle.parse_machine.specs.Ends.{result_of};
 ghost use Rattle.page_batch.specs.Parts.{end_number, page_line, status_line};
 
 use html_types::{NoMemory, Why};
 use outside::Sink;
-use page_turns::{Failure, Outcome, json_line, line_text, write_all};
+use page_turns::{End, Failure, json_line, line_text, write_all};
 use serial::Line;
 use std::alloc::Global;
 
 /// The number of an outcome: the exit status of a run of that page alone.
-pub(crate) fn end_number(outcome: Outcome) -> u8
+pub(crate) fn end_number(outcome: End) -> u8
     ensures { result ≡ end_number (result_of outcome) }
 {
     match outcome {
-        Outcome::Finished => 0,
-        Outcome::Refused(Why::BadUtf8) => 4,
-        Outcome::Refused(Why::Depth) => 5,
-        Outcome::Refused(Why::Writes) => 5,
-        Outcome::Refused(Why::Page) => 5,
-        Outcome::Refused(Why::Fault) => 7,
+        End::Finished => 0,
+        End::Refused(Why::BadUtf8) => 4,
+        End::Refused(Why::Depth) => 5,
+        End::Refused(Why::Writes) => 5,
+        End::Refused(Why::Page) => 5,
+        End::Refused(Why::Fault) => 7,
     }
 }
 

@@ -4,7 +4,7 @@ ghost use Rattle.std.specs.Option.{option_map};
 ghost use Rattle.core_definitions.specs.Desk.{done};
 ghost use Rattle.page_turns.specs.Given.{got};
 ghost use Rattle.page_turns.specs.Scripts.{Met};
-ghost use Rattle.page_turns.specs.Shown.{result_of};
+ghost use Rattle.parse_machine.specs.Ends.{result_of};
 ghost use Rattle.page_batch.specs.Going.{AreOf, IsGoing, StopsAt};
 ghost use Rattle.page_batch.specs.Slots.{IsStage, GoesOn, NextOf, AwaitsNew, HasPart, used_in, awaited_in};
 ghost use Rattle.page_batch.specs.Reading.{given_in};
@@ -15,7 +15,7 @@ use crate::table::ScriptTable;
 use core_pair::Pair;
 use entity_table::Table;
 use html_types::{NoMemory, Text};
-use page_turns::Outcome;
+use page_turns::End;
 use speculation::InForce;
 use std::alloc::Global;
 use std::marker::Model;
@@ -59,7 +59,7 @@ fn over_stage<E: InForce>(
     alloc: Global,
     pair: Pair<E>,
     text: Vec<u8>,
-    outcome: Outcome,
+    outcome: End,
 ) -> Result<Stage<E>, NoMemory>
     requires { pair.core.desk.phase ≡ done (result_of outcome) }
     ensures stays { IfOk result (λ stage. (read : _) → IsGoing E.entities read pair text.items

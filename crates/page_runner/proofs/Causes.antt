@@ -18,6 +18,7 @@ use Rattle.page_turns.specs.Scripts.{Folder, MayCome, MayFetch}
 use Rattle.page_turns.specs.Pages.{world_of}
 use Rattle.page_runner.proofs.HelpLemmas.{come_faulted}
 use Rattle.page_runner.specs.Answers.{folder_by, PageMet, MayGivePage, IsParsed, status_with, answer_to_page, answer_over, answer_to, table_of, Gives, RunsTo, Exactly, AbsenceRose, FaultRose}
+use Rattle.page_runner.specs.Manner.{Manner, manner_of}
 use Rattle.page_runner.proofs.PageFaults.{fault_ends, fault_met}
 use Rattle.command_words.specs.declared.words.MakeWords.{MakeWords}
 use Rattle.page_runner.specs.Making.{page_made, file_among, made_world, MakesTo}
@@ -51,44 +52,44 @@ fault_result (refused why.Writes) e = absurd (cc e)
 fault_result (refused why.Page) e = absurd (cc e)
 fault_result (refused why.Fault) e = refl
 
-never_usage_page : (dump : Bool) (page : Given PageMet) → status.Usage ≡ (answer_to_page dump page).0 → ⊥
-never_usage_page dump unmet e = cc
-never_usage_page dump missing e = cc
-never_usage_page dump faulted e = cc
-never_usage_page dump (got page) e = usage_result _ e
+never_usage_page : (how : Manner) (page : Given PageMet) → status.Usage ≡ (answer_to_page how page).0 → ⊥
+never_usage_page how unmet e = cc
+never_usage_page how missing e = cc
+never_usage_page how faulted e = cc
+never_usage_page how (got page) e = usage_result _ e
 
-never_usage_over : (dump : Bool) (table : Option Table) (page : Given PageMet) → status.Usage ≡ (answer_over dump table page).0 → ⊥
-never_usage_over dump None page e = cc
-never_usage_over dump (Some es) page e = never_usage_page dump page e
+never_usage_over : (how : Manner) (table : Option Table) (page : Given PageMet) → status.Usage ≡ (answer_over how table page).0 → ⊥
+never_usage_over how None page e = cc
+never_usage_over how (Some es) page e = never_usage_page how page e
 
-never_usage : (dump : Bool) (entities : Given (List ℕ)) (page : Given PageMet) → status.Usage ≡ (answer_to dump entities page).0 → ⊥
-never_usage dump unmet page e = cc
-never_usage dump missing page e = cc
-never_usage dump faulted page e = cc
-never_usage dump (got bytes) page e = never_usage_over dump (table_of bytes) page e
+never_usage : (how : Manner) (entities : Given (List ℕ)) (page : Given PageMet) → status.Usage ≡ (answer_to how entities page).0 → ⊥
+never_usage how unmet page e = cc
+never_usage how missing page e = cc
+never_usage how faulted page e = cc
+never_usage how (got bytes) page e = never_usage_over how (table_of bytes) page e
 
 module _ (asked : PageAsked) (was now : List Seen) (before after' : Seen) where
   abbrev folder : Folder
   folder = folder_by asked.dir asked.preload was now
 
-  absent_page : (page : Given PageMet) → MayGivePage asked.page folder before after' page → status.Absent ≡ (answer_to_page asked.dump page).0 → AbsenceRose (Some (for_page asked)) before after'
+  absent_page : (page : Given PageMet) → MayGivePage asked.page folder before after' page → status.Absent ≡ (answer_to_page (manner_of asked) page).0 → AbsenceRose (Some (for_page asked)) before after'
   absent_page unmet may e = absurd (cc e)
   absent_page missing may e = inr may.0
   absent_page faulted may e = absurd (cc e)
   absent_page (got page) may e = absurd (absent_result _ e)
 
-  absent_over : (table : Option Table) (page : Given PageMet) → MayGivePage asked.page folder before after' page → status.Absent ≡ (answer_over asked.dump table page).0 → AbsenceRose (Some (for_page asked)) before after'
+  absent_over : (table : Option Table) (page : Given PageMet) → MayGivePage asked.page folder before after' page → status.Absent ≡ (answer_over (manner_of asked) table page).0 → AbsenceRose (Some (for_page asked)) before after'
   absent_over None page may e = absurd (cc e)
   absent_over (Some es) page may e = absent_page page may e
 
   absent_of : (entities : Given (List ℕ)) (page : Given PageMet) → MayGive ENTITIES_LIMIT Entities asked.entities before after' entities → MayGivePage asked.page folder before after' page
-      → status.Absent ≡ (answer_to asked.dump entities page).0 → AbsenceRose (Some (for_page asked)) before after'
+      → status.Absent ≡ (answer_to (manner_of asked) entities page).0 → AbsenceRose (Some (for_page asked)) before after'
   absent_of unmet page may may' e = absurd (cc e)
   absent_of missing page may may' e = inl may.0
   absent_of faulted page may may' e = absurd (cc e)
   absent_of (got bytes) page may may' e = absent_over (table_of bytes) page may' e
 
-  fault_page : (es : Table) (page : Given PageMet) → MayGivePage asked.page folder before after' page → IsParsed es page → status.ReadFault ≡ (answer_to_page asked.dump page).0 → FaultRose (Some (for_page asked)) before after'
+  fault_page : (es : Table) (page : Given PageMet) → MayGivePage asked.page folder before after' page → IsParsed es page → status.ReadFault ≡ (answer_to_page (manner_of asked) page).0 → FaultRose (Some (for_page asked)) before after'
   fault_page es unmet may parsed e = absurd (cc e)
   fault_page es missing may parsed e = absurd (cc e)
   fault_page es faulted may parsed e = inr (inl may.0)
@@ -99,13 +100,13 @@ module _ (asked : PageAsked) (was now : List Seen) (before after' : Seen) where
       by_cause page may (inr met) = let failed = subst (λ f. MayCome folder before after' met.0 f) met.1 (may.0.scripts.each met.0) in inr (inr (come_faulted asked.dir folder.helps before after' met.0 failed))
 
   fault_over : (table : Option Table) (page : Given PageMet) → MayGivePage asked.page folder before after' page → ((es : Table) → table ≡ Some es → IsParsed es page)
-      → status.ReadFault ≡ (answer_over asked.dump table page).0 → FaultRose (Some (for_page asked)) before after'
+      → status.ReadFault ≡ (answer_over (manner_of asked) table page).0 → FaultRose (Some (for_page asked)) before after'
   fault_over None page may parsed e = absurd (cc e)
   fault_over (Some es) page may parsed e = fault_page es page may (parsed es refl) e
 
   fault_of : (entities : Given (List ℕ)) (page : Given PageMet) → MayGive ENTITIES_LIMIT Entities asked.entities before after' entities → MayGivePage asked.page folder before after' page
       → ((bytes : List ℕ) (es : Table) → entities ≡ got bytes → table_of bytes ≡ Some es → IsParsed es page)
-      → status.ReadFault ≡ (answer_to asked.dump entities page).0 → FaultRose (Some (for_page asked)) before after'
+      → status.ReadFault ≡ (answer_to (manner_of asked) entities page).0 → FaultRose (Some (for_page asked)) before after'
   fault_of unmet page may may' parsed e = absurd (cc e)
   fault_of missing page may may' parsed e = absurd (cc e)
   fault_of faulted page may may' parsed e = inl may.0
@@ -134,7 +135,7 @@ made-meets_no_fault asked o comes is = elim (fault_ends made_world (page_made as
 pub absent : (asked : Option Asked) (was now : List Seen) (before after' : Seen) (k k' : ℕ) (t t' : Option (List ℕ)) (r : Status) → RunsTo asked was now before after' k k' t t' r → MakesTo asked before after' k k' t t' r → BatchesTo asked before after' k k' t t' r → r ≡ status.Absent → AbsenceRose asked before after'
 absent None was now before after' k k' t t' r runs makes batches is = let gives = subst (Gives (Rose k k') t t' (status.Usage, [])) is runs in absurd (cc gives.0)
 absent (Some (for_page asked)) was now before after' k k' t t' r runs makes batches is =
-    let gives = subst (Gives (Rose k k') t t' (answer_to asked.dump runs.entities runs.page)) is runs.gives in absent_of asked was now before after' runs.entities runs.page runs.may_entities runs.may_page gives.0
+    let gives = subst (Gives (Rose k k') t t' (answer_to (manner_of asked) runs.entities runs.page)) is runs.gives in absent_of asked was now before after' runs.entities runs.page runs.may_entities runs.may_page gives.0
 absent (Some (for_make asked)) was now before after' k k' t t' r runs makes batches is =
     let gives = subst (Gives (Rose k k') t t' (status_with makes.1.outcome.result, makes.1.text)) is makes.1.gives in absurd (absent_result makes.1.outcome.result gives.0)
 absent (Some (for_batch asked)) was now before after' k k' t t' r runs makes batches is = batch_absent asked before after' k k' t t' r batches.0 is
@@ -142,14 +143,14 @@ absent (Some (for_batch asked)) was now before after' k k' t t' r runs makes bat
 pub read_fault : (asked : Option Asked) (was now : List Seen) (before after' : Seen) (k k' : ℕ) (t t' : Option (List ℕ)) (r : Status) → RunsTo asked was now before after' k k' t t' r → MakesTo asked before after' k k' t t' r → BatchesTo asked before after' k k' t t' r → r ≡ status.ReadFault → FaultRose asked before after'
 read_fault None was now before after' k k' t t' r runs makes batches is = let gives = subst (Gives (Rose k k') t t' (status.Usage, [])) is runs in absurd (cc gives.0)
 read_fault (Some (for_page asked)) was now before after' k k' t t' r runs makes batches is =
-    let gives = subst (Gives (Rose k k') t t' (answer_to asked.dump runs.entities runs.page)) is runs.gives in fault_of asked was now before after' runs.entities runs.page runs.may_entities runs.may_page runs.parsed gives.0
+    let gives = subst (Gives (Rose k k') t t' (answer_to (manner_of asked) runs.entities runs.page)) is runs.gives in fault_of asked was now before after' runs.entities runs.page runs.may_entities runs.may_page runs.parsed gives.0
 read_fault (Some (for_make asked)) was now before after' k k' t t' r runs makes batches is =
     let gives = subst (Gives (Rose k k') t t' (status_with makes.1.outcome.result, makes.1.text)) is makes.1.gives in absurd (made-meets_no_fault asked makes.1.outcome makes.1.comes (fault_result makes.1.outcome.result gives.0))
 read_fault (Some (for_batch asked)) was now before after' k k' t t' r runs makes batches is = batch_fault asked before after' k k' t t' r batches.0 is
 
 pub write_fault : (asked : Option Asked) (was now : List Seen) (before after' : Seen) (k k' : ℕ) (t t' : Option (List ℕ)) (r : Status) → RunsTo asked was now before after' k k' t t' r → MakesTo asked before after' k k' t t' r → BatchesTo asked before after' k k' t t' r → r ≡ status.WriteFault → Rose k k'
 write_fault None was now before after' k k' t t' r runs makes batches is = let gives = subst (Gives (Rose k k') t t' (status.Usage, [])) is runs in gives.0
-write_fault (Some (for_page asked)) was now before after' k k' t t' r runs makes batches is = let gives = subst (Gives (Rose k k') t t' (answer_to asked.dump runs.entities runs.page)) is runs.gives in gives.0
+write_fault (Some (for_page asked)) was now before after' k k' t t' r runs makes batches is = let gives = subst (Gives (Rose k k') t t' (answer_to (manner_of asked) runs.entities runs.page)) is runs.gives in gives.0
 write_fault (Some (for_make asked)) was now before after' k k' t t' r runs makes batches is =
     let gives = subst (Gives (Rose k k') t t' (status_with makes.1.outcome.result, makes.1.text)) is makes.1.gives in gives.0
 write_fault (Some (for_batch asked)) was now before after' k k' t t' r runs makes batches is = batch_write asked before after' k k' t t' r batches.0 is
@@ -169,7 +170,7 @@ in_place rose t t' status.List gives = inl gives.0
 pub usage : (asked : Option Asked) (was now : List Seen) (before after' : Seen) (k k' : ℕ) (t t' : Option (List ℕ)) (r : Status) → RunsTo asked was now before after' k k' t t' r → MakesTo asked before after' k k' t t' r → BatchesTo asked before after' k k' t t' r → Exactly status.Usage r (asked ≡ None)
 usage None was now before after' k k' t t' r runs makes batches = record { nowhere_else = λ _. refl; there = λ _. in_place (Rose k k') t t' r runs }
 usage (Some (for_page asked)) was now before after' k k' t t' r runs makes batches = record {
-  nowhere_else = λ is. let gives = subst (Gives (Rose k k') t t' (answer_to asked.dump runs.entities runs.page)) is runs.gives in absurd (never_usage asked.dump runs.entities runs.page gives.0);
+  nowhere_else = λ is. let gives = subst (Gives (Rose k k') t t' (answer_to (manner_of asked) runs.entities runs.page)) is runs.gives in absurd (never_usage (manner_of asked) runs.entities runs.page gives.0);
   there = λ none. absurd (cc none);
 }
 usage (Some (for_make asked)) was now before after' k k' t t' r runs makes batches = record {

@@ -11,7 +11,7 @@ use Rattle.standard.specs.Entities.{Entities as Table, entities_of}
 use Rattle.serial.specs.Scripts.{Fetched}
 use Rattle.serial.specs.Scripts as fetched
 use Rattle.serial.specs.Serial.{Outcome, finished}
-use Rattle.serial.specs.Output.{output_with}
+use Rattle.page_runner.specs.Manner.{Manner, manner_of, output_in}
 use Rattle.standard_laws.proofs.Fuel.{one_outcome}
 use Rattle.page_runner.specs.declared.command.TheConstants.{ENTITIES_LIMIT}
 use Rattle.page_runner.specs.declared.status.Status.{Status}
@@ -91,8 +91,8 @@ scripts_alike dir helps before after map name f told none all (inl may) = subst 
 scripts_alike dir helps before after map name f told none all (inr (inl nothing)) = absurd nothing
 scripts_alike dir helps before after map name f told none all (inr (inr some)) = helped_told dir map name f helps all some
 
-abbrev Finishes : Bool → Option (List ℕ) → Option (List ℕ) → Status → Outcome → Type 0
-Finishes dump t t' r o = (r ≡ status.NoMemory) ⊎ ((r ≡ status_with o.result) × Took t t' (output_with dump o))
+abbrev Finishes : Manner → Option (List ℕ) → Option (List ℕ) → Status → Outcome → Type 0
+Finishes how t t' r o = (r ≡ status.NoMemory) ⊎ ((r ≡ status_with o.result) × Took t t' (output_in how o))
 
 module _ (asked : PageAsked) (was is : List Seen) (before after : Seen) (map : Files) (told : before.files ≡ Some map) (rose : Type 0) (t t' : Option (List ℕ)) (r : Status) (unless : ¬ rose)
     (none : ¬ (FaultsRose Entities before after)) (none' : ¬ (FaultsRose Page before after)) (none'' : ¬ (FaultsRose Script before after))
@@ -105,7 +105,7 @@ module _ (asked : PageAsked) (was is : List Seen) (before after : Seen) (map : F
 
   read_page : (bytes : List ℕ) (fault : Bool) (scripts : List ℕ → Fetched) (end : Outcome) → IsPageOf asked.page before after (record { bytes = bytes; fault = fault })
       → AreScriptsOf folder before after scripts → ComesTo (world_of es scripts) (record { bytes = bytes; fault = fault }) end
-      → Gives rose t t' (status_with end.result, output_with asked.dump end) r → Finishes asked.dump t t' r o
+      → Gives rose t t' (status_with end.result, output_in (manner_of asked) end) r → Finishes (manner_of asked) t t' r o
   read_page bytes true scripts end may are parsed gives = absurd (none' (may.cause refl))
   read_page bytes false scripts end may are parsed gives =
       let same : Some page ≡ Some bytes = some_at (file_at before asked.page) (λ f. f ≡ Some bytes) (Some page) (file_told asked.page ∙ ap Some there) (may.whole refl) in
@@ -114,9 +114,9 @@ module _ (asked : PageAsked) (was is : List Seen) (before after : Seen) (map : F
       let alike : (name : List ℕ) → Alike (scripts name) (fetched_of (map (path_of asked.dir name))) = λ name. scripts_alike asked.dir folder.helps before after map name (scripts name) told none'' all (are.each name) in
       let here' = serial-same (world_of es scripts) (λ name. fetched_of (map (path_of asked.dir name))) alike (page_at (record { bytes = page; fault = false })) end here in
       let one : end ≡ o = one_outcome (page_at (record { bytes = page; fault = false })) (world_in es map asked.dir) end o here' comes in
-      gives_only rose t t' (status_with o.result, output_with asked.dump o) r (subst (λ e. Gives rose t t' (status_with e.result, output_with asked.dump e) r) one gives) unless
+      gives_only rose t t' (status_with o.result, output_in (manner_of asked) o) r (subst (λ e. Gives rose t t' (status_with e.result, output_in (manner_of asked) e) r) one gives) unless
 
-  met_page : (given : Given PageMet) → MayGivePage asked.page folder before after given → IsParsed es given → Gives rose t t' (answer_to_page asked.dump given) r → Finishes asked.dump t t' r o
+  met_page : (given : Given PageMet) → MayGivePage asked.page folder before after given → IsParsed es given → Gives rose t t' (answer_to_page (manner_of asked) given) r → Finishes (manner_of asked) t t' r o
   met_page unmet may parsed gives = memory_only rose t t' r gives unless
   met_page missing may parsed gives = absurd (cc (some_at (file_at before asked.page) (λ f. f ≡ None) (Some page) (file_told asked.page ∙ ap Some there) may.1))
   met_page faulted may parsed gives = absurd (none' may.0)
@@ -125,7 +125,7 @@ module _ (asked : PageAsked) (was is : List Seen) (before after : Seen) (map : F
   met_entities : (entities : List ℕ) (given : Given (List ℕ)) (given' : Given PageMet) → map asked.entities ≡ Some entities → table_of entities ≡ Some es
       → MayGive ENTITIES_LIMIT Entities asked.entities before after given → MayGivePage asked.page folder before after given'
       → ((bytes : List ℕ) (es : Table) → given ≡ got bytes → table_of bytes ≡ Some es → IsParsed es given')
-      → Gives rose t t' (answer_to asked.dump given given') r → Finishes asked.dump t t' r o
+      → Gives rose t t' (answer_to (manner_of asked) given given') r → Finishes (manner_of asked) t t' r o
   met_entities entities unmet given' at table may may' parsed gives = memory_only rose t t' r gives unless
   met_entities entities missing given' at table may may' parsed gives = absurd (cc (some_at (file_at before asked.entities) (λ f. f ≡ None) (Some entities) (file_told asked.entities ∙ ap Some at) may.1))
   met_entities entities faulted given' at table may may' parsed gives = absurd (none may.0)
@@ -133,7 +133,7 @@ module _ (asked : PageAsked) (was is : List Seen) (before after : Seen) (map : F
       let read = some_at (file_at before asked.entities) (λ f. IsSomeAnd f (λ whole. bytes ≡ take (ENTITIES_LIMIT + 1) whole)) (Some entities) (file_told asked.entities ∙ ap Some at) may.0 in
       let all : bytes ≡ entities = read ∙ all_taken ENTITIES_LIMIT entities (table_fits entities es table) in
       let here : table_of bytes ≡ Some es = ap table_of all ∙ table in
-      met_page given' may' (parsed bytes es refl here) (subst (λ k. Gives rose t t' (answer_over asked.dump k given') r) here gives)
+      met_page given' may' (parsed bytes es refl here) (subst (λ k. Gives rose t t' (answer_over (manner_of asked) k given') r) here gives)
 
 -- the whole
 pub completes : (asked : Option Asked) (was is : List Seen) (before after : Seen) (sink sink' : ℕ) (t t' : Option (List ℕ)) (r : Status) → RunsTo asked was is before after sink sink' t t' r → CompletesRun asked was is before after sink sink' t t' r

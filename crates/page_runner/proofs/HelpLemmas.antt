@@ -1,5 +1,5 @@
 -- Scripts that helpers fetched early.
-use Rattle.std.proofs.Common.{◌≡◌, ◌≤◌, ℕ, zero, suc, Bool, List, [], ◌∷◌, ◌++◌, length, Option, Some, None, IfSome, IsTrue, refl, sym, ap, ◌∙◌, subst, inl, inr, arith, take, ◌+◌}
+use Rattle.std.proofs.Common.{◌≡◌, ◌≤◌, ℕ, zero, suc, List, [], ◌∷◌, ◌++◌, length, Option, Some, None, IfSome, IsTrue, refl, sym, ap, ◌∙◌, subst, inl, inr, arith, take, ◌+◌}
 use Rattle.std.specs.Prelude.{◌⊎◌, IsSomeAnd}
 use Rattle.std.specs.List.{AllByRecursion}
 use Rattle.std.specs.Option.{option_map}
@@ -20,6 +20,7 @@ use Rattle.preload.specs.Teams.{HelpedBy, HelpedEach, helps_first}
 use Rattle.command_words.specs.Words.{PageAsked, Asked, for_page, for_make, for_batch}
 use Rattle.page_runner.specs.declared.status.Status.{Status}
 use Rattle.page_runner.specs.Answers.{PageMet, MayMeetPage, MayGivePage, PageAnswers, folder_by, HelpersBack, HelpersBackOf, TellAll, is_answered}
+use Rattle.page_runner.specs.Manner.{Manner}
 use Rattle.page_runner.specs.Reports.{IsMet, EndsAsSerial, Reports}
 
 -- ---- none come early
@@ -94,9 +95,9 @@ module _ (dir : List ℕ) (met : Met) (n most : ℕ) (was now : List Seen) (le :
   may_as path before after given.faulted may = may
   may_as path before after (given.got page) may = (met_page_as path before after page may.0, may.1)
 
-  pub answers_as : (es : Table) (dump : Bool) (path : List ℕ) (before after : Seen) (k k' : ℕ) (t t' : Option (List ℕ)) (r : Status)
-      → PageAnswers es dump path (folder_with dir met) before after k k' t t' r → PageAnswers es dump path (folder_by dir most was now) before after k k' t t' r
-  answers_as es dump path before after k k' t t' r answers = record {
+  pub answers_as : (es : Table) (how : Manner) (path : List ℕ) (before after : Seen) (k k' : ℕ) (t t' : Option (List ℕ)) (r : Status)
+      → PageAnswers es how path (folder_with dir met) before after k k' t t' r → PageAnswers es how path (folder_by dir most was now) before after k k' t t' r
+  answers_as es how path before after k k' t t' r answers = record {
     page = answers.page;
     may = may_as path before after answers.page answers.may;
     faults = answers.faults;
@@ -105,9 +106,9 @@ module _ (dir : List ℕ) (met : Met) (n most : ℕ) (was now : List Seen) (le :
     gives = answers.gives;
   }
 
-  pub reports_as : (es : Table) (ahead : ℕ) (dump : Bool) (path : List ℕ) (before after : Seen) (t t' : Option (List ℕ)) (s : Shown) (r : Status)
-      → Reports es ahead dump path (folder_with dir met) before after t t' s r → Reports es ahead dump path (folder_by dir most was now) before after t t' s r
-  reports_as es ahead dump path before after t t' s r reports = record {
+  pub reports_as : (es : Table) (ahead : ℕ) (how : Manner) (path : List ℕ) (before after : Seen) (t t' : Option (List ℕ)) (s : Shown) (r : Status)
+      → Reports es ahead how path (folder_with dir met) before after t t' s r → Reports es ahead how path (folder_by dir most was now) before after t t' s r
+  reports_as es ahead how path before after t t' s r reports = record {
     entities = reports.entities;
     ahead_is = reports.ahead_is;
     met = record {
@@ -175,10 +176,10 @@ module _ (start end : Crew) (met : Met) (dir dir' : List ℕ) (most : ℕ) (was 
         (subst (λ x. AnyOf (MayHelp end.dir name came) (helps_first start.used x now)) w
         (subst (λ x. AnyOf (MayHelp end.dir name came) (helps_first x end.was now)) u (own name came given)))
 
-    pub answers_in : (es : Table) (dump : Bool) (path : List ℕ) (before after : Seen) (k k' : ℕ) (t t' : Option (List ℕ)) (r : Status)
-        → PageAnswers es dump path (folder_with dir met) before after k k' t t' r → PageAnswers es dump path (folder_by dir most was now) before after k k' t t' r
+    pub answers_in : (es : Table) (how : Manner) (path : List ℕ) (before after : Seen) (k k' : ℕ) (t t' : Option (List ℕ)) (r : Status)
+        → PageAnswers es how path (folder_with dir met) before after k k' t t' r → PageAnswers es how path (folder_by dir most was now) before after k k' t t' r
     answers_in = answers_as dir met start.used most was now few own_in
 
-    pub reports_in : (es : Table) (ahead : ℕ) (dump : Bool) (path : List ℕ) (before after : Seen) (t t' : Option (List ℕ)) (s : Shown) (r : Status)
-        → Reports es ahead dump path (folder_with dir met) before after t t' s r → Reports es ahead dump path (folder_by dir most was now) before after t t' s r
+    pub reports_in : (es : Table) (ahead : ℕ) (how : Manner) (path : List ℕ) (before after : Seen) (t t' : Option (List ℕ)) (s : Shown) (r : Status)
+        → Reports es ahead how path (folder_with dir met) before after t t' s r → Reports es ahead how path (folder_by dir most was now) before after t t' s r
     reports_in = reports_as dir met start.used most was now few own_in

@@ -1,3 +1,4 @@
+pub mod MannerLemmas
 pub mod PageFaults
 pub mod HelpLemmas
 pub mod RunLemmas
@@ -9,3 +10,5 @@ pub mod BatchLemmas
 pub mod BatchRuns
 pub mod Causes
 pub mod MakingLemmas
+pub mod WatchingLemmas
+mod Crossing

@@ -35,7 +35,7 @@ use Rattle.core_steps.specs.Tallies.{nodes_below, AreInHand, tally_of, IsTallyOf
 use Rattle.page_maker.specs.Made.{made_page, named_script, made_scripts}
 use Rattle.page_maker.specs.declared.page.MadeScript.{MadeScript as ScriptFile}
 use Rattle.made_laws.proofs.MadePages.{is-in_ascii, is-read_as_made}
-use Rattle.page_turns.specs.declared.outcome.Outcome.TheVariants as told
+use Rattle.parse_machine.specs.declared.end.End.TheVariants as end
 use Rattle.page_turns.specs.Given.{Given, unmet, missing as absent, faulted as failed, got as given, file_at, FaultsRose, NoFault}
 use Rattle.page_turns.specs.Taken.{Took}
 use Rattle.page_runner.proofs.HelpLemmas.{come_none}
@@ -50,6 +50,7 @@ use Rattle.page_runner.specs.declared.status.Status.{Status}
 use Rattle.page_runner.specs.declared.status.Status.TheVariants as status
 use Rattle.command_words.specs.declared.words.MakeWords.{MakeWords}
 use Rattle.command_words.specs.Words.{Asked, for_page, for_make, for_batch}
+use Rattle.page_runner.specs.Manner.{manner}
 use Rattle.page_runner.specs.Answers.{IsPageOf, PageMet, MayGivePage, IsParsed, Answer, status_with, answer_to_page, Gives, PageAnswers}
 use Rattle.page_runner.specs.Shown.{status_of}
 use Rattle.page_runner.specs.Reports.{Reports}
@@ -97,8 +98,8 @@ refusal-of asked outcome (o, comes, (w, is, end)) = (w, end)
 
 pub gives-refusal : (outcome : Status) (rose : Type 0) (t t' : Option (List ℕ)) → IsRefusal outcome → t' ≡ t → Gives rose t t' (outcome, []) outcome
 gives-refusal outcome rose t t' (w, is) same =
-    let all : Gives rose t t' (status_of (told.Refused w), []) (status_of (told.Refused w)) = gives_all (told.Refused w) rose t t' [] (subst (λ k. Took t k []) (sym same) (took_nothing t)) in
-    subst (λ s. Gives rose t t' (s, []) s) (status_is (told.Refused w) ∙ sym is) all
+    let all : Gives rose t t' (status_of (end.Refused w), []) (status_of (end.Refused w)) = gives_all (end.Refused w) rose t t' [] (subst (λ k. Took t k []) (sym same) (took_nothing t)) in
+    subst (λ s. Gives rose t t' (s, []) s) (status_is (end.Refused w) ∙ sym is) all
 
 -- memory ran out before
 pub makes-nothing : (asked : MakeWords) (rose : Type 0) (t : Option (List ℕ)) → Makes asked rose t t status.NoMemory
@@ -171,7 +172,7 @@ module _ (asked : MakeWords) (few : asked.count ≤ 50000) (before after : Seen)
   world-is : (scripts : List ℕ → Fetched) → AreScriptsOf in_scripts before after scripts → world_of [] scripts ≡ made_world
   world-is scripts are = ap (world_of []) (scripts_told (codes "scripts") before after map scripts told no_script_fault (λ name. come_none (codes "scripts") before after name (scripts name) (are.each name)) ∙ scripts-are map scripts_there)
 
-  settled-at : (t t' : Option (List ℕ)) (page : Given PageMet) (r : Status) → MayGivePage (codes "page") in_scripts before after page → IsParsed [] page → Gives (Rose 0 0) t t' (answer_to_page false page) r → IsSettled asked r
+  settled-at : (t t' : Option (List ℕ)) (page : Given PageMet) (r : Status) → MayGivePage (codes "page") in_scripts before after page → IsParsed [] page → Gives (Rose 0 0) t t' (answer_to_page (manner false 0) page) r → IsSettled asked r
   settled-at t t' unmet r may parsed gives =
       let (o, comes) = has_outcome (page_made asked) made_world in
       record { end = o; comes = comes; status_is = elim (given-or t t' (Rose 0 0) _ r gives never-rose) [ inl is ↦ inr is | inr is ↦ inr is ] }
@@ -185,7 +186,7 @@ module _ (asked : MakeWords) (few : asked.count ≤ 50000) (before after : Seen)
         status_is = given-or t t' (Rose 0 0) _ r gives never-rose;
       }
 
-  pub settled : (t t' : Option (List ℕ)) (r : Status) → PageAnswers [] false (codes "page") in_scripts before after 0 0 t t' r → IsSettled asked r
+  pub settled : (t t' : Option (List ℕ)) (r : Status) → PageAnswers [] (manner false 0) (codes "page") in_scripts before after 0 0 t t' r → IsSettled asked r
   settled t t' r answers = settled-at t t' answers.page r answers.may answers.parsed answers.gives
 
   -- ---- its numbers
@@ -201,7 +202,7 @@ module _ (asked : MakeWords) (few : asked.count ≤ 50000) (before after : Seen)
           let is : g ≡ file_among made_scripts name = fetch_told (codes "scripts") before after map name g told no_script_fault (come_none (codes "scripts") before after name g may) ∙ scripts_there name in
           alike-sym f (file_among made_scripts name) (subst (λ x. Alike f x) is same)
 
-  numbers-at : (s : Shown) (t t' : Option (List ℕ)) (o : Outcome) → IsReplayed s → Reports [] 8 false (codes "page") in_scripts before after t t' s status.Done → s.desk.phase ≡ done finished →
+  numbers-at : (s : Shown) (t t' : Option (List ℕ)) (o : Outcome) → IsReplayed s → Reports [] 8 (manner false 0) (codes "page") in_scripts before after t t' s status.Done → s.desk.phase ≡ done finished →
       IsSerial (page_made asked) made_world o → AreNumbers asked o (tally_of 0 s.desk)
   numbers-at s t t' o replayed reports at_done comes =
       let met = reports.met in
@@ -238,7 +239,7 @@ module _ (asked : MakeWords) (few : asked.count ≤ 50000) (before after : Seen)
 module _ (asked : MakeWords) (few : asked.count ≤ 50000) (before after : Seen) (map : Files) (told : before.files ≡ Some map) (page_there : map (codes "page") ≡ Some (made_page asked.number asked.count))
     (scripts_there : (name : List ℕ) → fetched_of (map (path_of (codes "scripts") name)) ≡ file_among made_scripts name)
     (no_page_fault : FaultsRose Page before after → ⊥) (no_script_fault : FaultsRose Script before after → ⊥) (t t' : Option (List ℕ)) where
-  finished-run : (s : Shown) (n : Tally) → IsSettled asked status.Done → Reports [] 8 false (codes "page") in_scripts before after t t' s status.Done → IsReplayed s → (s.spent ≡ false → IsTallyOf s.desk n) →
+  finished-run : (s : Shown) (n : Tally) → IsSettled asked status.Done → Reports [] 8 (manner false 0) (codes "page") in_scripts before after t t' s status.Done → IsReplayed s → (s.spent ≡ false → IsTallyOf s.desk n) →
       IsRunOf asked (made.Finished n)
   finished-run s n ended reports replayed numbers =
       let written = reports.written refl in
@@ -260,22 +261,22 @@ module _ (asked : MakeWords) (few : asked.count ≤ 50000) (before after : Seen)
       by finished q = absurd (other (status_is ∙ ap status_with q))
       by (refused w) q = (ended.end, ended.comes, (w, q, status_is ∙ ap status_with q))
 
-  pub run-is : (r : Status) (side : Option Shown) (run : MadeRun) → IsSettled asked r → IfSome side (λ s. Reports [] 8 false (codes "page") in_scripts before after t t' s r) → Tells r side run → IsRunOf asked run
+  pub run-is : (r : Status) (side : Option Shown) (run : MadeRun) → IsSettled asked r → IfSome side (λ s. Reports [] 8 (manner false 0) (codes "page") in_scripts before after t t' s r) → Tells r side run → IsRunOf asked run
   run-is r side (made.Finished n) ended reports (is, s, there, replayed, numbers) =
-      let here : Reports [] 8 false (codes "page") in_scripts before after t t' s r = subst (λ o. IfSome o (λ z. Reports [] 8 false (codes "page") in_scripts before after t t' z r)) there reports in
-      finished-run s n (subst (IsSettled asked) is ended) (subst (λ z. Reports [] 8 false (codes "page") in_scripts before after t t' s z) is here) replayed numbers
+      let here : Reports [] 8 (manner false 0) (codes "page") in_scripts before after t t' s r = subst (λ o. IfSome o (λ z. Reports [] 8 (manner false 0) (codes "page") in_scripts before after t t' z r)) there reports in
+      finished-run s n (subst (IsSettled asked) is ended) (subst (λ z. Reports [] 8 (manner false 0) (codes "page") in_scripts before after t t' s z) is here) replayed numbers
   run-is r side (made.Refused told_) ended reports (is, other, memory) = subst (λ z. IsRunOf asked (made.Refused z)) (sym is) (refused-run r ended other memory)
 
   -- what is told of a run over those files
-  pub run-over : (es : Entities) (path dir : List ℕ) (r : Status) (side : Option Shown) (run : MadeRun) → es ≡ [] → path ≡ codes "page" → dir ≡ codes "scripts" → PageAnswers es false path (folder_with dir []) before after 0 0 t t' r →
-      IfSome side (λ s. Reports es 8 false path (folder_with dir []) before after t t' s r) → Tells r side run → IsRunOf asked run
+  pub run-over : (es : Entities) (path dir : List ℕ) (r : Status) (side : Option Shown) (run : MadeRun) → es ≡ [] → path ≡ codes "page" → dir ≡ codes "scripts" → PageAnswers es (manner false 0) path (folder_with dir []) before after 0 0 t t' r →
+      IfSome side (λ s. Reports es 8 (manner false 0) path (folder_with dir []) before after t t' s r) → Tells r side run → IsRunOf asked run
   run-over es path dir r side run none path_is dir_is answers reports tells =
-      let over_none = subst (λ e. PageAnswers e false path (folder_with dir []) before after 0 0 t t' r) none answers in
-      let of_page = subst (λ p. PageAnswers [] false p (folder_with dir []) before after 0 0 t t' r) path_is over_none in
-      let in_folder = subst (λ d. PageAnswers [] false (codes "page") (folder_with d []) before after 0 0 t t' r) dir_is of_page in
-      let told_over_none = subst (λ e. IfSome side (λ s. Reports e 8 false path (folder_with dir []) before after t t' s r)) none reports in
-      let told_of_page = subst (λ p. IfSome side (λ s. Reports [] 8 false p (folder_with dir []) before after t t' s r)) path_is told_over_none in
-      let told_in_folder = subst (λ d. IfSome side (λ s. Reports [] 8 false (codes "page") (folder_with d []) before after t t' s r)) dir_is told_of_page in
+      let over_none = subst (λ e. PageAnswers e (manner false 0) path (folder_with dir []) before after 0 0 t t' r) none answers in
+      let of_page = subst (λ p. PageAnswers [] (manner false 0) p (folder_with dir []) before after 0 0 t t' r) path_is over_none in
+      let in_folder = subst (λ d. PageAnswers [] (manner false 0) (codes "page") (folder_with d []) before after 0 0 t t' r) dir_is of_page in
+      let told_over_none = subst (λ e. IfSome side (λ s. Reports e 8 (manner false 0) path (folder_with dir []) before after t t' s r)) none reports in
+      let told_of_page = subst (λ p. IfSome side (λ s. Reports [] 8 (manner false 0) p (folder_with dir []) before after t t' s r)) path_is told_over_none in
+      let told_in_folder = subst (λ d. IfSome side (λ s. Reports [] 8 (manner false 0) (codes "page") (folder_with d []) before after t t' s r)) dir_is told_of_page in
       run-is r side run (settled asked few before after map told page_there scripts_there no_page_fault no_script_fault t t' r in_folder) told_in_folder tells
 
 -- ---- the files of the made page

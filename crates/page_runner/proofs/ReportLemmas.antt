@@ -3,12 +3,12 @@ use Rattle.std.proofs.Common.{◌≡◌, ℕ, Bool, true, false, true≢false, L
 use Rattle.std.specs.Prelude.{◌⊎◌, IsTrue, IsSome, Result}
 use Rattle.std.specs.Option.{option_map}
 use Rattle.standard.specs.Entities.{Entities}
-use Rattle.serial.specs.Output.{line_text, result_with}
+use Rattle.serial.specs.Output.{line_text}
 use Rattle.core_steps.specs.Sides.{Shown}
 use Rattle.outside.specs.Outside.{Files, begins, Seen, KeepsOthers}
 use Rattle.outside.specs.declared.traits.Failed.{Failed}
 use Rattle.outside.specs.declared.traits.Port.TheVariants.{Page}
-use Rattle.page_turns.specs.declared.outcome.Outcome.{Outcome as Told}
+use Rattle.parse_machine.specs.declared.end.End.{End}
 use Rattle.page_turns.specs.declared.page.Failure.{Failure}
 use Rattle.page_turns.specs.declared.page.Failure.TheVariants as failures
 use Rattle.page_runner.specs.declared.status.Status.{Status}
@@ -21,7 +21,8 @@ use Rattle.page_turns.specs.Given.{NoFault, file_at}
 use Rattle.page_turns.specs.Pages.{EndsWithScripts}
 use Rattle.page_turns.specs.Taken.{Took, TookFront}
 use Rattle.page_turns.specs.Scripts.{Folder}
-use Rattle.page_turns.specs.Shown.{result_of}
+use Rattle.parse_machine.specs.Ends.{result_of}
+use Rattle.page_runner.specs.Manner.{Manner, manner, result_in}
 use Rattle.page_runner.specs.Shown.{status_of}
 use Rattle.page_turns.specs.Turns.{Leaves, RunsOut}
 use Rattle.page_runner.specs.Answers.{status_for, is_answered, Gives, IsBegun}
@@ -37,7 +38,7 @@ use Rattle.page_runner.proofs.RunLemmas.{status_is, failure_unanswered, may_page
 is_met : (es : Entities) (ahead : ℕ) (path : List ℕ) (folder : Folder) (before after : Seen) (s : Shown) → IsBegun path before → Leaves es ahead folder before after s → IsMet path folder before after s.journal
 is_met es ahead path folder before after s begun left = record {
   page = left.page.page;
-  is_page = may_page es false path folder before after begun left.page.page left.page.read_from;
+  is_page = may_page es (manner false 0) path folder before after begun left.page.page left.page.read_from;
   front = left.page.is;
   scripts = λ name f is. elim (left.fetches.fresh name f is) [
     | inl none ↦ absurd (cc none)
@@ -46,9 +47,9 @@ is_met es ahead path folder before after s begun left = record {
   known = left.known;
 }
 
-module _ (es : Entities) (ahead : ℕ) (dump : Bool) (path : List ℕ) (folder : Folder) (before after : Seen) (begun : IsBegun path before) (t t' : Option (List ℕ)) (s : Shown) (left : Leaves es ahead folder before after s) (replays : ReplaysTo es ahead s) where
+module _ (es : Entities) (ahead : ℕ) (how : Manner) (path : List ℕ) (folder : Folder) (before after : Seen) (begun : IsBegun path before) (t t' : Option (List ℕ)) (s : Shown) (left : Leaves es ahead folder before after s) (replays : ReplaysTo es ahead s) where
   -- the parse gave up
-  pub reports_failure : (f : Failure) → WritesInPart es ahead t t' (IsDue s) → Reports es ahead dump path folder before after t t' s (status_for f)
+  pub reports_failure : (f : Failure) → WritesInPart es ahead t t' (IsDue s) → Reports es ahead how path folder before after t t' s (status_for f)
   reports_failure f part = record {
     entities = left.entities;
     ahead_is = left.ahead_is;
@@ -60,8 +61,8 @@ module _ (es : Entities) (ahead : ℕ) (dump : Bool) (path : List ℕ) (folder :
   }
 
   -- or it is over
-  pub reports_end : (now' : Option (List ℕ)) (o : Told) (rose : Type 0) (r : Status) → RunsOut es ahead folder before after t now' s o → EndsWithScripts es folder before after s.desk.own.side.doc s.desk.own.side.lines t now' o
-      → Gives rose now' t' (status_of o, result_with dump (result_of o) s.desk.own.side.doc.tree) r → Reports es ahead dump path folder before after t t' s r
+  pub reports_end : (now' : Option (List ℕ)) (o : End) (rose : Type 0) (r : Status) → RunsOut es ahead folder before after t now' s o → EndsWithScripts es folder before after s.desk.own.side.doc s.desk.own.side.lines t now' o
+      → Gives rose now' t' (status_of o, result_in how (result_of o) s.desk.own.side.doc.tree) r → Reports es ahead how path folder before after t t' s r
   reports_end now' o rose r out ends gives = record {
     entities = left.entities;
     ahead_is = left.ahead_is;
@@ -75,14 +76,14 @@ module _ (es : Entities) (ahead : ℕ) (dump : Bool) (path : List ℕ) (folder :
       as_serial : EndsAsSerial es path folder before after s
       as_serial = record {
         met = record { read = ends.page; scripts = ends.scripts; outcome = ends.ended.outcome };
-        may = record { read = may_page es dump path folder before after begun ends.page ends.read_from; scripts = ends.are_scripts };
+        may = record { read = may_page es how path folder before after begun ends.page ends.read_from; scripts = ends.are_scripts };
         comes = ends.ended.comes;
         phase = out.phase ∙ ap done (sym ends.ended.result);
         lines = sym ends.ended.lines;
         tree = sym ends.ended.tree;
       }
 
-      front-of : (r : Status) → is_answered r ≡ false → Gives rose now' t' (status_of o, result_with dump (result_of o) s.desk.own.side.doc.tree) r → TookFront now' t' (result_with dump (result_of o) s.desk.own.side.doc.tree)
+      front-of : (r : Status) → is_answered r ≡ false → Gives rose now' t' (status_of o, result_in how (result_of o) s.desk.own.side.doc.tree) r → TookFront now' t' (result_in how (result_of o) s.desk.own.side.doc.tree)
       front-of status.WriteFault e gives = gives.1
       front-of status.NoMemory e gives = gives
       front-of status.Done e gives = absurd (true≢false e)
@@ -94,19 +95,19 @@ module _ (es : Entities) (ahead : ℕ) (dump : Bool) (path : List ℕ) (folder :
       front-of status.Absent e gives = absurd (true≢false e)
       front-of status.List e gives = absurd (true≢false e)
 
-      part : TookFront now' t' (result_with dump (result_of o) s.desk.own.side.doc.tree) → WritesInPart es ahead t t' (IsDueNext dump s)
+      part : TookFront now' t' (result_in how (result_of o) s.desk.own.side.doc.tree) → WritesInPart es ahead t t' (IsDueNext how s)
       part front = record {
         before = s;
         replays = replays;
-        due = result_with dump (result_of o) s.desk.own.side.doc.tree;
+        due = result_in how (result_of o) s.desk.own.side.doc.tree;
         is_due = inr (record { same = refl; result = result_of o; going = out.going; phase = out.phase; text_is = refl });
-        took = with_front t now' t' (flat_map line_text s.desk.own.side.lines) (result_with dump (result_of o) s.desk.own.side.doc.tree) out.took front;
+        took = with_front t now' t' (flat_map line_text s.desk.own.side.lines) (result_in how (result_of o) s.desk.own.side.doc.tree) out.took front;
       }
 
       All : Status → Type 0
-      All r = (r ≡ status_of o) × Took now' t' (result_with dump (result_of o) s.desk.own.side.doc.tree)
+      All r = (r ≡ status_of o) × Took now' t' (result_in how (result_of o) s.desk.own.side.doc.tree)
 
-      all-of : (r : Status) → IsTrue (is_answered r) → Gives rose now' t' (status_of o, result_with dump (result_of o) s.desk.own.side.doc.tree) r → All r
+      all-of : (r : Status) → IsTrue (is_answered r) → Gives rose now' t' (status_of o, result_in how (result_of o) s.desk.own.side.doc.tree) r → All r
       all-of status.WriteFault e gives = absurd (cc e)
       all-of status.NoMemory e gives = absurd (cc e)
       all-of status.Done e gives = gives
@@ -118,13 +119,13 @@ module _ (es : Entities) (ahead : ℕ) (dump : Bool) (path : List ℕ) (folder :
       all-of status.Absent e gives = gives
       all-of status.List e gives = gives
 
-      here : All r → IsWritten dump t t' s r
+      here : All r → IsWritten how t t' s r
       here (is, took) = record { result = result_of o; going = out.going; phase = out.phase; outcome_is = is ∙ status_is o; took = took_then t now' t' _ _ out.took took }
 
 -- The page was begun before.
-pub reports_since : (es : Entities) (ahead : ℕ) (dump : Bool) (path : List ℕ) (folder : Folder) (before now after : Seen) (t t' : Option (List ℕ)) (s : Shown) (r : Status) → KeepsOthers Page before now → NoFault Page before now → FirstSince before now after
-    → Reports es ahead dump path folder now after t t' s r → Reports es ahead dump path folder before after t t' s r
-reports_since es ahead dump path folder before now after t t' s r keeps quiet first reports =
+pub reports_since : (es : Entities) (ahead : ℕ) (how : Manner) (path : List ℕ) (folder : Folder) (before now after : Seen) (t t' : Option (List ℕ)) (s : Shown) (r : Status) → KeepsOthers Page before now → NoFault Page before now → FirstSince before now after
+    → Reports es ahead how path folder now after t t' s r → Reports es ahead how path folder before after t t' s r
+reports_since es ahead how path folder before now after t t' s r keeps quiet first reports =
     let met = reports.met in
     record {
       entities = reports.entities;

@@ -1,5 +1,5 @@
 -- From the parts of a run to its answer.
-use Rattle.std.proofs.Common.{◌≡◌, ℕ, ◌≤◌, ◌+◌, List, [], ◌∷◌, ◌++◌, Bool, true, false, Option, Some, None, IfSome, flat_map, refl, sym, ap, subst, ◌∙◌, inl, inr, arith}
+use Rattle.std.proofs.Common.{◌≡◌, ◌≢◌, ℕ, ◌≤◌, ◌+◌, List, [], ◌∷◌, ◌++◌, Bool, true, false, Option, Some, None, IfSome, flat_map, refl, sym, ap, subst, ◌∙◌, inl, inr, arith}
 use Rattle.std.specs.Prelude.{◌⊎◌, IsSome, IsSomeAnd, IsTrue, Result}
 use Rattle.serial.specs.declared.script.Line.{Line}
 use Rattle.std.specs.Bool.{OnTrue, OnFalse}
@@ -15,15 +15,15 @@ use Rattle.standard.specs.Entities.{Entities as Table}
 use Rattle.serial.specs.Scripts.{Fetched}
 use Rattle.serial.specs.Scripts as fetched
 use Rattle.serial.specs.Serial.{World}
-use Rattle.serial.specs.Output.{line_text, result_with, output_with}
+use Rattle.serial.specs.Output.{line_text}
 use Rattle.standard_laws.proofs.Total.{has_outcome}
 use Rattle.page_runner.specs.declared.command.TheConstants.{ENTITIES_LIMIT}
 use Rattle.page_runner.specs.declared.command.Unread.{Unread}
 use Rattle.page_runner.specs.declared.command.Unread.TheVariants as unread
 use Rattle.page_turns.specs.declared.page.TheConstants.{PAGE_LIMIT}
 use Rattle.page_turns.specs.declared.scripts.TheConstants.{SCRIPT_LIMIT}
-use Rattle.page_turns.specs.declared.outcome.Outcome.{Outcome as Told}
-use Rattle.page_turns.specs.declared.outcome.Outcome.TheVariants as told
+use Rattle.parse_machine.specs.declared.end.End.{End}
+use Rattle.parse_machine.specs.declared.end.End.TheVariants as end
 use Rattle.page_turns.specs.declared.page.Failure.{Failure}
 use Rattle.page_turns.specs.declared.page.Failure.TheVariants as failures
 use Rattle.page_runner.specs.declared.status.Status.{Status}
@@ -36,11 +36,13 @@ use Rattle.page_turns.specs.Given.{Given, unmet, missing, faulted, got, FaultsRo
 use Rattle.page_turns.specs.Calls.{CallsAt, EachWithin}
 use Rattle.page_turns.specs.Taken.{Took, TookFront}
 use Rattle.page_turns.specs.Scripts.{Folder, MayCome, path_of, IsAbsent, MayFetch, ReadScriptsTo, NamesOnce, none_begun, last}
-use Rattle.page_turns.specs.Shown.{result_of}
+use Rattle.parse_machine.specs.Ends.{result_of}
+use Rattle.page_runner.specs.Manner.{Manner, manner_of, result_in, output_in}
+use Rattle.page_runner.proofs.MannerLemmas.{front_in}
 use Rattle.page_runner.specs.Shown.{status_of}
 use Rattle.page_turns.specs.Pages.{PageRead, page_at, world_of, AreTaken, ReadsOn, GivenFirst, IsReadFrom, Ended, EndsWithScripts, FrontWithScripts}
 use Rattle.page_turns.specs.Turns.{LeavesAlone}
-use Rattle.page_runner.specs.Answers.{folder_by, IsPageOf, PageMet, MayMeetPage, MayGivePage, FaultsOver, FaultsMet, AwaitsOver, AwaitsEach, IsParsed, Answer, status_with, answer_to_page, answer_over, answer_to, table_of, status_for, Gives, is_answered, IsBegun, PageAnswers, ReadsPage, ReadsTable, ReadsNone, answer_without, Answers, RunsTo, StopsAtEach, StopsAtLimits, BeginsEach, BeginsOnce, is_finished}
+use Rattle.page_runner.specs.Answers.{folder_by, IsPageOf, PageMet, MayMeetPage, MayGivePage, FaultsOver, FaultsMet, AwaitsOver, AwaitsEach, IsParsed, Answer, status_with, answer_to_page, answer_over, answer_to, table_of, status_for, Gives, is_answered, IsBegun, PageAnswers, ReadsPage, MayReadPage, ReadsTable, ReadsNone, answer_without, Answers, RunsTo, StopsAtEach, StopsAtLimits, BeginsEach, BeginsOnce, is_finished}
 use Rattle.outside.proofs.KeepsLemmas.{keeps-same}
 use Rattle.page_turns.proofs.KeepsLemmas.{begun_none, begun_then, begun_stays, begun_since, begun_is, rose-on, rose-stays, alone-same, alone-then, alone-others, entities-same, entities-then, entities-others}
 use Rattle.page_turns.proofs.MeetLemmas.{names_none}
@@ -50,21 +52,21 @@ use Rattle.page_turns.proofs.PageTakenLemmas.{took_nothing, front_nothing, took_
 -- ---- a status and what was written
 
 -- the status of an outcome is that of the parse's result
-pub status_is : (o : Told) → status_of o ≡ status_with (result_of o)
-status_is told.Finished = refl
-status_is (told.Refused why.BadUtf8) = refl
-status_is (told.Refused why.Depth) = refl
-status_is (told.Refused why.Writes) = refl
-status_is (told.Refused why.Page) = refl
-status_is (told.Refused why.Fault) = refl
+pub status_is : (o : End) → status_of o ≡ status_with (result_of o)
+status_is end.Finished = refl
+status_is (end.Refused why.BadUtf8) = refl
+status_is (end.Refused why.Depth) = refl
+status_is (end.Refused why.Writes) = refl
+status_is (end.Refused why.Page) = refl
+status_is (end.Refused why.Fault) = refl
 
-pub gives_all : (o : Told) (rose : Type 0) (t t' : Option (List ℕ)) (text : List ℕ) → Took t t' text → Gives rose t t' (status_of o, text) (status_of o)
-gives_all told.Finished rose t t' text took = (refl, took)
-gives_all (told.Refused why.BadUtf8) rose t t' text took = (refl, took)
-gives_all (told.Refused why.Depth) rose t t' text took = (refl, took)
-gives_all (told.Refused why.Writes) rose t t' text took = (refl, took)
-gives_all (told.Refused why.Page) rose t t' text took = (refl, took)
-gives_all (told.Refused why.Fault) rose t t' text took = (refl, took)
+pub gives_all : (o : End) (rose : Type 0) (t t' : Option (List ℕ)) (text : List ℕ) → Took t t' text → Gives rose t t' (status_of o, text) (status_of o)
+gives_all end.Finished rose t t' text took = (refl, took)
+gives_all (end.Refused why.BadUtf8) rose t t' text took = (refl, took)
+gives_all (end.Refused why.Depth) rose t t' text took = (refl, took)
+gives_all (end.Refused why.Writes) rose t t' text took = (refl, took)
+gives_all (end.Refused why.Page) rose t t' text took = (refl, took)
+gives_all (end.Refused why.Fault) rose t t' text took = (refl, took)
 
 pub gives_failure : (f : Failure) (rose : Type 0) (t t' : Option (List ℕ)) (answer : Answer) → (f ≡ failures.Write → rose) → TookFront t t' answer.1 → Gives rose t t' answer (status_for f)
 gives_failure failures.Memory rose t t' answer cause front = front
@@ -92,6 +94,10 @@ gives_behind rose rose' t now t' first a b status.List on took gives = (gives.0,
 pub failure_unanswered : (f : Failure) → IsTrue (is_answered (status_for f)) → ⊥
 failure_unanswered failures.Memory e = cc
 failure_unanswered failures.Write e = cc
+
+pub failure_write : (f : Failure) → status_for f ≢ status.NoMemory → f ≡ failures.Write
+failure_write failures.Memory some = absurd (some refl)
+failure_write failures.Write some = refl
 
 pub failure_unfinished : (f : Failure) → IsTrue (is_finished (status_for f)) → ⊥
 failure_unfinished failures.Memory e = cc
@@ -142,20 +148,20 @@ read_of (Some map) path whole left read found taken = record { so_far = there (m
     there (Some all) whole some same taken = subst (λ w. IfSome w (λ all. (rest : List ℕ) × (all ≡ read ++ rest) × (left ≡ Some rest))) same taken
 
 -- what is written of an outcome depends on the tree only where the parse finished
-ended_text : (w : World) (page : PageRead) (doc : Doc) (lines : List Line) (t t' : Option (List ℕ)) (o : Told) (end : Ended w page doc lines t t' o) (dump : Bool)
-    → output_with dump end.outcome ≡ flat_map line_text end.outcome.last.side.lines ++ result_with dump (result_of o) doc.tree
-unfolding output_with
-ended_text w page doc lines t t' o end dump =
-    ap (λ r. flat_map line_text end.outcome.last.side.lines ++ result_with dump r end.outcome.last.side.doc.tree) end.result
-    ∙ ap (λ x. flat_map line_text end.outcome.last.side.lines ++ result_with dump (result_of o) x) end.tree
+ended_text : (w : World) (page : PageRead) (doc : Doc) (lines : List Line) (t t' : Option (List ℕ)) (o : End) (end : Ended w page doc lines t t' o) (how : Manner)
+    → output_in how end.outcome ≡ flat_map line_text end.outcome.last.side.lines ++ result_in how (result_of o) doc.tree
+unfolding output_in
+ended_text w page doc lines t t' o end how =
+    ap (λ r. flat_map line_text end.outcome.last.side.lines ++ result_in how r end.outcome.last.side.doc.tree) end.result
+    ∙ ap (λ x. flat_map line_text end.outcome.last.side.lines ++ result_in how (result_of o) x) end.tree
 
-module _ (es : Table) (dump : Bool) (path : List ℕ) (folder : Folder) (before after : Seen) (found : IsBegun path before) where
+module _ (es : Table) (how : Manner) (path : List ℕ) (folder : Folder) (before after : Seen) (found : IsBegun path before) where
   pub may_page : (page : PageRead) → IsReadFrom before after page → IsPageOf path before after page
   may_page page from = page_of path before after page found.1 from
 
   -- the parse gave up
   pub page_gave_up : (k k' : ℕ) (t t' : Option (List ℕ)) (f : Failure) → (f ≡ failures.Write → Rose k k') → LeavesAlone folder.dir before after → FrontWithScripts es folder before after t t'
-      → PageAnswers es dump path folder before after k k' t t' (status_for f)
+      → PageAnswers es how path folder before after k k' t t' (status_for f)
   page_gave_up k k' t t' f cause alone part =
       let end = has_outcome (page_at part.page) (world_of es part.scripts) in
       let met : PageMet = record { read = part.page; scripts = part.scripts; outcome = end.0 } in
@@ -165,14 +171,14 @@ module _ (es : Table) (dump : Bool) (path : List ℕ) (folder : Folder) (before 
         faults = λ e. absurd (failure_unanswered f e);
         awaited = part.begins;
         parsed = end.1;
-        gives = gives_failure f (Rose k k') t t' (answer_to_page dump (got met)) cause (part.front dump end.0 end.1);
+        gives = gives_failure f (Rose k k') t t' (answer_to_page how (got met)) cause (front_in how end.0 t t' (part.front how.dump end.0 end.1));
       }
 
   -- the parse ended, and what comes of it was written, or a front of it
-  pub page_ended : (k now_k k' : ℕ) (t now' t' : Option (List ℕ)) (doc doc' : Doc) (lines : List Line) (o : Told) (r : Status) → k ≤ now_k → LeavesAlone folder.dir before after → EndsWithScripts es folder before after doc lines t now' o → doc' ≡ doc
-      → Gives (Rose now_k k') now' t' (status_of o, result_with dump (result_of o) doc'.tree) r → PageAnswers es dump path folder before after k k' t t' r
+  pub page_ended : (k now_k k' : ℕ) (t now' t' : Option (List ℕ)) (doc doc' : Doc) (lines : List Line) (o : End) (r : Status) → k ≤ now_k → LeavesAlone folder.dir before after → EndsWithScripts es folder before after doc lines t now' o → doc' ≡ doc
+      → Gives (Rose now_k k') now' t' (status_of o, result_in how (result_of o) doc'.tree) r → PageAnswers es how path folder before after k k' t t' r
   page_ended k now_k k' t now' t' doc doc' lines o r later alone ends same gives' =
-      let gives = subst (λ d. Gives (Rose now_k k') now' t' (status_of o, result_with dump (result_of o) d.tree) r) same gives' in
+      let gives = subst (λ d. Gives (Rose now_k k') now' t' (status_of o, result_in how (result_of o) d.tree) r) same gives' in
       let end = ends.ended in
       let all = gives_behind (Rose now_k k') (Rose k k') t now' t' (status_of o) _ _ r (λ rose. rose-on k now_k k' later rose) end.took gives in
       record {
@@ -181,8 +187,8 @@ module _ (es : Table) (dump : Bool) (path : List ℕ) (folder : Folder) (before 
         faults = λ _. ends.faults;
         awaited = ends.begins;
         parsed = end.comes;
-        gives = subst (λ s. Gives (Rose k k') t t' (s, output_with dump end.outcome) r) (status_is o ∙ ap status_with (sym end.result))
-            (subst (λ l. Gives (Rose k k') t t' (status_of o, l) r) (sym (ended_text (world_of es ends.scripts) ends.page doc lines t now' o end dump)) all);
+        gives = subst (λ s. Gives (Rose k k') t t' (s, output_in how end.outcome) r) (status_is o ∙ ap status_with (sym end.result))
+            (subst (λ l. Gives (Rose k k') t t' (status_of o, l) r) (sym (ended_text (world_of es ends.scripts) ends.page doc lines t now' o end how)) all);
       }
 
   page_read_to : ReadsOn (PAGE_LIMIT + 1) (before.left Page) (after.left Page) → ReadTo PAGE_LIMIT Page path before after
@@ -283,9 +289,9 @@ faults_since table before now after faulted quiet met = met ∙ quiet
 faults_since table before now after (got page) quiet met = faults_over table before now after page quiet met
 
 -- the page was begun before
-pub page_since : (es : Table) (dump : Bool) (path : List ℕ) (folder : Folder) (before now after : Seen) (k k' : ℕ) (t t' : Option (List ℕ)) (result : Status) (path' : List ℕ) (answer : Result Bool Failed) → KeepsOthers Page before now → NoFault Page before now → CallsAt Page before now (begins path' answer ∷ [])
-    → PageAnswers es dump path folder now after k k' t t' result → PageAnswers es dump path folder before after k k' t t' result
-page_since es dump path folder before now after k k' t t' result path' answer keeps quiet made answers = record {
+pub page_since : (es : Table) (how : Manner) (path : List ℕ) (folder : Folder) (before now after : Seen) (k k' : ℕ) (t t' : Option (List ℕ)) (result : Status) (path' : List ℕ) (answer : Result Bool Failed) → KeepsOthers Page before now → NoFault Page before now → CallsAt Page before now (begins path' answer ∷ [])
+    → PageAnswers es how path folder now after k k' t t' result → PageAnswers es how path folder before after k k' t t' result
+page_since es how path folder before now after k k' t t' result path' answer keeps quiet made answers = record {
   page = answers.page;
   may = may_since Page path folder before now after answers.page (λ e. cc e) keeps quiet (first_begun path' answer before now after made) answers.may;
   faults = λ e. faults_since (Some es) before now after answers.page (keeps.other_faults Script (λ e. cc e)) (answers.faults e);
@@ -295,12 +301,12 @@ page_since es dump path folder before now after k k' t t' result path' answer ke
 }
 
 -- it could not be begun
-module _ (es : Table) (dump : Bool) (path : List ℕ) (folder : Folder) (before after : Seen) (keeps : KeepsOthers Page before after) (k k' : ℕ) (t t' : Option (List ℕ)) where
-  pub page_faulted : (r : Status) → FaultsRose Page before after → IfSome (after.left Page) (λ rest. rest ≡ []) → after.open_at Page ≡ false → Gives (Rose k k') t t' (status.ReadFault, []) r → PageAnswers es dump path folder before after k k' t t' r
+module _ (es : Table) (how : Manner) (path : List ℕ) (folder : Folder) (before after : Seen) (keeps : KeepsOthers Page before after) (k k' : ℕ) (t t' : Option (List ℕ)) where
+  pub page_faulted : (r : Status) → FaultsRose Page before after → IfSome (after.left Page) (λ rest. rest ≡ []) → after.open_at Page ≡ false → Gives (Rose k k') t t' (status.ReadFault, []) r → PageAnswers es how path folder before after k k' t t' r
   page_faulted r rose none closed gives = record { page = faulted; may = (rose, none, closed); faults = λ _. keeps.other_faults Script (λ e. cc e); awaited = begun_none _ _ (keeps.begun Script (λ e. cc e)); parsed = tt; gives = gives }
 
   pub page_absent : (b : Bool) (path' : List ℕ) → b ≡ false → path' ≡ path → OnFalse b (Rose (before.absences Page) (after.absences Page)) → OnFalse b (IfSome before.files (λ map. map path' ≡ None)) → NoFault Page before after → after.open_at Page ≡ b → t' ≡ t
-      → PageAnswers es dump path folder before after k k' t t' status.Absent
+      → PageAnswers es how path folder before after k k' t t' status.Absent
   page_absent b path' is same rose none quiet closed stays = record {
     page = missing;
     may = (on_false b is rose, none_at before.files (subst (λ p. IfSome before.files (λ map. map p ≡ None)) same (on_false b is none)), quiet, closed ∙ is);
@@ -336,7 +342,7 @@ module _ (es : Table) (dump : Bool) (path : List ℕ) (folder : Folder) (before 
   page_absent_reads b path' is same none rose paths answer made = page_unbegun path' same (OnFalse_at is none) (inl (OnFalse_at is rose)) paths answer made
 
 pub answers_on : (asked : PageAsked) (was is : List Seen) (before now after : Seen) (k k' : ℕ) (t t' : Option (List ℕ)) (result : Status) (es : Table) → ReadsTable asked.entities before now es → KeepsOthers Entities before now
-    → PageAnswers es asked.dump asked.page (folder_by asked.dir asked.preload was is) now after k k' t t' result → KeepsEntities now after → Answers asked was is before after k k' t t' result
+    → PageAnswers es (manner_of asked) asked.page (folder_by asked.dir asked.preload was is) now after k k' t t' result → KeepsEntities now after → Answers asked was is before after k k' t t' result
 answers_on asked was is before now after k k' t t' result es reads keeps answers keeps' = record {
   entities = got reads.bytes;
   page = answers.page;
@@ -349,12 +355,12 @@ answers_on asked was is before now after k k' t t' result es reads keeps answers
       let one : Some es ≡ Some es' = sym reads.lists ∙ ap table_of same_bytes ∙ table' in
       let are : es ≡ es' = cc in
       subst (λ e. IsParsed e answers.page) are answers.parsed;
-  gives = subst (λ table. Gives (Rose k k') t t' (answer_over asked.dump table answers.page) result) (sym reads.lists) answers.gives;
+  gives = subst (λ table. Gives (Rose k k') t t' (answer_over (manner_of asked) table answers.page) result) (sym reads.lists) answers.gives;
 }
 
 -- there is no table
 module _ (asked : PageAsked) (was is : List Seen) (before after : Seen) (keeps : KeepsOthers Entities before after) (k k' : ℕ) (t t' : Option (List ℕ)) (r : Status) where
-  answers_early : (given : Given (List ℕ)) → MayGive ENTITIES_LIMIT Entities asked.entities before after given → Gives (Rose k k') t t' (answer_to asked.dump given unmet) r → Answers asked was is before after k k' t t' r
+  answers_early : (given : Given (List ℕ)) → MayGive ENTITIES_LIMIT Entities asked.entities before after given → Gives (Rose k k') t t' (answer_to (manner_of asked) given unmet) r → Answers asked was is before after k k' t t' r
   answers_early given may gives = record {
     entities = given;
     page = unmet;
@@ -371,7 +377,7 @@ module _ (asked : PageAsked) (was is : List Seen) (before after : Seen) (keeps :
   answers_without unread.Missing none gives = answers_early missing none gives
   answers_without unread.Faulted none gives = answers_early faulted none gives
   answers_without unread.NotTable none gives =
-      answers_early (got none.0) none.1 (subst (λ table. Gives (Rose k k') t t' (answer_over asked.dump table unmet) r) (sym none.2) gives)
+      answers_early (got none.0) none.1 (subst (λ table. Gives (Rose k k') t t' (answer_over (manner_of asked) table unmet) r) (sym none.2) gives)
 
 pub none_is : (path path' : List ℕ) (before after : Seen) (u : Unread) → path ≡ path' → ReadsNone path before after u → ReadsNone path' before after u
 none_is path path' before after u same none = subst (λ p. ReadsNone p before after u) same none
@@ -500,8 +506,8 @@ reads_nothing path dir before = record {
   names = names_none dir _ _ refl;
 }
 
-pub page_no_memory : (es : Table) (dump : Bool) (path : List ℕ) (folder : Folder) (before : Seen) (k : ℕ) (t : Option (List ℕ)) → PageAnswers es dump path folder before before k k t t status.NoMemory
-page_no_memory es dump path folder before k t = record { page = unmet; may = tt; faults = λ _. refl; awaited = begun_none _ _ refl; parsed = tt; gives = front_nothing t [] }
+pub page_no_memory : (es : Table) (how : Manner) (path : List ℕ) (folder : Folder) (before : Seen) (k : ℕ) (t : Option (List ℕ)) → PageAnswers es how path folder before before k k t t status.NoMemory
+page_no_memory es how path folder before k t = record { page = unmet; may = tt; faults = λ _. refl; awaited = begun_none _ _ refl; parsed = tt; gives = front_nothing t [] }
 
 -- ---- the words
 
@@ -584,3 +590,19 @@ found_there b before now path path' is same found opened keeps =
 
 pub read_to_is : (limit : ℕ) (port : Port) (path path' : List ℕ) (before after : Seen) → path ≡ path' → ReadTo limit port path before after → ReadTo limit port path' before after
 read_to_is limit port path path' before after same reads = subst (λ p. ReadTo limit port p before after) same reads
+
+-- ---- where memory may have run out before the page was begun
+
+pub may_others : (path dir : List ℕ) (now after : Seen) → MayReadPage path dir now after → KeepsEntities now after
+may_others path dir now after (inl page) = page.others
+may_others path dir now after (inr same) = subst (KeepsEntities now) (sym same) (entities-same now)
+
+pub stops_may : (asked : PageAsked) (before now after : Seen) → ReadTo ENTITIES_LIMIT Entities asked.entities before now → EachWithin ENTITIES_LIMIT Entities before now → KeepsOthers Entities before now
+    → MayReadPage asked.page asked.dir now after → StopsAtEach asked before after
+stops_may asked before now after reads within keeps (inl page) = stops_on asked before now after reads within keeps page
+stops_may asked before now after reads within keeps (inr same) = subst (StopsAtEach asked before) (sym same) (stops_early asked before now reads within keeps)
+
+pub begins_may : (asked : PageAsked) (path : List ℕ) (before now after : Seen) → path ≡ asked.entities → Begun (before.begun Entities) (now.begun Entities) (path ∷ []) → KeepsOthers Entities before now
+    → MayReadPage asked.page asked.dir now after → BeginsEach asked before after
+begins_may asked path before now after same paths keeps (inl page) = begins_on asked path before now after same paths keeps page
+begins_may asked path before now after same paths keeps (inr still) = subst (BeginsEach asked before) (sym still) (begins_early asked path before now same paths keeps)

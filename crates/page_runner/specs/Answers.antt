@@ -7,7 +7,6 @@ use Rattle.outside.specs.declared.traits.Port.TheVariants.{Entities, Page, Scrip
 use Rattle.standard.specs.Entities.{Entities as Table, entities_of}
 use Rattle.serial.specs.Scripts.{Fetched}
 use Rattle.serial.specs.Serial.{Result, finished, refused, Outcome}
-use Rattle.serial.specs.Output.{output_with}
 use Rattle.preload.specs.Teams.{helps_first}
 use Rattle.page_runner.specs.declared.command.TheConstants.{ENTITIES_LIMIT}
 use Rattle.page_runner.specs.declared.command.Unread.{Unread}
@@ -27,6 +26,7 @@ use Rattle.page_turns.specs.Given.{Given, unmet, missing, faulted, got, FaultsRo
 use Rattle.page_turns.specs.Calls.{ReadWithin, EachWithin}
 use Rattle.page_turns.specs.Taken.{Took, TookFront}
 use Rattle.page_turns.specs.Scripts.{Folder, Help, AreScriptsOf, ReadScriptsTo, NamesOnce, world_in}
+use Rattle.page_runner.specs.Manner.{Manner, manner_of, output_in}
 use Rattle.page_turns.specs.Pages.{PageRead, page_at, GivenFirst, MeetsFaults, BeginsAwaited, world_of, ComesTo}
 
 -- ---- what the outside may give of the page
@@ -95,12 +95,11 @@ status_with (refused why.Writes) = status.Limit limits.Writes
 status_with (refused why.Page) = status.Limit limits.Page
 status_with (refused why.Fault) = status.ReadFault
 
--- with the dump of the tree or with its text
-abbrev pub answer_to_page : Bool → Given PageMet → Answer
-answer_to_page dump unmet = (status.NoMemory, [])
-answer_to_page dump missing = (status.Absent, [])
-answer_to_page dump faulted = (status.ReadFault, [])
-answer_to_page dump (got page) = (status_with page.outcome.result, output_with dump page.outcome)
+abbrev pub answer_to_page : Manner → Given PageMet → Answer
+answer_to_page how unmet = (status.NoMemory, [])
+answer_to_page how missing = (status.Absent, [])
+answer_to_page how faulted = (status.ReadFault, [])
+answer_to_page how (got page) = (status_with page.outcome.result, output_in how page.outcome)
 
 -- the table of the entities file; one that is too long is none
 abbrev pub table_of : List ℕ → Option Table
@@ -111,15 +110,15 @@ abbrev pub table_in : Given (List ℕ) → Option Table
 table_in (got bytes) = table_of bytes
 table_in other = None
 
-abbrev pub answer_over : Bool → Option Table → Given PageMet → Answer
-answer_over dump None page = (status.Entities, [])
-answer_over dump (Some es) page = answer_to_page dump page
+abbrev pub answer_over : Manner → Option Table → Given PageMet → Answer
+answer_over how None page = (status.Entities, [])
+answer_over how (Some es) page = answer_to_page how page
 
-abbrev pub answer_to : Bool → Given (List ℕ) → Given PageMet → Answer
-answer_to dump unmet page = (status.NoMemory, [])
-answer_to dump missing page = (status.Absent, [])
-answer_to dump faulted page = (status.ReadFault, [])
-answer_to dump (got bytes) page = answer_over dump (table_of bytes) page
+abbrev pub answer_to : Manner → Given (List ℕ) → Given PageMet → Answer
+answer_to how unmet page = (status.NoMemory, [])
+answer_to how missing page = (status.Absent, [])
+answer_to how faulted page = (status.ReadFault, [])
+answer_to how (got bytes) page = answer_over how (table_of bytes) page
 
 abbrev pub status_for : Failure → Status
 status_for failures.Memory = status.NoMemory
@@ -145,13 +144,13 @@ abbrev pub IsBegun : List ℕ → Seen → Type 0
 IsBegun path now = (now.open_at Page ≡ true) × IfSome now.files (λ map. IsSome (map path) × (now.left Page ≡ map path))
 
 -- from where the page is begun
-pub record PageAnswers (es : Table) (dump : Bool) (path : List ℕ) (folder : Folder) (before after : Seen) (sink sink' : ℕ) (taken taken' : Option (List ℕ)) (result : Status) : Type 0 where
+pub record PageAnswers (es : Table) (how : Manner) (path : List ℕ) (folder : Folder) (before after : Seen) (sink sink' : ℕ) (taken taken' : Option (List ℕ)) (result : Status) : Type 0 where
   pub page : Given PageMet
   pub may : MayGivePage path folder before after page
   pub faults : IsTrue (is_answered result) → FaultsMet (Some es) page before after
   pub awaited : AwaitsEach (Some es) folder.dir page before after
   pub parsed : IsParsed es page
-  pub gives : Gives (Rose sink sink') taken taken' (answer_to_page dump page) result
+  pub gives : Gives (Rose sink sink') taken taken' (answer_to_page how page) result
 
 -- how far the page was read, where these were begun at its port
 abbrev pub PageWithin : List (List ℕ) → Seen → Seen → Type 0
@@ -167,6 +166,10 @@ pub record ReadsPage (path dir : List ℕ) (paths : List (List ℕ)) (before aft
   pub scripts_within : EachWithin SCRIPT_LIMIT Script before after
   pub begun : Begun (before.begun Page) (after.begun Page) paths
   pub names : NamesOnce dir (before.begun Script) (after.begun Script)
+
+-- The same where memory may run out before the page is begun.
+abbrev pub MayReadPage : List ℕ → List ℕ → Seen → Seen → Type 0
+MayReadPage path dir before after = ReadsPage path dir (path ∷ []) before after ⊎ (after ≡ before)
 
 -- The entities file was read, and lists this table.
 pub record ReadsTable (path : List ℕ) (before after : Seen) (table : Table) : Type 0 where
@@ -213,7 +216,7 @@ pub record Answers (asked : PageAsked) (was now : List Seen) (before after : See
   pub faults : IsTrue (is_answered result) → FaultsMet (table_in entities) page before after
   pub awaited : AwaitsEach (table_in entities) asked.dir page before after
   pub parsed : (bytes : List ℕ) (es : Table) → entities ≡ got bytes → table_of bytes ≡ Some es → IsParsed es page
-  pub gives : Gives (Rose sink sink') taken taken' (answer_to asked.dump entities page) result
+  pub gives : Gives (Rose sink sink') taken taken' (answer_to (manner_of asked) entities page) result
 
 -- The words come before all. What comes of the commands `make` and `batch` is said by clauses of their own (`Making`, `Batches`).
 abbrev pub RunsTo : Option Asked → List Seen → List Seen → Seen → Seen → ℕ → ℕ → Option (List ℕ) → Option (List ℕ) → Status → Type 0
@@ -306,7 +309,7 @@ Completes asked was now before after sink sink' taken taken' result = IfSome bef
     → TellAll map (helps_first asked.preload was now)
     → ComesTo (world_in es map asked.dir) (record { bytes = page; fault = false }) o
     → NoFaultRose before after sink sink'
-    → (result ≡ status.NoMemory) ⊎ ((result ≡ status_with o.result) × Took taken taken' (output_with asked.dump o)))
+    → (result ≡ status.NoMemory) ⊎ ((result ≡ status_with o.result) × Took taken taken' (output_in (manner_of asked) o)))
 
 -- the same of the words; a page that is made is always there and in order (`Making`)
 abbrev pub CompletesRun : Option Asked → List Seen → List Seen → Seen → Seen → ℕ → ℕ → Option (List ℕ) → Option (List ℕ) → Status → Type 0

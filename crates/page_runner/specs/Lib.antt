@@ -1,8 +1,12 @@
 pub mod Status
 pub mod Shown
 pub mod Answers
+pub mod Beginning
 pub mod Making
 pub mod Reports
 pub mod Exchanges
 pub mod OnTwo
+pub mod Manner
+pub mod Partings
+pub mod Watching
 pub mod Batches

@@ -3,7 +3,7 @@ use Rattle.std.specs.Prelude.{◌≡◌, ◌⊎◌, ℕ, Bool, true, false, List
 use Rattle.outside.specs.Outside.{Call, begins, Seen}
 use Rattle.outside.specs.declared.traits.Port.TheVariants.{Page}
 use Rattle.standard.specs.Entities.{Entities}
-use Rattle.serial.specs.Output.{line_text, result_with}
+use Rattle.serial.specs.Output.{line_text}
 use Rattle.serial.specs.Scripts.{Fetched}
 use Rattle.serial.specs.Serial.{Result}
 use Rattle.core_definitions.specs.Core.{joined}
@@ -21,6 +21,7 @@ use Rattle.page_turns.specs.Scripts.{Folder, MayMeet, AreKnown}
 use Rattle.page_turns.specs.Pages.{PageRead, page_at, world_of, ComesTo, IsPageBehind}
 use Rattle.page_turns.specs.Replaying.{ReplaysTo}
 use Rattle.page_turns.specs.WrittenInPart.{IsDue, WritesInPart}
+use Rattle.page_runner.specs.Manner.{Manner, result_in}
 use Rattle.page_runner.specs.Answers.{status_with, is_answered, IsPageOf, PageMet, MayMeetPage}
 
 -- Memory ran out before there was a document's side: nothing of the page was read, and nothing was written.
@@ -60,12 +61,12 @@ pub record IsMet (path : List ℕ) (folder : Folder) (before after : Seen) (j : 
   pub known : AreKnown j.fetches
 
 -- what was written is of these lines and this result, with this document
-pub record IsWritten (dump : Bool) (taken taken' : Option (List ℕ)) (s : Shown) (outcome : Status) : Type 0 where
+pub record IsWritten (how : Manner) (taken taken' : Option (List ℕ)) (s : Shown) (outcome : Status) : Type 0 where
   pub result : Result
   pub going : s.spent ≡ false
   pub phase : s.desk.phase ≡ done result
   pub outcome_is : outcome ≡ status_with result
-  pub took : Took taken taken' (flat_map line_text s.desk.own.side.lines ++ result_with dump result s.desk.own.side.doc.tree)
+  pub took : Took taken taken' (flat_map line_text s.desk.own.side.lines ++ result_in how result s.desk.own.side.doc.tree)
 
 -- The parse is over, and this is where the serial parse of the page ended: its result, its lines and its tree.
 pub record EndsAsSerial (es : Entities) (path : List ℕ) (folder : Folder) (before after : Seen) (s : Shown) : Type 0 where
@@ -77,24 +78,24 @@ pub record EndsAsSerial (es : Entities) (path : List ℕ) (folder : Folder) (bef
   pub tree : s.desk.own.side.doc.tree ≡ met.outcome.last.side.doc.tree
 
 -- The parse is over, all events are in the journal, and this is written behind the lines: the tree's text or dump, or the word of the refusal.
-pub record IsEndText (dump : Bool) (s before : Shown) (text : List ℕ) : Type 0 where
+pub record IsEndText (how : Manner) (s before : Shown) (text : List ℕ) : Type 0 where
   pub same : s ≡ before
   pub result : Result
   pub going : s.spent ≡ false
   pub phase : s.desk.phase ≡ done result
-  pub text_is : text ≡ result_with dump result s.desk.own.side.doc.tree
+  pub text_is : text ≡ result_in how result s.desk.own.side.doc.tree
 
 -- what was to be written next where memory ran out or the sink failed: of the refused event, or at the end
-abbrev pub IsDueNext : Bool → Shown → Shown → List ℕ → Type 0
-IsDueNext dump s before text = IsDue s before text ⊎ IsEndText dump s before text
+abbrev pub IsDueNext : Manner → Shown → Shown → List ℕ → Type 0
+IsDueNext how s before text = IsDue s before text ⊎ IsEndText how s before text
 
 -- The document's side is of this run, and what was written is so. Where memory ran out or the sink failed the journal has the events before the
 -- refused one, and perhaps that, if it is a Do: all lines of those before it were written, and behind them a front of what was to come next.
-pub record Reports (es : Entities) (ahead : ℕ) (dump : Bool) (path : List ℕ) (folder : Folder) (before after : Seen) (taken taken' : Option (List ℕ)) (s : Shown) (outcome : Status) : Type 0 where
+pub record Reports (es : Entities) (ahead : ℕ) (how : Manner) (path : List ℕ) (folder : Folder) (before after : Seen) (taken taken' : Option (List ℕ)) (s : Shown) (outcome : Status) : Type 0 where
   pub entities : s.entities ≡ es
   pub ahead_is : s.ahead ≡ ahead
   pub met : IsMet path folder before after s.journal
   pub replays : ReplaysTo es ahead s
-  pub written : IsTrue (is_answered outcome) → IsWritten dump taken taken' s outcome
+  pub written : IsTrue (is_answered outcome) → IsWritten how taken taken' s outcome
   pub ended : IsTrue (is_answered outcome) → EndsAsSerial es path folder before after s
-  pub in_part : is_answered outcome ≡ false → WritesInPart es ahead taken taken' (IsDueNext dump s)
+  pub in_part : is_answered outcome ≡ false → WritesInPart es ahead taken taken' (IsDueNext how s)

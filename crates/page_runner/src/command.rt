@@ -1,35 +1,39 @@
 // A run, from the words to the status.
-ghost use Rattle.std.specs.Prelude.{◌≡◌, ◌≤◌, ◌<◌, [], ◌∷◌, map, Some, None, false, Err, IfOk, IfErr, OnOk, OnErr, IsErrOf, IsTrue};
+ghost use Rattle.std.specs.Prelude.{◌≡◌, ◌≤◌, ◌<◌, ◌++◌, ℕ, List, [], ◌∷◌, length, All, map, Some, None, false, Err, IfOk, IfErr, OnOk, OnErr, IsErrOf, IsTrue};
 ghost use Rattle.std.specs.String.{string_bytes};
-ghost use Rattle.serial.specs.Output.{result_with};
+ghost use Rattle.standard.specs.Outer.{document_text};
+ghost use Rattle.page_turns.specs.Watched.{watch_text};
+ghost use Rattle.page_runner.specs.Manner.{manner, result_in, watch_lines};
 ghost use Rattle.outside.specs.Outside.{Rose, Begun, KeepsOthers};
 ghost use Rattle.command_words.specs.Words.{for_page, asked, shown};
 ghost use Rattle.page_turns.specs.Calls.{EachWithin};
 ghost use Rattle.page_turns.specs.Given.{ReadTo};
 ghost use Rattle.page_turns.specs.Taken.{Took, TookFront};
-ghost use Rattle.page_turns.specs.Shown.{result_of};
+ghost use Rattle.parse_machine.specs.Ends.{result_of};
 ghost use Rattle.page_runner.specs.Shown.{status_of};
 ghost use Rattle.page_runner.specs.Making.{MakesTo};
 ghost use Rattle.page_runner.specs.Batches.{BatchesTo};
-ghost use Rattle.page_runner.specs.Answers.{status_for, table_of, is_finished, folder_by, HelpersBack, HelpersBackOf, Gives, PageAnswers, ReadsPage, ReadsTable, ReadsNone, answer_without, Answers, RunsTo, StopsAtLimits, BeginsOnce, CompletesRun, Exactly, AbsenceRose, FaultRose};
+ghost use Rattle.page_runner.specs.Answers.{status_for, table_of, is_finished, folder_by, HelpersBack, HelpersBackOf, Gives, PageAnswers, MayReadPage, ReadsTable, ReadsNone, answer_without, Answers, RunsTo, StopsAtLimits, BeginsOnce, CompletesRun, Exactly, AbsenceRose, FaultRose};
 
 use crate::batch::run_batch;
+use crate::eye::ClosedEye;
 use crate::making::run_make;
-use crate::on_two::page_on_two;
 use crate::running::let_go;
 use crate::status::{Limit, Status};
+use crate::watched::page_watched;
 use command_words::{CommandWords, PageWords, Refused, read_words};
 use core_steps::Fetch;
 use entity_table::{Table, TableFault};
 use html_types::{NoMemory, Why};
 use op_exec::Doc;
 use outside::{Failed, Gate, Outside, Port, Sink};
-use page_turns::{Failure, Job, Outcome, read_whole, show_outcome, write_all};
+use page_turns::{End, Failure, Job, read_whole, show_outcome, show_watch, write_all};
 use speculation::InForce;
 use std::alloc::Global;
 use std::marker::Brand;
 use std::sync::{Arc, Wait};
 use std::thread::Threads;
+use tree_watch::Seen;
 
 /// The most bytes of the entities file.
 pub const ENTITIES_LIMIT: usize = 4_194_304;
@@ -56,16 +60,70 @@ pub(crate) fn status_for(failure: Failure) -> Status
 }
 
 // The status with which a run of that outcome ends.
-fn status_at(outcome: Outcome) -> Status
+fn status_at(outcome: End) -> Status
     ensures { result ≡ status_of outcome }
 {
     match outcome {
-        Outcome::Finished => Status::Done,
-        Outcome::Refused(Why::BadUtf8) => Status::BadUtf8,
-        Outcome::Refused(Why::Depth) => Status::Limit(Limit::Depth),
-        Outcome::Refused(Why::Writes) => Status::Limit(Limit::Writes),
-        Outcome::Refused(Why::Page) => Status::Limit(Limit::Page),
-        Outcome::Refused(Why::Fault) => Status::ReadFault,
+        End::Finished => Status::Done,
+        End::Refused(Why::BadUtf8) => Status::BadUtf8,
+        End::Refused(Why::Depth) => Status::Limit(Limit::Depth),
+        End::Refused(Why::Writes) => Status::Limit(Limit::Writes),
+        End::Refused(Why::Page) => Status::Limit(Limit::Page),
+        End::Refused(Why::Fault) => Status::ReadFault,
+    }
+}
+
+// Adds the line of what the watcher of that number saw last.
+fn add_watch_line(
+    alloc: Global,
+    text: &mut Vec<u8>,
+    number: usize,
+    seen: &Seen,
+) -> Result<(), NoMemory>
+    ensures { OnOk result (text.new.items ≡ text.old.items ++ watch_text number seen.now.text) }
+{
+    let line = show_watch(alloc, number, seen.text.as_str())?;
+    text.extend_from_slice(&line)?;
+    Ok(())
+}
+
+// Adds the lines of what the watchers saw last.
+fn add_watch_lines(alloc: Global, text: &mut Vec<u8>, seen: &[Seen]) -> Result<(), NoMemory>
+    ensures { OnOk result ((t : List ℕ) → All (λ s. s.text ≡ t) seen.now
+        → text.new.items ≡ text.old.items ++ watch_lines (length seen.now) t) }
+{
+    for i in 0..seen.len() {
+        add_watch_line(alloc, text, i + 1, &seen[i])?;
+    }
+    Ok(())
+}
+
+// What is written of a page whose parse finished: the tree, and what the watchers saw last.
+fn show_finished(alloc: Global, doc: &Doc, dump: bool, seen: &[Seen]) -> Result<Vec<u8>, NoMemory>
+    requires { All (λ s. s.text ≡ document_text doc.now.tree) seen.now }
+    ensures { IfOk result (λ bytes. bytes.items
+        ≡ result_in (manner dump (length seen.now)) (result_of End.Finished) doc.now.tree) }
+{
+    let mut text = show_outcome(alloc, doc, End::Finished, dump)?;
+    add_watch_lines(alloc, &mut text, seen)?;
+    Ok(text)
+}
+
+// What is written of a page's outcome behind the lines of its scripts.
+fn show_end(
+    alloc: Global,
+    doc: &Doc,
+    outcome: End,
+    dump: bool,
+    seen: &[Seen],
+) -> Result<Vec<u8>, NoMemory>
+    requires { All (λ s. s.text ≡ document_text doc.now.tree) seen.now }
+    ensures { IfOk result (λ bytes. bytes.items
+        ≡ result_in (manner dump (length seen.now)) (result_of outcome) doc.now.tree) }
+{
+    match outcome {
+        End::Finished => show_finished(alloc, doc, dump, seen),
+        End::Refused(_) => show_outcome(alloc, doc, outcome, dump),
     }
 }
 
@@ -74,16 +132,20 @@ fn write_end<K: Sink>(
     alloc: Global,
     out: &mut K,
     doc: &Doc,
-    outcome: Outcome,
+    outcome: End,
     dump: bool,
+    seen: &[Seen],
 ) -> Result<(), Failure>
-    ensures ok { OnOk result (Took (K.taken out.old) (K.taken out.new) (result_with dump (result_of outcome) doc.now.tree)) }
-    ensures err { OnErr result (TookFront (K.taken out.old) (K.taken out.new) (result_with dump (result_of outcome) doc.now.tree)) }
+    requires { All (λ s. s.text ≡ document_text doc.now.tree) seen.now }
+    ensures ok { OnOk result (Took (K.taken out.old) (K.taken out.new)
+        (result_in (manner dump (length seen.now)) (result_of outcome) doc.now.tree)) }
+    ensures err { OnErr result (TookFront (K.taken out.old) (K.taken out.new)
+        (result_in (manner dump (length seen.now)) (result_of outcome) doc.now.tree)) }
     ensures clean { OnOk result (IsTrue (K.clean out.new)) }
     ensures write { IsErrOf result Failure.Write → Rose (K.faults out.old) (K.faults out.new) }
 {
-    let line = show_outcome(alloc, doc, outcome, dump)?;
-    write_all(out, &line)?;
+    let text = show_end(alloc, doc, outcome, dump, seen)?;
+    write_all(out, &text)?;
     out.finish()?;
     Ok(())
 }
@@ -93,14 +155,18 @@ pub(crate) fn end_page<K: Sink>(
     alloc: Global,
     out: &mut K,
     doc: &Doc,
-    outcome: Outcome,
+    outcome: End,
     dump: bool,
+    seen: &[Seen],
 ) -> Status
-    ensures gives { Gives (Rose (K.faults out.old) (K.faults out.new)) (K.taken out.old) (K.taken out.new)
-        (status_of outcome, result_with dump (result_of outcome) doc.now.tree) result }
+    requires { All (λ s. s.text ≡ document_text doc.now.tree) seen.now }
+    ensures gives { Gives (Rose (K.faults out.old) (K.faults out.new))
+        (K.taken out.old) (K.taken out.new)
+        (status_of outcome, result_in (manner dump (length seen.now)) (result_of outcome) doc.now.tree)
+        result }
     ensures clean { IsTrue (is_finished result) → IsTrue (K.clean out.new) }
 {
-    match write_end(alloc, out, doc, outcome, dump) {
+    match write_end(alloc, out, doc, outcome, dump, seen) {
         Err(failure) => status_for(failure),
         Ok(()) => status_at(outcome),
     }
@@ -130,7 +196,8 @@ pub(crate) fn end_without<K: Sink>(out: &mut K, unread: Unread) -> Status
     }
 }
 
-// Runs the page with the entities in force. The report, whose type names them, ends here.
+// Runs the page with the entities in force, watched by so many. The report, whose type names them,
+// ends here.
 fn by_table<
     R: Threads + Wait + Copy + Send + Sync + 'static,
     E: InForce + Send + 'static,
@@ -145,18 +212,30 @@ fn by_table<
     out: &mut K,
     gate: &Arc<G, Global>,
     helpers: &mut Vec<F>,
+    watch: usize,
 ) -> Status
     requires table { job.now.table.now ≡ E.entities }
     requires piece { (0 < job.now.piece) × (job.now.piece ≤ 65536) }
     requires ahead { (0 < job.now.ahead) × (job.now.ahead ≤ 64) }
-    ensures answer { PageAnswers job.now.table.now job.now.dump (string_bytes job.now.page)
-        (folder_by (string_bytes job.now.dir) job.now.preload (map F.seen helpers.old.items) (map F.seen helpers.new.items))
-        (F.seen files.old) (F.seen files.new) (K.faults out.old) (K.faults out.new) (K.taken out.old) (K.taken out.new) result }
-    ensures reads { ReadsPage (string_bytes job.now.page) (string_bytes job.now.dir) (string_bytes job.now.page ∷ []) (F.seen files.old) (F.seen files.new) }
+    requires watch { watch ≤ 8 }
+    ensures answer { PageAnswers job.now.table.now
+        (manner job.now.dump watch) (string_bytes job.now.page)
+        (folder_by (string_bytes job.now.dir) job.now.preload
+        (map F.seen helpers.old.items) (map F.seen helpers.new.items))
+        (F.seen files.old) (F.seen files.new)
+        (K.faults out.old) (K.faults out.new) (K.taken out.old) (K.taken out.new) result }
+    ensures reads { MayReadPage (string_bytes job.now.page) (string_bytes job.now.dir)
+        (F.seen files.old) (F.seen files.new) }
     ensures clean { IsTrue (is_finished result) → IsTrue (K.clean out.new) }
     ensures helpers { HelpersBack job.now.preload (map F.seen helpers.old.items) (map F.seen helpers.new.items) }
 {
-    let report = page_on_two::<R, E, F, K, G>(rt, alloc, job, files, out, gate, helpers);
+    let Ok(eye) = Arc::new(alloc, ClosedEye) else {
+        return Status::NoMemory;
+    };
+    let watchers = watch as u64;
+    let report = page_watched::<R, E, F, K, G, ClosedEye>(
+        rt, alloc, job, files, out, gate, helpers, watchers, &eye,
+    );
     let outcome = report.outcome;
     let_go(report);
     outcome
@@ -180,10 +259,15 @@ fn run_page<
 ) -> Status
     requires piece { (0 < words.piece) × (words.piece ≤ 65536) }
     requires ahead { (0 < words.ahead) × (words.ahead ≤ 64) }
-    ensures answer { PageAnswers table.now words.dump (string_bytes words.page)
-        (folder_by (string_bytes words.dir) words.preload (map F.seen helpers.old.items) (map F.seen helpers.new.items))
-        (F.seen files.old) (F.seen files.new) (K.faults out.old) (K.faults out.new) (K.taken out.old) (K.taken out.new) result }
-    ensures reads { ReadsPage (string_bytes words.page) (string_bytes words.dir) (string_bytes words.page ∷ []) (F.seen files.old) (F.seen files.new) }
+    requires watch { words.watch ≤ 8 }
+    ensures answer { PageAnswers table.now
+        (manner words.dump words.watch) (string_bytes words.page)
+        (folder_by (string_bytes words.dir) words.preload
+        (map F.seen helpers.old.items) (map F.seen helpers.new.items))
+        (F.seen files.old) (F.seen files.new)
+        (K.faults out.old) (K.faults out.new) (K.taken out.old) (K.taken out.new) result }
+    ensures reads { MayReadPage (string_bytes words.page) (string_bytes words.dir)
+        (F.seen files.old) (F.seen files.new) }
     ensures clean { IsTrue (is_finished result) → IsTrue (K.clean out.new) }
     ensures helpers { HelpersBack words.preload (map F.seen helpers.old.items) (map F.seen helpers.new.items) }
 {
@@ -196,7 +280,7 @@ fn run_page<
         dump: words.dump,
         preload: words.preload,
     };
-    by_table::<R, Brand, F, K, G>(rt, alloc, &job, files, out, gate, helpers)
+    by_table::<R, Brand, F, K, G>(rt, alloc, &job, files, out, gate, helpers, words.watch)
 }
 
 // The table that the file lists. One that is too long is none.
@@ -253,6 +337,7 @@ fn run_files<
 ) -> Status
     requires piece { (0 < words.piece) × (words.piece ≤ 65536) }
     requires ahead { (0 < words.ahead) × (words.ahead ≤ 64) }
+    requires watch { words.watch ≤ 8 }
     ensures answer { Answers (shown words) (map F.seen helpers.old.items) (map F.seen helpers.new.items)
         (F.seen files.old) (F.seen files.new)
         (K.faults out.old) (K.faults out.new) (K.taken out.old) (K.taken out.new) result }
@@ -289,7 +374,8 @@ fn run_words<
     ensures begins { BeginsOnce (asked (map string_bytes words.now)) (F.seen files.old) (F.seen files.new) }
     ensures makes { MakesTo (asked (map string_bytes words.now)) (F.seen files.old) (F.seen files.new)
         (K.faults out.old) (K.faults out.new) (K.taken out.old) (K.taken out.new) result }
-    ensures batches { BatchesTo (asked (map string_bytes words.now)) (F.seen files.old) (F.seen files.new)
+    ensures batches { BatchesTo (asked (map string_bytes words.now))
+        (F.seen files.old) (F.seen files.new)
         (K.faults out.old) (K.faults out.new) (K.taken out.old) (K.taken out.new) result }
     ensures clean { IsTrue (is_finished result) → IsTrue (K.clean out.new) }
     ensures helpers { HelpersBackOf (asked (map string_bytes words.now)) (map F.seen helpers.old.items) (map F.seen helpers.new.items) }
@@ -327,7 +413,8 @@ pub fn run<
         (K.faults out.old) (K.faults out.new) (K.taken out.old) (K.taken out.new) result }
 
     // The same of the pages of a list, each with the answer that a run of it alone has.
-    ensures batches { BatchesTo (asked (map string_bytes words.now)) (F.seen files.old) (F.seen files.new)
+    ensures batches { BatchesTo (asked (map string_bytes words.now))
+        (F.seen files.old) (F.seen files.new)
         (K.faults out.old) (K.faults out.new) (K.taken out.old) (K.taken out.new) result }
 
     // The same of a page that is made from a number.
@@ -349,8 +436,10 @@ pub fn run<
 
     // What follows for single statuses.
     ensures usage { Exactly Status.Usage result (asked (map string_bytes words.now) ≡ None) }
-    ensures absent { result ≡ Status.Absent → AbsenceRose (asked (map string_bytes words.now)) (F.seen files.old) (F.seen files.new) }
-    ensures read_fault { result ≡ Status.ReadFault → FaultRose (asked (map string_bytes words.now)) (F.seen files.old) (F.seen files.new) }
+    ensures absent { result ≡ Status.Absent
+        → AbsenceRose (asked (map string_bytes words.now)) (F.seen files.old) (F.seen files.new) }
+    ensures read_fault { result ≡ Status.ReadFault
+        → FaultRose (asked (map string_bytes words.now)) (F.seen files.old) (F.seen files.new) }
     ensures write_fault { result ≡ Status.WriteFault → Rose (K.faults out.old) (K.faults out.new) }
 {
     run_words(rt, alloc, words, files, out, gate, helpers)

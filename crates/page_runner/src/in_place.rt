@@ -1,20 +1,20 @@
 // A page is run with the parser's side on the calling thread.
 ghost use Rattle.std.specs.Prelude.{◌≡◌, ◌<◌, ◌≤◌, ◌⊎◌, [], ◌∷◌, IfSome, IsSome, IsTrue};
 ghost use Rattle.std.specs.String.{string_bytes};
+ghost use Rattle.page_runner.specs.Manner.{manner};
 ghost use Rattle.page_runner.specs.Reports.{HasSide, has_run_out, IsCutByReads, Reports};
 ghost use Rattle.page_turns.specs.Cuts.{IsCut};
 ghost use Rattle.page_turns.specs.Scripts.{folder_with};
 ghost use Rattle.page_runner.specs.OnTwo.{IsLookingAhead, IsFetchingAwaited};
 ghost use Rattle.page_runner.specs.Answers.{is_finished, IsBegun, PageAnswers, ReadsPage};
 
-use crate::command::end_at_fault;
 use crate::report::{Report, Run};
-use crate::running::{begin_run, run_with};
+use crate::running::{begin_page, begin_run, run_with};
 use crate::status::Status;
 use core_steps::DocSide;
 use html_types::NoMemory;
-use outside::{Failed, Outside, Port, Sink};
-use page_turns::{InPlace, Job, Nobody};
+use outside::{Outside, Sink};
+use page_turns::{InPlace, Job, Nobody, Unwatched};
 use speculation::InForce;
 use std::alloc::Global;
 use std::marker::Brand;
@@ -31,11 +31,11 @@ fn run_begun<E: InForce, F: Outside, K: Sink>(
     requires piece { 0 < job.now.piece }
     requires some { 0 < job.now.ahead }
     requires few { job.now.ahead ≤ 64 }
-    ensures answer { PageAnswers job.now.table.now job.now.dump (string_bytes job.now.page) (folder_with (string_bytes job.now.dir) [])
+    ensures answer { PageAnswers job.now.table.now (manner job.now.dump 0) (string_bytes job.now.page) (folder_with (string_bytes job.now.dir) [])
         (F.seen files.old) (F.seen files.new) (K.faults out.old) (K.faults out.new) (K.taken out.old) (K.taken out.new) result.outcome }
     ensures reads { ReadsPage (string_bytes job.now.page) (string_bytes job.now.dir) [] (F.seen files.old) (F.seen files.new) }
     ensures clean { IsTrue (is_finished result.outcome) → IsTrue (K.clean out.new) }
-    ensures reports { IfSome result.side (λ side. Reports job.now.table.now job.now.ahead job.now.dump (string_bytes job.now.page) (folder_with (string_bytes job.now.dir) [])
+    ensures reports { IfSome result.side (λ side. Reports job.now.table.now job.now.ahead (manner job.now.dump 0) (string_bytes job.now.page) (folder_with (string_bytes job.now.dir) [])
         (F.seen files.old) (F.seen files.new) (K.taken out.old) (K.taken out.new) side result.outcome) }
     ensures side { IsSome result.side ⊎ ((result.outcome ≡ Status.NoMemory)
         × (F.seen files.new ≡ F.seen files.old) × (K.taken out.new ≡ K.taken out.old)) }
@@ -57,7 +57,8 @@ fn run_begun<E: InForce, F: Outside, K: Sink>(
     };
     let mut lanes: InPlace<E> = InPlace::new(alloc);
     let mut nobody = Nobody;
-    let outcome = run_with::<E, InPlace<E>, Nobody, F, K>(
+    let mut unwatched = Unwatched;
+    let (outcome, _seen) = run_with::<E, InPlace<E>, Nobody, F, K, Unwatched>(
         alloc,
         job,
         files,
@@ -66,6 +67,7 @@ fn run_begun<E: InForce, F: Outside, K: Sink>(
         &mut lanes,
         &mut nobody,
         &mut room,
+        &mut unwatched,
     );
     Run {
         outcome,
@@ -84,11 +86,11 @@ pub fn page_in_place<F: Outside, K: Sink>(
 ) -> Report<Brand>
     requires piece { (0 < job.now.piece) × (job.now.piece ≤ 65536) }
     requires ahead { (0 < job.now.ahead) × (job.now.ahead ≤ 64) }
-    ensures answer { PageAnswers job.now.table.now job.now.dump (string_bytes job.now.page) (folder_with (string_bytes job.now.dir) [])
+    ensures answer { PageAnswers job.now.table.now (manner job.now.dump 0) (string_bytes job.now.page) (folder_with (string_bytes job.now.dir) [])
         (F.seen files.old) (F.seen files.new) (K.faults out.old) (K.faults out.new) (K.taken out.old) (K.taken out.new) result.outcome }
     ensures reads { ReadsPage (string_bytes job.now.page) (string_bytes job.now.dir) (string_bytes job.now.page ∷ []) (F.seen files.old) (F.seen files.new) }
     ensures clean { IsTrue (is_finished result.outcome) → IsTrue (K.clean out.new) }
-    ensures reports { IfSome result.side (λ side. Reports job.now.table.now job.now.ahead job.now.dump (string_bytes job.now.page) (folder_with (string_bytes job.now.dir) [])
+    ensures reports { IfSome result.side (λ side. Reports job.now.table.now job.now.ahead (manner job.now.dump 0) (string_bytes job.now.page) (folder_with (string_bytes job.now.dir) [])
         (F.seen files.old) (F.seen files.new) (K.taken out.old) (K.taken out.new) side result.outcome) }
     ensures side { HasSide (string_bytes job.now.page) (F.seen files.old) (F.seen files.new)
         (K.taken out.old) (K.taken out.new) result.outcome result.side }
@@ -102,26 +104,16 @@ pub fn page_in_place<F: Outside, K: Sink>(
     ensures fetches { IfSome result.side (λ side. IsFetchingAwaited job.now.table.now job.now.ahead []
         side.journal) }
 {
-    match files.begin(Port::Page, job.page.as_str()) {
-        Err(Failed) => Report {
-            outcome: end_at_fault(out),
-            side: None,
-            ends: None,
-            helped: Vec::new(alloc),
-        },
-        Ok(false) => Report {
-            outcome: Status::Absent,
-            side: None,
-            ends: None,
-            helped: Vec::new(alloc),
-        },
-        Ok(true) => {
+    match begin_page(files, out, job) {
+        Some(outcome) => Report::bare(alloc, outcome),
+        None => {
             let Run { outcome, side } = run_begun::<Brand, F, K>(alloc, job, files, out);
             Report {
                 outcome,
                 side,
                 ends: None,
                 helped: Vec::new(alloc),
+                seen: Vec::new(alloc),
             }
         }
     }

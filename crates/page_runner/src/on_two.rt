@@ -1,26 +1,28 @@
 // A page is run with the parser's side in a thread of its own.
-ghost use Rattle.std.specs.Prelude.{◌≡◌, ◌<◌, ◌≤◌, ◌⊎◌, false, [], ◌∷◌, ◌++◌, length, map, Some, None, IfOk, IfSome, IsSome, IsTrue};
+ghost use Rattle.std.specs.Prelude.{◌≡◌, ◌<◌, ◌≤◌, ◌⊎◌, [], ◌∷◌, ◌++◌, length, map, Some, None, false, IfOk, IfSome, IsSome, IsTrue};
 ghost use Rattle.std.specs.String.{string_bytes};
 ghost use Rattle.parser_thread.specs.declared.messages.ToParser.TheVariants as message;
 ghost use Rattle.parser_thread.specs.Answers.{said};
 ghost use Rattle.parser_thread.specs.Running.{IsRunning};
 ghost use Rattle.core_steps.specs.Sides.{first_shown};
+ghost use Rattle.page_runner.specs.Manner.{manner};
 ghost use Rattle.page_runner.specs.Reports.{HasSide, has_run_out, IsCutByReads, Reports};
 ghost use Rattle.page_turns.specs.Cuts.{IsCut};
+ghost use Rattle.standard.specs.Act.{new_doc};
+ghost use Rattle.page_runner.specs.Watching.{IsWatched};
 ghost use Rattle.page_turns.specs.Scripts.{AreDistinct};
 ghost use Rattle.preload.specs.Teams.{HelpedEach, names_through, given_through};
 ghost use Rattle.page_runner.specs.Answers.{is_finished, folder_by, IsBegun, PageAnswers, ReadsPage};
 ghost use Rattle.page_runner.specs.OnTwo.{IfBoth, InOrder, IsAnswered, IsJournaled, DropsFailed, IsLookingAhead, IsFetchingAwaited};
 
-use crate::command::end_at_fault;
 use crate::report::Report;
-use crate::running::{begin_run, let_go, run_with};
+use crate::running::{begin_page, begin_run, let_go, run_with};
 use crate::status::Status;
 use core_steps::DocSide;
 use entity_table::Table;
 use html_types::NoMemory;
-use outside::{Failed, Gate, Outside, Port, Sink};
-use page_turns::{Counterpart, Job};
+use outside::{Gate, Outside, Sink};
+use page_turns::{Counterpart, Job, Unwatched, Watch};
 use parser_thread::{FromParser, Lanes, ParserThread, start};
 use preload::Fetchers;
 use speculation::{InForce, Reply, Request};
@@ -116,18 +118,13 @@ impl<'a, R: Threads + Wait, E: InForce, G: Gate + Drop> OverLanes<'a, R, E, G> {
 }
 
 // No memory for what a run begins with.
-fn without_memory<E: InForce>(alloc: Global) -> Report<E>
+pub(crate) fn without_memory<E: InForce>(alloc: Global) -> Report<E>
     ensures outcome { result.outcome ≡ Status.NoMemory }
     ensures side { result.side ≡ None }
     ensures ends { result.ends ≡ None }
     ensures helped { result.helped.items ≡ [] }
 {
-    Report {
-        outcome: Status::NoMemory,
-        side: None,
-        ends: None,
-        helped: Vec::new(alloc),
-    }
+    Report::bare(alloc, Status::NoMemory)
 }
 
 // No memory for the fetchers: what went through the lanes is let go.
@@ -173,12 +170,13 @@ fn begin_on_two<
 }
 
 // Runs the page that was begun, and then has the parser's side stop.
-fn run_on_two<
+pub(crate) fn run_on_two<
     R: Threads + Wait + Copy + Send + Sync + 'static,
     E: InForce + Send + 'static,
     F: Outside + Drop + Send + 'static,
     K: Sink,
     G: Gate + Drop + Send + Sync + 'static,
+    W: Watch,
 >(
     rt: &R,
     alloc: Global,
@@ -187,18 +185,21 @@ fn run_on_two<
     out: &mut K,
     gate: &Arc<G, Global>,
     helpers: &mut Vec<F>,
+    watch: &mut W,
 ) -> Report<E>
     requires table { job.now.table.now ≡ E.entities }
     requires begun { IsBegun (string_bytes job.now.page) (F.seen files.old) }
     requires piece { 0 < job.now.piece }
     requires some { 0 < job.now.ahead }
     requires few { job.now.ahead ≤ 64 }
-    ensures answer { PageAnswers job.now.table.now job.now.dump (string_bytes job.now.page)
+    requires watch { (W.doc watch.old ≡ new_doc) × (W.shown watch.old ≡ []) }
+    requires unwatched { W.watches watch.old ≡ false → W.count watch.old ≡ 0 }
+    ensures answer { PageAnswers job.now.table.now (manner job.now.dump (W.count watch.old)) (string_bytes job.now.page)
         (folder_by (string_bytes job.now.dir) job.now.preload (map F.seen helpers.old.items) (map F.seen helpers.new.items))
         (F.seen files.old) (F.seen files.new) (K.faults out.old) (K.faults out.new) (K.taken out.old) (K.taken out.new) result.outcome }
     ensures reads { ReadsPage (string_bytes job.now.page) (string_bytes job.now.dir) [] (F.seen files.old) (F.seen files.new) }
     ensures clean { IsTrue (is_finished result.outcome) → IsTrue (K.clean out.new) }
-    ensures reports { IfSome result.side (λ side. Reports job.now.table.now job.now.ahead job.now.dump (string_bytes job.now.page)
+    ensures reports { IfSome result.side (λ side. Reports job.now.table.now job.now.ahead (manner job.now.dump (W.count watch.old)) (string_bytes job.now.page)
         (folder_by (string_bytes job.now.dir) job.now.preload (map F.seen helpers.old.items) (map F.seen helpers.new.items))
         (F.seen files.old) (F.seen files.new) (K.taken out.old) (K.taken out.new) side result.outcome) }
     ensures side { IsSome result.side ⊎ ((result.outcome ≡ Status.NoMemory)
@@ -217,6 +218,8 @@ fn run_on_two<
     ensures helped { HelpedEach (string_bytes job.now.dir) result.helped.items (map F.seen helpers.old.items) (map F.seen helpers.new.items) }
     ensures used { length result.helped.items ≤ job.now.preload }
     ensures once { AreDistinct (names_through result.helped.items) }
+    ensures watched { IsTrue (W.watches watch.old) → IfSome result.side (λ side. IsWatched side
+        result.outcome (W.count watch.old) result.seen.items) }
 {
     let Ok((mut room, mut side, running)) = begin_on_two::<R, E, G>(rt, alloc, job, gate) else {
         return without_memory(alloc);
@@ -226,8 +229,8 @@ fn run_on_two<
         let_go(side);
         return without_fetchers(alloc, lanes.finish());
     };
-    let outcome = run_with::<E, _, _, F, K>(
-        alloc, job, files, out, &mut side, &mut lanes, &mut early, &mut room,
+    let (outcome, seen) = run_with::<E, _, _, F, K, W>(
+        alloc, job, files, out, &mut side, &mut lanes, &mut early, &mut room, watch,
     );
     let ends = lanes.finish();
     let helped = early.finish(helpers);
@@ -236,6 +239,7 @@ fn run_on_two<
         side: Some(side),
         ends: Some(ends),
         helped,
+        seen,
     }
 }
 
@@ -263,12 +267,12 @@ pub fn page_on_two<
     requires ahead { (0 < job.now.ahead) × (job.now.ahead ≤ 64) }
 
     // What was written is the serial parse's text, as of `page_in_place`; the journal replays to this very document, these lines and this outcome.
-    ensures answer { PageAnswers job.now.table.now job.now.dump (string_bytes job.now.page)
+    ensures answer { PageAnswers job.now.table.now (manner job.now.dump 0) (string_bytes job.now.page)
         (folder_by (string_bytes job.now.dir) job.now.preload (map F.seen helpers.old.items) (map F.seen helpers.new.items))
         (F.seen files.old) (F.seen files.new) (K.faults out.old) (K.faults out.new) (K.taken out.old) (K.taken out.new) result.outcome }
     ensures reads { ReadsPage (string_bytes job.now.page) (string_bytes job.now.dir) (string_bytes job.now.page ∷ []) (F.seen files.old) (F.seen files.new) }
     ensures clean { IsTrue (is_finished result.outcome) → IsTrue (K.clean out.new) }
-    ensures reports { IfSome result.side (λ side. Reports job.now.table.now job.now.ahead job.now.dump (string_bytes job.now.page)
+    ensures reports { IfSome result.side (λ side. Reports job.now.table.now job.now.ahead (manner job.now.dump 0) (string_bytes job.now.page)
         (folder_by (string_bytes job.now.dir) job.now.preload (map F.seen helpers.old.items) (map F.seen helpers.new.items))
         (F.seen files.old) (F.seen files.new) (K.taken out.old) (K.taken out.new) side result.outcome) }
     ensures side { HasSide (string_bytes job.now.page) (F.seen files.old) (F.seen files.new)
@@ -294,19 +298,20 @@ pub fn page_on_two<
     ensures used { length result.helped.items ≤ job.now.preload }
     ensures once { AreDistinct (names_through result.helped.items) }
 {
-    match files.begin(Port::Page, job.page.as_str()) {
-        Err(Failed) => Report {
-            outcome: end_at_fault(out),
-            side: None,
-            ends: None,
-            helped: Vec::new(alloc),
-        },
-        Ok(false) => Report {
-            outcome: Status::Absent,
-            side: None,
-            ends: None,
-            helped: Vec::new(alloc),
-        },
-        Ok(true) => run_on_two::<R, E, F, K, G>(rt, alloc, job, files, out, gate, helpers),
+    match begin_page(files, out, job) {
+        Some(outcome) => Report::bare(alloc, outcome),
+        None => {
+            let mut unwatched = Unwatched;
+            run_on_two::<R, E, F, K, G, Unwatched>(
+                rt,
+                alloc,
+                job,
+                files,
+                out,
+                gate,
+                helpers,
+                &mut unwatched,
+            )
+        }
     }
 }

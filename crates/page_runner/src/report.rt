@@ -1,5 +1,5 @@
 // What came of a page.
-ghost use Rattle.std.specs.Prelude.{◌≡◌, None, false, IfSome, IsSomeAnd};
+ghost use Rattle.std.specs.Prelude.{◌≡◌, [], None, false, IfSome, IsSomeAnd};
 ghost use Rattle.core_steps.specs.Tallies.{IsTallyOf};
 
 use crate::status::Status;
@@ -7,6 +7,8 @@ use core_steps::{DocSide, Tally};
 use parser_thread::Lanes;
 use preload::HelperLanes;
 use speculation::InForce;
+use std::alloc::Global;
+use tree_watch::Seen;
 
 /// What came of a page that was run on the calling thread.
 #[derive(Drop)]
@@ -28,9 +30,27 @@ pub struct Report<E: InForce> {
     /// Of each helper that might be used, in their order, what went through its lanes: none where no memory for its thread was to be had. There
     /// are none where the page wasn't begun.
     pub helped: Vec<Option<HelperLanes>>,
+    /// What the watchers saw last, in their order.
+    pub seen: Vec<Seen>,
 }
 
 impl<E: InForce> Report<E> {
+    /// Of a page that wasn't begun, or for which memory ran out before anything of it was read.
+    pub(crate) fn bare(alloc: Global, outcome: Status) -> Report<E>
+        ensures outcome { result.outcome ≡ outcome }
+        ensures side { result.side ≡ None }
+        ensures ends { result.ends ≡ None }
+        ensures helped { result.helped.items ≡ [] }
+    {
+        Report {
+            outcome,
+            side: None,
+            ends: None,
+            helped: Vec::new(alloc),
+            seen: Vec::new(alloc),
+        }
+    }
+
     /// What the run came to in numbers, where the page was begun. After want of memory they tell nothing. The tree is walked.
     pub fn tally(&self) -> Option<Tally>
         ensures none { self.now.side ≡ None → result ≡ None }

@@ -11,13 +11,13 @@ use core_steps::{DocSide, Fetch};
 use entity_table::{Table, TableFault};
 use html_types::NoMemory;
 use outside::{Failed, Outside, Port, Sink};
-use page_turns::{Counterpart, Failure, InPlace, Job, Nobody, Outcome, parse_page, read_whole};
+use page_runner::ENTITIES_LIMIT;
+use page_turns::{
+    Counterpart, End, Failure, InPlace, Job, Nobody, Unwatched, parse_page, read_whole,
+};
 use speculation::InForce;
 use std::alloc::{AllocError, Global};
 use std::marker::Brand;
-
-// The most bytes of the entities file.
-const ENTITIES_LIMIT: usize = 4_194_304;
 
 /// Why there is no trace.
 #[derive(Clone, Copy, Debug)]
@@ -108,7 +108,7 @@ fn parse<E: InForce, L: Counterpart<E>, F: Outside>(
     side: &mut DocSide,
     lanes: &mut L,
     room: &mut [u8],
-) -> Result<Outcome, Failure>
+) -> Result<End, Failure>
     requires table { job.now.table.now ≡ E.entities }
     requires first { side.old ≡ first_shown job.now.table.now job.now.ahead }
     requires load { L.load lanes.old ≡ no_load }
@@ -120,7 +120,8 @@ fn parse<E: InForce, L: Counterpart<E>, F: Outside>(
 {
     let mut out = Nowhere { is_clean: true };
     let mut nobody = Nobody;
-    parse_page::<E, L, Nobody, F, Nowhere>(
+    let mut unwatched = Unwatched;
+    parse_page::<E, L, Nobody, F, Nowhere, Unwatched>(
         alloc,
         job,
         files,
@@ -129,6 +130,7 @@ fn parse<E: InForce, L: Counterpart<E>, F: Outside>(
         lanes,
         &mut nobody,
         room,
+        &mut unwatched,
     )
 }
 

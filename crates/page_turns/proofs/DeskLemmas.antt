@@ -5,14 +5,13 @@ use Rattle.html_types.specs.declared.operation.NodeId.{NodeId}
 use Rattle.html_types.specs.declared.ending.Ending.TheVariants as ending
 use Rattle.html_types.specs.declared.ending.Why.TheVariants as why
 use Rattle.html_types.specs.declared.instruction.Stop.TheVariants as stop
-use Rattle.html_types.specs.declared.instruction.Finish.TheVariants as finale
 use Rattle.standard.specs.Entities.{Entities}
 use Rattle.standard.specs.Parser.{Parser}
 use Rattle.serial.specs.Scripts.{Fetched, faulted}
 use Rattle.serial.specs.Serial.{World, fetched, Serial, prepared, Moment, reading, tag_ended, awaits, over, refusal, refused, Outcome, moment_after}
 use Rattle.core_definitions.specs.declared.verdict.Verdict.{Verdict}
 use Rattle.core_definitions.specs.declared.verdict.Verdict.TheVariants.{Keep, Rewind}
-use Rattle.core_definitions.specs.Batches.{Piece, Batch, Halt, at, finishing, refusing}
+use Rattle.core_definitions.specs.Batches.{Piece, Batch, Halt, at, over_with}
 use Rattle.core_definitions.specs.Verdict.{runs}
 use Rattle.core_definitions.specs.Settling.{is_empty, Through, here, onward, Settles}
 use Rattle.core_definitions.specs.Desk.{Phase, free, tagged, waits, done, Desk, with_more, stale, sends_first, sends, with_batches, drops, answer_called_for, takes, in_phase, at_end_tag, behind_halt, with_executed, executes, sent_again, decided, Concludes, DoesIn, Does, arrives}
@@ -51,9 +50,7 @@ halt-keeps : (d0 d : Desk) (h : Halt) → Keeps d0 d → Keeps d0 (behind_halt h
 halt-keeps d0 d (at stop.InputEnd) k = k
 halt-keeps d0 d (at (stop.Script i)) k = tag-keeps d0 d i (runs (prepared i d.own)) k
 halt-keeps d0 d (at stop.Deep) k = phase-keeps d0 d (done (refused why.Depth)) k
-halt-keeps d0 d (finishing finale.Finished) k = phase-keeps d0 d _ k
-halt-keeps d0 d (finishing finale.Deep) k = phase-keeps d0 d _ k
-halt-keeps d0 d (refusing w) k = phase-keeps d0 d _ k
+halt-keeps d0 d (over_with w) k = phase-keeps d0 d _ k
 
 executes-keeps : (bs : List Batch) (d : Desk) → Keeps d (executes bs d)
 executes-keeps [] d = keeps-refl d

@@ -4,14 +4,13 @@ use Rattle.serial.specs.declared.script.Line.{Line}
 use Rattle.html_types.specs.declared.ending.Ending.TheVariants as ending
 use Rattle.html_types.specs.declared.operation.NodeId.{NodeId}
 use Rattle.html_types.specs.declared.instruction.Stop.TheVariants as stop
-use Rattle.html_types.specs.declared.instruction.Finish.TheVariants as finale
 use Rattle.standard.specs.Parser.{Parser}
 use Rattle.serial.specs.Serial.{World, prepared, Serial, Moment, reading, tag_ended, awaits, over, moment_after}
 use Rattle.standard_laws.specs.Laws.{lines_of, GoesOnFrom}
 use Rattle.standard_laws.proofs.Lines.{moment-follows}
 use Rattle.core_definitions.specs.declared.verdict.Verdict.{Verdict}
 use Rattle.core_definitions.specs.declared.verdict.Verdict.TheVariants.{Keep, Rewind}
-use Rattle.core_definitions.specs.Batches.{Batch, Halt, at, finishing, refusing}
+use Rattle.core_definitions.specs.Batches.{Batch, Halt, at, over_with}
 use Rattle.core_definitions.specs.Verdict.{runs}
 use Rattle.core_definitions.specs.Settling.{Through, here, onward, Settles}
 use Rattle.core_definitions.specs.Desk.{Phase, free, tagged, waits, done, Desk, at_end_tag, behind_halt, with_executed, executes, decided, Concludes, DoesIn, Does}
@@ -49,9 +48,7 @@ halt-lines : (d : Desk) (h : Halt) → (behind_halt h d).own.side.lines ≡ d.ow
 halt-lines d (at stop.InputEnd) = refl
 halt-lines d (at (stop.Script i)) = tag-lines d i (runs (prepared i d.own))
 halt-lines d (at stop.Deep) = refl
-halt-lines d (finishing finale.Finished) = refl
-halt-lines d (finishing finale.Deep) = refl
-halt-lines d (refusing w) = refl
+halt-lines d (over_with w) = refl
 
 executes-lines : (bs : List Batch) (d : Desk) → (executes bs d).own.side.lines ≡ d.own.side.lines
 executes-lines [] d = refl

@@ -13,9 +13,9 @@ use Rattle.core_definitions.specs.Core.{whole_page}
 use Rattle.core_definitions.specs.Desk.{Phase, free, tagged, waits, done, Desk}
 use Rattle.core_laws.proofs.Standing.{ends-as-serial, lines-begin}
 use Rattle.core_steps.specs.Sides.{Shown, ShowsIn, IsReplayed}
-use Rattle.page_turns.specs.declared.outcome.Outcome.{Outcome as Told}
+use Rattle.parse_machine.specs.declared.end.End.{End}
 use Rattle.page_turns.specs.Taken.{Took, TookFront}
-use Rattle.page_turns.specs.Shown.{result_of}
+use Rattle.parse_machine.specs.Ends.{result_of}
 use Rattle.speculation.specs.Asking.{Asked}
 use Rattle.page_turns.specs.Along.{Goes}
 use Rattle.page_turns.specs.Scripts.{Folder}
@@ -114,13 +114,13 @@ module _ (es : Entities) (ahead : ℕ) (folder : Folder) (before after : Seen) (
     comes = serial-back w (scripts_with s.journal.fetches has.scripts) has.alike (page_at page) outcome.0 outcome.1
 
 -- in either case what is left alone
-pub left_alone : {E : Type 0} (es : Entities) (ahead : ℕ) (folder : Folder) (before after : Seen) (t t' : Option (List ℕ)) (s : Shown) (r : Result Told E) → IfOk r (λ o. RunsOut es ahead folder before after t t' s o)
+pub left_alone : {E : Type 0} (es : Entities) (ahead : ℕ) (folder : Folder) (before after : Seen) (t t' : Option (List ℕ)) (s : Shown) (r : Result End E) → IfOk r (λ o. RunsOut es ahead folder before after t t' s o)
     → OnErr r (GivesUp es ahead folder before after t t' s) → LeavesAlone folder.dir before after
 left_alone es ahead folder before after t t' s (Ok o) out gives = out.alone
 left_alone es ahead folder before after t t' s (Err e) out gives = gives.alone
 
 -- and what is in the journal
-pub left_behind : {E : Type 0} (es : Entities) (ahead : ℕ) (folder : Folder) (before after : Seen) (t t' : Option (List ℕ)) (s : Shown) (r : Result Told E) → IfOk r (λ o. RunsOut es ahead folder before after t t' s o)
+pub left_behind : {E : Type 0} (es : Entities) (ahead : ℕ) (folder : Folder) (before after : Seen) (t t' : Option (List ℕ)) (s : Shown) (r : Result End E) → IfOk r (λ o. RunsOut es ahead folder before after t t' s o)
     → OnErr r (GivesUp es ahead folder before after t t' s) → Leaves es ahead folder before after s
 left_behind es ahead folder before after t t' s (Ok o) out gives = out.leaves
 left_behind es ahead folder before after t t' s (Err e) out gives = gives.left
@@ -134,7 +134,7 @@ pub gave_part : (es : Entities) (ahead : ℕ) (folder : Folder) (before after : 
 gave_part es ahead folder before after t t' s replayed gives = gives.part replayed
 
 -- or all
-pub ran_out : (es : Entities) (ahead : ℕ) (folder : Folder) (before after : Seen) (t t' : Option (List ℕ)) (s : Shown) (o : Told) (asks : Option (List Asked)) → IsReplayed s → Goes folder.given asks s → RunsOut es ahead folder before after t t' s o
+pub ran_out : (es : Entities) (ahead : ℕ) (folder : Folder) (before after : Seen) (t t' : Option (List ℕ)) (s : Shown) (o : End) (asks : Option (List Asked)) → IsReplayed s → Goes folder.given asks s → RunsOut es ahead folder before after t t' s o
     → EndsWithScripts es folder before after s.desk.own.side.doc s.desk.own.side.lines t t' o
 ran_out es ahead folder before after t t' s o asks replayed goes out =
     let there = has es ahead folder before after s replayed out.leaves in

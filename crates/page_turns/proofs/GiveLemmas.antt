@@ -21,12 +21,12 @@ use Rattle.core_definitions.specs.StandsFor.{text_of}
 use Rattle.speculation.specs.Asking.{Asked}
 use Rattle.core_steps.specs.Journals.{found}
 use Rattle.core_steps.specs.Sides.{Shown, ShowsIn, journaled, with_fetch, IsReplayed, Standing, running, awaiting, over, unless_arrived, standing_in, standing_of, left_to_do}
-use Rattle.page_turns.specs.declared.outcome.Outcome.{Outcome as Told}
+use Rattle.parse_machine.specs.declared.end.End.{End}
 use Rattle.page_turns.specs.declared.reader.PageReader.{PageReader}
 use Rattle.page_turns.specs.Given.{KeepsEntities}
 use Rattle.page_turns.specs.Taken.{Took, TookFront}
 use Rattle.page_turns.specs.Scripts.{Folder, Met, GivenEarly, Fetches, AreKnown}
-use Rattle.page_turns.specs.Shown.{result_of}
+use Rattle.parse_machine.specs.Ends.{result_of}
 use Rattle.page_turns.specs.Pages.{PageFor}
 use Rattle.page_turns.specs.Turns.{Load, under_way, weight_of, Asks, Answers, while_open, while_awaiting, ReadsPiece, ReadsInPart, StaysRead, RunsOn, RunsInPart, unwritten, part_written, Arrives, BeginsTheAwaited, StopsIn, Holds, text_to_come, steps_to_come, turns_to_come, Leaves, LeavesAlone, GivesUp, RunsOut}
 use Rattle.page_turns.proofs.KeepsLemmas.{later-others, later-entities, entities-then, entities-others}
@@ -86,7 +86,7 @@ module _ (es : Entities) (ahead : ℕ) (folder : Folder) (before : Seen) (t : Op
 
     -- ---- the end
 
-    pub runs_out : (o : Told) → s.desk.phase ≡ done (result_of o) → RunsOut es ahead folder before now t t' s o
+    pub runs_out : (o : End) → s.desk.phase ≡ done (result_of o) → RunsOut es ahead folder before now t t' s o
     runs_out o q = record {
       leaves = leaves_now;
       alone = alone_now;

@@ -26,3 +26,5 @@ pub mod TurnLemmas
 pub mod GiveLemmas
 pub mod BringLemmas
 pub mod ReplayLemmas
+pub mod WatchLemmas
+pub mod PassedLemmas

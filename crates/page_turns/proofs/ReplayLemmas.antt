@@ -16,7 +16,7 @@ use Rattle.page_turns.proofs.DeskLemmas.{shows-phase}
 use Rattle.page_turns.proofs.ReachLemmas.{pieces-more}
 use Rattle.page_turns.proofs.EndLemmas.{shown-lines}
 
-shown-doc : (p : Phase) (d v : Desk) → ShowsIn p d v → d.own.side.doc ≡ v.own.side.doc
+pub shown-doc : (p : Phase) (d v : Desk) → ShowsIn p d v → d.own.side.doc ≡ v.own.side.doc
 shown-doc free d v is = ap (λ (z : Desk). z.own.side.doc) is
 shown-doc (tagged i held) d v is = ap (λ (z : Desk). z.own.side.doc) is
 shown-doc (waits name held) d v is = ap (λ (z : Desk). z.own.side.doc) is

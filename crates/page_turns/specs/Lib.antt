@@ -3,7 +3,6 @@ pub mod Calls
 pub mod Given
 pub mod Scripts
 pub mod Early
-pub mod Shown
 pub mod Pages
 pub mod Cuts
 pub mod Turns
@@ -12,3 +11,4 @@ pub mod Messages
 pub mod InPlaces
 pub mod Replaying
 pub mod WrittenInPart
+pub mod Watched

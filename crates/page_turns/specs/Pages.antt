@@ -15,7 +15,7 @@ use Rattle.serial.specs.declared.script.Line.{Line}
 use Rattle.utf8_pieces.specs.Decoder.{HasRead}
 use Rattle.core_definitions.specs.Core.{joined}
 use Rattle.page_turns.specs.declared.page.TheConstants.{PAGE_LIMIT}
-use Rattle.page_turns.specs.declared.outcome.Outcome.{Outcome as Told}
+use Rattle.parse_machine.specs.declared.end.End.{End}
 use Rattle.page_turns.specs.declared.reader.PageReader.{PageReader}
 use Rattle.outside.specs.Outside.{Call, reads}
 use Rattle.outside.specs.declared.traits.Failed.{Failed}
@@ -23,7 +23,7 @@ use Rattle.page_turns.specs.Calls.{CallsAt, AreReads, given_first, ReadWithin, h
 use Rattle.page_turns.specs.Given.{FaultsRose, NoFault}
 use Rattle.page_turns.specs.Taken.{Took, TookFront}
 use Rattle.page_turns.specs.Scripts.{Folder, AreScriptsOf, path_of}
-use Rattle.page_turns.specs.Shown.{result_of}
+use Rattle.parse_machine.specs.Ends.{result_of}
 
 -- what the reads of a page gave, and whether a read behind that failed
 pub record PageRead : Type 0 where
@@ -83,7 +83,7 @@ MeetsFaults w page o before after = NoFault port.Script before after ⊎ StopsAt
 -- ---- what a parse comes to
 
 -- The serial parse of the page ended so, with the tree of this document and these lines, and the sink took them.
-pub record Ended (w : World) (page : PageRead) (doc : Doc) (written : List Line) (taken taken' : Option (List ℕ)) (told : Told) : Type 0 where
+pub record Ended (w : World) (page : PageRead) (doc : Doc) (written : List Line) (taken taken' : Option (List ℕ)) (told : End) : Type 0 where
   pub outcome : Outcome
   pub comes : ComesTo w page outcome
   pub result : outcome.result ≡ result_of told
@@ -98,7 +98,7 @@ pub record BeginsAwaited (w : World) (page : Page) (dir : List ℕ) (before afte
   pub awaited : AllByRecursion (λ name. (last : Serial) × Passes page w (awaits name last)) names
 
 -- So ended the page that was read at its port, with the scripts of the folder.
-pub record EndsWithScripts (es : Entities) (o : Folder) (before after : Seen) (doc : Doc) (lines : List Line) (taken taken' : Option (List ℕ)) (told : Told) : Type 0 where
+pub record EndsWithScripts (es : Entities) (o : Folder) (before after : Seen) (doc : Doc) (lines : List Line) (taken taken' : Option (List ℕ)) (told : End) : Type 0 where
   pub scripts : List ℕ → Fetched
   pub are_scripts : AreScriptsOf o before after scripts
   pub page : PageRead

@@ -20,7 +20,7 @@ use Rattle.core_steps.specs.Fetches.{names_of}
 use Rattle.core_steps.specs.Journals.{found}
 use Rattle.core_steps.specs.Sides.{Shown, journaled, with_fetch, DoesShow, IsReplayed, Standing, awaiting, standing_of, left_to_do}
 use Rattle.page_turns.specs.declared.page.TheConstants.{PAGE_LIMIT}
-use Rattle.page_turns.specs.declared.outcome.Outcome.{Outcome as Told}
+use Rattle.parse_machine.specs.declared.end.End.{End}
 use Rattle.page_turns.specs.declared.scripts.TheConstants.{SCRIPT_LIMIT}
 use Rattle.page_turns.specs.declared.reader.PageReader.{PageReader}
 use Rattle.page_turns.specs.Calls.{ReadWithin, EachWithin}
@@ -28,7 +28,7 @@ use Rattle.page_turns.specs.Given.{NoFault, KeepsEntities}
 use Rattle.page_turns.specs.Taken.{Took, TookFront}
 use Rattle.page_turns.specs.Scripts.{Folder, Met, IsGiven, MayMeet, BeginsFile, Fetches, AreKnown, ReadScriptsTo, NamesOnce}
 use Rattle.page_turns.specs.Early.{GivesOneMore, IsNew}
-use Rattle.page_turns.specs.Shown.{result_of}
+use Rattle.parse_machine.specs.Ends.{result_of}
 use Rattle.page_turns.specs.Along.{Goes}
 use Rattle.page_turns.specs.Pages.{PageOpen, PageFor, PageAt, ReadsOn}
 use Rattle.page_turns.specs.WrittenInPart.{IsDue, WritesInPart}
@@ -241,7 +241,7 @@ pub record GivesUp (es : Entities) (ahead : ℕ) (o : Folder) (before after : Se
   pub part : IsReplayed s → WritesInPart es ahead taken taken' (IsDue s)
 
 -- The parse is over, and the sink took its lines.
-pub record RunsOut (es : Entities) (ahead : ℕ) (o : Folder) (before after : Seen) (taken taken' : Option (List ℕ)) (s : Shown) (told : Told) : Type 0 where
+pub record RunsOut (es : Entities) (ahead : ℕ) (o : Folder) (before after : Seen) (taken taken' : Option (List ℕ)) (s : Shown) (told : End) : Type 0 where
   pub leaves : Leaves es ahead o before after s
   pub alone : LeavesAlone o.dir before after
   pub phase : s.desk.phase ≡ done (result_of told)

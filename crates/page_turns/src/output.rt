@@ -4,11 +4,12 @@ ghost use Rattle.std.specs.Str.{chars};
 ghost use Rattle.serial.specs.Output.{line_text, tree_text, tree_lines, refusal_text, result_with, json_string};
 ghost use Rattle.outside.specs.Outside.{Rose};
 ghost use Rattle.page_turns.specs.Taken.{Took, TookFront};
-ghost use Rattle.page_turns.specs.Shown.{result_of};
+ghost use Rattle.parse_machine.specs.Ends.{result_of};
+ghost use Rattle.page_turns.specs.Watched.{watch_text};
 
-use crate::outcome::Outcome;
 use crate::page::Failure;
 use crate::write::write_all;
+use core_steps::End;
 use html_types::{NoMemory, Why};
 use op_exec::Doc;
 use outside::Sink;
@@ -97,19 +98,21 @@ fn refusal(why: Why) -> &'static str
 }
 
 /// What is written of a page's outcome behind the lines of its scripts, with the tree's text or its dump.
-pub fn show_outcome(
-    alloc: Global,
-    doc: &Doc,
-    outcome: Outcome,
-    dump: bool,
-) -> Result<Vec<u8>, NoMemory>
+pub fn show_outcome(alloc: Global, doc: &Doc, outcome: End, dump: bool) -> Result<Vec<u8>, NoMemory>
     ensures { IfOk result (λ bytes. bytes.items ≡ result_with dump (result_of outcome) doc.now.tree) }
 {
     match outcome {
-        Outcome::Finished => show_lines(alloc, doc, dump),
-        Outcome::Refused(why) => {
+        End::Finished => show_lines(alloc, doc, dump),
+        End::Refused(why) => {
             let line = String::from_str(alloc, refusal(why))?;
             Ok(line.into_bytes())
         }
     }
+}
+
+/// The line of what a watcher of that number saw last: the document's text.
+pub fn show_watch(alloc: Global, number: usize, text: &str) -> Result<Vec<u8>, NoMemory>
+    ensures { IfOk result (λ line. line.items ≡ watch_text number (chars text.now)) }
+{
+    json_line(format!(in alloc; "watch {number} ")?, text)
 }

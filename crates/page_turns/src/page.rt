@@ -7,23 +7,27 @@ ghost use Rattle.core_definitions.specs.Desk.{done, is_done, can_do, wants_reply
 ghost use Rattle.core_steps.specs.Fetches.{names_of};
 ghost use Rattle.core_steps.specs.Sides.{first_shown, journaled, IsReplayed, awaiting, standing_of};
 ghost use Rattle.page_turns.specs.declared.page.Failure.TheVariants as failures;
-ghost use Rattle.page_turns.specs.Shown.{result_of};
+ghost use Rattle.parse_machine.specs.Ends.{result_of};
 ghost use Rattle.page_turns.specs.Pages.{IsUnread};
 ghost use Rattle.page_turns.specs.Cuts.{IsCut};
+ghost use Rattle.doc_changes.specs.Logs.{Logs};
 ghost use Rattle.page_turns.specs.Along.{Stays, MayDo, Goes};
 ghost use Rattle.page_turns.specs.Scripts.{folder_with, Met};
 ghost use Rattle.page_turns.specs.Early.{FailsToBring};
 ghost use Rattle.page_turns.specs.Messages.{TakesOne, TakesLast, TakenSoFar, MayTakeMore, TellsOn};
+ghost use Rattle.standard.specs.Act.{new_doc};
+ghost use Rattle.page_turns.specs.Watched.{WasTold, AllPassed, Follows};
 ghost use Rattle.page_turns.specs.Turns.{no_load, under_way, StaysRead, RunsOn, RunsInPart, Arrives, Brings, BeginsTheAwaited, GivesUp, RunsOut};
 
 use crate::counterpart::Counterpart;
 use crate::job::Job;
-use crate::outcome::Outcome;
 use crate::output::write_lines;
 use crate::prefetch::{Early, Prefetch};
 use crate::reader::PageReader;
 use crate::scripts::fetch_script;
-use core_steps::{DocSide, State};
+use crate::watch::Watch;
+use core_steps::{DocSide, End, State};
+use doc_changes::Log;
 use html_types::{NoMemory, Text};
 use outside::{Failed, Outside, Port, Sink};
 use speculation::{InForce, Reply};
@@ -66,13 +70,12 @@ impl From<Failed> for Failure {
 pub const PAGE_LIMIT: usize = 1_073_741_824;
 
 // What the parse came to, where it is over.
-fn outcome_of(doc: &DocSide) -> Option<Outcome>
+fn outcome_of(doc: &DocSide) -> Option<End>
     ensures over { IfSome result (λ o. doc.now.desk.phase ≡ done (result_of o)) }
     ensures on { IfNone result (is_done doc.now.desk.phase ≡ false) }
 {
     match doc.status() {
-        State::Done => Some(Outcome::Finished),
-        State::Refused(why) => Some(Outcome::Refused(why)),
+        State::Over(end) => Some(end),
         _ => None,
     }
 }
@@ -125,7 +128,12 @@ fn take_reply<E: InForce, L: Counterpart<E>, P: Prefetch<E>>(
 }
 
 // Executes a batch, or runs the script that is in hand, and writes the lines that it gave.
-fn run_on<K: Sink>(alloc: Global, out: &mut K, doc: &mut DocSide) -> Result<(), Failure>
+fn do_and_write<K: Sink>(
+    alloc: Global,
+    out: &mut K,
+    doc: &mut DocSide,
+    log: &mut Log,
+) -> Result<(), Failure>
     requires can { IsTrue (can_do doc.old.desk) }
     requires lines { doc.old.desk.own.side.lines ≡ doc.old.given }
     ensures ok { OnOk result (RunsOn (K.taken out.old) (K.taken out.new) doc.old doc.new) }
@@ -134,10 +142,44 @@ fn run_on<K: Sink>(alloc: Global, out: &mut K, doc: &mut DocSide) -> Result<(), 
     ensures did { MayDo doc.old doc.new }
     ensures write { IsErrOf result Failure.Write → Rose (K.faults out.old) (K.faults out.new) }
     ensures faults { K.faults out.old ≤ K.faults out.new }
+    ensures logged { OnOk result (Logs log.old doc.old.desk.own.side.doc
+        log.new doc.new.desk.own.side.doc) }
 {
-    doc.act()?;
+    doc.act(log)?;
     let lines = doc.take_lines()?;
     write_lines(alloc, out, lines.as_slice())
+}
+
+// The same, and then tells who watches what the document did. Of a Do whose lines weren't written
+// nothing is told.
+fn run_on<K: Sink, W: Watch>(
+    alloc: Global,
+    out: &mut K,
+    doc: &mut DocSide,
+    watch: &mut W,
+) -> Result<(), Failure>
+    requires can { IsTrue (can_do doc.old.desk) }
+    requires lines { doc.old.desk.own.side.lines ≡ doc.old.given }
+    ensures ok { OnOk result (RunsOn (K.taken out.old) (K.taken out.new) doc.old doc.new) }
+    ensures err { OnErr result (RunsInPart (K.taken out.old) (K.taken out.new) doc.old doc.new) }
+    ensures stays { OnErr result (StaysRead doc.old doc.new) }
+    ensures did { MayDo doc.old doc.new }
+    ensures write { IsErrOf result Failure.Write → Rose (K.faults out.old) (K.faults out.new) }
+    ensures faults { K.faults out.old ≤ K.faults out.new }
+    ensures watches { W.watches watch.new ≡ W.watches watch.old }
+    ensures watched { IsTrue (W.watches watch.old) → OnOk result
+        (Follows doc.old (W.doc watch.old) (W.shown watch.old)
+        → Follows doc.new (W.doc watch.new) (W.shown watch.new)) }
+    ensures untold { OnErr result (W.doc watch.new ≡ W.doc watch.old) }
+    ensures unshown { OnErr result (W.shown watch.new ≡ W.shown watch.old) }
+    ensures count { W.count watch.new ≡ W.count watch.old }
+{
+    let mut log = Log::new(alloc, watch.wants());
+    do_and_write(alloc, out, doc, &mut log)?;
+    // What the journal replays to is known from here on.
+    let _journal = doc.journal();
+    watch.did(log.take())?;
+    Ok(())
 }
 
 // The name of the script that is awaited.
@@ -199,7 +241,14 @@ fn fetch_awaited<E: InForce, F: Outside, P: Prefetch<E>>(
 
 // Takes turns until the parse is over: Send and reading on come first, then the events of the parser's side, then Take, then Do, and where
 // nothing else can be done a script is brought.
-pub(crate) fn take_turns<E: InForce, L: Counterpart<E>, P: Prefetch<E>, F: Outside, K: Sink>(
+pub(crate) fn take_turns<
+    E: InForce,
+    L: Counterpart<E>,
+    P: Prefetch<E>,
+    F: Outside,
+    K: Sink,
+    W: Watch,
+>(
     alloc: Global,
     job: &Job<'_>,
     files: &mut F,
@@ -209,7 +258,8 @@ pub(crate) fn take_turns<E: InForce, L: Counterpart<E>, P: Prefetch<E>, F: Outsi
     early: &mut P,
     reader: &mut PageReader,
     room: &mut [u8],
-) -> Result<Outcome, Failure>
+    watch: &mut W,
+) -> Result<End, Failure>
     requires room { 0 < length room.old }
     requires table { job.now.table.now ≡ E.entities }
     requires first { doc.old ≡ first_shown job.now.table.now job.now.ahead }
@@ -220,6 +270,7 @@ pub(crate) fn take_turns<E: InForce, L: Counterpart<E>, P: Prefetch<E>, F: Outsi
     requires reader { IsUnread reader.old }
     requires some { 0 < job.now.ahead }
     requires few { job.now.ahead ≤ 64 }
+    requires watch { (W.doc watch.old ≡ new_doc) × (W.shown watch.old ≡ []) }
     ensures ok { IfOk result (λ o. RunsOut job.now.table.now job.now.ahead (folder_with (string_bytes job.now.dir) (P.given early.new))
         (F.seen files.old) (F.seen files.new) (K.taken out.old) (K.taken out.new) doc.new o) }
     ensures err { OnErr result (GivesUp job.now.table.now job.now.ahead (folder_with (string_bytes job.now.dir) (P.given early.new))
@@ -239,6 +290,11 @@ pub(crate) fn take_turns<E: InForce, L: Counterpart<E>, P: Prefetch<E>, F: Outsi
     ensures crew { P.crew early.new ≡ P.crew early.old }
     ensures write { IsErrOf result Failure.Write → Rose (K.faults out.old) (K.faults out.new) }
     ensures faults { K.faults out.old ≤ K.faults out.new }
+    ensures watched { IsTrue (W.watches watch.old)
+        → OnOk result (W.doc watch.new ≡ doc.new.desk.own.side.doc) }
+    ensures passed { IsTrue (W.watches watch.old) → AllPassed doc.new (W.shown watch.new) }
+    ensures told { IsTrue (W.watches watch.old) → OnErr result (WasTold doc.new (W.doc watch.new)) }
+    ensures count { W.count watch.new ≡ W.count watch.old }
 {
     'turns: loop {
         if let Some(outcome) = outcome_of(doc) {
@@ -255,7 +311,7 @@ pub(crate) fn take_turns<E: InForce, L: Counterpart<E>, P: Prefetch<E>, F: Outsi
         } else if doc.wants_reply() {
             take_reply::<E, L, P>(doc, lanes, early)?;
         } else if doc.can_do() {
-            run_on(alloc, out, doc)?;
+            run_on(alloc, out, doc, watch)?;
         } else {
             fetch_awaited::<E, F, P>(alloc, job.dir.as_str(), files, doc, early)?;
         }

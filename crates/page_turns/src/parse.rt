@@ -1,5 +1,5 @@
 // A page is parsed from where it is begun.
-ghost use Rattle.std.specs.Prelude.{◌≡◌, ◌<◌, ◌≤◌, [], false, true, length, IfOk, IfSome, OnOk, OnErr, IsErrOf};
+ghost use Rattle.std.specs.Prelude.{◌≡◌, ◌<◌, ◌≤◌, [], false, true, length, IfOk, IfSome, OnOk, OnErr, IsErrOf, IsTrue};
 ghost use Rattle.std.specs.String.{string_bytes};
 ghost use Rattle.outside.specs.Outside.{Rose};
 ghost use Rattle.core_steps.specs.Sides.{first_shown};
@@ -10,15 +10,17 @@ ghost use Rattle.page_turns.specs.Turns.{no_load, LeavesAlone, Leaves, RunsOut};
 ghost use Rattle.page_turns.specs.Along.{Goes};
 ghost use Rattle.page_turns.specs.Messages.{TakenSoFar, MayTakeMore, TellsOn};
 ghost use Rattle.page_turns.specs.Replaying.{ReplaysTo};
+ghost use Rattle.standard.specs.Act.{new_doc};
+ghost use Rattle.page_turns.specs.Watched.{Passed, AllPassed, WasTold};
 ghost use Rattle.page_turns.specs.WrittenInPart.{IsDue, WritesInPart};
 
 use crate::counterpart::Counterpart;
 use crate::job::Job;
-use crate::outcome::Outcome;
 use crate::page::{Failure, take_turns};
 use crate::prefetch::Prefetch;
 use crate::reader::PageReader;
-use core_steps::DocSide;
+use crate::watch::Watch;
+use core_steps::{DocSide, End};
 use outside::{Outside, Sink};
 use speculation::InForce;
 use std::alloc::Global;
@@ -26,7 +28,7 @@ use std::alloc::Global;
 /// Parses the page that was begun, with this counterpart, and writes its lines. Where memory runs out or the sink fails it has taken a front of
 /// what is written of the page: all lines of the events before the refused one, and a front of what that one was to write. The document's side
 /// and the counterpart were just made. Of the scripts some may have been fetched before they are awaited.
-pub fn parse_page<E: InForce, L: Counterpart<E>, P: Prefetch<E>, F: Outside, K: Sink>(
+pub fn parse_page<E: InForce, L: Counterpart<E>, P: Prefetch<E>, F: Outside, K: Sink, W: Watch>(
     alloc: Global,
     job: &Job<'_>,
     files: &mut F,
@@ -35,7 +37,8 @@ pub fn parse_page<E: InForce, L: Counterpart<E>, P: Prefetch<E>, F: Outside, K: 
     lanes: &mut L,
     early: &mut P,
     room: &mut [u8],
-) -> Result<Outcome, Failure>
+    watch: &mut W,
+) -> Result<End, Failure>
     requires table { job.now.table.now ≡ E.entities }
     requires first { doc.old ≡ first_shown job.now.table.now job.now.ahead }
     requires load { L.load lanes.old ≡ no_load }
@@ -45,6 +48,7 @@ pub fn parse_page<E: InForce, L: Counterpart<E>, P: Prefetch<E>, F: Outside, K: 
     requires room { 0 < length room.old }
     requires some { 0 < job.now.ahead }
     requires few { job.now.ahead ≤ 64 }
+    requires watch { (W.doc watch.old ≡ new_doc) × (W.shown watch.old ≡ []) }
     ensures ok { IfOk result (λ outcome. EndsWithScripts job.now.table.now (folder_with (string_bytes job.now.dir) (P.given early.new))
         (F.seen files.old) (F.seen files.new)
         doc.new.desk.own.side.doc doc.new.desk.own.side.lines (K.taken out.old) (K.taken out.new)
@@ -76,9 +80,16 @@ pub fn parse_page<E: InForce, L: Counterpart<E>, P: Prefetch<E>, F: Outside, K: 
     ensures crew { P.crew early.new ≡ P.crew early.old }
     ensures write { IsErrOf result Failure.Write → Rose (K.faults out.old) (K.faults out.new) }
     ensures faults { K.faults out.old ≤ K.faults out.new }
+    // Who watches was told of all changes of the run, and shown documents that it passed through.
+    ensures watched { IsTrue (W.watches watch.old)
+        → OnOk result (W.doc watch.new ≡ doc.new.desk.own.side.doc) }
+    ensures passed { IsTrue (W.watches watch.old) → AllPassed doc.new (W.shown watch.new) }
+    ensures told { IsTrue (W.watches watch.old) → WasTold doc.new (W.doc watch.new) }
+    ensures told_passed { IsTrue (W.watches watch.old) → Passed doc.new (W.doc watch.new) }
+    ensures count { W.count watch.new ≡ W.count watch.old }
 {
     let mut reader = PageReader::new(alloc);
-    let ended = take_turns::<E, L, P, F, K>(
+    let ended = take_turns::<E, L, P, F, K, W>(
         alloc,
         job,
         files,
@@ -88,6 +99,7 @@ pub fn parse_page<E: InForce, L: Counterpart<E>, P: Prefetch<E>, F: Outside, K: 
         early,
         &mut reader,
         room,
+        watch,
     );
     // What the journal replays to is known from here on.
     let _journal = doc.journal();

@@ -33,14 +33,15 @@ use Rattle.standard_laws.proofs.Parse.{parse-append}
 use Rattle.html_types.specs.declared.ending.Ending.{Ending}
 use Rattle.html_types.specs.declared.ending.Ending.TheVariants as ending
 use Rattle.html_types.specs.declared.ending.Why.{Why}
-use Rattle.core_definitions.specs.Batches.{Batch, finishing, refusal_batch, end_batch}
-use Rattle.parse_machine.specs.declared.machine.PageEnd.{PageEnd}
-use Rattle.parse_machine.specs.declared.machine.PageEnd.TheVariants as page_end
-use Rattle.parse_machine.specs.Machine.{WentTo, EndedTo, finished_as, stops, RanAs, halt_at, EndsAs}
+use Rattle.core_definitions.specs.Batches.{Batch, refusal_batch, end_batch, over_with, result_at}
+use Rattle.parse_machine.specs.declared.end.End.{End}
+use Rattle.parse_machine.specs.declared.end.End.TheVariants as end
+use Rattle.parse_machine.specs.Machine.{WentTo, EndedTo, finished_as, stops, RanAs, EndsAs}
 use Rattle.parse_machine.specs.declared.process.Went.{Went}
 use Rattle.parse_machine.specs.declared.process.Went.TheVariants as went
 use Rattle.parse_machine.specs.declared.process.Went.TheVariants.{AllUsed}
 use Rattle.parse_machine.specs.declared.process.Ended.TheVariants as ended
+use Rattle.parse_machine.specs.Ends.{result_of}
 
 -- ---- tokens
 
@@ -271,19 +272,19 @@ finished-read es s cr b o f is = is
 
 -- ---- the page's ending
 
-pub ends-well : (es : Entities) (p p' : Parser) (o o' : List Op) (e : Ending) (k : Finish) (x : PageEnd) → e ≡ ending.End → after_all o (finish es p) ≡ finished_as o' p' k → halt_at x ≡ finishing k
+pub ends-well : (es : Entities) (p p' : Parser) (o o' : List Op) (e : Ending) (k : Finish) (x : End) → e ≡ ending.End → after_all o (finish es p) ≡ finished_as o' p' k → result_of x ≡ result_at k
     → EndsAs (end_batch es p e) o p' o' x
 ends-well es p p' o o' e k x at_end run is =
     subst (λ (y : Ending). EndsAs (end_batch es p y) o p' o' x) (sym at_end)
     (record {
       ops = sym (ap (λ (g : Finished). g.ops) run);
       state = sym (ap (λ (g : Finished). g.parser) run);
-      answer = is ∙ ap (λ (g : Finished). finishing g.finish) (sym run);
+      answer = ap over_with is ∙ ap (λ (g : Finished). over_with (result_at g.finish)) (sym run);
     })
 
-pub ends-refused : (p : Parser) (o : List Op) (w : Why) (b : Batch) → b ≡ refusal_batch p w → EndsAs b o p o (page_end.Refused w)
+pub ends-refused : (p : Parser) (o : List Op) (w : Why) (b : Batch) → b ≡ refusal_batch p w → EndsAs b o p o (end.Refused w)
 ends-refused p o w b is =
-    subst (λ (y : Batch). EndsAs y o p o (page_end.Refused w)) (sym is)
+    subst (λ (y : Batch). EndsAs y o p o (end.Refused w)) (sym is)
     (record {
       ops = sym (append-nil o);
       state = refl;

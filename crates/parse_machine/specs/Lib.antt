@@ -1,3 +1,4 @@
+pub mod Ends
 pub mod Machine
 pub mod Rounds
 pub mod Runs

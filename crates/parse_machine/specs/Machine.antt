@@ -5,19 +5,18 @@ use Rattle.html_types.specs.declared.operation.Op.{Op}
 use Rattle.html_types.specs.declared.instruction.Stop.{Stop}
 use Rattle.html_types.specs.declared.instruction.Stop.TheVariants.{InputEnd}
 use Rattle.html_types.specs.declared.instruction.Finish.{Finish}
-use Rattle.html_types.specs.declared.instruction.Finish.TheVariants as finale
 use Rattle.html_types.specs.declared.open.Open.{Open}
 use Rattle.standard.specs.Tokenizer.{Reached}
 use Rattle.standard.specs.Parser.{Parser, parser, Parsed, Took, took, after_ops, build, Finished, after_all, build_end}
-use Rattle.core_definitions.specs.Batches.{Batch, Halt, finishing, refusing}
+use Rattle.core_definitions.specs.Batches.{Batch, over_with}
 use Rattle.parse_machine.specs.declared.machine.Ran.{Ran}
-use Rattle.parse_machine.specs.declared.machine.PageEnd.{PageEnd}
-use Rattle.parse_machine.specs.declared.machine.PageEnd.TheVariants as page_end
+use Rattle.parse_machine.specs.declared.end.End.{End}
 use Rattle.parse_machine.specs.declared.process.Went.{Went}
 use Rattle.parse_machine.specs.declared.process.Went.TheVariants.{AllUsed}
 use Rattle.parse_machine.specs.declared.process.Went.TheVariants as went
 use Rattle.parse_machine.specs.declared.process.Ended.{Ended}
 use Rattle.parse_machine.specs.declared.process.Ended.TheVariants as ended
+use Rattle.parse_machine.specs.Ends.{result_of}
 
 -- the tokens that waited were processed up to a stop, whether or not the last character was a CR
 abbrev pub Builds : Bool → Reached → Open → List Op → Reached → Open → List Op → Stop → Type 0
@@ -52,14 +51,8 @@ abbrev pub stops : Stop → Bool
 stops InputEnd = false
 stops _ = true
 
--- why the page's batch ends, as the answer to its ending says it
-abbrev pub halt_at : PageEnd → Halt
-halt_at page_end.Finished = finishing finale.Finished
-halt_at page_end.Deep = finishing finale.Deep
-halt_at (page_end.Refused w) = refusing w
-
 -- The operations of the ending stand behind those before, and the state and the answer are the ending's.
-pub record EndsAs (b : Batch) (before : List Op) (now : Parser) (after : List Op) (end : PageEnd) : Type 0 where
+pub record EndsAs (b : Batch) (before : List Op) (now : Parser) (after : List Op) (end : End) : Type 0 where
   pub ops : after ≡ before ++ b.ops
   pub state : now ≡ b.after
-  pub answer : halt_at end ≡ b.halt
+  pub answer : over_with (result_of end) ≡ b.halt

@@ -3,6 +3,7 @@
 #![tactic(auto)]
 
 mod after_adoption;
+mod end;
 mod fragment;
 mod machine;
 mod process;
@@ -10,7 +11,8 @@ mod text_runs;
 mod token;
 mod weight;
 
+pub use end::End;
 pub use fragment::parse_fragment;
 pub use html_types::{Finish, Stop};
-pub use machine::{Machine, PageEnd, Ran};
+pub use machine::{Machine, Ran};
 pub use token::construct;

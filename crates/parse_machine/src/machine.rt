@@ -5,12 +5,14 @@ ghost use Rattle.std.specs.Prelude.{◌≡◌, ◌↔◌, ◌==◌, ◌≢◌, �
 ghost use Rattle.std.specs.Str.{chars, IsCharBoundary};
 ghost use Rattle.standard.specs.Parser.{new_parser, took, after_ops, take_character, finish as finished, parse, AreSame, after_all};
 ghost use Rattle.parse_machine.specs.Runs.{Takes};
-ghost use Rattle.core_definitions.specs.Batches.{end_batch, finishing};
+ghost use Rattle.core_definitions.specs.Batches.{end_batch, result_at};
 ghost use Rattle.standard.specs.Through.{after_those, read_through, whole};
 ghost use Rattle.standard.specs.Fragment.{fragment_parser};
 ghost use Rattle.parse_machine.specs.Through.{came_to, from_stop};
-ghost use Rattle.parse_machine.specs.Machine.{RanAs, halt_at, EndsAs, stops as stops_at};
+ghost use Rattle.parse_machine.specs.Machine.{RanAs, EndsAs, stops as stops_at};
+ghost use Rattle.parse_machine.specs.Ends.{result_of};
 
+use crate::end::End;
 use crate::fragment::reading_in;
 use crate::process::{end_and_build, read_and_build};
 use crate::weight::is_light_state;
@@ -48,17 +50,6 @@ pub struct Ran {
     pub used: usize,
 }
 
-/// What the page's ending comes to.
-#[derive(Clone, Copy)]
-pub enum PageEnd {
-    /// Parsing stopped (13.2.7).
-    Finished,
-    /// At a push that would open element 513.
-    Deep,
-    /// The page ends in a way that refuses it.
-    Refused(Why),
-}
-
 // The parser stops before the text is used.
 fn stops(stop: Stop) -> bool
     ensures { result ≡ stops_at stop }
@@ -81,12 +72,12 @@ fn line_feed_for_cr(c: char) -> char
 }
 
 // The answer where the end of the input came to that.
-fn page_end(finish: Finish) -> PageEnd
-    ensures { halt_at result ≡ finishing finish }
+fn page_end(finish: Finish) -> End
+    ensures { result_of result ≡ result_at finish }
 {
     match finish {
-        Finish::Finished => PageEnd::Finished,
-        Finish::Deep => PageEnd::Deep,
+        Finish::Finished => End::Finished,
+        Finish::Deep => End::Refused(Why::Depth),
     }
 }
 
@@ -326,7 +317,7 @@ impl Machine {
         table: &Table,
         ending: Ending,
         ops: &mut Ops,
-    ) -> Result<PageEnd, NoMemory>
+    ) -> Result<End, NoMemory>
         // The operations, the next state and the answer are those of the ending.
         ensures { IfOk result (λ end. EndsAs (end_batch table.now self.old ending) ops.old self.new ops.new end) }
     {
@@ -335,9 +326,9 @@ impl Machine {
                 let finish = self.end_input(alloc, table, ops)?;
                 Ok(page_end(finish))
             }
-            Ending::Bad => Ok(PageEnd::Refused(Why::BadUtf8)),
-            Ending::Long => Ok(PageEnd::Refused(Why::Page)),
-            Ending::Fault => Ok(PageEnd::Refused(Why::Fault)),
+            Ending::Bad => Ok(End::Refused(Why::BadUtf8)),
+            Ending::Long => Ok(End::Refused(Why::Page)),
+            Ending::Fault => Ok(End::Refused(Why::Fault)),
         }
     }
 

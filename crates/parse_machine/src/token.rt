@@ -3,7 +3,7 @@
 ghost use Rattle.std.specs.Prelude.{◌≡◌, ◌==◌, ◌&&◌, false, IfOk};
 ghost use Rattle.html_types.specs.declared.instruction.Mode.TheVariants as mode;
 ghost use Rattle.html_types.specs.declared.token.Token.TheVariants as token;
-ghost use Rattle.standard.specs.Rules.{rules_for, answer, by_mode, adopting, by_rules, process, rounds, is_line_feed as is_line_feed_in, construct as constructed};
+ghost use Rattle.standard.specs.Rules.{rules_for, answer, adopting, by_rules, process, rounds, is_line_feed as is_line_feed_in, construct as constructed};
 ghost use Rattle.parse_machine.specs.Rounds.{rounded, round_of};
 
 use crate::after_adoption::after_adopt;
@@ -20,20 +20,6 @@ fn is_line_feed(token: &Token) -> bool
     ensures { result ≡ is_line_feed_in token.now }
 {
     matches!(token, Token::Character('\n'))
-}
-
-// By the rules of one mode.
-#[tactic(auto, unfolding(standard::specs::Rules::by_mode))]
-fn by_mode(
-    alloc: Global,
-    builder: &mut Builder,
-    mode: Mode,
-    token: &Token,
-    ops: &mut Ops,
-) -> Result<Next, NoMemory>
-    ensures { IfOk result (λ n. answer builder.new ops.new n ≡ by_mode mode token.now builder.old ops.old) }
-{
-    builder.answer_row(alloc, row(mode, token), token, ops)
 }
 
 // The adoption agency algorithm (13.2.6.4.7), and the rest of the row that asked for it.
@@ -54,6 +40,7 @@ fn by_adoption(
 }
 
 // By the rules of one mode, the adoption too.
+#[tactic(auto, unfolding(standard::specs::Rules::by_mode))]
 fn by_rules(
     alloc: Global,
     builder: &mut Builder,
@@ -63,7 +50,7 @@ fn by_rules(
 ) -> Result<Next, NoMemory>
     ensures { IfOk result (λ n. answer builder.new ops.new n ≡ by_rules mode token.now builder.old ops.old) }
 {
-    match by_mode(alloc, builder, mode, token, ops)? {
+    match builder.answer_row(alloc, row(mode, token), token, ops)? {
         Next::Adopt { name, then } => by_adoption(alloc, builder, name, then, token, ops),
         next => Ok(next),
     }

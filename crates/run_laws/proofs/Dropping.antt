@@ -4,7 +4,6 @@ use Rattle.std.specs.Prelude.{◌⊎◌, IsTrue, slice_get, if◌then◌else◌}
 use Rattle.std.proofs.lemmas.Option.{slice_get_within}
 use Rattle.html_types.specs.declared.operation.NodeId.{NodeId}
 use Rattle.html_types.specs.declared.instruction.Stop.TheVariants as stop
-use Rattle.html_types.specs.declared.instruction.Finish.TheVariants as finale
 use Rattle.standard.specs.Entities.{Entities}
 use Rattle.standard.specs.Parser.{Parser}
 use Rattle.serial.specs.Serial.{World, Serial, prepared, Moment, reading, tag_ended, awaits, over}
@@ -12,7 +11,7 @@ use Rattle.core_definitions.specs.declared.event.Event.{Event}
 use Rattle.core_definitions.specs.declared.event.Event.TheVariants.{Send, Pick, Give, Take, Do, Arrive}
 use Rattle.core_definitions.specs.declared.verdict.Verdict.{Verdict}
 use Rattle.core_definitions.specs.declared.verdict.Verdict.TheVariants.{Keep, Rewind}
-use Rattle.core_definitions.specs.Batches.{Piece, Batch, Halt, at, finishing, refusing}
+use Rattle.core_definitions.specs.Batches.{Piece, Batch, Halt, at, over_with}
 use Rattle.core_definitions.specs.Core.{Setup, Request}
 use Rattle.core_definitions.specs.Verdict.{runs}
 use Rattle.core_definitions.specs.Desk.{Phase, free, tagged, waits, done, Desk, first_desk, pieces_with, outstanding, stale, sends_first, with_batches, drops, answer_called_for, takes, at_end_tag, behind_halt, with_executed, executes, decided, Concludes, DoesIn, Moves, MovesBy}
@@ -46,9 +45,7 @@ halt-ages : (d0 d : Desk) (h : Halt) → Ages d0 d → Ages d0 (behind_halt h d)
 halt-ages d0 d (at stop.InputEnd) h = h
 halt-ages d0 d (at (stop.Script i)) h = tag-ages d0 d i (runs (prepared i d.own)) h
 halt-ages d0 d (at stop.Deep) h = phase-ages d0 d _ h
-halt-ages d0 d (finishing finale.Finished) h = phase-ages d0 d _ h
-halt-ages d0 d (finishing finale.Deep) h = phase-ages d0 d _ h
-halt-ages d0 d (refusing w) h = phase-ages d0 d _ h
+halt-ages d0 d (over_with w) h = phase-ages d0 d _ h
 
 executes-ages : (bs : List Batch) (d : Desk) → Ages d (executes bs d)
 executes-ages [] d = goes_on refl refl refl refl

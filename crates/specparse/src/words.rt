@@ -102,12 +102,12 @@ fn tell_list(rt: HostRuntime, words: &[String]) {
 // How the command is called.
 fn tell_usage(rt: HostRuntime) {
     let _ = eprintln!(rt;
-        "usage: specparse page [--piece N] [--ahead K] [--preload H] [--dump] PAGE DIR ENTITIES"
+        "usage: specparse page [--piece N] [--ahead K] [--preload H] [--dump] [--watch W] PAGE DIR ENTITIES"
     );
     let _ = eprintln!(rt; "       specparse batch LIST DIR ENTITIES");
     let _ = eprintln!(rt; "       specparse make NUMBER COUNT");
     let _ = eprintln!(rt;
-        "N 1 to 65536, K 1 to 64, H 0 to 8, NUMBER 0 to 2147483647, COUNT 1 to 50000"
+        "N 1 to 65536, K 1 to 64, H 0 to 8, W 0 to 8, NUMBER 0 to 2147483647, COUNT 1 to 50000"
     );
 }
 

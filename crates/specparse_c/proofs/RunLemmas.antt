@@ -7,9 +7,9 @@ use Rattle.html_types.specs.declared.ending.Why.{Why}
 use Rattle.html_types.specs.declared.ending.Why.TheVariants as why
 use Rattle.serial.specs.Scripts.{Fetched, got}
 use Rattle.serial.specs.Serial.{finished, refused}
-use Rattle.page_turns.specs.declared.outcome.Outcome.{Outcome as Told}
-use Rattle.page_turns.specs.declared.outcome.Outcome.TheVariants as told
-use Rattle.page_turns.specs.Shown.{result_of}
+use Rattle.parse_machine.specs.declared.end.End.{End}
+use Rattle.parse_machine.specs.declared.end.End.TheVariants as end
+use Rattle.parse_machine.specs.Ends.{result_of}
 use Rattle.memory_runner.specs.declared.running.Ran.{Ran}
 use Rattle.html_document.specs.declared.spans.FlatAttribute.{FlatAttribute}
 use Rattle.specparse_c.specs.declared.failure.Failure.{Failure}
@@ -82,9 +82,9 @@ printed-to entities page bs rs flags ran needed text new_text (es, is, runs) siz
       ap (take needed) laid ∙ (ap (λ k. take k (all ++ drop needed text)) size ∙ (take-append_seam all (drop needed text) ∙ runs.text)),
     )
 
-done-told : (k : Told) → status_told k ≡ 0 → result_of k ≡ finished
-done-told told.Finished e = refl
-done-told (told.Refused w) e = absurd (not-done (failure_by w) e)
+done-told : (k : End) → status_told k ≡ 0 → result_of k ≡ finished
+done-told end.Finished e = refl
+done-told (end.Refused w) e = absurd (not-done (failure_by w) e)
 
 bad-by : (w : Why) → failure_by w ≡ failure.BadUtf8 → w ≡ why.BadUtf8
 bad-by why.BadUtf8 e = refl
@@ -93,21 +93,21 @@ bad-by why.Writes e = absurd (cc e)
 bad-by why.Page e = absurd (cc e)
 bad-by why.Fault e = absurd (cc e)
 
-bad-told : (k : Told) → status_told k ≡ 4 → result_of k ≡ refused why.BadUtf8
-bad-told told.Finished e = absurd (omega (arith, e))
-bad-told (told.Refused w) e = ap refused (bad-by w (same-failure (failure_by w) failure.BadUtf8 e))
+bad-told : (k : End) → status_told k ≡ 4 → result_of k ≡ refused why.BadUtf8
+bad-told end.Finished e = absurd (omega (arith, e))
+bad-told (end.Refused w) e = ap refused (bad-by w (same-failure (failure_by w) failure.BadUtf8 e))
 
-limit-told : (k : Told) → status_told k ≡ 5 → (w : Why) × (w ≢ why.BadUtf8) × (result_of k ≡ refused w)
-limit-told told.Finished e = absurd (omega (arith, e))
-limit-told (told.Refused w) e = (w, (λ same. absurd (cc (sym (same-failure (failure_by w) failure.Limit e) ∙ ap failure_by same))), refl)
+limit-told : (k : End) → status_told k ≡ 5 → (w : Why) × (w ≢ why.BadUtf8) × (result_of k ≡ refused w)
+limit-told end.Finished e = absurd (omega (arith, e))
+limit-told (end.Refused w) e = (w, (λ same. absurd (cc (sym (same-failure (failure_by w) failure.Limit e) ∙ ap failure_by same))), refl)
 
-no-room-told : (k : Told) → status_told k ≡ 13 → ⊥
-no-room-told told.Finished e = omega (arith, e)
-no-room-told (told.Refused w) e = not-room (failure_by w) e
+no-room-told : (k : End) → status_told k ≡ 13 → ⊥
+no-room-told end.Finished e = omega (arith, e)
+no-room-told (end.Refused w) e = not-room (failure_by w) e
 
-no-failure-told : (k : Told) (f : Failure) → f ≢ failure.BadUtf8 → f ≢ failure.Limit → status_told k ≡ status_of f → ⊥
-no-failure-told told.Finished f bad limit e = not-done f (sym e)
-no-failure-told (told.Refused w) f bad limit e = by-cause w (same-failure (failure_by w) f e)
+no-failure-told : (k : End) (f : Failure) → f ≢ failure.BadUtf8 → f ≢ failure.Limit → status_told k ≡ status_of f → ⊥
+no-failure-told end.Finished f bad limit e = not-done f (sym e)
+no-failure-told (end.Refused w) f bad limit e = by-cause w (same-failure (failure_by w) f e)
   where
     by-cause : (w : Why) → failure_by w ≡ f → ⊥
     by-cause why.BadUtf8 e = bad (sym e)
@@ -152,29 +152,29 @@ module _ (entities page bs : List ℕ) (rs : List FlatAttribute) (flags : ℕ) w
   run-failed f (Ok ran) status needed text new_text bad limit h (size, inr (full, small, left)) own = absurd (not-room f (sym own ∙ full))
   run-failed f (Err g) status needed text new_text bad limit h (is, none, left) own = subst (FailsAtRun entities bs rs flags) (same-failure g f (sym is ∙ own)) h
 
-told-status : (k : Told) → Contains (0 ∷ 2 ∷ 3 ∷ 4 ∷ 5 ∷ 12 ∷ 13 ∷ []) (status_told k)
-told-status told.Finished = (0, omega arith, refl)
-told-status (told.Refused why.BadUtf8) = (3, omega arith, refl)
-told-status (told.Refused why.Depth) = (4, omega arith, refl)
-told-status (told.Refused why.Writes) = (4, omega arith, refl)
-told-status (told.Refused why.Page) = (4, omega arith, refl)
-told-status (told.Refused why.Fault) = (4, omega arith, refl)
+told-status : (k : End) → Contains (0 ∷ 2 ∷ 3 ∷ 4 ∷ 5 ∷ 12 ∷ 13 ∷ []) (status_told k)
+told-status end.Finished = (0, omega arith, refl)
+told-status (end.Refused why.BadUtf8) = (3, omega arith, refl)
+told-status (end.Refused why.Depth) = (4, omega arith, refl)
+told-status (end.Refused why.Writes) = (4, omega arith, refl)
+told-status (end.Refused why.Page) = (4, omega arith, refl)
+told-status (end.Refused why.Fault) = (4, omega arith, refl)
 
 pub run-statuses : (r : Result Ran Failure) (status needed : ℕ) (text new_text : List ℕ) → GivesRun r status needed text new_text → Contains (0 ∷ 2 ∷ 3 ∷ 4 ∷ 5 ∷ 12 ∷ 13 ∷ []) status
 run-statuses (Ok ran) status needed text new_text (size, inl (is, laid)) = subst (Contains (0 ∷ 2 ∷ 3 ∷ 4 ∷ 5 ∷ 12 ∷ 13 ∷ [])) (sym is) (told-status ran.outcome)
 run-statuses (Ok ran) status needed text new_text (size, inr (full, small, left)) = (6, omega arith, sym full)
 run-statuses (Err f) status needed text new_text (own, none, left) = subst (Contains (0 ∷ 2 ∷ 3 ∷ 4 ∷ 5 ∷ 12 ∷ 13 ∷ [])) (sym own) (fragment-status f)
 
-told-printed : (k : Told) → (status_told k ≡ 0) ⊎ ((status_told k ≡ 4) ⊎ (status_told k ≡ 5))
-told-printed told.Finished = inl refl
-told-printed (told.Refused why.BadUtf8) = inr (inl refl)
-told-printed (told.Refused why.Depth) = inr (inr refl)
-told-printed (told.Refused why.Writes) = inr (inr refl)
-told-printed (told.Refused why.Page) = inr (inr refl)
-told-printed (told.Refused why.Fault) = inr (inr refl)
+told-printed : (k : End) → (status_told k ≡ 0) ⊎ ((status_told k ≡ 4) ⊎ (status_told k ≡ 5))
+told-printed end.Finished = inl refl
+told-printed (end.Refused why.BadUtf8) = inr (inl refl)
+told-printed (end.Refused why.Depth) = inr (inr refl)
+told-printed (end.Refused why.Writes) = inr (inr refl)
+told-printed (end.Refused why.Page) = inr (inr refl)
+told-printed (end.Refused why.Fault) = inr (inr refl)
 
 -- a status that isn't 0, 4 or 5 is none of a page that was run
-not-told : (k : Told) (status : ℕ) → status ≡ status_told k → status ≢ 0 → status ≢ 4 → status ≢ 5 → ⊥
+not-told : (k : End) (status : ℕ) → status ≡ status_told k → status ≢ 0 → status ≢ 4 → status ≢ 5 → ⊥
 not-told k status is zero four five = elim (told-printed k) [ inl h ↦ zero (is ∙ h) | inr h ↦ elim h [ inl h ↦ four (is ∙ h) | inr h ↦ five (is ∙ h) ] ]
 
 pub run-empty : (r : Result Ran Failure) (status needed : ℕ) (text new_text : List ℕ) → GivesRun r status needed text new_text → status ≢ 0 → status ≢ 4 → status ≢ 5 → status ≢ 13 → needed ≡ 0

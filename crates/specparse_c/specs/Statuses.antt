@@ -4,8 +4,8 @@ use Rattle.html_types.specs.declared.ending.Why.{Why}
 use Rattle.html_types.specs.declared.ending.Why.TheVariants as why
 use Rattle.entity_table.specs.declared.table.TableFault.{TableFault}
 use Rattle.entity_table.specs.declared.table.TableFault.TheVariants as table
-use Rattle.page_turns.specs.declared.outcome.Outcome.{Outcome as Told}
-use Rattle.page_turns.specs.declared.outcome.Outcome.TheVariants as told
+use Rattle.parse_machine.specs.declared.end.End.{End}
+use Rattle.parse_machine.specs.declared.end.End.TheVariants as end
 use Rattle.html_document.specs.declared.refused.Refused.{Refused}
 use Rattle.html_document.specs.declared.refused.Refused.TheVariants as refused
 use Rattle.specparse_c.specs.declared.failure.Failure.{Failure}
@@ -33,6 +33,6 @@ failure_at table.NotTable = failure.Entities
 failure_at table.NoMemory = failure.NoMemory
 
 -- of a page that was run
-abbrev pub status_told : Told → ℕ
-status_told told.Finished = 0
-status_told (told.Refused w) = status_of (failure_by w)
+abbrev pub status_told : End → ℕ
+status_told end.Finished = 0
+status_told (end.Refused w) = status_of (failure_by w)

@@ -9,7 +9,7 @@ use crate::results::Rooted;
 use html_document::{Flat, FlatAttribute, FlatNode};
 use html_types::Text;
 use memory_runner::Ran;
-use page_turns::Outcome;
+use page_turns::End;
 
 /// How much room a tree takes: numbers of nodes and of attributes, and bytes of text. What was
 /// parsed stands under the node `root`: a page's Document is 0.
@@ -160,12 +160,12 @@ pub fn give_prepared(prepared: Result<Vec<u8>, Failure>, room: &mut [u8], needed
     }
 }
 
-fn told(outcome: Outcome) -> u32
+fn told(outcome: End) -> u32
     ensures { result ≡ status_told outcome }
 {
     match outcome {
-        Outcome::Finished => 0,
-        Outcome::Refused(why) => Failure::by(why).status(),
+        End::Finished => 0,
+        End::Refused(why) => Failure::by(why).status(),
     }
 }
 

@@ -11,9 +11,10 @@ use Rattle.html_types.specs.declared.ending.Ending.TheVariants as ending
 use Rattle.standard.specs.Entities.{Entities}
 use Rattle.standard.specs.Parser.{Parser, Parsed, parse}
 use Rattle.parse_machine.specs.declared.machine.Ran.{Ran}
-use Rattle.parse_machine.specs.declared.machine.PageEnd.{PageEnd}
-use Rattle.parse_machine.specs.Machine.{RanAs, halt_at, EndsAs}
-use Rattle.core_definitions.specs.Batches.{Piece, Batch, Halt, at, finishing, refusing, Answered, and_behind, cut, end_batch, and_ending, answer}
+use Rattle.parse_machine.specs.declared.end.End.{End}
+use Rattle.parse_machine.specs.Machine.{RanAs, EndsAs}
+use Rattle.parse_machine.specs.Ends.{result_of}
+use Rattle.core_definitions.specs.Batches.{Piece, Batch, Halt, at, Answered, and_behind, cut, end_batch, and_ending, answer, over_with}
 use Rattle.core_laws.proofs.Cutting.{cut-enough, shorter}
 use Rattle.speculation.specs.Halting.{first_batch}
 
@@ -82,8 +83,7 @@ cut-on es p (c ∷ cs) some =
 
 abbrev stop_in : Halt → Stop
 stop_in (at s) = s
-stop_in (finishing f) = stop.InputEnd
-stop_in (refusing w) = stop.InputEnd
+stop_in (over_with w) = stop.InputEnd
 
 -- ---- the text, batch by batch
 
@@ -158,8 +158,8 @@ ends-there es p ending.Bad = refl
 ends-there es p ending.Long = refl
 ends-there es p ending.Fault = refl
 
-pub is-last : (es : Entities) (p : Parser) (e : Ending) (start : Parser) (text : List ℕ) (before ops : List Op) (after p' : Parser) (end : PageEnd) (h : Halt) → start ≡ p → text ≡ [] → before ≡ [] →
-    after ≡ p' → h ≡ halt_at end → EndsAs (end_batch es p e) before p' ops end → record { start = start; text = text; ops = ops; after = after; halt = h } ≡ end_batch es p e
+pub is-last : (es : Entities) (p : Parser) (e : Ending) (start : Parser) (text : List ℕ) (before ops : List Op) (after p' : Parser) (end : End) (h : Halt) → start ≡ p → text ≡ [] → before ≡ [] →
+    after ≡ p' → h ≡ over_with (result_of end) → EndsAs (end_batch es p e) before p' ops end → record { start = start; text = text; ops = ops; after = after; halt = h } ≡ end_batch es p e
 is-last es p e start text before ops after p' end h a b none c d ended = rw (a, b, c, d, ended.ops, none, ended.state, ended.answer) (ends-there es p e)
 
 -- ---- a piece: its text, and its ending behind that

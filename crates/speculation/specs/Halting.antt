@@ -2,14 +2,14 @@
 use Rattle.std.specs.Prelude.{ℕ, List, take}
 use Rattle.standard.specs.Entities.{Entities}
 use Rattle.standard.specs.Parser.{Parser, Parsed, parse}
-use Rattle.core_definitions.specs.Batches.{Halt, at, finishing, refusing, Batch, text_batch}
+use Rattle.parse_machine.specs.Ends.{result_of}
+use Rattle.core_definitions.specs.Batches.{Halt, at, Batch, text_batch, over_with}
 use Rattle.speculation.specs.declared.batch.Halt as code
-use Rattle.speculation.specs.declared.batch.Halt.TheVariants.{At, Finishing, Refusing}
+use Rattle.speculation.specs.declared.batch.Halt.TheVariants.{At, Over}
 
 abbrev pub halt_of : code.Halt → Halt
 halt_of (At s) = at s
-halt_of (Finishing f) = finishing f
-halt_of (Refusing w) = refusing w
+halt_of (Over e) = over_with (result_of e)
 
 -- the batch up to the first stop in a text
 abbrev pub first_batch : Entities → Parser → List ℕ → Batch

@@ -2,13 +2,12 @@
 
 ghost use Rattle.std.specs.Prelude.{◌≡◌, ◌<◌, [], ◌∷◌, ◌++◌, length, slice_get, Some, OnOk, OnErr, MatchOption};
 ghost use Rattle.core_definitions.specs.Settling.{is_empty as has_none};
-ghost use Rattle.parse_machine.specs.Machine.{halt_at};
 ghost use Rattle.speculation.specs.Halting.{halt_of};
 
 use crate::checkpoint::Checkpoint;
-use html_types::{Finish, NoMemory, Ops, Stop, Why};
+use html_types::{NoMemory, Ops, Stop};
 use page_pieces::SharedText;
-use parse_machine::{Machine, PageEnd};
+use parse_machine::{End, Machine};
 use std::alloc::Global;
 use std::collections::VecDeque;
 use std::marker::Model;
@@ -19,23 +18,8 @@ use std::snapshot::Snapshot;
 pub enum Halt {
     /// The parser used all its text, or stopped in it.
     At(Stop),
-    /// The parser came to the end of the page (13.2.7).
-    Finishing(Finish),
-    /// The page ends in a way that refuses it.
-    Refusing(Why),
-}
-
-impl Halt {
-    /// Why the batch ends that carries the page's ending.
-    pub fn of(end: PageEnd) -> Halt
-        ensures { halt_of result ≡ halt_at end }
-    {
-        match end {
-            PageEnd::Finished => Halt::Finishing(Finish::Finished),
-            PageEnd::Deep => Halt::Finishing(Finish::Deep),
-            PageEnd::Refused(why) => Halt::Refusing(why),
-        }
-    }
+    /// The parse is over: the batch carries the page's ending.
+    Over(End),
 }
 
 /// A text that was parsed: the parser's state before it and behind it, its operations, and why it ends. The page's ending goes with an empty

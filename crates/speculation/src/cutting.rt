@@ -91,7 +91,7 @@ fn last_batch(
         text,
         ops,
         after: Checkpoint::holding(machine),
-        halt: Halt::of(end),
+        halt: Halt::Over(end),
     })
 }
 

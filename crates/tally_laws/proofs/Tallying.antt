@@ -10,6 +10,7 @@ use Rattle.html_types.specs.declared.instruction.Finish.{Finish}
 use Rattle.html_types.specs.declared.instruction.Finish.TheVariants as finale
 use Rattle.html_types.specs.declared.ending.Ending.{Ending}
 use Rattle.html_types.specs.declared.ending.Ending.TheVariants as ending
+use Rattle.html_types.specs.declared.ending.Why.TheVariants as why
 use Rattle.standard.specs.Act.{Doc, acts, node_of}
 use Rattle.standard.specs.Entities.{Entities}
 use Rattle.standard.specs.Parser.{Parser, Parsed, parse, Finished, finish}
@@ -25,7 +26,7 @@ use Rattle.core_definitions.specs.declared.event.Event.{Event}
 use Rattle.core_definitions.specs.declared.event.Event.TheVariants.{Send, Pick, Give, Take, Do, Arrive}
 use Rattle.core_definitions.specs.declared.verdict.Verdict.{Verdict}
 use Rattle.core_definitions.specs.declared.verdict.Verdict.TheVariants.{Keep, Rewind}
-use Rattle.core_definitions.specs.Batches.{Piece, Batch, text_batch, finish_batch, end_batch, Halt, at, finishing, refusing, answer}
+use Rattle.core_definitions.specs.Batches.{Piece, Batch, text_batch, finish_batch, end_batch, Halt, at, answer, over_with, result_at}
 use Rattle.core_definitions.specs.Verdict.{Watch, first_watch, runs, at_tag, judged, Watches, stays}
 use Rattle.core_definitions.specs.Settling.{Settles, is_empty}
 use Rattle.core_definitions.specs.Desk.{Phase, free, tagged, waits, done, Desk, first_desk, pieces_with, stale, wants_reply, can_do_in, sends_first, with_batches, drops, answer_called_for, takes, at_end_tag, behind_halt, with_executed, executes, decided, Concludes, RunsOn, DoesIn, Moves, MovesBy}
@@ -331,9 +332,9 @@ module _ (e : Ending) (w : World) (m0 : Moment) (v0 : Watch) where
             by finale.Finished q = (ap (λ (z : Outcome). z.last.side.written) q, ap (λ (z : Outcome). z.last.side.executed) q)
             by finale.Deep q = (ap (λ (z : Outcome). z.last.side.written) q, ap (λ (z : Outcome). z.last.side.executed) q)
 
-        finished-counts : e ≡ ending.End → b.halt ≡ finishing finale.Finished → Counted
+        finished-counts : e ≡ ending.End → b.halt ≡ over_with finished → Counted
         finished-counts end h =
-            let desk : d' ≡ behind_halt (finishing finale.Finished) d2 = is ∙ ap (λ k. behind_halt k d2) h in
+            let desk : d' ≡ behind_halt (over_with finished) d2 = is ∙ ap (λ k. behind_halt k d2) h in
             let at_done : d'.phase ≡ done finished = ap (λ (z : Desk). z.phase) desk in
             let o : Outcome = ended w.entities e last in
             let there : AreAlike r' (page_left d') m' (own_moment (done finished) d'.own) = subst (λ f. AreAlike r' (page_left d') m' (own_moment f d'.own)) at_done known'.alike in
@@ -344,9 +345,9 @@ module _ (e : Ending) (w : World) (m0 : Moment) (v0 : Watch) where
             let realm : d'.realm ≡ d.realm = ap (λ (z : Desk). z.realm) desk in
             subst (λ f. CountsIn f d'.realm d'.own.side m' v') (sym at_done) (subst (λ z. Realms 0 d'.realm z) (sym one.1) (realm ∙ counts), (o, one.0, written, executed))
 
-        by-finish : (x : Finish) → e ≡ ending.End → b.halt ≡ finishing x → Counted
+        by-finish : (x : Finish) → e ≡ ending.End → b.halt ≡ over_with (result_at x) → Counted
         by-finish finale.Finished end h = finished-counts end h
-        by-finish finale.Deep end h = refused-counts (finishing finale.Deep) h (λ d3. (_, refl))
+        by-finish finale.Deep end h = refused-counts (over_with (refused why.Depth)) h (λ d3. (_, refl))
 
         by-ending : (x : Ending) → e ≡ x → b ≡ end_batch w.entities d.own.parser x → Counted
         by-ending ending.End end q = by-finish (finish w.entities d.own.parser).finish end (ap (λ (z : Batch). z.halt) q)

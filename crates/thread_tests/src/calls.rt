@@ -6,7 +6,7 @@ ghost use Rattle.std.specs.Prelude.{◌≡◌, ◌<◌, ◌≤◌};
 use entity_table::Table;
 use html_types::NoMemory;
 use outside::{Gate, Outside, Sink};
-use page_runner::{Job, Report, Status, page_in_place, page_on_two, run};
+use page_runner::{Eye, Job, Report, Status, page_in_place, page_on_two, page_watched, run};
 use speculation::InForce;
 use std::alloc::Global;
 use std::sync::{Arc, Wait};
@@ -151,4 +151,31 @@ pub fn report_on_two<
 {
     let mut none = Vec::new(alloc);
     report_with_helpers::<R, E, F, K, G>(rt, alloc, job, files, out, gate, &mut none)
+}
+
+/// The same while so many watch.
+pub fn report_watched<
+    R: Threads + Wait + Copy + Send + Sync + 'static,
+    E: InForce + Send + 'static,
+    F: Outside + Drop + Send + 'static,
+    K: Sink,
+    G: Gate + Drop + Send + Sync + 'static,
+    Y: Eye + Drop + Send + Sync + 'static,
+>(
+    rt: &R,
+    alloc: Global,
+    job: &Job<'_>,
+    files: &mut F,
+    out: &mut K,
+    gate: &Arc<G, Global>,
+    watchers: u32,
+    eye: &Arc<Y, Global>,
+) -> Report<E>
+    requires table { job.now.table.now ≡ E.entities }
+    requires piece { (0 < job.now.piece) × (job.now.piece ≤ 65536) }
+    requires ahead { (0 < job.now.ahead) × (job.now.ahead ≤ 64) }
+{
+    let watchers = u64::from(watchers);
+    let mut none = Vec::new(alloc);
+    page_watched::<R, E, F, K, G, Y>(rt, alloc, job, files, out, gate, &mut none, watchers, eye)
 }

@@ -5,6 +5,7 @@ ghost use Rattle.thread_tests.specs.Faults.{with_faults};
 
 use crate::meeting::Meeting;
 use outside::{Failed, Gate, Outside, Port, Sink};
+use page_runner::Eye;
 use std::alloc::Global;
 use std::sync::Arc;
 
@@ -108,6 +109,19 @@ pub struct HeldGate(pub Arc<Meeting, Global>);
 impl Gate for HeldGate {
     fn given(&self, number: u64) {
         if number == 2 {
+            self.0.hold_gate();
+        }
+    }
+}
+
+/// An eye that holds the first watcher, once it has seen a change, until the call that is held has
+/// begun.
+#[derive(Drop)]
+pub struct HeldEye(pub Arc<Meeting, Global>);
+
+impl Eye for HeldEye {
+    fn saw(&self, watcher: u64, changes: u64) {
+        if watcher == 1 && changes > 0 {
             self.0.hold_gate();
         }
     }

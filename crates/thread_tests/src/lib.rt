@@ -28,3 +28,5 @@ mod thread_pages;
 mod threads;
 #[cfg(test)]
 mod trials;
+#[cfg(test)]
+mod watching;

@@ -4,6 +4,7 @@ use Rattle.html_types.specs.declared.operation.NodeId.{NodeId}
 use Rattle.html_types.specs.declared.ending.Ending.{Ending}
 use Rattle.serial.specs.declared.script.Line.{Line}
 use Rattle.html_types.specs.declared.ending.Why.TheVariants as why
+use Rattle.html_types.specs.declared.ending.Why.{Why}
 use Rattle.html_types.specs.declared.instruction.Stop.{Stop}
 use Rattle.html_types.specs.declared.instruction.Stop.TheVariants as stop
 use Rattle.standard.specs.Entities.{Entities}
@@ -13,13 +14,11 @@ use Rattle.serial.specs.Statements.{statements}
 use Rattle.standard_laws.specs.Laws.{HasParsed, EndsIn, ScriptComesTo, moment_at}
 use Rattle.serial.specs.Serial.{World, Serial, Course, goes, refuses, awaiting, run_text, Moment, reading, tag_ended, over, refusal, taken, unless_pending, behind_script, after_script, moment_after}
 use Rattle.standard_laws.specs.Frames.{rests, state_of, NestComesTo, TagComesTo, TextComesTo}
-use Rattle.write_parser.specs.declared.left.Overrun.{Overrun}
-use Rattle.write_parser.specs.declared.left.Overrun.TheVariants as limit
 use Rattle.write_parser.specs.declared.nesting.Begun.{Begun}
 use Rattle.write_parser.specs.declared.live.Live.{Live}
 use Rattle.write_parser.specs.Parsing.{RestParsed}
-use Rattle.write_parser.specs.Writing.{View, why_of, serial_of, moment_by, moment_of, StandsBy, Stands, AtTag, LeadsTo, ComesBy, Runs, scripts_awaited}
-use Rattle.write_parser.specs.Steps.{IsGoing, halted_of, view_of, with_begun, nest_of, ThenBy, Then, weight, Moves, WroteNothing, Begins, Prepares, Keeps, Continues, EndsTag, awaits_none, RunsText, FeedsOn, StaysAt}
+use Rattle.write_parser.specs.Writing.{View, serial_of, moment_by, moment_of, StandsBy, Stands, AtTag, LeadsTo, ComesBy, Runs, scripts_awaited}
+use Rattle.write_parser.specs.Steps.{IsGoing, view_of, with_begun, nest_of, ThenBy, Then, weight, Moves, WroteNothing, Begins, Prepares, Keeps, Continues, EndsTag, awaits_none, RunsText, FeedsOn, StaysAt}
 use Rattle.standard_laws.proofs.Passing.{parse-left}
 use Rattle.standard_laws.proofs.Frames.{frames-end, scripts-enter}
 use Rattle.core_definitions.specs.Settling.{Through, here, onward}
@@ -33,7 +32,7 @@ then-of : (w : World) (Of : Course → Type 0) (mid new : Live) (begun : Option 
     Then w Of new [] before page
 then-of w Of mid new begun before page first = by new.halted
   where
-    by : (h : Option Overrun) → ThenBy h w (NestComesTo w (nest_of mid (with_begun begun []) before page)) new [] before page → ThenBy h w Of new [] before page
+    by : (h : Option Why) → ThenBy h w (NestComesTo w (nest_of mid (with_begun begun []) before page)) new [] before page → ThenBy h w Of new [] before page
     by None second = λ g come. first g (second g come)
     by (Some l) (g, refusal, come) = (g, refusal, first g come)
 
@@ -92,8 +91,8 @@ tag-leads es id old new idle ends e w before page is = by new.halted (ends.comes
     tag : (to : Moment) → Through e w (tag_ended id (state_of (nest_of old [] before page))) to → Through e w (tag_ended id (serial_of (view_of old false) before page)) to
     tag to path = subst (λ p. Through e w (tag_ended id (awaiting p (serial_of (view_of old false) before page))) to) idle path
 
-    by : (h : Option Overrun) → ThenBy h w (TagComesTo w id (nest_of old [] before page)) new [] before page →
-        (to : Moment) × StandsBy (halted_of h) (view_of new false) before page to × Through e w (tag_ended id (serial_of (view_of old false) before page)) to
+    by : (h : Option Why) → ThenBy h w (TagComesTo w id (nest_of old [] before page)) new [] before page →
+        (to : Moment) × StandsBy h (view_of new false) before page to × Through e w (tag_ended id (serial_of (view_of old false) before page)) to
     by None each =
         let come = each (goes (state_of (nest_of new [] before page))) (frames-end w (nest_of new [] before page) refl) in (
           behind_script (state_of (nest_of new [] before page)),
@@ -102,10 +101,10 @@ tag-leads es id old new idle ends e w before page is = by new.halted (ends.comes
               (scripts-enter w id (nest_of old [] before page) _ refl come) refl),
         )
     by (Some l) (g, halt, come) = (
-      over (refusal (why_of l) halt.last),
+      over (refusal l halt.last),
       record { last = halt.last; is = refl; lines = halt.lines; doc = halt.doc },
-      tag _ (script-through e w id (state_of (nest_of old [] before page)) (refuses (why_of l) halt.last) _
-          (scripts-enter w id (nest_of old [] before page) (refuses (why_of l) halt.last) refl (subst (TagComesTo w id (nest_of old [] before page)) halt.is come)) refl),
+      tag _ (script-through e w id (state_of (nest_of old [] before page)) (refuses l halt.last) _
+          (scripts-enter w id (nest_of old [] before page) (refuses l halt.last) refl (subst (TagComesTo w id (nest_of old [] before page)) halt.is come)) refl),
     )
 
 pub tag-leads-to : (es : Entities) (id : NodeId) (old new : Live) → old.pending ≡ None → EndsTag es id old new → LeadsTo es (AtTag id (view_of old false)) (view_of new false)
@@ -117,8 +116,8 @@ tag-leads-to es id old new idle ends = record {
 pub text-runs : (es : Entities) (text : List ℕ) (old : Live) (spent : Bool) (new : Live) → RunsText es text old new → Runs es (view_of old spent) (view_of new false) (statements text)
 text-runs es text old spent new runs = record { comes = λ w before page is. by w before page new.halted (runs.comes w before page is) }
   where
-    by : (w : World) (before : List Line) (page : List ℕ) (h : Option Overrun) → ThenBy h w (TextComesTo w (statements text) (nest_of (awaits_none old) [] before page)) new [] before page →
-        (f : Course) × ComesBy (halted_of h) (view_of new false) before page f × EndsIn (λ n. run_text n w (statements text) (serial_of (view_of old false) before page)) f
+    by : (w : World) (before : List Line) (page : List ℕ) (h : Option Why) → ThenBy h w (TextComesTo w (statements text) (nest_of (awaits_none old) [] before page)) new [] before page →
+        (f : Course) × ComesBy h (view_of new false) before page f × EndsIn (λ n. run_text n w (statements text) (serial_of (view_of old false) before page)) f
     by w before page None each =
         (goes (state_of (nest_of new [] before page)), refl, each (goes (state_of (nest_of new [] before page))) (frames-end w (nest_of new [] before page) refl))
     by w before page (Some l) (g, refusal, come) = (g, refusal, come)
@@ -129,11 +128,11 @@ stands-reading : (l : Live) (before : List Line) (page : List ℕ) (from : Momen
     from ≡ reading (serial_of (view_of l false) before page)
 stands-reading l before page from on none stands =
     subst (λ p. from ≡ moment_by p (serial_of (view_of l false) before page)) none
-    (subst (λ h. StandsBy (halted_of h) (view_of l false) before page from) on stands)
+    (subst (λ h. StandsBy h (view_of l false) before page from) on stands)
 
 reading-stands : (l : Live) (before : List Line) (page : List ℕ) → l.halted ≡ None → l.pending ≡ None → Stands (view_of l false) before page (reading (serial_of (view_of l false) before page))
 reading-stands l before page on none =
-    subst (λ h. StandsBy (halted_of h) (view_of l false) before page (reading (serial_of (view_of l false) before page))) (sym on)
+    subst (λ h. StandsBy h (view_of l false) before page (reading (serial_of (view_of l false) before page))) (sym on)
     (subst (λ p. reading (serial_of (view_of l false) before page) ≡ moment_by p (serial_of (view_of l false) before page)) (sym none) refl)
 
 -- a part of the rest was parsed
@@ -174,7 +173,7 @@ feeds-end es old new p d left s going continues parsed ends is = subst (λ l. Fe
     some-rest (c ∷ cs) some = omega arith
 
 pub feeds-deep : (es : Entities) (old new : Live) (p : Parser) (d : Doc) (left : List ℕ) (s : Stop) → IsGoing old → Continues old.pending old.rest →
-    RestParsed es old.machine old.doc old.rest p d left s → s ≡ stop.Deep → new ≡ record (fed p d left old) { halted = Some limit.Depth } → FeedsOn es old new
+    RestParsed es old.machine old.doc old.rest p d left s → s ≡ stop.Deep → new ≡ record (fed p d left old) { halted = Some why.Depth } → FeedsOn es old new
 feeds-deep es old new p d left s going continues parsed deep is = subst (λ l. FeedsOn es old l) (sym is) (record {
   leads = record {
     leads = λ e w from before page world stands. (
@@ -222,7 +221,7 @@ leads-nowhere es a = record { leads = λ e w from before page is stands. (from, 
 pub stays-itself : (old : Live) → StaysAt old.halted old.pending old old
 stays-itself old = by old.halted old.pending
   where
-    by : (h : Option Overrun) (p : Option (List ℕ)) → StaysAt h p old old
+    by : (h : Option Why) (p : Option (List ℕ)) → StaysAt h p old old
     by None None = tt
     by None (Some name) = refl
     by (Some l) p = refl
@@ -231,7 +230,7 @@ stays-itself old = by old.halted old.pending
 pub stays-on : (old mid new : Live) → StaysAt old.halted old.pending old mid → mid.halted ≡ None → mid.pending ≡ None → StaysAt old.halted old.pending old new
 stays-on old mid new stays on none = by old.halted old.pending refl refl stays
   where
-    by : (h : Option Overrun) (p : Option (List ℕ)) → old.halted ≡ h → old.pending ≡ p → StaysAt h p old mid → StaysAt h p old new
+    by : (h : Option Why) (p : Option (List ℕ)) → old.halted ≡ h → old.pending ≡ p → StaysAt h p old mid → StaysAt h p old new
     by None None is is' s = tt
     by None (Some name) is is' s = absurd (cc (sym is' ∙ (sym (ap (λ (l : Live). l.pending) s) ∙ none)))
     by (Some l) p is is' s = absurd (cc (sym is ∙ (sym (ap (λ (k : Live). k.halted) s) ∙ on)))

@@ -5,6 +5,7 @@ use Rattle.html_types.specs.declared.operation.NodeId.{NodeId}
 use Rattle.serial.specs.declared.script.Line.{Line}
 use Rattle.serial.specs.declared.script.Statement.{Statement}
 use Rattle.html_types.specs.declared.ending.Why.TheVariants as why
+use Rattle.html_types.specs.declared.ending.Why.{Why}
 use Rattle.html_types.specs.declared.instruction.Stop.{Stop}
 use Rattle.html_types.specs.declared.instruction.Stop.TheVariants as stop
 use Rattle.standard.specs.Entities.{Entities}
@@ -13,8 +14,6 @@ use Rattle.standard.specs.Parser.{Parser}
 use Rattle.standard_laws.specs.Laws.{HasParsed}
 use Rattle.serial.specs.Serial.{World, Course, refuses}
 use Rattle.standard_laws.specs.Frames.{Frame, rests, state_of, parsed_to, NestComesTo, Waits}
-use Rattle.write_parser.specs.declared.left.Overrun.{Overrun}
-use Rattle.write_parser.specs.declared.left.Overrun.TheVariants as limit
 use Rattle.write_parser.specs.declared.nesting.Begun.{Begun}
 use Rattle.write_parser.specs.declared.nesting.Nesting.{Nesting}
 use Rattle.write_parser.specs.declared.live.Live.{Live}
@@ -36,7 +35,7 @@ pub then-then : (w : World) (Of : Course → Type 0) (mid new : Live) (fs fs' : 
     Then w (NestComesTo w (nest_of mid fs before page)) new fs' before page → Then w Of new fs' before page
 then-then w Of mid new fs fs' before page on first second = by new.halted second
   where
-    by : (h : Option Overrun) → ThenBy h w (NestComesTo w (nest_of mid fs before page)) new fs' before page → ThenBy h w Of new fs' before page
+    by : (h : Option Why) → ThenBy h w (NestComesTo w (nest_of mid fs before page)) new fs' before page → ThenBy h w Of new fs' before page
     by None second = λ g come. on-then w Of mid fs before page on first g (second g come)
     by (Some l) (g, refusal, come) = (g, refusal, on-then w Of mid fs before page on first g come)
 
@@ -121,7 +120,7 @@ light-over old new k list rest rest' fs light =
     omega (arith, light.light, ap length light.behind, ap scripts_awaited light.pending, length-append rest (rests fs))
 
 -- where the page is refused, it doesn't matter which scripts are left
-refused-then : (w : World) (Of : Course → Type 0) (new : Live) (fs fs' : List Frame) (before : List Line) (page : List ℕ) (l : Overrun) → new.halted ≡ Some l → Then w Of new fs before page →
+refused-then : (w : World) (Of : Course → Type 0) (new : Live) (fs fs' : List Frame) (before : List Line) (page : List ℕ) (l : Why) → new.halted ≡ Some l → Then w Of new fs before page →
     Then w Of new fs' before page
 refused-then w Of new fs fs' before page l is then_ = subst (λ h. ThenBy h w Of new fs' before page) (sym is) (subst (λ h. ThenBy h w Of new fs before page) is then_)
 
@@ -129,7 +128,7 @@ refused-then w Of new fs fs' before page l is then_ = subst (λ h. ThenBy h w Of
 abbrev pub NextIs : Begun → Statement → Type 0
 NextIs b a = drop b.done b.script ≡ a ∷ drop (b.done + 1) b.script
 
-pub step-refused : (es : Entities) (old new : Live) (n n' : Nesting) (a : Statement) (rest' : List ℕ) (d : Did) (l : Overrun) → NextIs n.top a → Does es n.top.number a old n.top.rest new rest' d →
+pub step-refused : (es : Entities) (old new : Live) (n n' : Nesting) (a : Statement) (rest' : List ℕ) (d : Did) (l : Why) → NextIs n.top a → Does es n.top.number a old n.top.rest new rest' d →
     new.halted ≡ Some l → Steps es old n new n' turn.Over
 step-refused es old new n n' a rest' d l next does refused = record {
   moves = subst (λ list. Moves es old (framed n.top.number list n.top.rest ∷ map frame_of (reverse n.below.items)) new []) (sym next) (record {
@@ -248,7 +247,7 @@ parse-ends es old new n n' p d left s going goes parsed ends is is' =
 
 -- an element more than there may be would be open
 pub parse-deep : (es : Entities) (old new : Live) (n n' : Nesting) (p : Parser) (d : Doc) (left : List ℕ) (s : Stop) → IsGoing old → Continues old.pending n.top.rest →
-    RestParsed es old.machine old.doc n.top.rest p d left s → s ≡ stop.Deep → new ≡ record (parsed_live p d old) { halted = Some limit.Depth } → ParsesOn es old n new n' turn.Over
+    RestParsed es old.machine old.doc n.top.rest p d left s → s ≡ stop.Deep → new ≡ record (parsed_live p d old) { halted = Some why.Depth } → ParsesOn es old n new n' turn.Over
 parse-deep es old new n n' p d left s going goes parsed deep is = subst (λ l. ParsesOn es old n l n' turn.Over) (sym is) (record {
   moves = record {
     turns = record {

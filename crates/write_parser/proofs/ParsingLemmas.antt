@@ -16,7 +16,7 @@ use Rattle.rule_laws.specs.Naming.{AreFresh}
 use Rattle.rule_laws.proofs.FreshnessTexts.{fresh-follows}
 use Rattle.rule_laws.proofs.FreshnessDocs.{texts-served, ends-served}
 use Rattle.parse_machine.specs.declared.machine.Ran.{Ran}
-use Rattle.parse_machine.specs.declared.machine.PageEnd.{PageEnd}
+use Rattle.parse_machine.specs.declared.end.End.{End}
 use Rattle.parse_machine.specs.Machine.{RanAs, EndsAs}
 use Rattle.parse_machine.proofs.Fronts.{rest-chars, some-used, none-used, bytes-used}
 use Rattle.write_parser.specs.Parsing.{IsServed, TextParsed, RestParsed, EndParsed}
@@ -83,12 +83,12 @@ ending-served es p d ending.Long served = (tt, served)
 ending-served es p d ending.Fault served = (tt, served)
 
 -- the last operations are bound
-pub last-bound : (es : Entities) (p : Parser) (d : Doc) (e : Ending) (now : Parser) (before ops : List Op) (end : PageEnd) → IsServed p d → before ≡ [] →
+pub last-bound : (es : Entities) (p : Parser) (d : Doc) (e : Ending) (now : Parser) (before ops : List Op) (end : End) → IsServed p d → before ≡ [] →
     EndsAs (end_batch es p e) before now ops end → AreOpsBound (is_bound d.bound) ops
 last-bound es p d e now before ops end served none run =
     subst (AreOpsBound (is_bound d.bound)) (sym (ops-are before ops (end_batch es p e).ops none run.ops)) (ending-served es p d e served).0
 
-pub end-parsed : (es : Entities) (e : Ending) (p p' : Parser) (d d' : Doc) (before ops : List Op) (end : PageEnd) → IsServed p d → before ≡ [] →
+pub end-parsed : (es : Entities) (e : Ending) (p p' : Parser) (d d' : Doc) (before ops : List Op) (end : End) → IsServed p d → before ≡ [] →
     EndsAs (end_batch es p e) before p' ops end → d' ≡ acts d ops → EndParsed es e p d p' d' end
 end-parsed es e p p' d d' before ops end served none run done =
     let b : Batch = end_batch es p e in

@@ -7,6 +7,7 @@ use Rattle.serial.specs.declared.script.Line.TheVariants as line
 use Rattle.serial.specs.declared.script.Statement.{Statement}
 use Rattle.serial.specs.declared.script.Statement.TheVariants as statement
 use Rattle.html_types.specs.declared.ending.Why.TheVariants as why
+use Rattle.html_types.specs.declared.ending.Why.{Why}
 use Rattle.html_types.specs.declared.operation.Op.{Op}
 use Rattle.html_types.specs.declared.open.Context.{Context}
 use Rattle.standard.specs.Entities.{Entities}
@@ -17,8 +18,6 @@ use Rattle.standard.specs.Act.{Doc}
 use Rattle.doc_tree.specs.declared.tree.Put.TheVariants as put
 use Rattle.serial.specs.Serial.{World, Course, refuses, write_limit, with_line_feed}
 use Rattle.standard_laws.specs.Frames.{Frame, Nest, state_of, NestComesTo, Waits, wrote, LacksElement}
-use Rattle.write_parser.specs.declared.left.Overrun.{Overrun}
-use Rattle.write_parser.specs.declared.left.Overrun.TheVariants as limit
 use Rattle.write_parser.specs.declared.live.Live.{Live}
 use Rattle.write_parser.specs.declared.live.Did.{Did}
 use Rattle.write_parser.specs.declared.live.Did.TheVariants as did
@@ -62,7 +61,7 @@ module _ (es : Entities) (k : ℕ) (a : Statement) (t : List ℕ) (old : Live) (
     light = record { light = omega (arith, length-append rest t); behind = refl; pending = refl };
   }
 
-  wrote-long : Overruns a t → write_limit < old.written + length t → DoesMost es k a old rest (record old { halted = Some limit.Writes }) rest did.All
+  wrote-long : Overruns a t → write_limit < old.written + length t → DoesMost es k a old rest (record old { halted = Some why.Writes }) rest did.All
   wrote-long overruns long = record {
     done = λ list fs. record {
       turns = λ w before page is. (
@@ -86,7 +85,7 @@ module _ (es : Entities) (k : ℕ) (a : Statement) (t : List ℕ) (old : Live) (
       by_limit (inl long) =
           let is = has.long long in
           subst (λ n. DoesMost es k a old rest n rest' did.All) (sym is.0)
-          (subst (λ r. DoesMost es k a old rest (record old { halted = Some limit.Writes }) r did.All) (sym is.1) (wrote-long overruns long))
+          (subst (λ r. DoesMost es k a old rest (record old { halted = Some why.Writes }) r did.All) (sym is.1) (wrote-long overruns long))
 
 pub does-write : (es : Entities) (k : ℕ) (t : List ℕ) (old : Live) (rest : List ℕ) (new : Live) (rest' : List ℕ) (d : Did) → IsGoing old → Waits old.pending rest →
     HasWritten old rest t new rest' d → DoesMost es k (statement.Write t) old rest new rest' d
@@ -208,8 +207,8 @@ module _ (es : Entities) (quirks : Bool) (old : Live) (found : Option ℕ) (text
         ap (λ (f : Option ℕ). inner_set es quirks old.doc.tree f text) is
         ∙ (ap (λ (c : Context). set_by old.doc.tree n c.form (fragment es c text)) (sym there) ∙ ap (set_by old.doc.tree n context.form) (sym same))
 
-    pub set-deep : None ≡ fragment es context text → HasSet (inner_set es quirks old.doc.tree found text) old (record old { halted = Some limit.Depth }) did.All
-    set-deep none = subst (λ (s : Setting). HasSet s old (record old { halted = Some limit.Depth }) did.All) (sym (set-as None none)) (refl, refl)
+    pub set-deep : None ≡ fragment es context text → HasSet (inner_set es quirks old.doc.tree found text) old (record old { halted = Some why.Depth }) did.All
+    set-deep none = subst (λ (s : Setting). HasSet s old (record old { halted = Some why.Depth }) did.All) (sym (set-as None none)) (refl, refl)
 
     pub set-filled : (ops : List Op) (doc : Doc) → Some ops ≡ fragment es context text → doc ≡ record old.doc { tree = filled old.doc.tree n context.form ops }
         → HasSet (inner_set es quirks old.doc.tree found text) old (record old { doc = doc }) did.All
@@ -248,7 +247,7 @@ module _ (es : Entities) (k : ℕ) (v text : List ℕ) (old : Live) (rest : List
     light = record { light = omega arith; behind = refl; pending = refl };
   }
 
-  filled-deep : set ≡ too_deep → DoesMost es k this old rest (record old { halted = Some limit.Depth }) rest did.All
+  filled-deep : set ≡ too_deep → DoesMost es k this old rest (record old { halted = Some why.Depth }) rest did.All
   filled-deep there = record {
     done = λ list fs. record {
       turns = λ w before page is. (
@@ -272,7 +271,7 @@ module _ (es : Entities) (k : ℕ) (v text : List ℕ) (old : Live) (rest : List
       by_setting : (s : Setting) → set ≡ s → HasSet s old new d → DoesMost es k this old rest new rest' d
       by_setting lacking there has =
           lacks es k this old rest new rest' d going (lacking-none es old.machine.open_state.quirks old.doc.tree (find_id old.doc.tree v) text there) same has
-      by_setting too_deep there has = all (record old { halted = Some limit.Depth }) (filled-deep there) has
+      by_setting too_deep there has = all (record old { halted = Some why.Depth }) (filled-deep there) has
       by_setting (setting t) there has = all (record old { doc = record old.doc { tree = t } }) (filled-there t there) has
 
 -- ---- a reading
@@ -359,14 +358,31 @@ if_ok (Err e) P Q more has = tt
 pub next-is : (list : List Statement) (i : ℕ) (a : Statement) → i < length list → a ≡ get_or list i a → drop i list ≡ a ∷ drop (i + 1) list
 next-is list i a lt is = rw add-one (drop-cons list i a lt ∙ ap (λ x. x ∷ drop (suc i) list) (sym is))
 
-pub halted-some : (h : Option Overrun) → is_some h ≡ true → (l : Overrun) × (h ≡ Some l)
+pub halted-some : (h : Option Why) → is_some h ≡ true → (l : Why) × (h ≡ Some l)
 halted-some None is = absurd (cc is)
 halted-some (Some l) is = (l, refl)
 
-pub halted-none : (h : Option Overrun) → is_some h ≡ false → h ≡ None
+pub halted-none : (h : Option Why) → is_some h ≡ false → h ≡ None
 halted-none None is = refl
 halted-none (Some l) is = absurd (cc is)
 
 pub on_ok : {T E : Type 0} (r : Result T E) (P Q : Type 0) → (P → Q) → OnOk r P → OnOk r Q
 on_ok (Ok x) P Q more has = more has
 on_ok (Err e) P Q more has = tt
+
+pub ok_if : {T E : Type 0} (r : Result T E) (P : T → Type 0) (Q : Type 0) → ((x : T) → P x → Q) → IfOk r P → OnOk r Q
+ok_if (Ok x) P Q more has = more x has
+ok_if (Err e) P Q more has = tt
+
+-- ---- the document stays where a text is written or an element is read
+
+pub written-doc : (old : Live) (rest text : List ℕ) (new : Live) (rest' : List ℕ) (d : Did) → HasWritten old rest text new rest' d → new.doc ≡ old.doc
+written-doc old rest text new rest' d has = by (cases_lt write_limit (old.written + length text))
+  where
+    by : (write_limit < old.written + length text) ⊎ (old.written + length text ≤ write_limit) → new.doc ≡ old.doc
+    by (inl long) = ap (λ (l : Live). l.doc) (has.long long).0
+    by (inr fits) = ap (λ (l : Live). l.doc) (has.fits fits).0
+
+pub read-doc : (k : ℕ) (node : Option ℕ) (old new : Live) (d : Did) → HasRead k node old new d → new.doc ≡ old.doc
+read-doc k None old new d has = ap (λ (l : Live). l.doc) has.0
+read-doc k (Some e) old new d has = ap (λ (l : Live). l.doc) has.0

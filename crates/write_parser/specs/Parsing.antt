@@ -9,10 +9,10 @@ use Rattle.standard.specs.Act.{Doc, acts, is_bound}
 use Rattle.standard.specs.Parser.{Parser}
 use Rattle.rule_laws.specs.Naming.{Serves, AreFresh, IsStopBound}
 use Rattle.standard_laws.specs.Laws.{HasParsed}
-use Rattle.core_definitions.specs.Batches.{end_batch}
-use Rattle.parse_machine.specs.declared.machine.PageEnd.{PageEnd}
+use Rattle.core_definitions.specs.Batches.{end_batch, over_with}
+use Rattle.parse_machine.specs.declared.end.End.{End}
 use Rattle.parse_machine.specs.declared.machine.Ran.{Ran}
-use Rattle.parse_machine.specs.Machine.{halt_at}
+use Rattle.parse_machine.specs.Ends.{result_of}
 
 -- The ids that the parser holds are bound in the document, and those that it is to give aren't.
 abbrev pub IsServed : Parser → Doc → Type 0
@@ -36,12 +36,12 @@ pub record RestParsed (es : Entities) (p : Parser) (d : Doc) (rest : List ℕ) (
 
 -- What a parser that stood at p has made of the page's ending, on the document d: the end of the input, or a refusal, which has no operations
 -- and leaves the parser at p.
-pub record HasTakenEnding (es : Entities) (e : Ending) (p : Parser) (d : Doc) (p' : Parser) (d' : Doc) (end : PageEnd) : Type 0 where
+pub record HasTakenEnding (es : Entities) (e : Ending) (p : Parser) (d : Doc) (p' : Parser) (d' : Doc) (end : End) : Type 0 where
   pub parser : p' ≡ (end_batch es p e).after
   pub doc : d' ≡ acts d (end_batch es p e).ops
-  pub answer : halt_at end ≡ (end_batch es p e).halt
+  pub answer : over_with (result_of end) ≡ (end_batch es p e).halt
 
 -- The page's ending was taken, and its operations were done.
-pub record EndParsed (es : Entities) (e : Ending) (p : Parser) (d : Doc) (p' : Parser) (d' : Doc) (end : PageEnd) : Type 0 where
+pub record EndParsed (es : Entities) (e : Ending) (p : Parser) (d : Doc) (p' : Parser) (d' : Doc) (end : End) : Type 0 where
   pub taken : HasTakenEnding es e p d p' d' end
   pub served : IsServed p' d'

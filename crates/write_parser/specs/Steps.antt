@@ -4,6 +4,7 @@ use Rattle.std.specs.Prelude.{◌≡◌, ◌≢◌, ◌<◌, ◌≤◌, ◌+◌,
 use Rattle.html_types.specs.declared.operation.NodeId.{NodeId}
 use Rattle.serial.specs.declared.script.Statement.{Statement}
 use Rattle.html_types.specs.declared.ending.Why.{Why}
+use Rattle.html_types.specs.declared.ending.Why.TheVariants as why
 use Rattle.serial.specs.declared.script.Line.{Line}
 use Rattle.serial.specs.declared.script.Line.TheVariants as line
 use Rattle.standard.specs.Entities.{Entities}
@@ -13,8 +14,6 @@ use Rattle.standard.specs.Outer.{outer_text}
 use Rattle.serial.specs.Statements.{statements}
 use Rattle.serial.specs.Serial.{World, Course, write_limit}
 use Rattle.standard_laws.specs.Frames.{Frame, Nest, rests, NestComesTo, TagComesTo, TextComesTo, Waits, LacksElement}
-use Rattle.write_parser.specs.declared.left.Overrun.{Overrun}
-use Rattle.write_parser.specs.declared.left.Overrun.TheVariants as limit
 use Rattle.write_parser.specs.declared.nesting.Begun.{Begun}
 use Rattle.write_parser.specs.declared.nesting.Nesting.{Nesting}
 use Rattle.write_parser.specs.declared.live.Live.{Live}
@@ -23,13 +22,9 @@ use Rattle.write_parser.specs.declared.live.Did.TheVariants as did
 use Rattle.write_parser.specs.declared.live.Progress.{Progress}
 use Rattle.write_parser.specs.declared.live.Progress.TheVariants as turn
 use Rattle.write_parser.specs.Parsing.{IsServed}
-use Rattle.write_parser.specs.Writing.{View, first_view, why_of, IsRefusal, LeadsTo, Stands, left_to_do}
+use Rattle.write_parser.specs.Writing.{View, first_view, IsRefusal, LeadsTo, Stands, left_to_do}
 
 -- ---- what it holds
-
-abbrev pub halted_of : Option Overrun → Option Why
-halted_of None = None
-halted_of (Some l) = Some (why_of l)
 
 abbrev pub view_of : Live → Bool → View
 view_of l spent = record {
@@ -40,7 +35,7 @@ view_of l spent = record {
   lines = l.lines;
   rest = l.rest;
   pending = l.pending;
-  halted = halted_of l.halted;
+  halted = l.halted;
   spent = spent;
 }
 
@@ -85,9 +80,9 @@ nest_of l fs before page = record {
 -- ---- what comes of them
 
 -- What comes of the new state is `Of` the old; where the page is refused, that is.
-abbrev pub ThenBy : Option Overrun → World → (Course → Type 0) → Live → List Frame → List Line → List ℕ → Type 0
+abbrev pub ThenBy : Option Why → World → (Course → Type 0) → Live → List Frame → List Line → List ℕ → Type 0
 ThenBy None w Of new fs before page = (g : Course) → NestComesTo w (nest_of new fs before page) g → Of g
-ThenBy (Some l) w Of new fs before page = (g : Course) × IsRefusal (why_of l) (view_of new false) before g × Of g
+ThenBy (Some l) w Of new fs before page = (g : Course) × IsRefusal l (view_of new false) before g × Of g
 
 abbrev pub Then : World → (Course → Type 0) → Live → List Frame → List Line → List ℕ → Type 0
 Then w Of new fs before page = ThenBy new.halted w Of new fs before page
@@ -151,7 +146,7 @@ pub record Continues (awaited : Option (List ℕ)) (text : List ℕ) : Type 0 wh
 
 pub record HasWritten (old : Live) (rest text : List ℕ) (new : Live) (rest' : List ℕ) (d : Did) : Type 0 where
   pub fits : old.written + length text ≤ write_limit → (new ≡ record old { written = old.written + length text }) × (rest' ≡ rest ++ text)
-  pub long : write_limit < old.written + length text → (new ≡ record old { halted = Some limit.Writes }) × (rest' ≡ rest)
+  pub long : write_limit < old.written + length text → (new ≡ record old { halted = Some why.Writes }) × (rest' ≡ rest)
   pub did : d ≡ did.All
 
 -- the element, if it is there, was taken out of its parent
@@ -167,7 +162,7 @@ HasAppended (Some t) old new d = (new ≡ record old { doc = record old.doc { tr
 -- the children of an element, if it is there, were set, which left this tree, or the fragment is too deep
 abbrev pub HasSet : Setting → Live → Live → Did → Type 0
 HasSet lacking old new d = (new ≡ old) × (d ≡ did.Nothing)
-HasSet too_deep old new d = (new ≡ record old { halted = Some limit.Depth }) × (d ≡ did.All)
+HasSet too_deep old new d = (new ≡ record old { halted = Some why.Depth }) × (d ≡ did.All)
 HasSet (setting t) old new d = (new ≡ record old { doc = record old.doc { tree = t } }) × (d ≡ did.All)
 
 -- the element, if it is there, was read
@@ -256,7 +251,7 @@ pub record FeedsOn (es : Entities) (old new : Live) : Type 0 where
 abbrev pub IsFed : Live → Type 0
 IsFed l = l.halted ≡ None → Waits l.pending l.rest
 
-abbrev pub StaysAt : Option Overrun → Option (List ℕ) → Live → Live → Type 0
+abbrev pub StaysAt : Option Why → Option (List ℕ) → Live → Live → Type 0
 StaysAt None None old new = ⊤
 StaysAt None (Some name) old new = new ≡ old
 StaysAt (Some l) pending old new = new ≡ old

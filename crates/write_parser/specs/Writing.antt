@@ -16,11 +16,9 @@ use Rattle.rule_laws.specs.Naming.{IsStopBound}
 use Rattle.serial.specs.Serial.{World, Serial, Course, goes, refuses, awaiting, run_text, write_limit, Moment, reading, tag_ended, awaits, over, refusal}
 use Rattle.core_definitions.specs.Settling.{Through}
 use Rattle.standard_laws.specs.Laws.{HasParsed, EndsIn}
-use Rattle.parse_machine.specs.declared.machine.PageEnd.{PageEnd}
+use Rattle.parse_machine.specs.declared.end.End.{End}
 use Rattle.parse_machine.specs.declared.machine.Ran.{Ran}
 use Rattle.write_parser.specs.Parsing.{HasTakenEnding}
-use Rattle.write_parser.specs.declared.left.Overrun.{Overrun}
-use Rattle.write_parser.specs.declared.left.Overrun.TheVariants as limit
 use Rattle.write_parser.specs.declared.left.Left.{Left}
 use Rattle.write_parser.specs.declared.left.Left.TheVariants as left
 
@@ -111,7 +109,7 @@ pub record Parses (es : Entities) (old new : View) (text : List ℕ) (ran : Ran)
   pub bound : IsStopBound (is_bound new.doc.bound) ran.stop
 
 -- The page's ending was taken, and its operations were done.
-pub record Finishes (es : Entities) (e : Ending) (old new : View) (end : PageEnd) : Type 0 where
+pub record Finishes (es : Entities) (e : Ending) (old new : View) (end : End) : Type 0 where
   pub taken : HasTakenEnding es e old.parser old.doc new.parser new.doc end
   pub others : new ≡ record old { parser = new.parser; doc = new.doc }
 
@@ -150,14 +148,10 @@ HasMissed (Some r) pending old new = new ≡ old
 
 -- ---- what is left
 
-abbrev pub why_of : Overrun → Why
-why_of limit.Depth = why.Depth
-why_of limit.Writes = why.Writes
-
 abbrev pub LeftIs : View → Left → Type 0
 LeftIs v left.Empty = (v.halted ≡ None) × (v.pending ≡ None) × (v.rest ≡ [])
 LeftIs v (left.Awaits name) = (v.halted ≡ None) × (v.pending ≡ Some name)
-LeftIs v (left.Limit l) = v.halted ≡ Some (why_of l)
+LeftIs v (left.Refused l) = v.halted ≡ Some l
 
 -- where a script is awaited, or the page is refused, nothing changes
 abbrev pub StaysBy : Option Why → Option (List ℕ) → View → View → Type 0

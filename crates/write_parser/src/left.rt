@@ -1,15 +1,6 @@
 //! What is left of the text that scripts wrote.
 
-use html_types::Text;
-
-/// A limit of a page.
-#[derive(Clone, Copy, PartialEq, Eq)]
-pub enum Overrun {
-    /// More than 512 open elements.
-    Depth,
-    /// More than 1,048,576 characters written by scripts.
-    Writes,
-}
+use html_types::{Text, Why};
 
 /// What is left of the text that was written at level 0.
 #[derive(Drop)]
@@ -19,5 +10,5 @@ pub enum Left {
     /// The script of that `src` is awaited.
     Awaits(Text),
     /// The page is refused.
-    Limit(Overrun),
+    Refused(Why),
 }

@@ -8,6 +8,6 @@ mod nesting;
 mod rest;
 mod writer;
 
-pub use left::{Left, Overrun};
-pub use parse_machine::{PageEnd, Ran};
+pub use left::Left;
+pub use parse_machine::{End, Ran};
 pub use writer::Writer;

@@ -9,17 +9,19 @@ ghost use Rattle.standard.specs.Entities.{Entities};
 ghost use Rattle.standard.specs.Fragment.{inner_set};
 ghost use Rattle.serial.specs.Serial.{with_line_feed};
 ghost use Rattle.standard_laws.specs.Frames.{Waits};
+ghost use Rattle.doc_changes.specs.Logs.{Logs};
 ghost use Rattle.write_parser.specs.Parsing.{IsServed, TextParsed, EndParsed};
 ghost use Rattle.write_parser.specs.Steps.{view_of, IsGoing, IsFirst, Begins, Prepares, Continues, HasWritten, HasRemoved, HasAppended, HasSet, HasRead, DoesMost, Does, Steps, RunsOn, ParsesOn, Moves, frames_of, with_begun, Nests, EndsTag, RunsText, Misses, FeedsOn, IsFed, Fed};
 ghost use Rattle.write_parser.specs.Writing.{LeftIs};
 
-use crate::left::{Left, Overrun};
+use crate::left::Left;
 use crate::nesting::{Begun, Nesting};
 use crate::rest::{Rest, parse_text};
+use doc_changes::{Fragment, Log};
 use entity_table::Table;
-use html_types::{Ending, NoMemory, NodeId, Ops, Stop, Text};
+use html_types::{Ending, NoMemory, NodeId, Ops, Stop, Text, Why};
 use op_exec::{Doc, Put, ScriptKind};
-use parse_machine::{Machine, PageEnd, Ran, parse_fragment};
+use parse_machine::{End, Machine, Ran, parse_fragment};
 use serial::{Line, Lines, Statement};
 use std::alloc::Global;
 use std::mem;
@@ -54,7 +56,7 @@ pub(crate) struct Live {
     pub lines: Lines,
     pub rest: Rest,
     pub pending: Option<Text>,
-    pub halted: Option<Overrun>,
+    pub halted: Option<Why>,
 }
 
 // One script more. A page has fewer of them than it has characters, and those that are written.
@@ -85,23 +87,32 @@ impl Live {
     }
 
     /// Parses a text up to the first stop, and does the operations.
-    pub fn parse(&mut self, table: &Table, text: &str) -> Result<Ran, NoMemory>
+    pub fn parse(&mut self, log: &mut Log, table: &Table, text: &str) -> Result<Ran, NoMemory>
         requires { IsServed self.old.machine self.old.doc }
         ensures parsed { IfOk result (λ ran. TextParsed table.now self.old.machine self.old.doc text.now self.new.machine self.new.doc ran) }
         ensures others { OnOk result (self.new ≡ record self.old { machine = self.new.machine; doc = self.new.doc }) }
+        ensures logged { OnOk result (Logs log.old self.old.doc log.new self.new.doc) }
     {
-        parse_text(self.alloc, table, &mut self.machine, &mut self.doc, text)
+        parse_text(
+            self.alloc,
+            table,
+            &mut self.machine,
+            &mut self.doc,
+            log,
+            text,
+        )
     }
 
     /// Takes the page's ending, and does the operations. Where it refuses the page, nothing changes.
-    pub fn finish(&mut self, table: &Table, ending: Ending) -> Result<PageEnd, NoMemory>
+    pub fn finish(&mut self, log: &mut Log, table: &Table, ending: Ending) -> Result<End, NoMemory>
         requires { IsServed self.old.machine self.old.doc }
         ensures parsed { IfOk result (λ end. EndParsed table.now ending self.old.machine self.old.doc self.new.machine self.new.doc end) }
         ensures others { OnOk result (self.new ≡ record self.old { machine = self.new.machine; doc = self.new.doc }) }
+        ensures logged { OnOk result (Logs log.old self.old.doc log.new self.new.doc) }
     {
         let mut ops = Ops::new(self.alloc);
         let end = self.machine.finish(self.alloc, table, ending, &mut ops)?;
-        self.doc.apply_all(ops)?;
+        log.apply_all(&mut self.doc, ops)?;
         Ok(end)
     }
 
@@ -163,7 +174,7 @@ impl Live {
     {
         let written = self.written.saturating_add(text.len());
         if written > WRITE_LIMIT {
-            self.halted = Some(Overrun::Writes);
+            self.halted = Some(Why::Writes);
             return Ok(Did::All);
         }
         self.written = written;
@@ -181,21 +192,25 @@ impl Live {
     }
 
     // Takes the element with that id out of its parent.
-    fn remove(&mut self, id: &Text) -> Result<Did, NoMemory>
-        ensures { IfOk result (λ did. HasRemoved (find_id self.old.doc.tree id.now) self.old self.new did) }
+    #[tactic(auto, using(std::proofs::lemmas::Grind::common_steps, doc_changes::proofs::Logs::none_logged))]
+    fn remove(&mut self, log: &mut Log, id: &Text) -> Result<Did, NoMemory>
+        ensures does { IfOk result (λ did. HasRemoved (find_id self.old.doc.tree id.now) self.old self.new did) }
+        ensures logged { OnOk result (Logs log.old self.old.doc log.new self.new.doc) }
     {
         match self.doc.find_id(id.as_str()) {
             None => Ok(Did::Nothing),
             Some(node) => {
-                self.doc.remove(node);
+                log.remove(&mut self.doc, node)?;
                 Ok(Did::All)
             }
         }
     }
 
     // Puts the second element last among the first one's children (DOM 4.2.6, append).
-    fn append(&mut self, first: &Text, second: &Text) -> Result<Did, NoMemory>
-        ensures { IfOk result (λ did. HasAppended (appended self.old.doc.tree (find_id self.old.doc.tree first.now) (find_id self.old.doc.tree second.now)) self.old self.new did) }
+    #[tactic(auto, using(std::proofs::lemmas::Grind::common_steps, doc_changes::proofs::Logs::none_logged))]
+    fn append(&mut self, log: &mut Log, first: &Text, second: &Text) -> Result<Did, NoMemory>
+        ensures does { IfOk result (λ did. HasAppended (appended self.old.doc.tree (find_id self.old.doc.tree first.now) (find_id self.old.doc.tree second.now)) self.old self.new did) }
+        ensures logged { OnOk result (Logs log.old self.old.doc log.new self.new.doc) }
     {
         let Some(first) = self.doc.find_id(first.as_str()) else {
             return Ok(Did::Nothing);
@@ -203,7 +218,7 @@ impl Live {
         let Some(second) = self.doc.find_id(second.as_str()) else {
             return Ok(Did::Nothing);
         };
-        match self.doc.move_last(first, second)? {
+        match log.move_last(&mut self.doc, first, second)? {
             Put::Done => Ok(Did::All),
             Put::Impossible => Ok(Did::Nothing),
         }
@@ -211,32 +226,48 @@ impl Live {
 
     // Takes the children of that element out, and puts the fragment of that text there (13.4). A
     // fragment that is too deep refuses the page, and changes nothing else.
-    fn fill(&mut self, table: &Table, target: usize, text: &Text) -> Result<Did, NoMemory>
+    #[tactic(auto, using(std::proofs::lemmas::Grind::common_steps, doc_changes::proofs::Logs::none_logged))]
+    fn fill(
+        &mut self,
+        log: &mut Log,
+        table: &Table,
+        target: usize,
+        text: &Text,
+    ) -> Result<Did, NoMemory>
         requires { target < length self.old.doc.tree }
-        ensures { IfOk result (λ did. HasSet (inner_set table.now self.old.machine.open_state.quirks self.old.doc.tree (Some target) text.now) self.old self.new did) }
+        ensures does { IfOk result (λ did. HasSet (inner_set table.now self.old.machine.open_state.quirks self.old.doc.tree (Some target) text.now) self.old self.new did) }
+        ensures logged { OnOk result (Logs log.old self.old.doc log.new self.new.doc) }
     {
         let context = self.doc.context_of(target, self.machine.is_quirky())?;
         let form = context.form;
         let fragment = parse_fragment(self.alloc, table, context, text.as_str())?;
         match fragment {
             None => {
-                self.halted = Some(Overrun::Depth);
+                self.halted = Some(Why::Depth);
                 Ok(Did::All)
             }
             Some(ops) => {
-                self.doc.fill(target, form, ops)?;
+                log.fill(&mut self.doc, target, Fragment::new(form, ops))?;
                 Ok(Did::All)
             }
         }
     }
 
     // The same with the element that has that id, if one has.
-    fn set_inner(&mut self, table: &Table, id: &Text, text: &Text) -> Result<Did, NoMemory>
-        ensures { IfOk result (λ did. HasSet (inner_set table.now self.old.machine.open_state.quirks self.old.doc.tree (find_id self.old.doc.tree id.now) text.now) self.old self.new did) }
+    #[tactic(auto, using(std::proofs::lemmas::Grind::common_steps, doc_changes::proofs::Logs::none_logged))]
+    fn set_inner(
+        &mut self,
+        log: &mut Log,
+        table: &Table,
+        id: &Text,
+        text: &Text,
+    ) -> Result<Did, NoMemory>
+        ensures does { IfOk result (λ did. HasSet (inner_set table.now self.old.machine.open_state.quirks self.old.doc.tree (find_id self.old.doc.tree id.now) text.now) self.old self.new did) }
+        ensures logged { OnOk result (Logs log.old self.old.doc log.new self.new.doc) }
     {
         match self.doc.find_id(id.as_str()) {
             None => Ok(Did::Nothing),
-            Some(target) => self.fill(table, target, text),
+            Some(target) => self.fill(log, table, target, text),
         }
     }
 
@@ -258,6 +289,7 @@ impl Live {
     // Does a statement of the script of that number, which wrote `rest`.
     fn try_statement(
         &mut self,
+        log: &mut Log,
         table: &Table,
         number: u64,
         statement: &Statement,
@@ -265,14 +297,15 @@ impl Live {
     ) -> Result<Did, NoMemory>
         requires going { IsGoing self.old }
         requires waits { Waits self.old.pending rest.old }
-        ensures { IfOk result (λ did. DoesMost table.now number statement.now self.old rest.old self.new rest.new did) }
+        ensures does { IfOk result (λ did. DoesMost table.now number statement.now self.old rest.old self.new rest.new did) }
+        ensures logged { OnOk result (Logs log.old self.old.doc log.new self.new.doc) }
     {
         match statement {
             Statement::Write(text) => self.write(text, rest),
             Statement::WriteLine(text) => self.write_line(text, rest),
-            Statement::Remove(id) => self.remove(id),
-            Statement::Append(first, second) => self.append(first, second),
-            Statement::SetInner(id, text) => self.set_inner(table, id, text),
+            Statement::Remove(id) => self.remove(log, id),
+            Statement::Append(first, second) => self.append(log, first, second),
+            Statement::SetInner(id, text) => self.set_inner(log, table, id, text),
             Statement::LogById(id) => {
                 let node = self.doc.find_id(id.as_str());
                 self.read(number, node)
@@ -287,6 +320,7 @@ impl Live {
     // The same. Where an element of its isn't there, or can't be moved so, that gives a line.
     fn run_statement(
         &mut self,
+        log: &mut Log,
         table: &Table,
         number: u64,
         statement: &Statement,
@@ -294,9 +328,10 @@ impl Live {
     ) -> Result<Did, NoMemory>
         requires going { IsGoing self.old }
         requires waits { Waits self.old.pending rest.old }
-        ensures { IfOk result (λ did. Does table.now number statement.now self.old rest.old self.new rest.new did) }
+        ensures does { IfOk result (λ did. Does table.now number statement.now self.old rest.old self.new rest.new did) }
+        ensures logged { OnOk result (Logs log.old self.old.doc log.new self.new.doc) }
     {
-        let did = self.try_statement(table, number, statement, rest)?;
+        let did = self.try_statement(log, table, number, statement, rest)?;
         if did == Did::Nothing {
             self.lines.push(Line::Throw(number))?;
         }
@@ -311,7 +346,8 @@ impl Live {
         requires going { IsGoing self.old }
         requires waits { Waits self.old.pending nesting.old.top.rest }
         requires ended { length nesting.old.top.script ≤ nesting.old.top.done }
-        ensures { IfOk result (λ turn. (es : Entities) → Steps es self.old nesting.old self.new nesting.new turn) }
+        ensures steps { IfOk result (λ turn. (es : Entities) → Steps es self.old nesting.old self.new nesting.new turn) }
+        ensures doc { OnOk result (self.new.doc ≡ self.old.doc) }
     {
         let rest = mem::replace(&mut nesting.top.rest, Rest::new(self.alloc));
         match nesting.below.pop() {
@@ -328,16 +364,28 @@ impl Live {
     }
 
     // The next statement of the innermost script, or its end.
-    fn step(&mut self, table: &Table, nesting: &mut Nesting) -> Result<Progress, NoMemory>
+    fn step(
+        &mut self,
+        log: &mut Log,
+        table: &Table,
+        nesting: &mut Nesting,
+    ) -> Result<Progress, NoMemory>
         requires going { IsGoing self.old }
         requires waits { Waits self.old.pending nesting.old.top.rest }
-        ensures { IfOk result (λ turn. Steps table.now self.old nesting.old self.new nesting.new turn) }
+        ensures does { IfOk result (λ turn. Steps table.now self.old nesting.old self.new nesting.new turn) }
+        ensures logged { OnOk result (Logs log.old self.old.doc log.new self.new.doc) }
     {
         let statements = nesting.top.script.as_slice();
         let Some(statement) = statements.get(nesting.top.done) else {
             return self.end_script(nesting);
         };
-        match self.run_statement(table, nesting.top.number, statement, &mut nesting.top.rest)? {
+        match self.run_statement(
+            log,
+            table,
+            nesting.top.number,
+            statement,
+            &mut nesting.top.rest,
+        )? {
             Did::All => nesting.top.done += 1,
             Did::Nothing => nesting.top.done = statements.len(),
         }
@@ -348,12 +396,18 @@ impl Live {
     }
 
     // Runs statements up to a text that is to be parsed, or to the end.
-    fn run_statements(&mut self, table: &Table, nesting: &mut Nesting) -> Result<Progress, NoMemory>
+    fn run_statements(
+        &mut self,
+        log: &mut Log,
+        table: &Table,
+        nesting: &mut Nesting,
+    ) -> Result<Progress, NoMemory>
         requires { IsGoing self.old }
-        ensures { IfOk result (λ turn. RunsOn table.now self.old nesting.old self.new nesting.new turn) }
+        ensures does { IfOk result (λ turn. RunsOn table.now self.old nesting.old self.new nesting.new turn) }
+        ensures logged { OnOk result (Logs log.old self.old.doc log.new self.new.doc) }
     {
         'steps: while !self.goes_on(&nesting.top.rest) {
-            if self.step(table, nesting)? == Progress::Over {
+            if self.step(log, table, nesting)? == Progress::Over {
                 return Ok(Progress::Over);
             }
         }
@@ -373,44 +427,58 @@ impl Live {
     }
 
     // Parses what the innermost script wrote up to a stop.
-    fn parse_written(&mut self, table: &Table, nesting: &mut Nesting) -> Result<Progress, NoMemory>
+    fn parse_written(
+        &mut self,
+        log: &mut Log,
+        table: &Table,
+        nesting: &mut Nesting,
+    ) -> Result<Progress, NoMemory>
         requires going { IsGoing self.old }
         requires goes { Continues self.old.pending nesting.old.top.rest }
-        ensures { IfOk result (λ turn. ParsesOn table.now self.old nesting.old self.new nesting.new turn) }
+        ensures does { IfOk result (λ turn. ParsesOn table.now self.old nesting.old self.new nesting.new turn) }
+        ensures logged { OnOk result (Logs log.old self.old.doc log.new self.new.doc) }
     {
         let rest = &mut nesting.top.rest;
-        match rest.parse(self.alloc, table, &mut self.machine, &mut self.doc)? {
+        match rest.parse(self.alloc, table, &mut self.machine, &mut self.doc, log)? {
             Stop::InputEnd => Ok(Progress::On),
             Stop::Script(id) => {
                 self.nest(id, nesting)?;
                 Ok(Progress::On)
             }
             Stop::Deep => {
-                self.halted = Some(Overrun::Depth);
+                self.halted = Some(Why::Depth);
                 Ok(Progress::Over)
             }
         }
     }
 
     // Runs the scripts that were begun to their end, and those that they write.
-    fn run(&mut self, table: &Table, nesting: &mut Nesting) -> Result<(), NoMemory>
+    fn run(&mut self, log: &mut Log, table: &Table, nesting: &mut Nesting) -> Result<(), NoMemory>
         requires { IsGoing self.old }
-        ensures { OnOk result (Moves table.now self.old (frames_of nesting.old) self.new []) }
+        ensures does { OnOk result (Moves table.now self.old (frames_of nesting.old) self.new []) }
+        ensures logged { OnOk result (Logs log.old self.old.doc log.new self.new.doc) }
     {
         'texts: loop {
-            if self.run_statements(table, nesting)? == Progress::Over {
+            if self.run_statements(log, table, nesting)? == Progress::Over {
                 return Ok(());
             }
-            if self.parse_written(table, nesting)? == Progress::Over {
+            if self.parse_written(log, table, nesting)? == Progress::Over {
                 return Ok(());
             }
         }
     }
 
     // Runs a script to its end, if one was begun.
-    fn run_begun(&mut self, table: &Table, begun: Option<Begun>) -> Result<(), NoMemory>
+    #[tactic(auto, using(std::proofs::lemmas::Grind::common_steps, doc_changes::proofs::Logs::none_logged))]
+    fn run_begun(
+        &mut self,
+        log: &mut Log,
+        table: &Table,
+        begun: Option<Begun>,
+    ) -> Result<(), NoMemory>
         requires { IsGoing self.old }
-        ensures { OnOk result (Moves table.now self.old (with_begun begun []) self.new []) }
+        ensures does { OnOk result (Moves table.now self.old (with_begun begun []) self.new []) }
+        ensures logged { OnOk result (Logs log.old self.old.doc log.new self.new.doc) }
     {
         let Some(top) = begun else {
             return Ok(());
@@ -419,46 +487,49 @@ impl Live {
             top,
             below: Vec::new(self.alloc),
         };
-        self.run(table, &mut nesting)
+        self.run(log, table, &mut nesting)
     }
 }
 
 // Level 0.
 impl Live {
     /// The script whose end tag was met.
-    pub fn end_tag(&mut self, table: &Table, id: NodeId) -> Result<(), NoMemory>
+    pub fn end_tag(&mut self, log: &mut Log, table: &Table, id: NodeId) -> Result<(), NoMemory>
         requires going { IsGoing self.old }
         requires bound { IsTrue (is_bound self.old.doc.bound id) }
-        ensures { OnOk result (EndsTag table.now id self.old self.new) }
+        ensures does { OnOk result (EndsTag table.now id self.old self.new) }
+        ensures logged { OnOk result (Logs log.old self.old.doc log.new self.new.doc) }
     {
         let begun = self.prepare(id)?;
-        self.run_begun(table, begun)
+        self.run_begun(log, table, begun)
     }
 
     /// Runs a script's text; no script is awaited then.
-    pub fn run_text(&mut self, table: &Table, text: &str) -> Result<(), NoMemory>
+    pub fn run_text(&mut self, log: &mut Log, table: &Table, text: &str) -> Result<(), NoMemory>
         requires { IsGoing self.old }
-        ensures { OnOk result (RunsText table.now (chars text.now) self.old self.new) }
+        ensures does { OnOk result (RunsText table.now (chars text.now) self.old self.new) }
+        ensures logged { OnOk result (Logs log.old self.old.doc log.new self.new.doc) }
     {
         self.pending = None;
         let begun = self.begin(text)?;
-        self.run_begun(table, begun)
+        self.run_begun(log, table, begun)
     }
 
     // Parses written text up to a stop, and runs the script whose end tag it stops at.
-    fn feed_once(&mut self, table: &Table) -> Result<(), NoMemory>
+    fn feed_once(&mut self, log: &mut Log, table: &Table) -> Result<(), NoMemory>
         requires going { IsGoing self.old }
         requires goes { Continues self.old.pending self.old.rest }
-        ensures { OnOk result (FeedsOn table.now self.old self.new) }
+        ensures does { OnOk result (FeedsOn table.now self.old self.new) }
+        ensures logged { OnOk result (Logs log.old self.old.doc log.new self.new.doc) }
     {
         match self
             .rest
-            .parse(self.alloc, table, &mut self.machine, &mut self.doc)?
+            .parse(self.alloc, table, &mut self.machine, &mut self.doc, log)?
         {
             Stop::InputEnd => Ok(()),
-            Stop::Script(id) => self.end_tag(table, id),
+            Stop::Script(id) => self.end_tag(log, table, id),
             Stop::Deep => {
-                self.halted = Some(Overrun::Depth);
+                self.halted = Some(Why::Depth);
                 Ok(())
             }
         }
@@ -474,12 +545,13 @@ impl Live {
     }
 
     /// Parses written text and runs its scripts, until all is used, a script is awaited, or the page is refused.
-    pub fn feed(&mut self, table: &Table) -> Result<(), NoMemory>
+    pub fn feed(&mut self, log: &mut Log, table: &Table) -> Result<(), NoMemory>
         requires { IsServed self.old.machine self.old.doc }
-        ensures { OnOk result (Fed table.now self.old self.new) }
+        ensures does { OnOk result (Fed table.now self.old self.new) }
+        ensures logged { OnOk result (Logs log.old self.old.doc log.new self.new.doc) }
     {
         'scripts: while self.feeds() {
-            self.feed_once(table)?;
+            self.feed_once(log, table)?;
         }
         Ok(())
     }
@@ -499,8 +571,8 @@ impl Live {
         requires { IsFed self.now }
         ensures { IfOk result (λ left. LeftIs (view_of self.now false) left) }
     {
-        if let Some(limit) = self.halted {
-            return Ok(Left::Limit(limit));
+        if let Some(why) = self.halted {
+            return Ok(Left::Refused(why));
         }
         match &self.pending {
             Some(name) => Ok(Left::Awaits(name.copy(self.alloc)?)),

@@ -2,8 +2,10 @@
 
 ghost use Rattle.std.specs.Prelude.{◌≡◌, ◌↔◌, ◌++◌, [], IsTrue, OnOk, IfOk};
 ghost use Rattle.std.specs.Str.{chars, IsCharBoundary};
+ghost use Rattle.doc_changes.specs.Logs.{Logs};
 ghost use Rattle.write_parser.specs.Parsing.{IsServed, TextParsed, RestParsed};
 
+use doc_changes::Log;
 use entity_table::Table;
 use html_types::{NoMemory, Ops, Stop};
 use op_exec::Doc;
@@ -35,14 +37,16 @@ pub(crate) fn parse_text(
     table: &Table,
     machine: &mut Machine,
     doc: &mut Doc,
+    log: &mut Log,
     text: &str,
 ) -> Result<Ran, NoMemory>
     requires { IsServed machine.old doc.old }
-    ensures { IfOk result (λ ran. TextParsed table.now machine.old doc.old text.now machine.new doc.new ran) }
+    ensures parsed { IfOk result (λ ran. TextParsed table.now machine.old doc.old text.now machine.new doc.new ran) }
+    ensures logged { OnOk result (Logs log.old doc.old log.new doc.new) }
 {
     let mut ops = Ops::new(alloc);
     let ran = machine.run(alloc, table, text, &mut ops)?;
-    doc.apply_all(ops)?;
+    log.apply_all(doc, ops)?;
     Ok(ran)
 }
 
@@ -98,11 +102,13 @@ impl Rest {
         table: &Table,
         machine: &mut Machine,
         doc: &mut Doc,
+        log: &mut Log,
     ) -> Result<Stop, NoMemory>
         requires { IsServed machine.old doc.old }
-        ensures { IfOk result (λ stop. RestParsed table.now machine.old doc.old self.old machine.new doc.new self.new stop) }
+        ensures parsed { IfOk result (λ stop. RestParsed table.now machine.old doc.old self.old machine.new doc.new self.new stop) }
+        ensures logged { OnOk result (Logs log.old doc.old log.new doc.new) }
     {
-        let ran = parse_text(alloc, table, machine, doc, &self.string[self.used..])?;
+        let ran = parse_text(alloc, table, machine, doc, log, &self.string[self.used..])?;
         self.used += ran.used;
         Ok(ran.stop)
     }

@@ -3,6 +3,7 @@
 ghost use Rattle.std.specs.Prelude.{◌≡◌, ◌≢◌, ◌<◌, ◌≤◌, ◌+◌, true, false, [], None, IfOk, OnOk, OnErr, IsErr, IsTrue};
 ghost use Rattle.std.specs.Str.{chars};
 ghost use Rattle.standard.specs.Act.{acts, is_bound, AreOpsBound};
+ghost use Rattle.doc_changes.specs.Logs.{Logs};
 ghost use Rattle.serial.specs.Statements.{statements};
 ghost use Rattle.core_definitions.specs.Desk.{renewed};
 ghost use Rattle.moment_laws.specs.Served.{AreBelow};
@@ -11,10 +12,11 @@ ghost use Rattle.write_parser.specs.Writing.{first_view, Parses, Finishes, AtTag
 
 use crate::left::Left;
 use crate::live::Live;
+use doc_changes::Log;
 use entity_table::Table;
 use html_types::{Ending, NoMemory, NodeId, Ops};
 use op_exec::Doc;
-use parse_machine::{Machine, PageEnd, Ran};
+use parse_machine::{End, Machine, Ran};
 use serial::{Line, Lines};
 use std::alloc::Global;
 use std::marker::Model;
@@ -91,40 +93,42 @@ impl Writer {
     }
 
     /// Parses a text of the page up to the first stop, and does the operations.
-    pub fn parse(&mut self, table: &Table, text: &str) -> Result<Ran, NoMemory>
+    pub fn parse(&mut self, log: &mut Log, table: &Table, text: &str) -> Result<Ran, NoMemory>
         ensures spent { self.old.spent ≡ true → IsErr result }
         ensures kept { OnOk result (self.new.spent ≡ false) }
         ensures err { OnErr result (self.new.spent ≡ true) }
         ensures parsed { IfOk result (λ ran. Parses table.now self.old self.new text.now ran) }
+        ensures logged { OnOk result (Logs log.old self.old.doc log.new self.new.doc) }
     {
         if self.spent {
             return Err(NoMemory);
         }
         self.spent = true;
-        let ran = self.live.parse(table, text)?;
+        let ran = self.live.parse(log, table, text)?;
         self.spent = false;
         Ok(ran)
     }
 
     /// Takes the page's ending, and does the operations. Where it refuses the page, nothing changes.
-    pub fn finish(&mut self, table: &Table, ending: Ending) -> Result<PageEnd, NoMemory>
+    pub fn finish(&mut self, log: &mut Log, table: &Table, ending: Ending) -> Result<End, NoMemory>
         ensures spent { self.old.spent ≡ true → IsErr result }
         ensures kept { OnOk result (self.new.spent ≡ false) }
         ensures err { OnErr result (self.new.spent ≡ true) }
         ensures finished { IfOk result (λ end. Finishes table.now ending self.old self.new end) }
+        ensures logged { OnOk result (Logs log.old self.old.doc log.new self.new.doc) }
     {
         if self.spent {
             return Err(NoMemory);
         }
         self.spent = true;
-        let end = self.live.finish(table, ending)?;
+        let end = self.live.finish(log, table, ending)?;
         self.spent = false;
         Ok(end)
     }
 
     /// The script whose end tag the page's characters have just ended (13.2.6.4.8): it is prepared on the tree as it is, and then
     /// runs, is awaited, or does nothing.
-    pub fn end_tag(&mut self, table: &Table, id: NodeId) -> Result<(), NoMemory>
+    pub fn end_tag(&mut self, log: &mut Log, table: &Table, id: NodeId) -> Result<(), NoMemory>
         requires bound { IsTrue (is_bound self.old.doc.bound id) }
         requires none_awaited { self.old.pending ≡ None }
         requires not_refused { self.old.halted ≡ None }
@@ -135,19 +139,20 @@ impl Writer {
         ensures leads { OnOk result (LeadsTo table.now (AtTag id self.old) self.new) }
         // What is left to do grows by one at most: the script may be awaited.
         ensures one_more { OnOk result (left_to_do self.new ≤ left_to_do self.old + 1) }
+        ensures logged { OnOk result (Logs log.old self.old.doc log.new self.new.doc) }
     {
         if self.spent {
             return Err(NoMemory);
         }
         self.spent = true;
-        self.live.end_tag(table, id)?;
+        self.live.end_tag(log, table, id)?;
         self.spent = false;
         Ok(())
     }
 
     /// Runs the text of a script: of the script that is awaited, which is awaited no more, or of an inline script whose end tag
     /// was met. Once the page is refused, nothing changes.
-    pub fn run_script(&mut self, table: &Table, text: &str) -> Result<(), NoMemory>
+    pub fn run_script(&mut self, log: &mut Log, table: &Table, text: &str) -> Result<(), NoMemory>
         ensures spent { self.old.spent ≡ true → IsErr result }
         ensures kept { OnOk result (self.new.spent ≡ false) }
         ensures err { OnErr result (self.new.spent ≡ true) }
@@ -155,6 +160,7 @@ impl Writer {
         // What is left to do doesn't grow, and is less where a script was awaited.
         ensures no_more { OnOk result (left_to_do self.new ≤ left_to_do self.old) }
         ensures less { OnOk result (self.old.halted ≡ None → self.old.pending ≢ None → left_to_do self.new < left_to_do self.old) }
+        ensures logged { OnOk result (Logs log.old self.old.doc log.new self.new.doc) }
     {
         if self.spent {
             return Err(NoMemory);
@@ -163,7 +169,7 @@ impl Writer {
             return Ok(());
         }
         self.spent = true;
-        self.live.run_text(table, text)?;
+        self.live.run_text(log, table, text)?;
         self.spent = false;
         Ok(())
     }
@@ -193,18 +199,19 @@ impl Writer {
 
     /// Parses what was written at level 0 and isn't used, and runs the scripts in it, until all is used, a script is awaited, or
     /// the page is refused. Where a script is awaited, or the page is refused, it answers that, and nothing changes.
-    pub fn feed_left(&mut self, table: &Table) -> Result<Left, NoMemory>
+    pub fn feed_left(&mut self, log: &mut Log, table: &Table) -> Result<Left, NoMemory>
         ensures spent { self.old.spent ≡ true → IsErr result }
         ensures kept { OnOk result (self.new.spent ≡ false) }
         ensures err { OnErr result (self.new.spent ≡ true) }
         ensures feeds { IfOk result (λ left. Feeds table.now self.old self.new left) }
         ensures no_more { OnOk result (left_to_do self.new ≤ left_to_do self.old) }
+        ensures logged { OnOk result (Logs log.old self.old.doc log.new self.new.doc) }
     {
         if self.spent {
             return Err(NoMemory);
         }
         self.spent = true;
-        self.live.feed(table)?;
+        self.live.feed(log, table)?;
         let left = self.live.left()?;
         self.spent = false;
         Ok(left)
@@ -228,19 +235,20 @@ impl Writer {
     }
 
     /// Does operations that were made of a text ahead of the document. The parser then stands in the state `end`, behind that text.
-    pub fn execute(&mut self, ops: Ops, end: Machine) -> Result<(), NoMemory>
+    pub fn execute(&mut self, log: &mut Log, ops: Ops, end: Machine) -> Result<(), NoMemory>
         requires bound { AreOpsBound (is_bound self.old.doc.bound) ops }
         requires served { IsServed end (acts self.old.doc ops) }
         ensures spent { self.old.spent ≡ true → IsErr result }
         ensures kept { OnOk result (self.new.spent ≡ false) }
         ensures err { OnErr result (self.new.spent ≡ true) }
         ensures executed { OnOk result (self.new ≡ record self.old { parser = end; doc = acts self.old.doc ops }) }
+        ensures logged { OnOk result (Logs log.old self.old.doc log.new self.new.doc) }
     {
         if self.spent {
             return Err(NoMemory);
         }
         self.spent = true;
-        self.live.doc.apply_all(ops)?;
+        log.apply_all(&mut self.live.doc, ops)?;
         self.live.machine = end;
         self.spent = false;
         Ok(())

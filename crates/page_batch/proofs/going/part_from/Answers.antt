@@ -1,5 +1,5 @@
 use Rattle.std.proofs.Common.{◌++◌, ◌∙◌, ap}
-use Rattle.page_turns.specs.Shown.{result_of}
+use Rattle.parse_machine.specs.Ends.{result_of}
 use Rattle.page_batch.proofs.EndLemmas.{settles-part, used-same}
 use Rattle.page_batch.proofs.going.part_from.Goals as goal
 

@@ -1,9 +1,9 @@
 use Rattle.std.proofs.Common.{◌≤◌, ◌∙◌, ap, sym, subst, arith}
 use Rattle.std.proofs.lemmas.Bool.{OnTrue_at, OnFalse_at}
-use Rattle.serial.specs.Serial.{finished, refused}
 use Rattle.core_pair.specs.Pairs.{Paired, setup_of}
 use Rattle.core_steps.specs.Sides.{left_to_do}
 use Rattle.core_steps.specs.States.{standing_told}
+use Rattle.parse_machine.specs.Ends.{result_of}
 use Rattle.page_turns.proofs.LineLemmas.{ok_weaker}
 use Rattle.page_batch.proofs.GoingLemmas.{goes-same, goes-more, goes-then, over-there}
 use Rattle.page_batch.proofs.TurnLemmas.{turn-ok, goes-still}
@@ -17,27 +17,16 @@ pub returns-then-branch-clause-ends : goal.returns-then-branch-clause-ends
 returns-then-branch-clause-ends g c =
     let left = c.in_ok-settle.ensures.left in let less = (OnTrue_at c.if-branch.true c.in_ok-act.ensures.taken).1 in omega (arith, left, less)
 
-pub returns-in-Done-clause-goes : goal.returns-in-Done-clause-goes
-returns-in-Done-clause-goes g c =
+pub returns-in-Over-clause-goes : goal.returns-in-Over-clause-goes
+returns-in-Over-clause-goes g c =
     let still = OnFalse_at c.if-branch.false c.in_ok-act.ensures.refused in
     goes-still c.args.table.now c.args.pair.now c.settle.new.pair c.act.new.pair c.args.text.now.items c.args.text.now.items c.act.new.text.items still.0 still.1
     (goes-same c.args.table.now _ _ c.args.text.now.items c.in_ok-settle.ensures.same)
 
-pub returns-in-Done-clause-ends : goal.returns-in-Done-clause-ends
-returns-in-Done-clause-ends g c =
-    over-there (setup_of c.act.new.pair) c.act.new.pair.core finished
-    (ap standing_told (sym c.in-Done.is) ∙ c.status.ensures.told)
-
-pub returns-in-Refused-clause-goes : goal.returns-in-Refused-clause-goes
-returns-in-Refused-clause-goes g c =
-    let still = OnFalse_at c.if-branch.false c.in_ok-act.ensures.refused in
-    goes-still c.args.table.now c.args.pair.now c.settle.new.pair c.act.new.pair c.args.text.now.items c.args.text.now.items c.act.new.text.items still.0 still.1
-    (goes-same c.args.table.now _ _ c.args.text.now.items c.in_ok-settle.ensures.same)
-
-pub returns-in-Refused-clause-ends : goal.returns-in-Refused-clause-ends
-returns-in-Refused-clause-ends g c =
-    over-there (setup_of c.act.new.pair) c.act.new.pair.core (refused c.in-Refused.why)
-    (ap standing_told (sym c.in-Refused.is) ∙ c.status.ensures.told)
+pub returns-in-Over-clause-ends : goal.returns-in-Over-clause-ends
+returns-in-Over-clause-ends g c =
+    over-there (setup_of c.act.new.pair) c.act.new.pair.core (result_of c.in-Over.end)
+    (ap standing_told (sym c.in-Over.is) ∙ c.status.ensures.told)
 
 pub returns-clause-goes : goal.returns-clause-goes
 returns-clause-goes g c =

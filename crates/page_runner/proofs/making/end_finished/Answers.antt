@@ -1,6 +1,6 @@
 use Rattle.std.proofs.Common.{◌∙◌, ap, subst, Err, IsTrue}
 use Rattle.outside.specs.Outside.{Rose}
-use Rattle.page_turns.specs.declared.outcome.Outcome.TheVariants as told
+use Rattle.parse_machine.specs.declared.end.End.TheVariants as end
 use Rattle.page_runner.specs.Answers.{is_finished}
 use Rattle.page_runner.proofs.RunLemmas.{gives_failure, gives_all, failure_unfinished}
 use Rattle.page_runner.proofs.making.end_finished.Goals as goal
@@ -12,4 +12,4 @@ pub returns-in-Err-clause-clean : goal.returns-in-Err-clause-clean
 returns-in-Err-clause-clean g c e = absurd (failure_unfinished c.in-Err.failure (subst (λ s. IsTrue (is_finished s)) c.status_for.ensures e))
 
 pub returns-in-Ok-clause-gives : goal.returns-in-Ok-clause-gives
-returns-in-Ok-clause-gives g c = gives_all told.Finished (Rose (g.K.Sink.faults c.args.out.now) (g.K.Sink.faults c.write_tally.new.out)) _ _ _ c.in-Ok.ensures.ok
+returns-in-Ok-clause-gives g c = gives_all end.Finished (Rose (g.K.Sink.faults c.args.out.now) (g.K.Sink.faults c.write_tally.new.out)) _ _ _ c.in-Ok.ensures.ok

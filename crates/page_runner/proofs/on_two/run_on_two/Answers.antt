@@ -10,7 +10,7 @@ pub returns-clause-journaled : goal.returns-clause-journaled
 returns-clause-journaled g c =
     let ran = c.run_with-outcome in
     is_journaled g.E.InForce _ _ ran.new.doc _ ran.new.lanes.asks ran.ensures.goes ran.ensures.reports.entities ran.ensures.reports.ahead_is c.finish-ends.ensures.stopped
-    c.requires.table c.finish-ends.ensures.in_order c.finish-ends.ensures.answered ran.result ran.new.lanes.messages c.finish-ends.ensures.messages ran.ensures.messages
+    c.requires.table c.finish-ends.ensures.in_order c.finish-ends.ensures.answered ran.result.0 ran.new.lanes.messages c.finish-ends.ensures.messages ran.ensures.messages
 
 pub returns-clause-dropped : goal.returns-clause-dropped
 returns-clause-dropped g c =

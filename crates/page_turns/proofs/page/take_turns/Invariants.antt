@@ -1,10 +1,11 @@
-use Rattle.std.proofs.Common.{◌≡◌, ◌≤◌, ◌+◌, length}
+use Rattle.std.proofs.Common.{◌≡◌, ◌≤◌, ◌+◌, length, IsTrue}
 use Rattle.std.specs.String.{string_bytes}
 use Rattle.page_turns.specs.Along.{Goes}
 use Rattle.page_turns.specs.Cuts.{CutAt}
 use Rattle.page_turns.specs.Messages.{TakenSoFar, TellsOn}
 use Rattle.page_turns.specs.Scripts.{folder_with}
 use Rattle.page_turns.specs.Turns.{Holds, turns_to_come}
+use Rattle.page_turns.specs.Watched.{Follows}
 use Rattle.page_turns.proofs.page.take_turns.Given as goal
 
 abbrev pub invariant-turns : goal.invariant-turns
@@ -21,6 +22,9 @@ invariant-turns g l =
       tells : TellsOn g.E.InForce.entities (other.put l.fn.lanes) (other.put l.lanes) (other.taken l.fn.lanes) (other.taken l.lanes) (other.ordered l.fn.lanes) (other.ordered l.lanes);
       crew : g.P.Prefetch.crew l.early ≡ g.P.Prefetch.crew l.fn.early;
       faults : sink.faults l.fn.out ≤ sink.faults l.out;
+      watches : g.W.Watch.watches l.watch ≡ g.W.Watch.watches l.fn.watch;
+      count : g.W.Watch.count l.watch ≡ g.W.Watch.count l.fn.watch;
+      follows : IsTrue (g.W.Watch.watches l.fn.watch) → Follows l.doc (g.W.Watch.doc l.watch) (g.W.Watch.shown l.watch);
     }
 
 abbrev pub decreases-turns : goal.decreases-turns

@@ -1,6 +1,7 @@
 use Rattle.page_turns.proofs.LineLemmas.{if_ok, err_weaker}
 use Rattle.page_turns.proofs.EndLemmas.{left_alone, left_behind, gave_up, gave_part, ran_out}
 use Rattle.page_turns.proofs.ReplayLemmas.{replays-to}
+use Rattle.page_turns.proofs.WatchLemmas.{told_at, told_passed}
 use Rattle.page_turns.proofs.parse.parse_page.Goals as goal
 
 pub returns-clause-ok : goal.returns-clause-ok
@@ -22,3 +23,12 @@ returns-clause-left g c = left_behind _ _ _ _ _ _ _ _ _ c.take_turns-ended.ensur
 
 pub returns-clause-alone : goal.returns-clause-alone
 returns-clause-alone g c = left_alone _ _ _ _ _ _ _ _ _ c.take_turns-ended.ensures.ok c.take_turns-ended.ensures.err
+
+pub returns-clause-told : goal.returns-clause-told
+returns-clause-told g c = λ on.
+    told_at c.take_turns-ended.result c.take_turns-ended.new.doc (g.W.Watch.doc c.take_turns-ended.new.watch) (c.take_turns-ended.ensures.watched on) (c.take_turns-ended.ensures.told on)
+
+pub returns-clause-told_passed : goal.returns-clause-told_passed
+returns-clause-told_passed g c = λ on.
+    told_passed c.take_turns-ended.new.doc (g.W.Watch.doc c.take_turns-ended.new.watch) c.journal-journal.ensures.replayed
+    (told_at c.take_turns-ended.result c.take_turns-ended.new.doc (g.W.Watch.doc c.take_turns-ended.new.watch) (c.take_turns-ended.ensures.watched on) (c.take_turns-ended.ensures.told on))

@@ -1,7 +1,10 @@
+use Rattle.std.proofs.Common.{refl}
 use Rattle.speculation.proofs.Cuts.{is-last}
 use Rattle.speculation.proofs.cutting.last_batch.Goals as goal
+use Rattle.core_definitions.specs.Batches.{over_with}
+use Rattle.parse_machine.specs.Ends.{result_of}
 
 pub returns : goal.returns
 returns c =
     is-last c.args.table.now c.args.machine c.args.ending c.of-start.result.value c.in_ok-text.text c.new-ops.result c.finish.new.ops c.holding.result c.finish.new.self c.in_ok-end.end
-    _ c.of-start.ensures c.in_ok-text.ensures c.new-ops.ensures c.holding.ensures c.of.ensures c.in_ok-end.ensures
+    (over_with (result_of c.in_ok-end.end)) c.of-start.ensures c.in_ok-text.ensures c.new-ops.ensures c.holding.ensures refl c.in_ok-end.ensures

@@ -6,7 +6,7 @@ apply_all-requires c =
     ops-bound c.args.table.now c.args.machine.now c.args.doc.now c.run.new.self c.new-ops.result c.run.new.ops c.in_ok-ran.ran c.args.text.now c.requires c.new-ops.ensures
     c.in_ok-ran.ensures.parsed
 
-pub returns : goal.returns
-returns c =
-    text-parsed c.args.table.now c.args.machine.now c.run.new.self c.args.doc.now c.apply_all.new.self c.new-ops.result c.run.new.ops c.in_ok-ran.ran c.args.text.now c.utf8.text
+pub returns-clause-parsed : goal.returns-clause-parsed
+returns-clause-parsed c =
+    text-parsed c.args.table.now c.args.machine.now c.run.new.self c.args.doc.now c.apply_all.new.doc c.new-ops.result c.run.new.ops c.in_ok-ran.ran c.args.text.now c.utf8.text
     c.requires c.new-ops.ensures c.in_ok-ran.ensures.parsed c.in_ok-apply_all.ensures.ok c.in_ok-ran.ensures.boundary

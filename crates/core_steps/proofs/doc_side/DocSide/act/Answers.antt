@@ -1,4 +1,5 @@
-use Rattle.std.proofs.Common.{subst, IsTrue}
+use Rattle.std.proofs.Common.{subst, sym, IsTrue}
+use Rattle.doc_changes.specs.Logs.{Logs}
 use Rattle.core_definitions.specs.Desk.{can_do}
 use Rattle.core_steps.specs.Sides.{Shown, desk_of}
 use Rattle.core_steps.proofs.DocSides.{shown-now, kept-now, kept-failed, told-running, do-kept}
@@ -16,3 +17,8 @@ pub invariant_of-self-2 : goal.invariant_of-self-2
 invariant_of-self-2 c =
     let i = c.self.inside in
     do-kept i.side i.before.value c.act.new.self c.of.result.value i.spent c.args.self.now c.if-self.false c.self.view_is c.self.invariant c.requires.can c.in_ok-act.ensures.sound c.in_ok-act.ensures.does c.in_ok-act.ensures.others
+
+pub returns-clause-logged : goal.returns-clause-logged
+returns-clause-logged c =
+    let i = c.self.inside in
+    subst (λ (s : Shown). Logs c.args.log.now s.desk.own.side.doc c.act.new.log c.act.new.self.writer.doc) (sym (shown-now i.side i.before.value i.spent c.args.self.now c.if-self.false c.self.view_is)) c.in_ok-act.ensures.logged

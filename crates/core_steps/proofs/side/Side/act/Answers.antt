@@ -28,3 +28,6 @@ returns-clause-others c =
     (λ added. taken-shown c.args.self.now c.replace-stage.result c.replace-stage.new.dest c.act_in.new.self c.add_event.new.self c.replace-stage.ensures.value c.replace-stage.ensures.after c.requires.sound
     c.requires.can c.in_ok-act_in.ensures.acts c.in_ok-act_in.ensures.journal added)
     c.add_event.ensures.ok
+
+pub returns-clause-logged : goal.returns-clause-logged
+returns-clause-logged c = on_ok c.add_event.result _ _ (λ _. c.in_ok-act_in.ensures.logged) c.add_event.ensures.ok

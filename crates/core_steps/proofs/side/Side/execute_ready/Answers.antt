@@ -1,4 +1,6 @@
-use Rattle.std.proofs.Common.{◌∙◌, length, refl}
+use Rattle.std.proofs.Common.{◌∙◌, ap, length, refl}
+use Rattle.doc_changes.proofs.Logs.{logged_same}
+use Rattle.core_steps.specs.declared.side.Side.{Side}
 use Rattle.core_steps.proofs.Executes.{ready-front, ready-executed}
 use Rattle.core_steps.proofs.Ready.{ops-bound, machine-served, executed-behind}
 use Rattle.core_steps.proofs.side.Side.execute_ready.Goals as goal
@@ -23,3 +25,7 @@ returns-in_ok-execute-in-Some-clause-executed c =
     (executed-behind c.args.self.now c.args.batch c.args.self.now.ready c.requires.first c.requires.free c.into_parts-ops.result.0 c.in-Some.machine c.into_parts-ops.ensures.ops
     (c.in-Some.ensures ∙ c.into_parts-ops.ensures.after) c.execute.new.self c.in_ok-execute-in-Some.ensures.executed)
     c.use_up.ensures
+
+pub returns-in_ok-execute-in-Some-clause-logged : goal.returns-in_ok-execute-in-Some-clause-logged
+returns-in_ok-execute-in-Some-clause-logged c =
+    logged_same _ _ _ _ _ c.in_ok-execute-in-Some.ensures.logged (ap (λ (s : Side). s.writer.doc) c.use_up.ensures.is)

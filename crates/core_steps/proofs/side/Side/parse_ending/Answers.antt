@@ -1,4 +1,5 @@
 use Rattle.std.proofs.Common.{◌∙◌, sym, ap, refl}
+use Rattle.speculation.specs.declared.batch.Halt.TheVariants as halt
 use Rattle.core_definitions.specs.Batches.{Piece}
 use Rattle.core_steps.proofs.Executes.{ending-executed}
 use Rattle.core_steps.proofs.side.Side.parse_ending.Goals as goal
@@ -6,4 +7,4 @@ use Rattle.core_steps.proofs.side.Side.parse_ending.Goals as goal
 pub returns-in_ok-end-in-Some-clause-executed : goal.returns-in_ok-end-in-Some-clause-executed
 returns-in_ok-end-in-Some-clause-executed c =
     ending-executed c.args.self.now (record c.args.self.now { writer = c.finish.new.self }) c.requires.ends c.requires.free c.requires.ahead c.requires.placed c.finish.new.self c.in-Some.ending
-    c.in_ok-end-in-Some.end c.of.result (sym (c.ending.ensures ∙ ap (λ (x : Piece). x.ending) c.left.ensures) ∙ c.in-Some.is) c.in_ok-end-in-Some.ensures.finished c.of.ensures refl
+    c.in_ok-end-in-Some.end (halt.Over c.in_ok-end-in-Some.end) (sym (c.ending.ensures ∙ ap (λ (x : Piece). x.ending) c.left.ensures) ∙ c.in-Some.is) c.in_ok-end-in-Some.ensures.finished refl refl

@@ -2,6 +2,8 @@ use Rattle.std.proofs.Common.{◌∙◌, ap, refl, sym, subst}
 use Rattle.core_definitions.specs.Batches.{Piece}
 use Rattle.speculation.specs.declared.batch.Halt.TheVariants as halt
 use Rattle.core_steps.specs.Acting.{Executed}
+use Rattle.doc_changes.proofs.Logs.{logged_same}
+use Rattle.core_steps.specs.declared.side.Side.{Side}
 use Rattle.core_steps.proofs.Executes.{parsed-front, parsed-executed}
 use Rattle.core_steps.proofs.Ready.{not-empty}
 use Rattle.core_steps.proofs.side.Side.parse_left.Goals as goal
@@ -17,3 +19,7 @@ returns-clause-executed c =
     parsed-executed c.args.self.now (record c.args.self.now { writer = c.parse.new.self }) c.use_up.new.self c.parse.new.self c.as_str-text.result.now c.in_ok-ran.ran
     (not-empty c.args.self.now.ledger.left.text c.text.result.now c.is_empty.result (c.text.ensures ∙ ap (λ (x : Piece). x.text) c.left.ensures) c.is_empty.ensures c.if-is_empty.false)
     (c.as_str-text.ensures ∙ (c.text-2.ensures ∙ ap (λ (x : Piece). x.text) c.left-2.ensures)) c.as_str-text.utf8 c.in_ok-ran.ensures.parsed c.requires.free c.requires.ahead refl c.use_up.ensures)
+
+pub returns-clause-logged : goal.returns-clause-logged
+returns-clause-logged c =
+    logged_same _ _ _ _ _ c.in_ok-ran.ensures.logged (ap (λ (s : Side). s.writer.doc) c.use_up.ensures.is)

@@ -1,7 +1,10 @@
 use Rattle.std.proofs.Common.{◌∙◌, ap, refl}
 use Rattle.html_types.specs.declared.instruction.Stop.TheVariants as stop
-use Rattle.html_types.specs.declared.instruction.Finish.TheVariants as finale
 use Rattle.speculation.specs.declared.batch.Halt.TheVariants as halt
+use Rattle.doc_changes.proofs.Logs.{logged_same}
+use Rattle.core_steps.specs.declared.side.Side.{Side}
+use Rattle.core_steps.specs.Acting.{runs_there}
+use Rattle.core_steps.proofs.Logged.{met_doc}
 use Rattle.core_steps.proofs.Ready.{runs-batch}
 use Rattle.core_steps.proofs.side.Side.run_batch.Goals as goal
 
@@ -20,17 +23,21 @@ returns-in-At-Deep-clause-runs c =
     runs-batch c.args.self.now c.execute_batch.new.self c.in_ok-execute_batch.field-0 c.in_ok-execute_batch.ensures.executed c.end_parse.new.self (halt.At stop.Deep)
     (c.in-At-Deep.is ∙ ap halt.At c.in-At-Deep.field-0-is) c.end_parse.ensures
 
-pub returns-in-Finishing-Finished-clause-runs : goal.returns-in-Finishing-Finished-clause-runs
-returns-in-Finishing-Finished-clause-runs c =
-    runs-batch c.args.self.now c.execute_batch.new.self c.in_ok-execute_batch.field-0 c.in_ok-execute_batch.ensures.executed c.end_parse-in-Finishing-Finished.new.self (halt.Finishing finale.Finished)
-    (c.in-Finishing-Finished.is ∙ ap halt.Finishing c.in-Finishing-Finished.field-0-is) c.end_parse-in-Finishing-Finished.ensures
+pub returns-in-Over-clause-runs : goal.returns-in-Over-clause-runs
+returns-in-Over-clause-runs c =
+    runs-batch c.args.self.now c.execute_batch.new.self c.in_ok-execute_batch.field-0 c.in_ok-execute_batch.ensures.executed c.end_parse-in-Over.new.self (halt.Over c.in-Over.end)
+    c.in-Over.is c.end_parse-in-Over.ensures
 
-pub returns-in-Finishing-Deep-clause-runs : goal.returns-in-Finishing-Deep-clause-runs
-returns-in-Finishing-Deep-clause-runs c =
-    runs-batch c.args.self.now c.execute_batch.new.self c.in_ok-execute_batch.field-0 c.in_ok-execute_batch.ensures.executed c.end_parse-in-Finishing-Deep.new.self (halt.Finishing finale.Deep)
-    (c.in-Finishing-Deep.is ∙ ap halt.Finishing c.in-Finishing-Deep.field-0-is) c.end_parse-in-Finishing-Deep.ensures
+-- the end of a batch leaves the document as it is
 
-pub returns-in-Refusing-clause-runs : goal.returns-in-Refusing-clause-runs
-returns-in-Refusing-clause-runs c =
-    runs-batch c.args.self.now c.execute_batch.new.self c.in_ok-execute_batch.field-0 c.in_ok-execute_batch.ensures.executed c.end_parse-in-Refusing.new.self (halt.Refusing c.in-Refusing.why)
-    c.in-Refusing.is c.end_parse-in-Refusing.ensures
+pub returns-in_ok-meet_end_tag-in-At-Script-clause-logged : goal.returns-in_ok-meet_end_tag-in-At-Script-clause-logged
+returns-in_ok-meet_end_tag-in-At-Script-clause-logged c =
+    logged_same _ _ _ _ _ c.in_ok-execute_batch.ensures.logged (met_doc (runs_there c.in-At-Script.id c.execute_batch.new.self) c.in-At-Script.id c.execute_batch.new.self c.meet_end_tag.new.self c.in_ok-meet_end_tag-in-At-Script.ensures.met)
+
+pub returns-in-At-Deep-clause-logged : goal.returns-in-At-Deep-clause-logged
+returns-in-At-Deep-clause-logged c =
+    logged_same _ _ _ _ _ c.in_ok-execute_batch.ensures.logged (ap (λ (s : Side). s.writer.doc) c.end_parse.ensures)
+
+pub returns-in-Over-clause-logged : goal.returns-in-Over-clause-logged
+returns-in-Over-clause-logged c =
+    logged_same _ _ _ _ _ c.in_ok-execute_batch.ensures.logged (ap (λ (s : Side). s.writer.doc) c.end_parse-in-Over.ensures)

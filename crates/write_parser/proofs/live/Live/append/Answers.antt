@@ -3,27 +3,27 @@ use Rattle.standard.specs.Tree.{find_id}
 use Rattle.write_parser.proofs.StatementLemmas.{appended-done, appended-impossible, lacks-first, lacks-second}
 use Rattle.write_parser.proofs.live.Live.append.Goals as goal
 
-pub returns-in_default : goal.returns-in_default
-returns-in_default c =
+pub returns-in_default-clause-does : goal.returns-in_default-clause-does
+returns-in_default-clause-does c =
     let tree = c.args.self.now.doc.tree in
     lacks-first c.args.self.now (find_id tree c.args.first.now) (find_id tree c.args.second.now) (sym (c.in_default.ensures.found ∙ ap (find_id tree) c.as_str.ensures))
 
-pub returns-in_default-find_id : goal.returns-in_default-find_id
-returns-in_default-find_id c =
+pub returns-in_default-find_id-clause-does : goal.returns-in_default-find_id-clause-does
+returns-in_default-find_id-clause-does c =
     let tree = c.args.self.now.doc.tree in
     lacks-second c.args.self.now (find_id tree c.args.first.now) (find_id tree c.args.second.now) c.in-Some.first (sym (c.in-Some.ensures.found ∙ ap (find_id tree) c.as_str.ensures))
     (sym (c.in_default-find_id.ensures.found ∙ ap (find_id tree) c.as_str-2.ensures))
 
-pub returns-in-Done : goal.returns-in-Done
-returns-in-Done c =
+pub returns-in-Done-clause-does : goal.returns-in-Done-clause-does
+returns-in-Done-clause-does c =
     let tree = c.args.self.now.doc.tree in
-    appended-done c.args.self.now c.move_last.new.self (find_id tree c.args.first.now) (find_id tree c.args.second.now) c.in-Some.first c.in-Some-find_id.second
+    appended-done c.args.self.now c.move_last.new.doc (find_id tree c.args.first.now) (find_id tree c.args.second.now) c.in-Some.first c.in-Some-find_id.second
     (sym (c.in-Some.ensures.found ∙ ap (find_id tree) c.as_str.ensures)) (sym (c.in-Some-find_id.ensures.found ∙ ap (find_id tree) c.as_str-2.ensures))
     c.in_ok-move_last.ensures.ok (sym c.in-Done.is ∙ c.in_ok-move_last.ensures.answer)
 
-pub returns-in-Impossible : goal.returns-in-Impossible
-returns-in-Impossible c =
+pub returns-in-Impossible-clause-does : goal.returns-in-Impossible-clause-does
+returns-in-Impossible-clause-does c =
     let tree = c.args.self.now.doc.tree in
-    appended-impossible c.args.self.now c.move_last.new.self (find_id tree c.args.first.now) (find_id tree c.args.second.now) c.in-Some.first c.in-Some-find_id.second
+    appended-impossible c.args.self.now c.move_last.new.doc (find_id tree c.args.first.now) (find_id tree c.args.second.now) c.in-Some.first c.in-Some-find_id.second
     (sym (c.in-Some.ensures.found ∙ ap (find_id tree) c.as_str.ensures)) (sym (c.in-Some-find_id.ensures.found ∙ ap (find_id tree) c.as_str-2.ensures))
     c.in_ok-move_last.ensures.ok (sym c.in-Impossible.is ∙ c.in_ok-move_last.ensures.answer)

@@ -5,8 +5,8 @@ use Rattle.write_parser.specs.declared.nesting.Nesting.{Nesting}
 use Rattle.write_parser.proofs.NestingLemmas.{step-ends-outermost, step-ends-inner}
 use Rattle.write_parser.proofs.live.Live.end_script.Goals as goal
 
-pub returns-in_ok-put_front-in-None : goal.returns-in_ok-put_front-in-None
-returns-in_ok-put_front-in-None c = λ es.
+pub returns-in_ok-put_front-in-None-clause-steps : goal.returns-in_ok-put_front-in-None-clause-steps
+returns-in_ok-put_front-in-None-clause-steps c = λ es.
     let old : Live = c.args.self.now in
     let n : Nesting = c.args.nesting.now in
     let none : n.below.items ≡ [] = c.in-None.ensures.items ∙ ap (λ l. l ++ []) (c.in-None.ensures.rest ∙ ap (λ k. take (k - 1) n.below.items) c.in-None.ensures.cases.0) in
@@ -15,8 +15,8 @@ returns-in_ok-put_front-in-None c = λ es.
     (drop_all n.top.done n.top.script c.requires.ended) none
     (ap (λ r. record old { rest = r }) (c.in_ok-put_front-in-None.ensures ∙ ap (λ r. r ++ old.rest) c.replace-rest.ensures.value))
 
-pub returns-in_ok-put_front-in-Some : goal.returns-in_ok-put_front-in-Some
-returns-in_ok-put_front-in-Some c = λ es.
+pub returns-in_ok-put_front-in-Some-clause-steps : goal.returns-in_ok-put_front-in-Some-clause-steps
+returns-in_ok-put_front-in-Some-clause-steps c = λ es.
     let old : Live = c.args.self.now in
     let n : Nesting = c.args.nesting.now in
     step-ends-inner es old n (record { top = record c.in-Some.around { rest = c.put_front-in-Some.new.self }; below = c.pop.new.self }) c.in-Some.around c.requires.going c.requires.waits

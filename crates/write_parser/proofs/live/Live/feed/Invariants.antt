@@ -1,4 +1,5 @@
 use Rattle.std.proofs.Common.{◌≤◌, false, []}
+use Rattle.doc_changes.specs.Logs.{Logs}
 use Rattle.write_parser.specs.Parsing.{IsServed}
 use Rattle.write_parser.specs.Writing.{LeadsTo, Stands, left_to_do}
 use Rattle.write_parser.specs.Steps.{view_of, weight, StaysAt}
@@ -10,6 +11,7 @@ invariant-scripts l = record {
   leads : LeadsTo l.table (Stands (view_of l.fn.self false)) (view_of l.self false);
   stays : StaysAt l.fn.self.halted l.fn.self.pending l.fn.self l.self;
   less : left_to_do (view_of l.self false) ≤ left_to_do (view_of l.fn.self false);
+  logged : Logs l.fn.log l.fn.self.doc l.log l.self.doc;
 }
 
 abbrev pub decreases-scripts : goal.decreases-scripts

@@ -8,5 +8,5 @@ apply_all-requires c =
 
 pub returns-clause-parsed : goal.returns-clause-parsed
 returns-clause-parsed c =
-    end-parsed c.args.table.now c.args.ending c.args.self.now.machine c.finish.new.self c.args.self.now.doc c.apply_all.new.self c.new-ops.result c.finish.new.ops c.in_ok-end.end c.requires
+    end-parsed c.args.table.now c.args.ending c.args.self.now.machine c.finish.new.self c.args.self.now.doc c.apply_all.new.doc c.new-ops.result c.finish.new.ops c.in_ok-end.end c.requires
     c.new-ops.ensures c.in_ok-end.ensures c.in_ok-apply_all.ensures.ok

@@ -5,15 +5,15 @@ use Rattle.write_parser.specs.Steps.{HasSet}
 use Rattle.write_parser.proofs.StatementLemmas.{if_ok, set-lacking}
 use Rattle.write_parser.proofs.live.Live.set_inner.Goals as goal
 
-pub returns-in-None : goal.returns-in-None
-returns-in-None c =
+pub returns-in-None-clause-does : goal.returns-in-None-clause-does
+returns-in-None-clause-does c =
     let old = c.args.self.now in
     set-lacking c.args.table.now old.machine.open_state.quirks old (find_id old.doc.tree c.args.id.now) c.args.text.now (sym (c.find_id.ensures.found ∙ ap (find_id old.doc.tree) c.as_str.ensures) ∙ c.in-None.is)
 
-pub returns-in-Some : goal.returns-in-Some
-returns-in-Some c =
+pub returns-in-Some-clause-does : goal.returns-in-Some-clause-does
+returns-in-Some-clause-does c =
     let old = c.args.self.now in
     let there : find_id old.doc.tree c.args.id.now ≡ Some c.in-Some.target = sym (c.find_id.ensures.found ∙ ap (find_id old.doc.tree) c.as_str.ensures) ∙ c.in-Some.is in
     if_ok c.fill.result _ _
     (λ did has. subst (λ (found : Option ℕ). HasSet (inner_set c.args.table.now old.machine.open_state.quirks old.doc.tree found c.args.text.now) old c.fill.new.self did) (sym there) has)
-    c.fill.ensures
+    c.fill.ensures.does

@@ -4,9 +4,9 @@ use Rattle.write_parser.specs.Parsing.{TextParsed}
 use Rattle.write_parser.proofs.ParsingLemmas.{rest-parsed}
 use Rattle.write_parser.proofs.rest.Rest.parse.Goals as goal
 
-pub returns : goal.returns
-returns c =
+pub returns-clause-parsed : goal.returns-clause-parsed
+returns-clause-parsed c =
     let bytes : c.range_from.result.now ≡ drop c.self.inside.used (string_bytes c.self.inside.string) = c.range_from.ensures.value ∙ ap (drop c.self.inside.used) c.deref.ensures in
     rw (← c.self.view_is)
     (rest-parsed c.args.table.now c.args.machine.now c.parse_text.new.machine c.args.doc.now c.parse_text.new.doc (string_bytes c.self.inside.string) c.self.inside.used c.in_ok-ran.ran
-    (subst (λ b. TextParsed c.args.table.now c.args.machine.now c.args.doc.now b c.parse_text.new.machine c.parse_text.new.doc c.in_ok-ran.ran) bytes c.in_ok-ran.ensures))
+    (subst (λ b. TextParsed c.args.table.now c.args.machine.now c.args.doc.now b c.parse_text.new.machine c.parse_text.new.doc c.in_ok-ran.ran) bytes c.in_ok-ran.ensures.parsed))

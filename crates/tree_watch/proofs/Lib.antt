@@ -1,0 +1,4 @@
+pub mod Rules
+pub mod Counting
+pub mod Boards
+pub mod Crossing

@@ -1,0 +1,77 @@
+//! A boxed value that is read through parts, and is whole again once each part is back.
+ghost use Rattle.std.specs.Prelude.{◌≡◌, ℕ, ◌+◌, ◌-◌, ◌^◌, ◌<◌, ◌≤◌};
+ghost use Rattle.two_copies.specs.Parted.{part_owns, part_shares, deed_owns};
+
+use std::alloc::Allocator;
+use std::marker::Model;
+
+/// The right to read the value, for as long as this is held. A value has 2^63 parts, and this is `count` of them.
+#[derive(Drop)]
+pub struct Part<T> {
+    ptr: *const T,
+    pub ghost value: { T },
+    pub ghost round: { ℕ },
+    pub ghost count: { ℕ },
+}
+
+impl<T> Model for Part<T> {
+    ghost also_owns = { λ p. part_owns T.row p.ptr p.value p.round p.count };
+
+    ghost also_shares = { λ p _ κ. part_shares T.row p.ptr p.value p.round κ };
+}
+
+/// The right to have the box back.
+pub struct Deed<T, A: Allocator> {
+    ptr: *mut T,
+    alloc: A,
+    pub ghost value: { T },
+    pub ghost round: { ℕ },
+}
+
+impl<T, A: Allocator> Model for Deed<T, A> {
+    ghost also_owns = { λ d. deed_owns (A.dealloc_token d.alloc) T.row d.ptr d.value d.round };
+}
+
+pub fn freeze<T: Drop, A: Allocator>(whole: Box<T, A>) -> (Deed<T, A>, Part<T>)
+    ensures { (result.0.value ≡ whole.value) × (result.1.value ≡ whole.value) × (result.1.round ≡ result.0.round) × (result.1.count ≡ 2 ^ 63) }
+{
+    let (ptr, alloc) = Box::into_raw_with_allocator(whole);
+    (Deed { ptr, alloc }, Part { ptr })
+}
+
+pub fn thaw<T, A: Allocator>(deed: Deed<T, A>, all: Part<T>) -> Box<T, A>
+    requires { (all.round ≡ deed.round) × (all.count ≡ 2 ^ 63) }
+    ensures { result.value ≡ deed.value }
+{
+    let Deed { ptr, alloc } = deed;
+    let Part { ptr: _ } = all;
+    unsafe { Box::from_raw(alloc, ptr) }
+}
+
+impl<T> Part<T> {
+    pub fn get(&self) -> &T
+        ensures { result.now ≡ self.now.value }
+    {
+        unsafe { &*self.ptr }
+    }
+
+    pub fn split_one(&mut self) -> Part<T>
+        requires { (1 < self.old.count) × (self.old.count ≤ 2 ^ 63) }
+        ensures { (self.new ≡ record self.old { count = self.old.count - 1 }) × (result ≡ record self.old { count = 1 }) }
+    {
+        Part { ptr: self.ptr }
+    }
+
+    pub fn join(&mut self, other: Part<T>)
+        requires { (other.round ≡ self.old.round) × (0 < self.old.count) × (self.old.count + other.count ≤ 2 ^ 63) }
+        ensures { self.new ≡ record self.old { count = self.old.count + other.count } }
+    {
+        let Part { ptr: _ } = other;
+    }
+}
+
+unsafe impl<T: Sync> Send for Part<T> {}
+
+unsafe impl<T: Sync> Sync for Part<T> {}
+
+unsafe impl<T: Send, A: Allocator + Send> Send for Deed<T, A> {}
