@@ -8,6 +8,7 @@ use Rattle.html_types.proofs.operation.Ops.TheSendSync as ops
 use Rattle.page_pieces.proofs.shared_text.SharedText.TheSendSync as text
 use Rattle.page_pieces.proofs.piece.Piece.TheSendSync as piece
 use Rattle.speculation.proofs.batch.Halt.TheSendSync as halt
+use Rattle.speculation.proofs.boxed.BoxedMachine.TheSendSync as boxed
 use Rattle.speculation.proofs.request.Request.TheSendSync as request
 use Rattle.entity_table.proofs.table.Table.TheSendSync as table
 use Rattle.write_parser.proofs.writer.Writer.TheSendSync as writer
@@ -32,7 +33,7 @@ use Rattle.core_pair.specs.contracts.both.Both as Both
 use Rattle.core_pair.specs.contracts.pair.Pair as Pair
 
 checkpoint_send : IsSend Checkpoint.the_field.row
-checkpoint_send = search (machine.the_send, sendable, crosses) depth 20
+checkpoint_send = search (boxed.the_send, sendable, crosses) depth 20
 
 batch_send : IsSend Batch.the_field.row
 batch_send = search (text.the_send, ops.the_send, halt.the_field_send, checkpoint_send, sendable, crosses) depth 20
@@ -65,7 +66,7 @@ doc_side_send : IsSend DocSide.the_field.row
 doc_side_send = search (side_send, sendable, crosses) depth 20
 
 work_side_send : IsSend WorkSide.the_field.row
-work_side_send = search (machine.the_send, request.the_send, sendable, crosses) depth 20
+work_side_send = search (boxed.the_send, request.the_send, sendable, crosses) depth 20
 
 scripts_send : IsSend Scripts.the_field.row
 scripts_send = search (file_send, sendable, crosses) depth 20

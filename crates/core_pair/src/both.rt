@@ -62,27 +62,33 @@ impl<E: InForce> Model for Both<E> {
 }
 
 // Hands in the page's pieces.
-fn hand_in(doc: &mut DocSide, pieces: &[Text]) -> Result<(), NoMemory>
+fn hand_in(alloc: Global, doc: &mut DocSide, pieces: &[Text]) -> Result<(), NoMemory>
     requires no_ending { doc.old.journal.ending ≡ None }
     requires within { length (joined doc.old.journal.pieces) + length (joined pieces.now) ≤ page_limit }
     ensures { OnOk result (doc.new ≡ with_pieces pieces.now doc.old) }
 {
     let mut rest = pieces;
     'pieces: while let Some((first, behind)) = rest.split_first() {
-        doc.piece(first.as_str())?;
+        let text = String::from_str(alloc, first.as_str())?;
+        doc.piece(text)?;
         rest = behind;
     }
     Ok(())
 }
 
 // Hands in the page's pieces, and how it ends.
-fn hand_in_page(doc: &mut DocSide, pieces: &[Text], ending: Ending) -> Result<(), NoMemory>
+fn hand_in_page(
+    alloc: Global,
+    doc: &mut DocSide,
+    pieces: &[Text],
+    ending: Ending,
+) -> Result<(), NoMemory>
     requires no_ending { doc.old.journal.ending ≡ None }
     requires within { length (joined doc.old.journal.pieces) + length (joined pieces.now)
         ≤ page_limit }
     ensures { OnOk result (doc.new ≡ with_ending ending (with_pieces pieces.now doc.old)) }
 {
-    hand_in(doc, pieces)?;
+    hand_in(alloc, doc, pieces)?;
     doc.end(ending)?;
     Ok(())
 }
@@ -107,7 +113,7 @@ fn first_side(
         d ≡ with_ending ending (with_pieces pieces.now (first_shown table.now ahead))) }
 {
     let mut doc = DocSide::new(alloc, table, ahead)?;
-    match hand_in_page(&mut doc, pieces, ending) {
+    match hand_in_page(alloc, &mut doc, pieces, ending) {
         Ok(()) => Ok(doc),
         Err(NoMemory) => {
             let_go(doc);

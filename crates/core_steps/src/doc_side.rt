@@ -1,6 +1,6 @@
 //! The document's side.
 
-ghost use Rattle.std.specs.Prelude.{◌≡◌, ◌<◌, ◌≤◌, ◌+◌, ◌++◌, ℕ, List, length, true, false, None, IfOk, OnOk, OnErr, IsErr, IsTrue};
+ghost use Rattle.std.specs.Prelude.{◌≡◌, ◌<◌, ◌≤◌, ◌+◌, ◌++◌, ℕ, List, length, true, false, None, IfOk, OnOk, OnErr, IsErr, IsTrue, string_bytes};
 ghost use Rattle.std.specs.Str.{chars};
 ghost use Rattle.core_definitions.specs.declared.event.Event.TheVariants as event;
 ghost use Rattle.core_definitions.specs.Core.{joined};
@@ -72,11 +72,11 @@ impl DocSide {
     }
 
     /// Hands in the page's next piece.
-    pub fn piece(&mut self, text: &str) -> Result<(), NoMemory>
+    pub fn piece(&mut self, text: String) -> Result<(), NoMemory>
         requires no_ending { self.old.journal.ending ≡ None }
-        requires within { length (joined self.old.journal.pieces) + length (chars text.now) ≤ page_limit }
+        requires within { length (joined self.old.journal.pieces) + length (chars (string_bytes text)) ≤ page_limit }
         ensures spent { self.old.spent ≡ true → IsErr result }
-        ensures ok { OnOk result (self.new ≡ with_piece (chars text.now) self.old) }
+        ensures ok { OnOk result (self.new ≡ with_piece (chars (string_bytes text)) self.old) }
         ensures err { OnErr result (self.new ≡ record self.old { spent = true }) }
     {
         if self.spent {

@@ -1,6 +1,6 @@
 //! What the document's side holds, while memory lasts, and its events.
 
-ghost use Rattle.std.specs.Prelude.{◌≡◌, ◌<◌, ◌++◌, ◌∷◌, [], false, None, Some, IfOk, OnOk, OnErr, IsTrue, not, length};
+ghost use Rattle.std.specs.Prelude.{◌≡◌, ◌<◌, ◌++◌, ◌∷◌, [], false, None, Some, IfOk, OnOk, OnErr, IsTrue, not, length, string_bytes};
 ghost use Rattle.std.specs.Str.{chars};
 ghost use Rattle.core_definitions.specs.declared.event.Event.TheVariants as event;
 ghost use Rattle.core_definitions.specs.Batches.{answer};
@@ -34,7 +34,7 @@ use op_exec::ScriptKind;
 use page_pieces::{Ledger, Piece, SharedText};
 use parse_machine::{End, Machine};
 use serial::Lines;
-use speculation::{Batch, Batches, Halt, InForce, Reply, Request, Said, decide};
+use speculation::{Batch, Batches, BoxedMachine, Halt, InForce, Reply, Request, Said, decide};
 use std::alloc::Global;
 use std::mem;
 use std::snapshot::Snapshot;
@@ -86,6 +86,16 @@ fn put<T: Drop>(place: &mut T, value: T)
 // Lets a value go, for the same reason.
 fn let_go<T: Drop>(_value: T) {}
 
+// The state that a request carries, where it does.
+fn boxed(alloc: Global, machine: Option<Machine>) -> Result<Option<BoxedMachine>, NoMemory>
+    ensures { IfOk result (λ begins. begins ≡ machine) }
+{
+    match machine {
+        None => Ok(None),
+        Some(machine) => Ok(Some(BoxedMachine::new(alloc, machine)?)),
+    }
+}
+
 // What is handed in, and what is known of it.
 impl Side {
     /// Before any event, with no pieces. So many requests are sent ahead at most.
@@ -123,16 +133,16 @@ impl Side {
     }
 
     /// Adds a piece of the page's text, behind all others.
-    pub fn piece(&mut self, text: &str) -> Result<(), NoMemory>
+    pub fn piece(&mut self, text: String) -> Result<(), NoMemory>
         requires sound { IsSound self.old }
         requires no_ending { self.old.journal.ending ≡ None }
-        requires within { length (joined self.old.journal.pieces) + length (chars text.now) ≤ page_limit }
+        requires within { length (joined self.old.journal.pieces) + length (chars (string_bytes text)) ≤ page_limit }
         ensures sound { OnOk result (IsSound self.new) }
-        ensures shown { OnOk result (shown_of self.new false ≡ with_piece (chars text.now) (shown_of self.old false)) }
+        ensures shown { OnOk result (shown_of self.new false ≡ with_piece (chars (string_bytes text)) (shown_of self.old false)) }
         ensures journal { OnErr result (self.new.journal ≡ self.old.journal) }
         ensures stage { OnErr result (self.new.stage ≡ self.old.stage) }
     {
-        let text = SharedText::of(self.alloc, String::from_str(self.alloc, text)?)?;
+        let text = SharedText::of(self.alloc, text)?;
         let read = Snapshot::of(&text);
         self.ledger.add(Piece::new(text, None))?;
         self.journal.add_piece(read)
@@ -244,7 +254,7 @@ impl Side {
         let piece = self.ledger.keep()?;
         self.counts.sent_to = from + piece.text().count() as u64;
         let number = self.ledger.sent() as u64;
-        let begins = self.begins.take();
+        let begins = boxed(self.alloc, self.begins.take())?;
         self.journal.add_event(Event::Send)?;
         Ok(Request::new(self.counts.epoch, number, begins, piece, from))
     }

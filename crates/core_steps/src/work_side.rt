@@ -34,7 +34,7 @@ impl WorkSide {
     {
         WorkSide {
             alloc,
-            worker: Worker::new(alloc),
+            worker: Worker::new(),
             hand: None,
         }
     }

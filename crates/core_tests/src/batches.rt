@@ -43,8 +43,8 @@ fn answer<E: InForce>(
     worker.answer::<E>(alloc, table, request)
 }
 
-fn worker(alloc: Global) -> Worker {
-    Worker::new(alloc)
+fn worker() -> Worker {
+    Worker::new()
 }
 
 fn batches_in_force<E: InForce>(
@@ -54,7 +54,7 @@ fn batches_in_force<E: InForce>(
 ) -> Result<Batches, NoMemory>
     requires { table.now ≡ E.entities }
 {
-    let reply = answer::<E>(alloc, table, worker(alloc), request)?;
+    let reply = answer::<E>(alloc, table, worker(), request)?;
     Ok(reply.said.into_batches())
 }
 

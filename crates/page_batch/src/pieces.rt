@@ -22,7 +22,8 @@ pub(crate) fn pieces_of(alloc: Global, page: &PageBytes) -> Result<(Vec<Text>, E
     'pieces: while !rest.is_empty() {
         let (piece, behind) = rest.split_at(rest.len().min(PIECE));
         let fed = decoder.feed(alloc, piece)?;
-        pieces.push(fed.text)?;
+        let text = Text::from_str(alloc, fed.text.as_str())?;
+        pieces.push(text)?;
         rest = behind;
     }
     Ok((pieces, decoder.close(page.fault)))

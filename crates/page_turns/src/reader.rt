@@ -88,7 +88,7 @@ impl PageReader {
             Ok(n) => {
                 self.left -= n;
                 let fed = self.decoder.feed(alloc, &room[..n])?;
-                doc.piece(fed.text.as_str())?;
+                doc.piece(fed.text)?;
                 match fed.ending {
                     None => Ok(()),
                     Some(ending) => doc.end(ending),

@@ -2,7 +2,7 @@
 use denote.RattleType.{RattleType}
 use denote.Param.Send.{IsSend, sendable}
 use Rattle.std.proofs.Crossing.{crosses}
-use Rattle.parse_machine.proofs.machine.Machine.TheSendSync as machine
+use Rattle.speculation.proofs.boxed.BoxedMachine.TheSendSync as boxed
 use Rattle.html_types.proofs.operation.Ops.TheSendSync as ops
 use Rattle.page_pieces.proofs.shared_text.SharedText.TheSendSync as text
 use Rattle.page_pieces.proofs.piece.Piece.TheSendSync as piece
@@ -25,7 +25,7 @@ use Rattle.parser_thread.specs.contracts.seat.ParserLanes as ParserLanes
 use Rattle.parser_thread.specs.contracts.seat.Parting as Parting
 
 checkpoint_send : IsSend Checkpoint.the_field.row
-checkpoint_send = search (machine.the_send, sendable, crosses) depth 20
+checkpoint_send = search (boxed.the_send, sendable, crosses) depth 20
 
 batch_send : IsSend Batch.the_field.row
 batch_send = search (text.the_send, ops.the_send, halt.the_field_send, checkpoint_send, sendable, crosses) depth 20

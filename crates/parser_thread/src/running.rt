@@ -156,7 +156,7 @@ pub fn start_here<E: InForce, G: Gate + Drop>(
     Ok(ParserThread {
         ask,
         replies,
-        seat: Seat::Here(ParserSide::new(alloc, asked, answers)),
+        seat: Seat::Here(ParserSide::new(asked, answers)),
         table,
         gate,
         alloc,

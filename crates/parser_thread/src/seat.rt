@@ -87,11 +87,7 @@ fn sit<R: Wait + Copy, E: InForce, G: Gate + Drop>(
 }
 
 // The seat of a closure that was called here.
-fn seat_here<E: InForce>(
-    alloc: Global,
-    parting: Parting<E>,
-    was: Snapshot<ParserLanes<E>>,
-) -> Seat<E>
+fn seat_here<E: InForce>(parting: Parting<E>, was: Snapshot<ParserLanes<E>>) -> Seat<E>
     requires kept { Kept E.InForce was.value parting }
     requires first { (was.value.asked.taken ≡ []) × (was.value.answers.put ≡ []) }
     ensures asked { asked_lane E.InForce result ≡ was.value.asked.lane }
@@ -102,7 +98,7 @@ fn seat_here<E: InForce>(
         Parting::Done(ends) => Seat::Ended(ends),
         Parting::Unused(lanes) => {
             let ParserLanes { asked, answers } = lanes;
-            Seat::Here(ParserSide::new(alloc, asked, answers))
+            Seat::Here(ParserSide::new(asked, answers))
         }
     }
 }
@@ -142,7 +138,7 @@ pub(crate) fn take_seat<
         Ok(child) => Seat::There(child),
         Err(refusal) => {
             refused.store(1, Ordering::SeqCst);
-            seat_here(alloc, (refusal.value)(), was)
+            seat_here((refusal.value)(), was)
         }
     }
 }

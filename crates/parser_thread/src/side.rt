@@ -40,18 +40,14 @@ fn tell<E: InForce, G: Gate>(gate: &G, answers: &Put<FromParser<E>>, number: u64
 
 impl<E: InForce> ParserSide<E> {
     /// At the beginning of a page.
-    pub(crate) fn new(
-        alloc: Global,
-        asked: Take<ToParser>,
-        answers: Put<FromParser<E>>,
-    ) -> ParserSide<E>
+    pub(crate) fn new(asked: Take<ToParser>, answers: Put<FromParser<E>>) -> ParserSide<E>
         requires { (asked.taken ≡ []) × (answers.put ≡ []) }
         ensures asked { result.asked ≡ asked }
         ensures answers { result.answers ≡ answers }
         ensures stands { Stands E.InForce result }
     {
         ParserSide {
-            worker: Worker::new(alloc),
+            worker: Worker::new(),
             asked,
             answers,
             goes_on: true,
@@ -155,7 +151,7 @@ pub(crate) fn answer_all<R: Wait, E: InForce, G: Gate>(
     ensures answers { result.answers.lane ≡ answers.lane }
     ensures worked { Worked E.InForce result.asked.taken result.answers.put }
 {
-    ParserSide::new(alloc, asked, answers).finish(rt, alloc, table, gate)
+    ParserSide::new(asked, answers).finish(rt, alloc, table, gate)
 }
 
 /// What the parser's thread does, from the beginning of a page on: it takes requests until it is told to stop, and answers each once, in order,

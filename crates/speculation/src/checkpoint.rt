@@ -2,6 +2,7 @@
 
 ghost use Rattle.std.specs.Prelude.{◌≡◌, IfOk, IfSome, IsTrue};
 
+use crate::boxed::BoxedMachine;
 use html_types::NoMemory;
 use parse_machine::Machine;
 use std::alloc::Global;
@@ -11,7 +12,7 @@ use std::snapshot::Snapshot;
 /// A state of the parser. It holds a machine only where copying one was cheap: a contract sees the state in any case.
 #[derive(Drop)]
 pub struct Checkpoint {
-    held: Option<Machine>,
+    held: Option<BoxedMachine>,
     state: Snapshot<Machine>,
 }
 
@@ -35,22 +36,11 @@ impl Checkpoint {
         if !machine.is_light() {
             return Ok(Checkpoint { held: None, state });
         }
-        let copy = machine.copy(alloc)?;
+        let copy = BoxedMachine::new(alloc, machine.copy(alloc)?)?;
         Ok(Checkpoint {
             held: Some(copy),
             state,
         })
-    }
-
-    /// The state of a machine, which is held.
-    pub fn holding(machine: Machine) -> Checkpoint
-        ensures { result ≡ machine }
-    {
-        let state = Snapshot::of(&machine);
-        Checkpoint {
-            held: Some(machine),
-            state,
-        }
     }
 
     /// The machine, where one is held.
@@ -61,7 +51,10 @@ impl Checkpoint {
             held,
             state: _state,
         } = self;
-        held
+        match held {
+            Some(machine) => Some(machine.into_machine()),
+            None => None,
+        }
     }
 
     /// Whether a machine is held that is in the same state, the next id included. False tells nothing.
@@ -70,7 +63,10 @@ impl Checkpoint {
     {
         match &self.held {
             None => false,
-            Some(held) => held.next_id() == machine.next_id() && held.same(machine),
+            Some(held) => {
+                let held = held.get();
+                held.next_id() == machine.next_id() && held.same(machine)
+            }
         }
     }
 }

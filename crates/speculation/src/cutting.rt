@@ -76,47 +76,47 @@ fn cut_text(
 fn last_batch(
     alloc: Global,
     table: &Table,
-    machine: Machine,
+    machine: &mut Machine,
     ending: Ending,
 ) -> Result<Batch, NoMemory>
-    ensures { IfOk result (λ b. b ≡ end_batch table.now machine ending) }
+    ensures { IfOk result (λ b. b ≡ end_batch table.now machine.old ending) }
 {
-    let mut machine = machine;
-    let start = Snapshot::of(&machine);
+    let start = Snapshot::of(machine);
     let text = SharedText::empty(alloc)?;
     let mut ops = Ops::new(alloc);
     let end = machine.finish(alloc, table, ending, &mut ops)?;
+    machine.share(alloc)?;
+    let after = Checkpoint::of(alloc, machine)?;
     Ok(Batch {
         start,
         text,
         ops,
-        after: Checkpoint::holding(machine),
+        after,
         halt: Halt::Over(end),
     })
 }
 
-// What a machine makes of a piece, and the machine behind it.
+// What a machine makes of a piece. Says whether it goes on behind it.
 pub(crate) fn parse_piece(
     alloc: Global,
     table: &Table,
-    machine: Machine,
+    machine: &mut Machine,
     piece: &Piece,
     batches: &mut Batches,
-) -> Result<Option<Machine>, NoMemory>
-    ensures batches { OnOk result (batches.new ≡ batches.old ++ (answer table.now (Some machine) piece.now).batches) }
-    ensures machine { IfOk result (λ m. m ≡ (answer table.now (Some machine) piece.now).parser) }
+) -> Result<bool, NoMemory>
+    ensures batches { OnOk result (batches.new ≡ batches.old ++ (answer table.now (Some machine.old) piece.now).batches) }
+    ensures machine { IfOk result (λ goes_on. (answer table.now (Some machine.old) piece.now).parser ≡ (if goes_on then Some machine.new else None)) }
 {
-    let mut machine = machine;
     let text = piece.text().copy()?;
-    if !cut_text(alloc, table, &mut machine, text, batches)? {
-        return Ok(None);
+    if !cut_text(alloc, table, machine, text, batches)? {
+        return Ok(false);
     }
     match piece.ending() {
-        None => Ok(Some(machine)),
+        None => Ok(true),
         Some(ending) => {
             let batch = last_batch(alloc, table, machine, ending)?;
             batches.push(batch)?;
-            Ok(None)
+            Ok(false)
         }
     }
 }

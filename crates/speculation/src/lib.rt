@@ -3,6 +3,7 @@
 #![tactic(auto)]
 
 pub mod batch;
+pub mod boxed;
 pub mod checkpoint;
 mod cutting;
 pub mod deciding;
@@ -12,6 +13,7 @@ pub mod request;
 pub mod worker;
 
 pub use batch::{Batch, Batches, Halt};
+pub use boxed::BoxedMachine;
 pub use checkpoint::Checkpoint;
 pub use core_definitions::Verdict;
 pub use deciding::decide;

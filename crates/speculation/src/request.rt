@@ -3,8 +3,8 @@
 ghost use Rattle.std.specs.Prelude.{◌≡◌, ◌≤◌, ◌+◌, length};
 ghost use Rattle.speculation.specs.Asking.{page_limit};
 
+use crate::boxed::BoxedMachine;
 use page_pieces::Piece;
-use parse_machine::Machine;
 use std::marker::Model;
 
 /// A piece of the page that is to be parsed, from the state that the request carries, or else from where the one before it ended. A contract
@@ -13,7 +13,7 @@ use std::marker::Model;
 pub struct Request {
     pub(crate) epoch: u64,
     pub(crate) number: u64,
-    pub(crate) start: Option<Machine>,
+    pub(crate) start: Option<BoxedMachine>,
     pub(crate) piece: Piece,
     pub(crate) from: u64,
 }
@@ -31,7 +31,13 @@ impl Model for Request {
 
 impl Request {
     /// A request under an epoch and a number, of a piece before which so many characters of the page stand.
-    pub fn new(epoch: u64, number: u64, start: Option<Machine>, piece: Piece, from: u64) -> Request
+    pub fn new(
+        epoch: u64,
+        number: u64,
+        start: Option<BoxedMachine>,
+        piece: Piece,
+        from: u64,
+    ) -> Request
         requires { from + length piece.text ≤ page_limit }
         ensures request { result.request ≡ record { epoch = epoch; number = number; start = start; piece = piece } }
         ensures from { result.from ≡ from }

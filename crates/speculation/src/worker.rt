@@ -1,10 +1,11 @@
 //! The parser's side.
 
-ghost use Rattle.std.specs.Prelude.{◌≡◌, IfOk, OnOk};
+ghost use Rattle.std.specs.Prelude.{◌≡◌, ◌++◌, Some, None, if◌then◌else◌, IfOk, OnOk};
 ghost use Rattle.core_definitions.specs.Batches.{answer};
 ghost use Rattle.core_definitions.specs.Core.{first_work, started, answer_to, reply_to};
 
 use crate::batch::Batches;
+use crate::boxed::BoxedMachine;
 use crate::checkpoint::Checkpoint;
 use crate::cutting::parse_piece;
 use crate::in_force::InForce;
@@ -20,18 +21,21 @@ use std::marker::{Model, PhantomData};
 /// The parser's side: a contract sees the state in which its last answer ended, none behind a refusal and behind the page's ending.
 #[derive(Drop)]
 pub struct Worker {
-    machine: Option<Machine>,
+    // Nothing was answered yet.
+    first: bool,
+    machine: Option<BoxedMachine>,
     // For so many operations the next batch has room.
     room: usize,
 }
 
 impl Model for Worker {
-    ghost use Rattle.std.specs.Prelude.{Option};
+    ghost use Rattle.std.specs.Prelude.{Option, if◌then◌else◌};
+    ghost use Rattle.core_definitions.specs.Core.{first_work};
     ghost use Rattle.standard.specs.Parser.{Parser};
 
     ghost Value = { Option Parser };
 
-    ghost view = { λ w. w.machine };
+    ghost view = { λ w. if w.first then first_work.parser else w.machine };
 }
 
 // A parse of a piece: where it began, its batches, and where it ended.
@@ -39,24 +43,32 @@ impl Model for Worker {
 pub(crate) struct Parse {
     start: Option<Checkpoint>,
     batches: Batches,
-    machine: Option<Machine>,
+    machine: Option<BoxedMachine>,
 }
 
-// The state that a request carries, or else the last.
-fn start_of(carried: Option<Machine>, last: Option<Machine>) -> Option<Machine>
-    ensures { result ≡ started carried last }
+// Parses a piece from where a machine stands. Gives that state, and says whether the machine goes on behind the piece.
+fn parse_on(
+    alloc: Global,
+    table: &Table,
+    machine: &mut Machine,
+    piece: &Piece,
+    batches: &mut Batches,
+) -> Result<(Checkpoint, bool), NoMemory>
+    ensures start { IfOk result (λ r. r.0 ≡ machine.old) }
+    ensures batches { OnOk result (batches.new ≡ batches.old ++ (answer table.now (Some machine.old) piece.now).batches) }
+    ensures machine { IfOk result (λ r. (answer table.now (Some machine.old) piece.now).parser ≡ (if r.1 then Some machine.new else None)) }
 {
-    match carried {
-        None => last,
-        Some(machine) => Some(machine),
-    }
+    machine.share(alloc)?;
+    let start = Checkpoint::of(alloc, machine)?;
+    let goes_on = parse_piece(alloc, table, machine, piece, batches)?;
+    Ok((start, goes_on))
 }
 
 // Parses a piece, where there is a state to parse it from. The first batch has room for so many operations.
 fn parse_from(
     alloc: Global,
     table: &Table,
-    machine: Option<Machine>,
+    machine: Option<BoxedMachine>,
     piece: &Piece,
     room: usize,
 ) -> Result<Parse, NoMemory>
@@ -73,13 +85,24 @@ fn parse_from(
         }),
         Some(machine) => {
             let mut machine = machine;
-            machine.share(alloc)?;
-            let start = Checkpoint::of(alloc, &machine)?;
-            let machine = parse_piece(alloc, table, machine, piece, &mut batches)?;
+            let (start, goes_on) = parse_on(
+                alloc,
+                table,
+                &mut machine.machine,
+                piece,
+                &mut batches,
+            )?;
+            if !goes_on {
+                return Ok(Parse {
+                    start: Some(start),
+                    batches,
+                    machine: None,
+                });
+            }
             Ok(Parse {
                 start: Some(start),
                 batches,
-                machine,
+                machine: Some(machine),
             })
         }
     }
@@ -87,12 +110,38 @@ fn parse_from(
 
 impl Worker {
     /// At the beginning of a page. It takes no memory.
-    pub fn new(alloc: Global) -> Worker
+    pub fn new() -> Worker
         ensures { result ≡ first_work.parser }
     {
         Worker {
-            machine: Some(Machine::new(alloc, 0)),
+            first: true,
+            machine: None,
             room: 0,
+        }
+    }
+
+    // The state in which the last answer ended.
+    fn last(&mut self, alloc: Global) -> Result<Option<BoxedMachine>, NoMemory>
+        ensures { IfOk result (λ last. last ≡ self.old) }
+    {
+        if self.first {
+            let machine = BoxedMachine::new(alloc, Machine::new(alloc, 0))?;
+            return Ok(Some(machine));
+        }
+        Ok(self.machine.take())
+    }
+
+    // The state that a request carries, or else the last.
+    fn start_of(
+        &mut self,
+        alloc: Global,
+        carried: Option<BoxedMachine>,
+    ) -> Result<Option<BoxedMachine>, NoMemory>
+        ensures { IfOk result (λ start. start ≡ started carried self.old) }
+    {
+        match carried {
+            None => self.last(alloc),
+            Some(machine) => Ok(Some(machine)),
         }
     }
 
@@ -121,8 +170,9 @@ impl Worker {
             piece,
             from,
         } = request;
-        let machine = start_of(start, self.machine.take());
+        let machine = self.start_of(alloc, start)?;
         let parse = parse_from(alloc, table, machine, &piece, self.room)?;
+        self.first = false;
         self.machine = parse.machine;
         self.room = parse.batches.room();
         Ok(Reply {

@@ -1,13 +1,13 @@
 // UTF-8 that comes in pieces, up to a limit.
 
 use crate::bytes::{joined, shown_text, text_and_ending};
-use html_types::{Ending, NoMemory, Text};
+use html_types::{Ending, NoMemory};
 use std::alloc::Global;
 
 /// What a piece gave: its text, and the ending where the bytes so far show one.
 #[derive(Drop)]
 pub struct Fed {
-    pub text: Text,
+    pub text: String,
     pub ending: Option<Ending>,
 }
 
@@ -23,7 +23,8 @@ pub struct Decoder {
 }
 
 impl Decoder {
-    ghost use Rattle.std.specs.Prelude.{◌≡◌, ◌+◌, ◌-◌, ◌^◌, ◌≤◌, ◌++◌, [], List, ℕ, IfOk, OnErr, Bool, None, if◌then◌else◌, is_some, length, take, min};
+    ghost use Rattle.std.specs.Prelude.{◌≡◌, ◌+◌, ◌-◌, ◌^◌, ◌≤◌, ◌++◌, [], List, ℕ, IfOk, OnErr, Bool, None, if◌then◌else◌, is_some, length, take, min, string_bytes};
+    ghost use Rattle.std.specs.Str.{chars};
     ghost use Rattle.serial.specs.Page.{text_of, shown, ending_of};
     ghost use Rattle.utf8_pieces.specs.Decoder.{HasRead, Looked};
 
@@ -47,14 +48,14 @@ impl Decoder {
 
         // The texts joined are the page's text.
         ensures text { IfOk result (λ fed. (limit : ℕ) (read : List ℕ) → HasRead limit self.old read
-            → text_of limit (read ++ piece.now) ≡ text_of limit read ++ fed.text) }
+            → text_of limit (read ++ piece.now) ≡ text_of limit read ++ chars (string_bytes fed.text)) }
         ensures ending { IfOk result (λ fed. (limit : ℕ) (read : List ℕ) → HasRead limit self.old read
             → fed.ending ≡ shown limit (read ++ piece.now)) }
         ensures err { OnErr result (self.new ≡ self.old) }
     {
         if self.shown.is_some() {
             return Ok(Fed {
-                text: Text::new(alloc),
+                text: String::new(alloc),
                 ending: self.shown,
             });
         }
@@ -83,7 +84,8 @@ impl Decoder {
     fn look(&mut self, alloc: Global, looked: &[u8], counted: usize) -> Result<Fed, NoMemory>
         requires { counted ≤ length looked.now }
         ensures ok { IfOk result (λ fed. Looked self.old self.new
-            (self.old.held.items ++ take counted looked.now) (self.old.held.items ++ looked.now) fed.text fed.ending) }
+            (self.old.held.items ++ take counted looked.now) (self.old.held.items ++ looked.now)
+            (chars (string_bytes fed.text)) fed.ending) }
         ensures err { OnErr result (self.new ≡ self.old) }
     {
         if self.held.as_slice().is_empty() {
@@ -97,11 +99,12 @@ impl Decoder {
     // Reads these bytes, the held ones among them, of which the first ones count.
     fn read(&mut self, alloc: Global, seen: &[u8], counted: usize) -> Result<Fed, NoMemory>
         requires { counted ≤ length seen.now }
-        ensures ok { IfOk result (λ fed. Looked self.old self.new (take counted seen.now) seen.now fed.text fed.ending) }
+        ensures ok { IfOk result (λ fed. Looked self.old self.new (take counted seen.now) seen.now
+            (chars (string_bytes fed.text)) fed.ending) }
         ensures err { OnErr result (self.new ≡ self.old) }
     {
         let (text, ending) = text_and_ending(seen, counted);
-        let fed = Text::from_str(alloc, shown_text(text, self.at_start))?;
+        let fed = String::from_str(alloc, shown_text(text, self.at_start))?;
         let bytes = &seen[..counted];
         let held = bytes[text.len()..].to_vec(alloc)?;
         self.held = held;

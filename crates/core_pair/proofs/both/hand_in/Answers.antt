@@ -1,4 +1,5 @@
 use Rattle.std.proofs.Common.{sym, ◌∙◌, ap}
+use Rattle.std.specs.Str.{chars}
 use Rattle.speculation.specs.Asking.{page_limit}
 use Rattle.core_steps.specs.Sides.{Shown, with_piece}
 use Rattle.core_pair.specs.Pairs.{with_pieces}
@@ -11,7 +12,7 @@ pieces-preserved c =
     let after = c.piece.new.self in
     let h = c.pieces.invariant in
     let split = c.in-Some.ensures.cases.0 in
-    let read = c.in_ok-piece.ensures.ok ∙ ap (λ t. with_piece t before) c.as_str.ensures in
+    let read = c.in_ok-piece.ensures.ok ∙ ap (λ t. with_piece t before) (ap chars c.in_ok-text.ensures.ok ∙ c.as_str.ensures) in
     record {
       no_ending = ap (λ (s : Shown). s.journal.ending) read ∙ h.no_ending;
       within = pieces-fit before.journal.pieces after.journal.pieces c.pieces.rest.now c.in-Some.behind.now c.in-Some.first.now page_limit (ap (λ (s : Shown). s.journal.pieces) read) split h.within;

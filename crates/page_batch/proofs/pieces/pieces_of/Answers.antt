@@ -1,6 +1,7 @@
 use Rattle.std.proofs.Common.{◌≡◌, ◌++◌, [], List, ℕ, length, sym, ap, ◌∙◌, append-nil, append_assoc}
 use Rattle.std.proofs.lemmas.Bool.{eqb-true}
 use Rattle.std.proofs.lemmas.List.{nil_from_length}
+use Rattle.std.specs.Str.{chars}
 use Rattle.serial.specs.Page.{text_of, ending_of}
 use Rattle.core_definitions.specs.Core.{joined}
 use Rattle.utf8_pieces.proofs.PageLaws.{text_of-nil}
@@ -19,7 +20,8 @@ pieces-preserved c =
       read = i.read ++ piece;
       whole = append_assoc i.read piece c.split_at.result.1.now ∙ (ap (λ l. i.read ++ l) (sym c.split_at.ensures.by_index.0) ∙ i.whole);
       fed = c.in_ok-fed.ensures.read PAGE_LIMIT i.read i.fed;
-      text = text-more PAGE_LIMIT c.pieces.pieces.items c.push.new.self.items c.in_ok-fed.fed.text i.read piece c.in_ok-push.ensures.items i.text (c.in_ok-fed.ensures.text PAGE_LIMIT i.read i.fed);
+      text = text-more PAGE_LIMIT c.pieces.pieces.items c.push.new.self.items c.in_ok-text.text i.read piece c.in_ok-push.ensures.items i.text
+          (c.in_ok-fed.ensures.text PAGE_LIMIT i.read i.fed ∙ ap (λ t. text_of PAGE_LIMIT i.read ++ t) (sym (c.in_ok-text.ensures ∙ ap chars c.as_str.ensures.value)));
     }
 
 pub returns-clause-text : goal.returns-clause-text

@@ -1,6 +1,6 @@
 use Rattle.std.proofs.Common.{◌≡◌, ◌≤◌, ◌+◌, ◌-◌, ◌∙◌, ◌++◌, length, take, drop, true, length-take, sym, ap, refl, arith}
+use Rattle.std.specs.Prelude.{string_bytes}
 use Rattle.std.specs.Str.{chars}
-use Rattle.serial.specs.Page.{text_of}
 use Rattle.core_steps.specs.Sides.{Shown, with_ending}
 use Rattle.page_turns.proofs.LineLemmas.{on_err, ok_weaker, err_weaker}
 use Rattle.page_turns.proofs.ReadLemmas.{has_room, asked_is}
@@ -37,7 +37,7 @@ piece-requires-clause-within g c =
     let at = g.F.Outside.seen in
     let fits : c.in-Ok.n ≤ length c.read_piece.new.room = omega (arith, c.read_piece.auto.room, c.in-Ok.ensures.count.1) in
     let within : c.in-Ok.n ≤ c.args.self.now.left = omega (arith, c.min-most.ensures, c.in-Ok.ensures.count.1, length-take c.min-most.result c.args.room.now) in
-    piece_within (at c.args.files.now) (at c.read_piece.new.files) c.args.self.now c.args.doc.now c.requires.reading c.in-Ok.n (take c.in-Ok.n (c.read_piece.new.room ++ drop c.min-most.result c.args.room.now)) c.in-Ok.ensures.count.0 (piece-length c.read_piece.new.room (drop c.min-most.result c.args.room.now) (c.read_piece.new.room ++ drop c.min-most.result c.args.room.now) c.in-Ok.n refl fits) within (piece-taken _ _ c.read_piece.new.room (drop c.min-most.result c.args.room.now) (c.read_piece.new.room ++ drop c.min-most.result c.args.room.now) c.in-Ok.n refl fits c.in-Ok.ensures.taken) c.in-Ok.ensures.no_fault _ c.in-Ok.ensures.call (chars c.as_str.result.now) (λ limit read has. c.in_ok-fed-in-Ok.ensures.text limit read has ∙ ap (λ t. text_of limit read ++ t) (sym c.as_str.ensures))
+    piece_within (at c.args.files.now) (at c.read_piece.new.files) c.args.self.now c.args.doc.now c.requires.reading c.in-Ok.n (take c.in-Ok.n (c.read_piece.new.room ++ drop c.min-most.result c.args.room.now)) c.in-Ok.ensures.count.0 (piece-length c.read_piece.new.room (drop c.min-most.result c.args.room.now) (c.read_piece.new.room ++ drop c.min-most.result c.args.room.now) c.in-Ok.n refl fits) within (piece-taken _ _ c.read_piece.new.room (drop c.min-most.result c.args.room.now) (c.read_piece.new.room ++ drop c.min-most.result c.args.room.now) c.in-Ok.n refl fits c.in-Ok.ensures.taken) c.in-Ok.ensures.no_fault _ c.in-Ok.ensures.call (chars (string_bytes c.in_ok-fed-in-Ok.fed.text)) c.in_ok-fed-in-Ok.ensures.text
 
 pub returns-in_err-piece-in-Ok-clause-err : goal.returns-in_err-piece-in-Ok-clause-err
 returns-in_err-piece-in-Ok-clause-err g c =
@@ -52,23 +52,23 @@ returns-in-None-clause-ok g c =
     let fits : c.in-Ok.n ≤ length c.read_piece.new.room = omega (arith, c.read_piece.auto.room, c.in-Ok.ensures.count.1) in
     let within : c.in-Ok.n ≤ c.args.self.now.left = omega (arith, c.min-most.ensures, c.in-Ok.ensures.count.1, length-take c.min-most.result c.args.room.now) in
     let left : (c.args.self.now.left - c.in-Ok.n) + c.in-Ok.n ≡ c.args.self.now.left = omega (arith, within) in
-    reads_open (at c.args.files.now) (at c.read_piece.new.files) c.args.self.now c.args.doc.now c.requires.reading c.in-Ok.n (take c.in-Ok.n (c.read_piece.new.room ++ drop c.min-most.result c.args.room.now)) c.in-Ok.ensures.count.0 (piece-length c.read_piece.new.room (drop c.min-most.result c.args.room.now) (c.read_piece.new.room ++ drop c.min-most.result c.args.room.now) c.in-Ok.n refl fits) within (piece-taken _ _ c.read_piece.new.room (drop c.min-most.result c.args.room.now) (c.read_piece.new.room ++ drop c.min-most.result c.args.room.now) c.in-Ok.n refl fits c.in-Ok.ensures.taken) c.in-Ok.ensures.no_fault _ c.in-Ok.ensures.call (chars c.as_str.result.now) (λ limit read has. c.in_ok-fed-in-Ok.ensures.text limit read has ∙ ap (λ t. text_of limit read ++ t) (sym c.as_str.ensures)) c.in_ok-fed-in-Ok.fed.ending c.in_ok-fed-in-Ok.ensures.ending (record { decoder = c.feed.new.self; left = c.args.self.now.left - c.in-Ok.n }) c.piece.new.self c.in-None.is c.in_ok-fed-in-Ok.ensures.read left c.requires.no_ending c.in_ok-piece-in-Ok.ensures.ok
+    reads_open (at c.args.files.now) (at c.read_piece.new.files) c.args.self.now c.args.doc.now c.requires.reading c.in-Ok.n (take c.in-Ok.n (c.read_piece.new.room ++ drop c.min-most.result c.args.room.now)) c.in-Ok.ensures.count.0 (piece-length c.read_piece.new.room (drop c.min-most.result c.args.room.now) (c.read_piece.new.room ++ drop c.min-most.result c.args.room.now) c.in-Ok.n refl fits) within (piece-taken _ _ c.read_piece.new.room (drop c.min-most.result c.args.room.now) (c.read_piece.new.room ++ drop c.min-most.result c.args.room.now) c.in-Ok.n refl fits c.in-Ok.ensures.taken) c.in-Ok.ensures.no_fault _ c.in-Ok.ensures.call (chars (string_bytes c.in_ok-fed-in-Ok.fed.text)) c.in_ok-fed-in-Ok.ensures.text c.in_ok-fed-in-Ok.fed.ending c.in_ok-fed-in-Ok.ensures.ending (record { decoder = c.feed.new.self; left = c.args.self.now.left - c.in-Ok.n }) c.piece.new.self c.in-None.is c.in_ok-fed-in-Ok.ensures.read left c.requires.no_ending c.in_ok-piece-in-Ok.ensures.ok
 
-pub returns-clause-ok : goal.returns-clause-ok
-returns-clause-ok g c =
+pub returns-in-Some-clause-ok : goal.returns-in-Some-clause-ok
+returns-in-Some-clause-ok g c =
     let at = g.F.Outside.seen in
     let fits : c.in-Ok.n ≤ length c.read_piece.new.room = omega (arith, c.read_piece.auto.room, c.in-Ok.ensures.count.1) in
     let within : c.in-Ok.n ≤ c.args.self.now.left = omega (arith, c.min-most.ensures, c.in-Ok.ensures.count.1, length-take c.min-most.result c.args.room.now) in
     let left : (c.args.self.now.left - c.in-Ok.n) + c.in-Ok.n ≡ c.args.self.now.left = omega (arith, within) in
-    ok_weaker _ _ _ (λ is. reads_shut (at c.args.files.now) (at c.read_piece.new.files) c.args.self.now c.args.doc.now c.requires.reading c.in-Ok.n (take c.in-Ok.n (c.read_piece.new.room ++ drop c.min-most.result c.args.room.now)) c.in-Ok.ensures.count.0 (piece-length c.read_piece.new.room (drop c.min-most.result c.args.room.now) (c.read_piece.new.room ++ drop c.min-most.result c.args.room.now) c.in-Ok.n refl fits) within (piece-taken _ _ c.read_piece.new.room (drop c.min-most.result c.args.room.now) (c.read_piece.new.room ++ drop c.min-most.result c.args.room.now) c.in-Ok.n refl fits c.in-Ok.ensures.taken) c.in-Ok.ensures.no_fault _ c.in-Ok.ensures.call (chars c.as_str.result.now) (λ limit read has. c.in_ok-fed-in-Ok.ensures.text limit read has ∙ ap (λ t. text_of limit read ++ t) (sym c.as_str.ensures)) c.in_ok-fed-in-Ok.fed.ending c.in_ok-fed-in-Ok.ensures.ending (record { decoder = c.feed.new.self; left = c.args.self.now.left - c.in-Ok.n }) c.end-in-Some.new.self c.in-Some.ending c.in-Some.is left
+    ok_weaker _ _ _ (λ is. reads_shut (at c.args.files.now) (at c.read_piece.new.files) c.args.self.now c.args.doc.now c.requires.reading c.in-Ok.n (take c.in-Ok.n (c.read_piece.new.room ++ drop c.min-most.result c.args.room.now)) c.in-Ok.ensures.count.0 (piece-length c.read_piece.new.room (drop c.min-most.result c.args.room.now) (c.read_piece.new.room ++ drop c.min-most.result c.args.room.now) c.in-Ok.n refl fits) within (piece-taken _ _ c.read_piece.new.room (drop c.min-most.result c.args.room.now) (c.read_piece.new.room ++ drop c.min-most.result c.args.room.now) c.in-Ok.n refl fits c.in-Ok.ensures.taken) c.in-Ok.ensures.no_fault _ c.in-Ok.ensures.call (chars (string_bytes c.in_ok-fed-in-Ok.fed.text)) c.in_ok-fed-in-Ok.ensures.text c.in_ok-fed-in-Ok.fed.ending c.in_ok-fed-in-Ok.ensures.ending (record { decoder = c.feed.new.self; left = c.args.self.now.left - c.in-Ok.n }) c.end-in-Some.new.self c.in-Some.ending c.in-Some.is left
     (is ∙ ap (with_ending c.in-Some.ending) c.in_ok-piece-in-Ok.ensures.ok)) c.end-in-Some.ensures.ok
 
-pub returns-clause-err : goal.returns-clause-err
-returns-clause-err g c =
+pub returns-in-Some-clause-err : goal.returns-in-Some-clause-err
+returns-in-Some-clause-err g c =
     let at = g.F.Outside.seen in
     let fits : c.in-Ok.n ≤ length c.read_piece.new.room = omega (arith, c.read_piece.auto.room, c.in-Ok.ensures.count.1) in
     let within : c.in-Ok.n ≤ c.args.self.now.left = omega (arith, c.min-most.ensures, c.in-Ok.ensures.count.1, length-take c.min-most.result c.args.room.now) in
-    err_weaker _ _ _ (λ is. reads_shut_cut (at c.args.files.now) (at c.read_piece.new.files) c.args.self.now c.args.doc.now c.requires.reading c.in-Ok.n (take c.in-Ok.n (c.read_piece.new.room ++ drop c.min-most.result c.args.room.now)) c.in-Ok.ensures.count.0 (piece-length c.read_piece.new.room (drop c.min-most.result c.args.room.now) (c.read_piece.new.room ++ drop c.min-most.result c.args.room.now) c.in-Ok.n refl fits) within (piece-taken _ _ c.read_piece.new.room (drop c.min-most.result c.args.room.now) (c.read_piece.new.room ++ drop c.min-most.result c.args.room.now) c.in-Ok.n refl fits c.in-Ok.ensures.taken) c.in-Ok.ensures.no_fault _ c.in-Ok.ensures.call (chars c.as_str.result.now) (λ limit read has. c.in_ok-fed-in-Ok.ensures.text limit read has ∙ ap (λ t. text_of limit read ++ t) (sym c.as_str.ensures)) c.in_ok-fed-in-Ok.fed.ending c.in_ok-fed-in-Ok.ensures.ending c.end-in-Some.new.self c.in-Some.ending c.in-Some.is
+    err_weaker _ _ _ (λ is. reads_shut_cut (at c.args.files.now) (at c.read_piece.new.files) c.args.self.now c.args.doc.now c.requires.reading c.in-Ok.n (take c.in-Ok.n (c.read_piece.new.room ++ drop c.min-most.result c.args.room.now)) c.in-Ok.ensures.count.0 (piece-length c.read_piece.new.room (drop c.min-most.result c.args.room.now) (c.read_piece.new.room ++ drop c.min-most.result c.args.room.now) c.in-Ok.n refl fits) within (piece-taken _ _ c.read_piece.new.room (drop c.min-most.result c.args.room.now) (c.read_piece.new.room ++ drop c.min-most.result c.args.room.now) c.in-Ok.n refl fits c.in-Ok.ensures.taken) c.in-Ok.ensures.no_fault _ c.in-Ok.ensures.call (chars (string_bytes c.in_ok-fed-in-Ok.fed.text)) c.in_ok-fed-in-Ok.ensures.text c.in_ok-fed-in-Ok.fed.ending c.in_ok-fed-in-Ok.ensures.ending c.end-in-Some.new.self c.in-Some.ending c.in-Some.is
     (is ∙ ap (λ (z : Shown). record z { spent = true }) c.in_ok-piece-in-Ok.ensures.ok)) c.end-in-Some.ensures.err
 
 pub slice_bounds-read_piece-end-2 : goal.slice_bounds-read_piece-end-2
@@ -96,8 +96,8 @@ returns-in_err-piece-in-Ok-clause-handed g c = hands_spent _ c.requires.no_endin
 pub returns-in-None-clause-handed : goal.returns-in-None-clause-handed
 returns-in-None-clause-handed g c = hands_piece _ c.requires.no_ending _ _ c.in_ok-piece-in-Ok.ensures.ok
 
-pub returns-clause-handed : goal.returns-clause-handed
-returns-clause-handed g c = hands_both _ c.requires.no_ending c.end-in-Some.result _ c.in-Some.ending _ _ c.in_ok-piece-in-Ok.ensures.ok c.end-in-Some.ensures.ok c.end-in-Some.ensures.err
+pub returns-in-Some-clause-handed : goal.returns-in-Some-clause-handed
+returns-in-Some-clause-handed g c = hands_both _ c.requires.no_ending c.end-in-Some.result _ c.in-Some.ending _ _ c.in_ok-piece-in-Ok.ensures.ok c.end-in-Some.ensures.ok c.end-in-Some.ensures.err
 
 -- ---- the calls
 
@@ -134,18 +134,18 @@ returns-in-None-clause-cut g c =
     let asks = asked_is c.args.self.now c.args.room.now c.min-most.result c.min-most.ensures in
     let within : c.in-Ok.n ≤ c.args.self.now.left = omega (arith, c.min-most.ensures, c.in-Ok.ensures.count.1, length-take c.min-most.result c.args.room.now) in
     let left : (c.args.self.now.left - c.in-Ok.n) + c.in-Ok.n ≡ c.args.self.now.left = omega (arith, within) in
-    cuts_piece (length c.args.room.now) (at c.args.files.now) (at c.read_piece.new.files) c.args.self.now c.args.doc.now _ c.in-Ok.n (take c.in-Ok.n (c.read_piece.new.room ++ drop c.min-most.result c.args.room.now)) c.in-Ok.ensures.count.0 (piece-length c.read_piece.new.room (drop c.min-most.result c.args.room.now) (c.read_piece.new.room ++ drop c.min-most.result c.args.room.now) c.in-Ok.n refl fits) asks (piece-taken _ _ c.read_piece.new.room (drop c.min-most.result c.args.room.now) (c.read_piece.new.room ++ drop c.min-most.result c.args.room.now) c.in-Ok.n refl fits c.in-Ok.ensures.taken) c.in-Ok.ensures.call (chars c.as_str.result.now) (λ limit read has. c.in_ok-fed-in-Ok.ensures.text limit read has ∙ ap (λ t. text_of limit read ++ t) (sym c.as_str.ensures)) (record { decoder = c.feed.new.self; left = c.args.self.now.left - c.in-Ok.n }) c.piece.new.self c.in_ok-fed-in-Ok.ensures.read left c.requires.no_ending c.in_ok-piece-in-Ok.ensures.ok
+    cuts_piece (length c.args.room.now) (at c.args.files.now) (at c.read_piece.new.files) c.args.self.now c.args.doc.now _ c.in-Ok.n (take c.in-Ok.n (c.read_piece.new.room ++ drop c.min-most.result c.args.room.now)) c.in-Ok.ensures.count.0 (piece-length c.read_piece.new.room (drop c.min-most.result c.args.room.now) (c.read_piece.new.room ++ drop c.min-most.result c.args.room.now) c.in-Ok.n refl fits) asks (piece-taken _ _ c.read_piece.new.room (drop c.min-most.result c.args.room.now) (c.read_piece.new.room ++ drop c.min-most.result c.args.room.now) c.in-Ok.n refl fits c.in-Ok.ensures.taken) c.in-Ok.ensures.call (chars (string_bytes c.in_ok-fed-in-Ok.fed.text)) c.in_ok-fed-in-Ok.ensures.text (record { decoder = c.feed.new.self; left = c.args.self.now.left - c.in-Ok.n }) c.piece.new.self c.in_ok-fed-in-Ok.ensures.read left c.requires.no_ending c.in_ok-piece-in-Ok.ensures.ok
 
-pub returns-clause-cut : goal.returns-clause-cut
-returns-clause-cut g c =
+pub returns-in-Some-clause-cut : goal.returns-in-Some-clause-cut
+returns-in-Some-clause-cut g c =
     let at = g.F.Outside.seen in
     let fits : c.in-Ok.n ≤ length c.read_piece.new.room = omega (arith, c.read_piece.auto.room, c.in-Ok.ensures.count.1) in
     let asks = asked_is c.args.self.now c.args.room.now c.min-most.result c.min-most.ensures in
-    ok_weaker _ _ _ (λ is. cuts_shut (length c.args.room.now) (at c.args.files.now) (at c.read_piece.new.files) c.args.self.now c.args.doc.now _ c.in-Ok.n (take c.in-Ok.n (c.read_piece.new.room ++ drop c.min-most.result c.args.room.now)) c.in-Ok.ensures.count.0 (piece-length c.read_piece.new.room (drop c.min-most.result c.args.room.now) (c.read_piece.new.room ++ drop c.min-most.result c.args.room.now) c.in-Ok.n refl fits) asks (piece-taken _ _ c.read_piece.new.room (drop c.min-most.result c.args.room.now) (c.read_piece.new.room ++ drop c.min-most.result c.args.room.now) c.in-Ok.n refl fits c.in-Ok.ensures.taken) c.in-Ok.ensures.call (chars c.as_str.result.now) (λ limit read has. c.in_ok-fed-in-Ok.ensures.text limit read has ∙ ap (λ t. text_of limit read ++ t) (sym c.as_str.ensures)) _ c.end-in-Some.new.self c.in-Some.ending (is ∙ ap (with_ending c.in-Some.ending) c.in_ok-piece-in-Ok.ensures.ok)) c.end-in-Some.ensures.ok
+    ok_weaker _ _ _ (λ is. cuts_shut (length c.args.room.now) (at c.args.files.now) (at c.read_piece.new.files) c.args.self.now c.args.doc.now _ c.in-Ok.n (take c.in-Ok.n (c.read_piece.new.room ++ drop c.min-most.result c.args.room.now)) c.in-Ok.ensures.count.0 (piece-length c.read_piece.new.room (drop c.min-most.result c.args.room.now) (c.read_piece.new.room ++ drop c.min-most.result c.args.room.now) c.in-Ok.n refl fits) asks (piece-taken _ _ c.read_piece.new.room (drop c.min-most.result c.args.room.now) (c.read_piece.new.room ++ drop c.min-most.result c.args.room.now) c.in-Ok.n refl fits c.in-Ok.ensures.taken) c.in-Ok.ensures.call (chars (string_bytes c.in_ok-fed-in-Ok.fed.text)) c.in_ok-fed-in-Ok.ensures.text _ c.end-in-Some.new.self c.in-Some.ending (is ∙ ap (with_ending c.in-Some.ending) c.in_ok-piece-in-Ok.ensures.ok)) c.end-in-Some.ensures.ok
 
-pub returns-clause-cut_short : goal.returns-clause-cut_short
-returns-clause-cut_short g c =
+pub returns-in-Some-clause-cut_short : goal.returns-in-Some-clause-cut_short
+returns-in-Some-clause-cut_short g c =
     let at = g.F.Outside.seen in
     let fits : c.in-Ok.n ≤ length c.read_piece.new.room = omega (arith, c.read_piece.auto.room, c.in-Ok.ensures.count.1) in
     let asks = asked_is c.args.self.now c.args.room.now c.min-most.result c.min-most.ensures in
-    err_weaker _ _ _ (λ is. cuts_shut_short (length c.args.room.now) (at c.args.files.now) (at c.read_piece.new.files) c.args.self.now c.args.doc.now _ c.in-Ok.n (take c.in-Ok.n (c.read_piece.new.room ++ drop c.min-most.result c.args.room.now)) c.in-Ok.ensures.count.0 (piece-length c.read_piece.new.room (drop c.min-most.result c.args.room.now) (c.read_piece.new.room ++ drop c.min-most.result c.args.room.now) c.in-Ok.n refl fits) asks (piece-taken _ _ c.read_piece.new.room (drop c.min-most.result c.args.room.now) (c.read_piece.new.room ++ drop c.min-most.result c.args.room.now) c.in-Ok.n refl fits c.in-Ok.ensures.taken) c.in-Ok.ensures.call (chars c.as_str.result.now) (λ limit read has. c.in_ok-fed-in-Ok.ensures.text limit read has ∙ ap (λ t. text_of limit read ++ t) (sym c.as_str.ensures)) c.end-in-Some.new.self (is ∙ ap (λ (z : Shown). record z { spent = true }) c.in_ok-piece-in-Ok.ensures.ok)) c.end-in-Some.ensures.err
+    err_weaker _ _ _ (λ is. cuts_shut_short (length c.args.room.now) (at c.args.files.now) (at c.read_piece.new.files) c.args.self.now c.args.doc.now _ c.in-Ok.n (take c.in-Ok.n (c.read_piece.new.room ++ drop c.min-most.result c.args.room.now)) c.in-Ok.ensures.count.0 (piece-length c.read_piece.new.room (drop c.min-most.result c.args.room.now) (c.read_piece.new.room ++ drop c.min-most.result c.args.room.now) c.in-Ok.n refl fits) asks (piece-taken _ _ c.read_piece.new.room (drop c.min-most.result c.args.room.now) (c.read_piece.new.room ++ drop c.min-most.result c.args.room.now) c.in-Ok.n refl fits c.in-Ok.ensures.taken) c.in-Ok.ensures.call (chars (string_bytes c.in_ok-fed-in-Ok.fed.text)) c.in_ok-fed-in-Ok.ensures.text c.end-in-Some.new.self (is ∙ ap (λ (z : Shown). record z { spent = true }) c.in_ok-piece-in-Ok.ensures.ok)) c.end-in-Some.ensures.err

@@ -21,6 +21,6 @@ returns-clause-ok c =
       held = c.in_ok-held.ensures.items_if_clones_equal (search rules) ∙ take-rest bytes (length text) ∙ ap (λ n. drop n bytes) len;
       start = start ∙ ap (λ n. c.args.self.now.at_start && (n == 0)) len;
       shown = c.text_and_ending-ending.ensures.ending ∙ ap (λ n. if is_text_so_far c.args.seen.now then (if nat_lt n (length c.args.seen.now) then Some Long else None) else Some Bad) (sym counted);
-      text_is = c.in_ok-fed.ensures ∙ c.shown_text.ensures ∙ ap (λ t. if c.args.self.now.at_start then without_mark (chars t) else chars t) c.text_and_ending-ending.ensures.text;
+      text_is = ap chars c.in_ok-fed.ensures.ok ∙ c.shown_text.ensures ∙ ap (λ t. if c.args.self.now.at_start then without_mark (chars t) else chars t) c.text_and_ending-ending.ensures.text;
       ending_is = refl;
     }
