@@ -7,8 +7,9 @@ ghost use Rattle.standard.specs.Adoption.{climb_at, climb_one, climb};
 
 use crate::entries::{renew_entry, tag_of};
 use builder_state::{opened, take_entry_off, take_id};
-use html_types::{ActiveFormatting, NoMemory, NodeId, Op, OpenElement, Ops, Place};
+use html_types::{ActiveFormatting, NoMemory, NodeId, OpenElement, Place};
 use std::alloc::Global;
+use text_store::Ops;
 
 /// How many elements may keep their entries.
 const KEPT: u8 = 3;
@@ -44,15 +45,8 @@ fn climb_one(
         let clone = take_id(next)?;
         renew_entry(alloc, formats, id, clone)?;
         let element = opened(clone, &tag)?;
-        ops.push(Op::Make {
-            id: clone,
-            name: tag.name,
-            attributes: tag.attributes,
-        })?;
-        ops.push(Op::Put {
-            node: reached.last,
-            place: Place::Inside(clone),
-        })?;
+        ops.push_make(clone, &tag.name, &tag.attributes)?;
+        ops.push_put(reached.last, Place::Inside(clone))?;
         reached.kept.push(element)?;
         reached.last = clone;
         if reached.bookmark.is_none() {

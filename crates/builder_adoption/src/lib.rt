@@ -17,9 +17,10 @@ use crate::rebuild::rebuild;
 use crate::stack::{block_below, drop_through};
 pub use builder_state::Adopted;
 use builder_state::{Builder, entry_of, has_in_scope, has_open, take_entry_off};
-use html_types::{NoMemory, NodeId, Open, Ops, Scope, Turn, Word};
+use html_types::{NoMemory, NodeId, Open, Scope, Turn, Word};
 use std::alloc::Global;
 use tag_sets::is_the;
+use text_store::Ops;
 
 /// How many turns are taken at most.
 const TURNS: u8 = 8;

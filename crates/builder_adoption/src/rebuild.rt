@@ -11,10 +11,9 @@ use crate::climb::{Climb, climb_all};
 use crate::entries::{insert_behind, renew_entry};
 use crate::stack::{insert_below, place_above, put_back, take_below, take_through};
 use builder_state::{opened, take_entry_off, take_id, take_off};
-use html_types::{
-    ActiveFormatting, FormattingEntry, NoMemory, NodeId, Op, Open, Ops, Place, Tag, Turn,
-};
+use html_types::{ActiveFormatting, FormattingEntry, NoMemory, NodeId, Op, Open, Place, Tag, Turn};
 use std::alloc::Global;
+use text_store::Ops;
 
 /// Climbs over the elements between the furthest block and the formatting element, and leaves on the stack what is left of
 /// them. Answers the node that was put last, and the bookmark.
@@ -55,30 +54,15 @@ fn climb_between(
 }
 
 /// Asks for a clone, which takes the children of the furthest block and stands in it.
-fn make_clone(
-    alloc: Global,
-    clone: NodeId,
-    tag: &Tag,
-    block: NodeId,
-    ops: &mut Ops,
-) -> Result<(), NoMemory>
+fn make_clone(clone: NodeId, tag: &Tag, block: NodeId, ops: &mut Ops) -> Result<(), NoMemory>
     ensures { IfOk result (λ _. ops.new ≡ ops.old ++ op.Make clone tag.now.name tag.now.attributes ∷ [] ++ op.MoveChildren block clone ∷ [] ++ op.Put clone (Inside block) ∷ []) }
 {
-    let name = tag.name.copy()?;
-    let attributes = tag.attributes.copy(alloc)?;
-    ops.push(Op::Make {
-        id: clone,
-        name,
-        attributes,
-    })?;
+    ops.push_make(clone, &tag.name, &tag.attributes)?;
     ops.push(Op::MoveChildren {
         from: block,
         to: clone,
     })?;
-    ops.push(Op::Put {
-        node: clone,
-        place: Place::Inside(block),
-    })
+    ops.push_put(clone, Place::Inside(block))
 }
 
 /// The formatting element's entry is dropped, and the clone's is put at the bookmark.
@@ -120,9 +104,9 @@ pub fn rebuild(
 {
     let (last, bookmark) = climb_between(alloc, state, element, block, ops)?;
     let place = place_above(&state.stack, state.foster, element);
-    ops.push(Op::Put { node: last, place })?;
+    ops.push_put(last, place)?;
     let clone = take_id(&mut state.next)?;
-    make_clone(alloc, clone, &tag, block, ops)?;
+    make_clone(clone, &tag, block, ops)?;
     let opened = opened(clone, &tag)?;
     take_off(&mut state.stack, element)?;
     insert_below(alloc, &mut state.stack, block, opened)?;

@@ -13,8 +13,9 @@ use crate::machine::{list_current, run_row};
 use crate::walks::{
     close_found_item, close_in_scope, close_other_end, pop_back_to, pop_implied, pop_until,
 };
-use html_types::{Flow, FormattingEntry, Instr, Next, NoMemory, Open, Ops, Token, Who};
+use html_types::{Flow, FormattingEntry, Instr, Next, NoMemory, Open, Token, Who};
 use std::alloc::Global;
+use text_store::Ops;
 
 /// What became of an instruction.
 #[derive(Clone, Copy)]

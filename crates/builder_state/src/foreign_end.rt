@@ -8,7 +8,8 @@ ghost use Rattle.standard.specs.Instructions.{config, for_tag, pop_foreign, brea
 
 use crate::foreign::{is_html, is_html_or_point};
 use foreign_tables::is_lower_of;
-use html_types::{Flow, Name, Next, Open, Ops, Stack, Token};
+use html_types::{Flow, Name, Next, Open, Stack, Token};
+use text_store::Ops;
 
 /// Pops while the current node is neither an HTML element nor an integration point.
 fn pop_foreign(stack: &mut Stack)

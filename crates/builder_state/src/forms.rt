@@ -5,7 +5,8 @@ ghost use Rattle.standard.specs.Elements.{is_meant};
 ghost use Rattle.standard.specs.Instructions.{on, form_closed, form_closed_in_template, end_form};
 
 use crate::walks::{has_in_scope, is_in_scope, is_on_stack, pop_implied, pop_until, take_off};
-use html_types::{NoMemory, NodeId, Open, Ops, Scope, Stack, Token, Who, Word};
+use html_types::{NoMemory, NodeId, Open, Scope, Stack, Token, Who, Word};
+use text_store::Ops;
 
 /// Closes the form element that the pointer named, where it is in scope.
 fn close_form(stack: &mut Stack, form: Option<NodeId>, token: &Token) -> Result<(), NoMemory>

@@ -13,10 +13,11 @@ use crate::formatting::take_lost;
 use crate::places::appropriate;
 use crate::walks::{first_element, second_element};
 use html_types::{
-    Attributes, Flow, FormattingEntry, Name, Next, NoMemory, NodeId, Op, Open, OpenElement, Ops,
-    Place, Space, Tag, Token, Word,
+    Attributes, Flow, FormattingEntry, Name, Next, NoMemory, NodeId, Op, Open, OpenElement, Place,
+    Space, Tag, Token, Word,
 };
 use std::alloc::Global;
+use text_store::Ops;
 
 /// How many elements may be open.
 pub const LIMIT: usize = 512;
@@ -44,27 +45,15 @@ pub fn take_id(next: &mut NodeId) -> Result<NodeId, NoMemory>
 
 /// Asks for an element at a place, and takes the next id for it.
 #[inline]
-fn make(
-    alloc: Global,
-    state: &mut Open,
-    place: Place,
-    tag: &Tag,
-    ops: &mut Ops,
-) -> Result<NodeId, NoMemory>
+fn make(state: &mut Open, place: Place, tag: &Tag, ops: &mut Ops) -> Result<NodeId, NoMemory>
     ensures id { IfOk result (λ id. id ≡ state.old.next) }
     ensures state { IfOk result (λ _. state.new ≡ record state.old { next = later 1 state.old.next }) }
     ensures ops { IfOk result (λ _. ops.new ≡ made place tag.now state.old ops.old) }
     ensures stack { state.new.stack ≡ state.old.stack }
 {
-    let name = tag.name.copy()?;
-    let attributes = tag.attributes.copy(alloc)?;
     let id = take_id(&mut state.next)?;
-    ops.push(Op::Make {
-        id,
-        name,
-        attributes,
-    })?;
-    ops.push(Op::Put { node: id, place })?;
+    ops.push_make(id, &tag.name, &tag.attributes)?;
+    ops.push_put(id, place)?;
     Ok(id)
 }
 
@@ -102,7 +91,7 @@ pub fn push_made(
     ensures ops { IfOk result (λ _. ops.new ≡ made place tag.now state.old ops.old) }
     ensures bounded { length state.new.stack ≤ 512 }
 {
-    let id = make(alloc, state, place, tag, ops)?;
+    let id = make(state, place, tag, ops)?;
     state.stack.push(opened(id, tag)?)?;
     Ok(())
 }
@@ -195,7 +184,7 @@ fn insert_closed(
         return Ok(Flow::Leave(Next::Deep));
     }
     let place = place_now(state);
-    let _ = make(alloc, state, place, tag, ops)?;
+    let _ = make(state, place, tag, ops)?;
     Ok(Flow::On)
 }
 
@@ -323,7 +312,7 @@ fn reopen_entry(alloc: Global, state: &mut Open, tag: Tag, ops: &mut Ops) -> Res
         return Ok(Flow::Leave(Next::Deep));
     }
     let place = place_now(state);
-    let id = make(alloc, state, place, &tag, ops)?;
+    let id = make(state, place, &tag, ops)?;
     state.stack.push(opened(id, &tag)?)?;
     state.formats.push(FormattingEntry::Element { id, tag })?;
     Ok(Flow::On)

@@ -29,10 +29,11 @@ use crate::walks::{
     pop_implied_thoroughly, pop_to_first, pop_until, take_off,
 };
 use html_types::{
-    Flow, FormattingEntry, Instr, Mode, Name, Next, NoMemory, NodeId, Open, Ops, Place, Then,
-    Token, Who, Word,
+    Flow, FormattingEntry, Instr, Mode, Name, Next, NoMemory, NodeId, Open, Place, Then, Token,
+    Who, Word,
 };
 use std::alloc::Global;
+use text_store::Ops;
 
 /// Takes the head element pointer's node off the stack.
 fn take_head_off(state: &mut Open) -> Result<(), NoMemory>

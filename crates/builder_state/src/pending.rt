@@ -9,9 +9,10 @@ ghost use Rattle.builder_state.specs.Texts.{keeps_ok as mode_keeps_ok, text_rule
 use crate::foreign::text_rules;
 use crate::insert::{place_now, reopen_lost};
 use char_class::is_space;
-use html_types::{Flow, Mode, NoMemory, Open, Ops, Place, Text, Token};
+use html_types::{Flow, Mode, NoMemory, Open, Place, Text, Token};
 use std::alloc::Global;
 use std::mem;
+use text_store::Ops;
 
 /// Adds the token's character to the pending ones.
 pub fn keep_character(state: &mut Open, token: &Token, ops: &Ops) -> Result<(), NoMemory>

@@ -24,12 +24,13 @@ use crate::pending::{insert_body_character, insert_body_one, insert_body_text};
 use crate::weight::is_light;
 use html_types::{
     ActiveFormatting, Context, Flow, Instr, Mode, Modes, Next, NoMemory, NodeId, Open, OpenElement,
-    Ops, Place, Stack, Text, Token, Word,
+    Place, Stack, Text, Token, Word,
 };
 use std::alloc::Global;
 use std::marker::Model;
 use std::mem;
 use tag_sets::is_the;
+use text_store::Ops;
 
 /// Whether an element was pushed.
 #[derive(Clone, Copy, PartialEq, Eq)]

@@ -4,7 +4,7 @@ use denote.Param.Send.{IsSend, sendable}
 use Rattle.std.proofs.Crossing.{crosses}
 use Rattle.std.proofs.MapsCrossing.{BTreeMap-send, String-send}
 use Rattle.parse_machine.proofs.machine.Machine.TheSendSync as machine
-use Rattle.html_types.proofs.operation.Ops.TheSendSync as ops
+use Rattle.text_store.proofs.ops.Ops.TheSendSync as ops
 use Rattle.page_pieces.proofs.shared_text.SharedText.TheSendSync as text
 use Rattle.page_pieces.proofs.piece.Piece.TheSendSync as piece
 use Rattle.speculation.proofs.batch.Halt.TheSendSync as halt

@@ -71,7 +71,7 @@ fn paragraph_batches(alloc: Global, table: &Table, characters: usize) -> Result<
 
 fn operations_in(batch: Batch) -> usize {
     let (operations, _after) = batch.into_parts();
-    operations.as_slice().len()
+    operations.stored()
 }
 
 // How many batches there are, and how many operations the first has.

@@ -3,12 +3,13 @@
 use builder_state::{Builder, Pushed};
 use char_class::is_space;
 use html_types::{
-    Attributes, Flow, Instr, Mode, Name, Next, NoMemory, NodeId, OpenElement, Ops, Place, Tag,
-    Token, Word,
+    Attributes, Flow, Instr, Mode, Name, Next, NoMemory, NodeId, OpenElement, Place, Tag, Token,
+    Word,
 };
 use insertion_modes::row;
 use std::alloc::Global;
 use std::test::Fail;
+use text_store::Ops;
 
 // The calls, each alone: what they promise would be worked out over the rows.
 fn run(
@@ -76,7 +77,7 @@ fn opens_elements(rt: HostRuntime) -> Result<(), Fail> {
     let row = [Instr::InsertRootA, Instr::Insert, Instr::SkipLineFeed];
     assert!(rt; matches!(run(alloc, &mut builder, &row, &token, &mut ops)?, Flow::On));
     assert!(rt; matches!(reconstruct(alloc, &mut builder, &mut ops)?, Flow::On));
-    assert_eq!(rt; ops.as_slice().len(), 4);
+    assert_eq!(rt; ops.stored(), 4);
     assert!(rt; builder.place() == Place::Inside(NodeId { realm: 7, n: 1 }));
     assert!(rt; builder.next_id() == NodeId { realm: 7, n: 2 });
     assert!(rt; builder.mode() == Mode::Initial);
@@ -97,7 +98,7 @@ fn inserts_pending_text(rt: HostRuntime) -> Result<(), Fail> {
     ];
     let token = Token::Character('x');
     assert!(rt; matches!(run(alloc, &mut builder, &row, &token, &mut ops)?, Flow::On));
-    assert_eq!(rt; ops.as_slice().len(), 3);
+    assert_eq!(rt; ops.stored(), 3);
     Ok(())
 }
 
@@ -136,7 +137,7 @@ fn no_doctype(rt: HostRuntime) -> Result<(), Fail> {
     let next = answer(alloc, &mut builder, Mode::Initial, &token, &mut ops)?;
     assert!(rt; matches!(next, Next::Reprocess));
     assert!(rt; builder.mode() == Mode::BeforeHtml);
-    assert_eq!(rt; ops.as_slice().len(), 0);
+    assert_eq!(rt; ops.stored(), 0);
     Ok(())
 }
 
@@ -149,7 +150,7 @@ fn a_lone_end_tag_of_p(rt: HostRuntime) -> Result<(), Fail> {
     let token = Token::EndTag(tag(alloc, Word::P));
     let next = answer(alloc, &mut builder, Mode::InBody, &token, &mut ops)?;
     assert!(rt; matches!(next, Next::Done));
-    assert_eq!(rt; ops.as_slice().len(), 2);
+    assert_eq!(rt; ops.stored(), 2);
     Ok(())
 }
 
@@ -162,7 +163,7 @@ fn space_waits(rt: HostRuntime) -> Result<(), Fail> {
     let token = Token::Character(' ');
     let next = answer(alloc, &mut builder, Mode::InTableText, &token, &mut ops)?;
     assert!(rt; matches!(next, Next::Done));
-    assert_eq!(rt; ops.as_slice().len(), 0);
+    assert_eq!(rt; ops.stored(), 0);
     Ok(())
 }
 
@@ -174,6 +175,6 @@ fn frameset_ends(rt: HostRuntime) -> Result<(), Fail> {
     let token = Token::EndOfFile;
     let next = answer(alloc, &mut builder, Mode::InFrameset, &token, &mut ops)?;
     assert!(rt; matches!(next, Next::Finished));
-    assert_eq!(rt; ops.as_slice().len(), 0);
+    assert_eq!(rt; ops.stored(), 0);
     Ok(())
 }

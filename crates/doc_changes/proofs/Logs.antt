@@ -1,20 +1,10 @@
 -- What a log gains.
-use Rattle.std.proofs.Common.{◌≡◌, List, [], ◌∷◌, ◌++◌, fold, map, if◌then◌else◌, Result, Ok, Err, OnOk, Bool, true, false, true≢false, refl, sym, ap, ◌∙◌, subst, append-nil, append_assoc}
+use Rattle.std.proofs.Common.{◌≡◌, List, [], ◌∷◌, ◌++◌, fold, if◌then◌else◌, Result, Ok, Err, OnOk, Bool, true, false, true≢false, refl, sym, ap, ◌∙◌, subst, append-nil, append_assoc}
 use Rattle.std.proofs.lemmas.List.Sums.{fold-append}
-use Rattle.html_types.specs.declared.operation.Op.{Op}
-use Rattle.html_types.specs.Operations.{spelled, spelled_one}
-use Rattle.standard.specs.Act.{Doc, acts}
+use Rattle.standard.specs.Act.{Doc}
 use Rattle.doc_changes.specs.declared.change.Change.{Change}
-use Rattle.doc_changes.specs.declared.change.Change.TheVariants.{Did}
 use Rattle.doc_changes.specs.Changes.{changed}
 use Rattle.doc_changes.specs.Logs.{LogView, with_more, Gains, Logs}
-use Rattle.op_exec.proofs.Lists.{acts-append}
-
--- operations, and all of them together
-pub done_all : (d : Doc) (ops : List Op) → fold changed d (map Did ops) ≡ acts d (spelled ops)
-unfolding acts spelled
-done_all d [] = refl
-done_all d (o ∷ os) = done_all (acts d (spelled_one o)) os ∙ sym (acts-append d (spelled_one o) (spelled os))
 
 -- nothing changed
 pub none_logged : (log : LogView) (d : Doc) → Logs log d log d
@@ -50,11 +40,6 @@ added_logged log log' d e more is leads = subst (λ (l : LogView). Logs log d l 
 pub one_logged : {T E : Type 0} (r : Result T E) (log log' : LogView) (d e : Doc) (c : Change) → OnOk r (log' ≡ with_more (c ∷ []) log) → e ≡ changed d c → OnOk r (Logs log d log' e)
 one_logged (Ok x) log log' d e c is leads = added_logged log log' d e (c ∷ []) is (sym leads)
 one_logged (Err x) log log' d e c is leads = tt
-
--- operations that were added
-pub all_logged : {T E : Type 0} (r : Result T E) (log log' : LogView) (d e : Doc) (os : List Op) → OnOk r (log' ≡ with_more (map Did os) log) → e ≡ acts d (spelled os) → OnOk r (Logs log d log' e)
-all_logged (Ok x) log log' d e os is leads = added_logged log log' d e (map Did os) is (done_all d os ∙ sym leads)
-all_logged (Err x) log log' d e os is leads = tt
 
 -- the document was left as it was
 pub same_logged : {T E : Type 0} (r : Result T E) (log : LogView) (d e : Doc) → OnOk r (e ≡ d) → OnOk r (Logs log d log e)

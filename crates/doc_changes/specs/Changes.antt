@@ -1,8 +1,5 @@
 -- What changes a document, change by change.
 use Rattle.std.specs.Prelude.{◌≡◌, ℕ, List, [], ◌∷◌, ◌++◌, length, map, flat_map, fold, take, None}
-use Rattle.html_types.specs.declared.operation.Op.{Op}
-use Rattle.html_types.specs.declared.operation.Op.TheVariants as op
-use Rattle.html_types.specs.Operations.{spelled_one}
 use Rattle.standard.specs.Tree.{detached, moved}
 use Rattle.standard.specs.Act.{Doc, new_doc, acts}
 use Rattle.standard.specs.Fragment.{filled}
@@ -10,22 +7,23 @@ use Rattle.doc_changes.specs.Fragments.{FragmentView}
 use Rattle.doc_changes.specs.declared.change.Change.{Change}
 use Rattle.doc_changes.specs.declared.change.Change.TheVariants.{Did, Removed, Moved, Filled}
 
--- an operation, or what a script did: the removal of a node, a move of the second behind the first
--- one's children, a fragment in the place of a node's children
+-- the operations of a batch, or what a script did: the removal of a node, a move of the second
+-- behind the first one's children, a fragment in the place of a node's children
 abbrev pub changed : Doc → Change → Doc
-changed d (Did o) = acts d (spelled_one o)
+changed d (Did ops) = acts d ops
 changed d (Removed node) = record d { tree = detached d.tree node }
 changed d (Moved first second) = record d { tree = moved d.tree second first None }
 changed d (Filled target fragment) = record d { tree = filled d.tree target fragment.form fragment.ops }
 
--- as how many a change counts: an insertion of text as that of each of its characters
+-- as how many a change counts: a batch as each of its operations, in which an insertion of text is
+-- that of each of its characters
 abbrev pub weight : Change → ℕ
-weight (Did (op.Text place text)) = length text
+weight (Did ops) = length ops
 weight _ = 1
 
 -- the same change as so many
 abbrev pub single : Change → List Change
-single (Did o) = map Did (spelled_one o)
+single (Did ops) = map (λ o. Did (o ∷ [])) ops
 single change = change ∷ []
 
 abbrev pub singles : List Change → List Change

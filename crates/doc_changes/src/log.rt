@@ -1,17 +1,19 @@
 //! What a document did, kept where someone wants to do it too.
 
-ghost use Rattle.std.specs.Prelude.{◌≡◌, ◌++◌, ◌∷◌, [], true, map, OnOk};
+ghost use Rattle.std.specs.Prelude.{◌≡◌, ◌∷◌, [], OnOk};
 ghost use Rattle.doc_changes.specs.declared.change.Change.TheVariants as change;
 
 use crate::change::Change;
 use crate::new_nodes::Fragment;
-use html_types::{NoMemory, Op, Ops};
+use html_types::NoMemory;
 use op_exec::{Doc, Put};
 use std::alloc::Global;
 use std::marker::Model;
 use std::mem;
+use text_store::Ops;
 
-/// The changes of a document, in order; none where nobody wants them, and then nothing is copied.
+/// The changes of a document, in order; none where nobody wants them. Nothing is copied: a batch
+/// and a fragment are moved here behind what the document did by them.
 #[derive(Drop)]
 pub struct Log {
     alloc: Global,
@@ -25,15 +27,6 @@ impl Model for Log {
     ghost Value = { LogView };
 
     ghost view = { λ l. record { on = l.on; list = l.list.items } };
-}
-
-fn push_all(list: &mut Vec<Change>, ops: Vec<Op>) -> Result<(), NoMemory>
-    ensures { OnOk result (list.new.items ≡ list.old.items ++ map change.Did ops.items) }
-{
-    for op in ops {
-        list.push(Change::Did(op))?;
-    }
-    Ok(())
 }
 
 impl Log {
@@ -58,16 +51,6 @@ impl Log {
         mem::replace(&mut self.list, Vec::new(self.alloc))
     }
 
-    fn alloc(&self) -> Global {
-        self.alloc
-    }
-
-    fn is_on(&self) -> bool
-        ensures { result ≡ self.now.on }
-    {
-        self.on
-    }
-
     // Adds the change, where they are kept.
     fn add(&mut self, change: Change) -> Result<(), NoMemory>
         ensures { OnOk result (self.new ≡ with_more (change ∷ []) self.old) }
@@ -78,45 +61,33 @@ impl Log {
         self.list.push(change)?;
         Ok(())
     }
-
-    // Adds the operations, where they are kept.
-    fn add_all(&mut self, ops: Vec<Op>) -> Result<(), NoMemory>
-        ensures { OnOk result (self.new ≡ with_more (map change.Did ops.items) self.old) }
-    {
-        if !self.on {
-            return Ok(());
-        }
-        push_all(&mut self.list, ops)
-    }
 }
 
 // What a document does while the log is kept.
 impl Log {
-    ghost use Rattle.std.specs.Prelude.{◌<◌, length, if◌then◌else◌, IfOk, None};
+    ghost use Rattle.std.specs.Prelude.{◌<◌, length, true, if◌then◌else◌, IfOk, None};
     ghost use Rattle.doc_tree.specs.declared.tree.Put.TheVariants as put;
     ghost use Rattle.standard.specs.Tree.{detached, moved, lies_in, is_element_at};
     ghost use Rattle.standard.specs.Act.{acts, is_bound, AreOpsBound};
     ghost use Rattle.standard.specs.Fragment.{filled};
-    ghost use Rattle.doc_changes.specs.Logs.{Logs};
+    ghost use Rattle.doc_changes.specs.Logs.{with_more, Logs};
 
     /// The document does the operations in order, as `Doc::apply_all` does.
     pub fn apply_all(&mut self, doc: &mut Doc, ops: Ops) -> Result<(), NoMemory>
         requires { AreOpsBound (is_bound doc.old.bound) ops }
         ensures ok { OnOk result (doc.new ≡ acts doc.old ops) }
+        ensures adds { OnOk result (self.new ≡ with_more (change.Did ops ∷ []) self.old) }
         ensures logged { OnOk result (Logs self.old doc.old self.new doc.new) }
     {
-        if !self.is_on() {
-            return doc.apply_all(ops);
-        }
-        let copied = ops.copy(self.alloc())?;
-        doc.apply_all(ops)?;
-        self.add_all(copied.into_vec())
+        doc.apply_all(&ops)?;
+        self.add(Change::Did(ops))
     }
 
     /// It takes a node out of its parent, as `Doc::remove` does.
     pub fn remove(&mut self, doc: &mut Doc, node: usize) -> Result<(), NoMemory>
         requires { node < length doc.old.tree }
         ensures ok { doc.new ≡ record doc.old { tree = detached doc.old.tree node } }
+        ensures adds { OnOk result (self.new ≡ with_more (change.Removed node ∷ []) self.old) }
         ensures logged { OnOk result (Logs self.old doc.old self.new doc.new) }
     {
         doc.remove(node);
@@ -134,6 +105,9 @@ impl Log {
           tree = (if lies_in doc.old.tree first second then doc.old.tree
               else moved doc.old.tree second first None);
         }) }
+        ensures adds { OnOk result (self.new ≡
+            (if lies_in doc.old.tree first second then self.old
+            else with_more (change.Moved first second ∷ []) self.old)) }
         ensures logged { OnOk result (Logs self.old doc.old self.new doc.new) }
     {
         match doc.move_last(first, second)? {
@@ -151,18 +125,11 @@ impl Log {
         ensures ok { OnOk result (doc.new ≡ record doc.old {
           tree = filled doc.old.tree target fragment.form fragment.ops;
         }) }
+        ensures adds { OnOk result (self.new ≡
+            with_more (change.Filled target fragment ∷ []) self.old) }
         ensures logged { OnOk result (Logs self.old doc.old self.new doc.new) }
     {
-        if !self.is_on() {
-            let (form, ops) = fragment.into_parts();
-            return doc.fill(target, form, ops);
-        }
-        let copied = fragment.copy(self.alloc())?;
-        let (form, ops) = fragment.into_parts();
-        doc.fill(target, form, ops)?;
-        self.add(Change::Filled {
-            target,
-            fragment: copied,
-        })
+        fragment.fill(doc, target)?;
+        self.add(Change::Filled { target, fragment })
     }
 }

@@ -1,11 +1,13 @@
 //! What stands in an element's place.
 
-ghost use Rattle.std.specs.Prelude.{◌≡◌, IfOk};
+ghost use Rattle.std.specs.Prelude.{◌≡◌, ◌<◌, length, OnOk};
+ghost use Rattle.standard.specs.Fragment.{filled};
 ghost use Rattle.doc_changes.specs.Fragments.{CanBeDone};
 
-use html_types::{NoMemory, Ops};
-use std::alloc::Global;
+use html_types::NoMemory;
+use op_exec::Doc;
 use std::marker::Model;
+use text_store::Ops;
 
 /// The operations that make the nodes of a fragment, for one tree or for several alike: its type
 /// says that they can be executed there.
@@ -34,24 +36,13 @@ impl Fragment {
         Fragment { form, ops }
     }
 
-    /// A copy: names and attributes are shared, texts are copied.
-    pub fn copy(&self, alloc: Global) -> Result<Fragment, NoMemory>
-        ensures { IfOk result (λ fragment. fragment ≡ self.now) }
+    /// The document gets its nodes in the place of a node's children, as `Doc::fill` does.
+    pub fn fill(&self, doc: &mut Doc, target: usize) -> Result<(), NoMemory>
+        requires { target < length doc.old.tree }
+        ensures { OnOk result (doc.new ≡ record doc.old {
+          tree = filled doc.old.tree target self.now.form self.now.ops;
+        }) }
     {
-        let ops = self.ops.copy(alloc)?;
-        Ok(Fragment {
-            form: self.form,
-            ops,
-        })
-    }
-
-    /// What it is made of.
-    pub fn into_parts(self) -> (bool, Ops)
-        ensures form { result.0 ≡ self.form }
-        ensures ops { result.1 ≡ self.ops }
-        ensures can { CanBeDone result.0 result.1 }
-    {
-        let Fragment { form, ops } = self;
-        (form, ops)
+        doc.fill(target, self.form, &self.ops)
     }
 }

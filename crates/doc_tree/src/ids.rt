@@ -10,6 +10,7 @@ use html_types::{Attributes, Kind};
 use std::alloc::Global;
 use std::collections::BTreeMap;
 use std::hash::{FoldHasher, Hasher};
+use text_store::Listed;
 
 /// Who may have an id.
 #[derive(Clone, Copy)]
@@ -105,6 +106,20 @@ impl Ids {
     {
         if let Some(id) = value_of(attributes, "id") {
             self.note(id.as_str(), node);
+        }
+    }
+
+    /// The node gets the `id` among the attributes, if there is one.
+    #[inline]
+    pub fn note_seen(&mut self, attributes: &Listed<'_>, node: usize)
+        ensures told { IsTold self.new (attribute (codes "id") attributes.now) node }
+        ensures kept { KeepsHolders self.old self.new }
+    {
+        if attributes.len() == 0 {
+            return;
+        }
+        if let Some(id) = attributes.value_of("id") {
+            self.note(id, node);
         }
     }
 

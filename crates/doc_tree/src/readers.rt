@@ -22,8 +22,8 @@ fn push_text(joined: &mut Text, kind: &Seen<'_>) -> Result<(), NoMemory>
     Ok(())
 }
 
-// Whether a text has no characters.
-fn is_empty(text: &str) -> bool
+/// Whether a text has no characters.
+pub(crate) fn is_empty(text: &str) -> bool
     ensures { IsTrue result ↔ (chars text.now ≡ []) }
 {
     text.is_empty()

@@ -5,10 +5,11 @@ ghost use Rattle.std.specs.Str.{chars};
 ghost use Rattle.std.specs.Option.{ForSome};
 
 use crate::nodes::Nodes;
-use html_types::{Attributes, Kind, NoMemory, Text};
+use crate::readers::is_empty;
+use html_types::{Attributes, Kind, NoMemory};
 use std::alloc::Global;
 use std::marker::Model;
-use text_store::Seen;
+use text_store::{Listed, Seen, SeenName};
 
 /// A tree: a contract sees the list of its nodes. The nodes have the numbers below `len`, and the Document is number 0.
 #[derive(Drop)]
@@ -39,6 +40,8 @@ pub enum Put {
 }
 
 ghost use Rattle.html_types.specs.Numbers.{place_of};
+ghost use Rattle.html_types.specs.declared.tree.Kind.TheVariants as kind;
+ghost use Rattle.text_store.specs.Views.{seen_name};
 ghost use Rattle.doc_tree.specs.Rows.{next_of, is_given, sibling_before};
 
 // Changes of the tree.
@@ -61,6 +64,30 @@ impl Tree {
         ensures keeps { Keeps self.old self.new }
     {
         let number = self.nodes.push(kind)?;
+        Ok(number)
+    }
+
+    /// Makes an element that stands nowhere, and says its number.
+    pub fn make_element(
+        &mut self,
+        name: SeenName<'_>,
+        attributes: &Listed<'_>,
+    ) -> Result<usize, NoMemory>
+        ensures ok { IfOk result (λ n. (n ≡ length self.old) × (self.new ≡ self.old ++ lone (kind.Element (seen_name name.entry) attributes.now) ∷ [])) }
+        ensures err { OnErr result (self.new ≡ self.old) }
+        ensures keeps { Keeps self.old self.new }
+    {
+        let number = self.nodes.push_element(name, attributes)?;
+        Ok(number)
+    }
+
+    // Makes a Text that stands nowhere, and says its number.
+    fn make_text(&mut self, text: &str) -> Result<usize, NoMemory>
+        ensures ok { IfOk result (λ n. (n ≡ length self.old) × (self.new ≡ self.old ++ lone (kind.Text (chars text.now)) ∷ [])) }
+        ensures err { OnErr result (self.new ≡ self.old) }
+        ensures keeps { Keeps self.old self.new }
+    {
+        let number = self.nodes.push_text(text)?;
         Ok(number)
     }
 
@@ -307,16 +334,34 @@ impl Tree {
         Ok(())
     }
 
-    // Text among the parent's children, before the given one or last, joined to a Text just before it; else it becomes a node uncopied.
-    fn put_text(&mut self, parent: usize, before: Option<usize>, text: Text) -> Result<(), NoMemory>
+    // Makes a Text among the parent's children, before the given one or last.
+    fn add_new_text(
+        &mut self,
+        parent: usize,
+        before: Option<usize>,
+        text: &str,
+    ) -> Result<(), NoMemory>
         requires { parent < length self.old }
-        ensures ok { OnOk result (self.new ≡ (let place = place_of (children_of self.old parent) before in text_put self.old parent place text (text_before self.old parent place))) }
+        ensures ok { OnOk result (self.new ≡ with_new self.old parent (place_of (children_of self.old parent) before) (kind.Text (chars text.now))) }
+        ensures err { OnErr result (self.new ≡ self.old) }
+        ensures keeps { Keeps self.old self.new }
+    {
+        let _nodes = self.nodes.len();
+        let number = self.make_text(text)?;
+        self.link(number, parent, before);
+        Ok(())
+    }
+
+    // Text among the parent's children, before the given one or last, joined to a Text just before it; else it becomes a node.
+    fn put_text(&mut self, parent: usize, before: Option<usize>, text: &str) -> Result<(), NoMemory>
+        requires { parent < length self.old }
+        ensures ok { OnOk result (self.new ≡ (let place = place_of (children_of self.old parent) before in text_put self.old parent place (chars text.now) (text_before self.old parent place))) }
         ensures err { OnErr result (self.new ≡ self.old) }
         ensures keeps { Keeps self.old self.new }
     {
         match self.text_before(parent, before) {
-            Some(previous) => self.append_text(previous, text.as_str()),
-            None => self.add(parent, before, Kind::Text(text)),
+            Some(previous) => self.append_text(previous, text),
+            None => self.add_new_text(parent, before, text),
         }
     }
 
@@ -326,14 +371,14 @@ impl Tree {
         &mut self,
         parent: usize,
         before: Option<usize>,
-        text: Text,
+        text: &str,
     ) -> Result<(), NoMemory>
         requires { parent < length self.old }
-        ensures ok { OnOk result (self.new ≡ text_added self.old parent (place_of (children_of self.old parent) before) text) }
+        ensures ok { OnOk result (self.new ≡ text_added self.old parent (place_of (children_of self.old parent) before) (chars text.now)) }
         ensures err { OnErr result (self.new ≡ self.old) }
         ensures keeps { Keeps self.old self.new }
     {
-        if text.is_empty() {
+        if is_empty(text) {
             return Ok(());
         }
         if self.nodes.is_document(parent) {

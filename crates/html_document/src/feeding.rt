@@ -13,11 +13,12 @@ ghost use Rattle.html_document.specs.Fed.{CameTo, Furthers, HasFed, refused_at, 
 
 use crate::refused::Refused;
 use entity_table::Table;
-use html_types::{Ending, NoMemory, Ops, Why};
+use html_types::{Ending, NoMemory, Why};
 use op_exec::Doc;
 use parse_machine::Machine;
 use std::alloc::Global;
 use std::marker::Model;
+use text_store::Ops;
 use utf8_pieces::Decoder;
 
 /// The most bytes of a page.
@@ -76,7 +77,7 @@ fn read_on(
     if !goes_on {
         return Ok(false);
     }
-    doc.apply_all(ops)?;
+    doc.apply_all(&ops)?;
     Ok(true)
 }
 
@@ -115,7 +116,7 @@ fn take_end(alloc: Global, table: &Table, machine: Machine, doc: Doc) -> Result<
     let Some(ops) = whole else {
         return Err(Refused::Parse(Why::Depth));
     };
-    doc.apply_all(ops)?;
+    doc.apply_all(&ops)?;
     Ok(doc)
 }
 

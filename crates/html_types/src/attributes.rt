@@ -74,8 +74,8 @@ impl Attributes {
         match &mut self.shared {
             Some(shared) => Arc::make_mut(shared)?.push(attribute),
             None => {
-                // Most elements that have attributes have one.
-                let mut list = AttributeList::with_capacity(self.alloc, 1)?;
+                // Most tags that have attributes have a few, and no node keeps the list.
+                let mut list = AttributeList::with_capacity(self.alloc, 3)?;
                 list.push(attribute)?;
                 self.shared = Some(Arc::new(self.alloc, list)?);
                 Ok(())

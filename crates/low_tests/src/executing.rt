@@ -4,21 +4,24 @@ ghost use Rattle.std.specs.Prelude.{IfOk, IsTrue};
 ghost use Rattle.standard.specs.Act.{is_bound};
 
 use crate::nodes::attribute;
-use html_types::{Attributes, Name, NoMemory, NodeId, Op, Ops, Place, Space};
+use html_types::{Attributes, Name, NoMemory, NodeId, Op, Place, Space};
 use op_exec::{Doc, Put, ScriptKind};
 use std::alloc::Global;
+use text_store::Ops;
 
 // A document with an element that stands nowhere yet, under the id.
-#[tactic(auto, unfolding(standard::specs::Act::act, standard::specs::Act::acts))]
+#[tactic(auto, unfolding(standard::specs::Act::act, standard::specs::Act::acts, standard::specs::Act::AreOpsBound))]
 fn made(alloc: Global, id: NodeId, name: Name, attributes: Attributes) -> Result<Doc, NoMemory>
     ensures { IfOk result (λ doc. IsTrue (is_bound doc.bound id)) }
 {
     let mut doc = Doc::new(alloc)?;
-    doc.apply(Op::Make {
+    let mut ops = Ops::new(alloc);
+    ops.push(Op::Make {
         id,
         name,
         attributes,
     })?;
+    doc.apply_all(&ops)?;
     Ok(doc)
 }
 
@@ -41,13 +44,17 @@ fn has_no_src(doc: &Doc, id: NodeId) -> Result<bool, NoMemory>
     Ok(doc.script_src(id)?.is_none())
 }
 
-fn put(doc: &mut Doc, node: NodeId) -> Result<(), NoMemory>
+#[tactic(auto, unfolding(standard::specs::Act::AreOpsBound))]
+fn put(alloc: Global, doc: &mut Doc, node: NodeId) -> Result<(), NoMemory>
     requires { IsTrue (is_bound doc.old.bound node) }
 {
-    doc.apply(Op::Put {
+    let mut ops = Ops::new(alloc);
+    ops.push(Op::Put {
         node,
         place: Place::Page,
-    })
+    })?;
+    doc.apply_all(&ops)?;
+    Ok(())
 }
 
 #[test]
@@ -90,7 +97,7 @@ fn an_element_does_not_move_into_itself(rt: HostRuntime) -> Result<(), NoMemory>
     let id = NodeId { realm: 1, n: 0 };
     let name = Name::of(alloc, "div")?;
     let mut doc = made(alloc, id, name, attribute(alloc, "id", "a")?)?;
-    put(&mut doc, id)?;
+    put(alloc, &mut doc, id)?;
     let Some(found) = doc.find_id("a") else {
         return Err(NoMemory);
     };
@@ -106,7 +113,7 @@ fn the_document_takes_no_text(rt: HostRuntime) -> Result<(), NoMemory> {
     let mut ops = Ops::new(alloc);
     ops.push_character(alloc, Place::Page, 'x')?;
     ops.push_character(alloc, Place::Page, 'y')?;
-    doc.apply_all(ops)?;
+    doc.apply_all(&ops)?;
     assert_eq!(rt; doc.tree().len(), 1);
     Ok(())
 }

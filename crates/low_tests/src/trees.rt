@@ -6,14 +6,7 @@ use html_types::{Kind, Name, NoMemory, Text};
 use std::alloc::Global;
 
 // A text in the parent before that child, if there is that parent.
-fn add_text(
-    alloc: Global,
-    tree: &mut Tree,
-    parent: usize,
-    before: usize,
-    text: &str,
-) -> Result<(), NoMemory> {
-    let text = Text::from_str(alloc, text)?;
+fn add_text(tree: &mut Tree, parent: usize, before: usize, text: &str) -> Result<(), NoMemory> {
     if parent < tree.len() {
         tree.add_text(parent, Some(before), text)?;
     }
@@ -43,8 +36,8 @@ fn text_joins_before_an_element(rt: HostRuntime) -> Result<(), NoMemory> {
     let mut tree = new_tree(alloc)?;
     add(&mut tree, 0, element(alloc, "body")?)?;
     add(&mut tree, 1, element(alloc, "table")?)?;
-    add_text(alloc, &mut tree, 1, 2, "a")?;
-    add_text(alloc, &mut tree, 1, 2, "b")?;
+    add_text(&mut tree, 1, 2, "a")?;
+    add_text(&mut tree, 1, 2, "b")?;
     assert!(rt; has_text(&tree, 1, "ab")?);
     assert_eq!(rt; previous(&tree, 2), Some(3));
     Ok(())
@@ -56,10 +49,10 @@ fn text_that_gets_more_behind_others_is_whole(rt: HostRuntime) -> Result<(), NoM
     let mut tree = new_tree(alloc)?;
     add(&mut tree, 0, element(alloc, "body")?)?;
     add(&mut tree, 1, element(alloc, "table")?)?;
-    add_text(alloc, &mut tree, 1, 2, "a")?;
+    add_text(&mut tree, 1, 2, "a")?;
     add(&mut tree, 1, Kind::Comment(Text::from_str(alloc, "x")?))?;
-    add_text(alloc, &mut tree, 1, 2, "b")?;
-    add_text(alloc, &mut tree, 1, 2, "c")?;
+    add_text(&mut tree, 1, 2, "b")?;
+    add_text(&mut tree, 1, 2, "c")?;
     assert!(rt; has_text(&tree, 1, "abc")?);
     Ok(())
 }

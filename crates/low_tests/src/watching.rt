@@ -3,46 +3,38 @@
 ghost use Rattle.std.specs.Prelude.{◌≡◌};
 
 use doc_changes::Change;
-use html_types::{Attributes, Name, NoMemory, NodeId, Op, Place, Text};
+use html_types::{Attributes, Name, NoMemory, NodeId, Place};
 use std::alloc::Global;
+use text_store::Ops;
 use tree_watch::{Board, Seen, Watcher};
 
 const PARAGRAPH: NodeId = NodeId { realm: 1, n: 0 };
 
-fn made(alloc: Global, word: &str) -> Result<Change, NoMemory> {
-    Ok(Change::Did(Op::Make {
-        id: PARAGRAPH,
-        name: Name::of(alloc, word)?,
-        attributes: Attributes::new(alloc),
-    }))
+fn paragraph(alloc: Global) -> Result<Change, NoMemory> {
+    let mut ops = Ops::new(alloc);
+    let name = Name::of(alloc, "p")?;
+    let attributes = Attributes::new(alloc);
+    ops.push_make(PARAGRAPH, &name, &attributes)?;
+    ops.push_put(PARAGRAPH, Place::Page)?;
+    Ok(Change::Did(ops))
 }
 
-fn put() -> Change {
-    Change::Did(Op::Put {
-        node: PARAGRAPH,
-        place: Place::Page,
-    })
+fn put(alloc: Global) -> Result<Change, NoMemory> {
+    let mut ops = Ops::new(alloc);
+    ops.push_put(PARAGRAPH, Place::Page)?;
+    Ok(Change::Did(ops))
 }
 
 fn text(alloc: Global, text: &str) -> Result<Change, NoMemory> {
-    Ok(Change::Did(Op::Text {
-        place: Place::Inside(PARAGRAPH),
-        text: Text::from_str(alloc, text)?,
-    }))
+    let mut ops = Ops::new(alloc);
+    ops.push_text(alloc, Place::Inside(PARAGRAPH), text)?;
+    Ok(Change::Did(ops))
 }
 
-fn note_paragraph(alloc: Global, board: &mut Board) -> Result<(), NoMemory>
+fn note(board: &mut Board, change: Result<Change, NoMemory>) -> Result<(), NoMemory>
     ensures { board.new.over ≡ board.old.over }
 {
-    board.note(made(alloc, "p")?)?;
-    board.note(put())
-}
-
-fn note_text(alloc: Global, board: &mut Board, word: &str) -> Result<(), NoMemory>
-    ensures { board.new.over ≡ board.old.over }
-{
-    let change = text(alloc, word)?;
-    board.note(change)
+    board.note(change?)
 }
 
 fn look(alloc: Global, watcher: Option<Watcher>) -> (Option<Watcher>, Option<Seen>) {
@@ -67,11 +59,11 @@ fn what_is_published_is_seen(rt: HostRuntime) -> Result<(), NoMemory> {
     let alloc = rt.alloc();
     let (mut board, mut watchers) = Board::new(alloc, &rt, 2)?;
     let all = watchers.len() == 2;
-    let noted = note_paragraph(alloc, &mut board);
+    let noted = note(&mut board, paragraph(alloc));
     let (watcher, none) = look(alloc, watchers.pop());
     let (mut board, published) = board.publish(&rt, false);
     let (watcher, first) = look(alloc, watcher);
-    let more = note_text(alloc, &mut board, "xy");
+    let more = note(&mut board, text(alloc, "xy"));
     let (watcher, same) = look(alloc, watcher);
     let (board, ended) = board.publish(&rt, true);
     let (_watcher, last) = look(alloc, watcher);
@@ -90,7 +82,7 @@ fn what_is_published_is_seen(rt: HostRuntime) -> Result<(), NoMemory> {
 fn a_change_that_cannot_be_done_is_not_published(rt: HostRuntime) -> Result<(), NoMemory> {
     let alloc = rt.alloc();
     let (mut board, mut watchers) = Board::new(alloc, &rt, 1)?;
-    let noted = board.note(put());
+    let noted = note(&mut board, put(alloc));
     let (board, published) = board.publish(&rt, false);
     let (_watcher, seen) = look(alloc, watchers.pop());
     board.close(&rt);
@@ -104,7 +96,7 @@ fn a_change_that_cannot_be_done_is_not_published(rt: HostRuntime) -> Result<(), 
 fn what_scripts_change_is_seen(rt: HostRuntime) -> Result<(), NoMemory> {
     let alloc = rt.alloc();
     let (mut board, mut watchers) = Board::new(alloc, &rt, 1)?;
-    let noted = note_paragraph(alloc, &mut board);
+    let noted = note(&mut board, paragraph(alloc));
     let removed = board.note(Change::Removed(1));
     let (board, published) = board.publish(&rt, true);
     let (_watcher, seen) = look(alloc, watchers.pop());

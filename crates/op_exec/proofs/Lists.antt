@@ -1,5 +1,8 @@
 -- Operations in a list, and which of them have their ids bound.
-use Rattle.std.proofs.Common.{◌≡◌, ℕ, Bool, true, false, List, [], ◌∷◌, ◌++◌, map, refl, sym, ap, ◌∙◌, subst, append_assoc, append-nil}
+use Rattle.std.proofs.Common.{◌≡◌, ℕ, ◌+◌, Bool, true, false, List, [], ◌∷◌, ◌++◌, take, drop, map, Some, refl, sym, ap, ◌∙◌, subst, append_assoc, append-nil}
+use Rattle.std.specs.Prelude.{slice_get}
+use Rattle.std.proofs.lemmas.List.{take_more, drop_more}
+use Rattle.std.proofs.lemmas.Option.{slice_get_within, get_or_from_slice_get}
 use Rattle.html_types.specs.Operations.{spelled, spelled_one}
 use Rattle.html_types.specs.declared.operation.NodeId.{NodeId}
 use Rattle.html_types.specs.declared.operation.Place.{Place}
@@ -9,6 +12,18 @@ use Rattle.standard.specs.Act.{Doc, act, acts, is_bound, IsPlaceBound, IsOpBound
 use Rattle.standard.specs.Fragment.{in_root, all_in_root}
 use Rattle.op_exec.specs.Docs.{inserts_nothing, IsDoneInPart}
 use Rattle.act_laws.proofs.Known.{known_after-is, AreOpsBound-act}
+
+-- ---- what is read at a place of a list
+
+pub take_read : (xs : List Op) (i : ℕ) (x : Op) → slice_get xs i ≡ Some x → take (i + 1) xs ≡ take i xs ++ x ∷ []
+take_read xs i x read =
+    take_more xs i x (slice_get_within xs i x read) ∙ ap (λ (y : Op). take i xs ++ y ∷ []) (get_or_from_slice_get xs i x x read)
+
+pub drop_read : (xs : List Op) (i : ℕ) (x : Op) → slice_get xs i ≡ Some x → drop i xs ≡ x ∷ drop (i + 1) xs
+drop_read xs i x read =
+    drop_more xs i x (slice_get_within xs i x read) ∙ ap (λ (y : Op). y ∷ drop (i + 1) xs) (get_or_from_slice_get xs i x x read)
+
+-- ---- operations behind others
 
 pub acts-append : (d : Doc) (xs ys : List Op) → acts d (xs ++ ys) ≡ acts (acts d xs) ys
 unfolding acts

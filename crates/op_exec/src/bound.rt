@@ -6,13 +6,15 @@ ghost use Rattle.std.specs.BTreeMap.{insert_entry};
 ghost use Rattle.standard.specs.Tree.{Keeps};
 ghost use Rattle.standard.specs.Act.{element_made, id_cmp, bound_to, node_of, is_bound};
 ghost use Rattle.op_exec.specs.Ids.{listed, with_realms, IsNext};
+ghost use Rattle.text_store.specs.Views.{seen_name};
 
 use crate::element::make_element;
 use doc_tree::Tree;
-use html_types::{Attributes, Name, NoMemory, NodeId};
+use html_types::{NoMemory, NodeId};
 use std::alloc::Global;
 use std::collections::BTreeMap;
 use std::marker::Model;
+use text_store::{Listed, SeenName};
 
 /// The nodes that the ids of a realm stand for, the n-th for the n-th id.
 #[derive(Drop)]
@@ -91,20 +93,21 @@ fn next_in(realms: &[Realm], id: NodeId) -> Option<usize>
 
 // A new element, which the list names last.
 fn make_in_list(
+    alloc: Global,
     nodes: &mut Vec<u32>,
     tree: &mut Tree,
-    name: Name,
-    attributes: Attributes,
+    name: SeenName<'_>,
+    attributes: &Listed<'_>,
 ) -> Result<(), NoMemory>
     ensures bound { OnOk result (nodes.new.items ≡ nodes.old.items ++ length tree.old ∷ []) }
-    ensures made { OnOk result (tree.new ≡ element_made tree.old name attributes) }
+    ensures made { OnOk result (tree.new ≡ element_made tree.old (seen_name name.entry) attributes.now) }
     ensures err_bound { OnErr result (nodes.new.items ≡ nodes.old.items) }
     ensures err_made { OnErr result (tree.new ≡ tree.old) }
     ensures keeps { Keeps tree.old tree.new }
 {
     let number = next_number(tree)?;
     nodes.reserve(1)?;
-    make_element(tree, name, attributes)?;
+    make_element(alloc, tree, name, attributes)?;
     nodes.push(number)?;
     Ok(())
 }
@@ -115,12 +118,12 @@ fn make_in_realm(
     realms: &mut Vec<Realm>,
     id: NodeId,
     tree: &mut Tree,
-    name: Name,
-    attributes: Attributes,
+    name: SeenName<'_>,
+    attributes: &Listed<'_>,
 ) -> Result<(), NoMemory>
     requires { id.n ≡ 0 }
     ensures bound { OnOk result ((es : _) → with_realms realms.new.items es ≡ insert_entry id_cmp (with_realms realms.old.items es) id (length tree.old)) }
-    ensures made { OnOk result (tree.new ≡ element_made tree.old name attributes) }
+    ensures made { OnOk result (tree.new ≡ element_made tree.old (seen_name name.entry) attributes.now) }
     ensures err_bound { OnErr result (realms.new.items ≡ realms.old.items) }
     ensures err_made { OnErr result (tree.new ≡ tree.old) }
     ensures keeps { Keeps tree.old tree.new }
@@ -128,7 +131,7 @@ fn make_in_realm(
     let mut nodes = Vec::new(alloc);
     nodes.push(next_number(tree)?)?;
     realms.reserve(1)?;
-    make_element(tree, name, attributes)?;
+    make_element(alloc, tree, name, attributes)?;
     realms.insert(
         0,
         Realm {
@@ -141,22 +144,23 @@ fn make_in_realm(
 
 // A new element, which the map names.
 fn make_in_map(
+    alloc: Global,
     others: &mut BTreeMap<NodeId, usize>,
     id: NodeId,
     tree: &mut Tree,
-    name: Name,
-    attributes: Attributes,
+    name: SeenName<'_>,
+    attributes: &Listed<'_>,
 ) -> Result<(), NoMemory>
     requires { bound_to others.old.entries id ≡ None }
     ensures bound { OnOk result (others.new.entries ≡ insert_entry id_cmp others.old.entries id (length tree.old)) }
-    ensures made { OnOk result (tree.new ≡ element_made tree.old name attributes) }
+    ensures made { OnOk result (tree.new ≡ element_made tree.old (seen_name name.entry) attributes.now) }
     ensures err_bound { OnErr result (others.new.entries ≡ others.old.entries) }
     ensures err_made { OnErr result (tree.new ≡ tree.old) }
     ensures keeps { Keeps tree.old tree.new }
 {
     let number = tree.len();
     others.insert(id, number)?;
-    if let Err(error) = make_element(tree, name, attributes) {
+    if let Err(error) = make_element(alloc, tree, name, attributes) {
         others.remove(&id);
         return Err(error);
     }
@@ -200,22 +204,28 @@ impl Bound {
         &mut self,
         id: NodeId,
         tree: &mut Tree,
-        name: Name,
-        attributes: Attributes,
+        name: SeenName<'_>,
+        attributes: &Listed<'_>,
     ) -> Result<(), NoMemory>
         requires { bound_to self.old id ≡ None }
         ensures bound { OnOk result (self.new ≡ insert_entry id_cmp self.old id (length tree.old)) }
-        ensures made { OnOk result (tree.new ≡ element_made tree.old name attributes) }
+        ensures made { OnOk result (tree.new ≡ element_made tree.old (seen_name name.entry) attributes.now) }
         ensures err_bound { OnErr result (self.new ≡ self.old) }
         ensures err_made { OnErr result (tree.new ≡ tree.old) }
         ensures keeps { Keeps tree.old tree.new }
     {
         if let Some(place) = next_in(&self.realms, id) {
-            return make_in_list(&mut self.realms[place].nodes, tree, name, attributes);
+            return make_in_list(
+                self.alloc,
+                &mut self.realms[place].nodes,
+                tree,
+                name,
+                attributes,
+            );
         }
         if id.n == 0 && self.realms.len() < MOST_LISTS {
             return make_in_realm(self.alloc, &mut self.realms, id, tree, name, attributes);
         }
-        make_in_map(&mut self.others, id, tree, name, attributes)
+        make_in_map(self.alloc, &mut self.others, id, tree, name, attributes)
     }
 }

@@ -9,10 +9,11 @@ use crate::bound::Bound;
 use crate::fragment::{context_of, fragment_ops};
 use crate::script::{ScriptKind, kind_of_script};
 use doc_tree::{Put, Tree};
-use html_types::{Attributes, Context, Kind, Name, NoMemory, NodeId, Op, Ops, Place, Text};
+use html_types::{Attributes, Context, Kind, NoMemory, NodeId, Place, Text};
 use std::alloc::Global;
 use std::marker::Model;
 use std::mem;
+use text_store::{Listed, Ops, SeenName, SeenOp};
 
 /// A tree and what ids name in it: a contract sees both.
 #[derive(Drop)]
@@ -84,13 +85,24 @@ fn foster_spot(tree: &Tree, table: usize, above: usize) -> Spot
 }
 
 ghost use Rattle.op_exec.specs.Docs.{inserts_nothing};
+ghost use Rattle.std.specs.Prelude.{◌↔◌, []};
+ghost use Rattle.std.specs.Str.{chars};
+ghost use Rattle.text_store.specs.Records.{seen_op};
+ghost use Rattle.text_store.specs.Views.{seen_name};
+
+// Whether a text has no characters.
+fn is_empty(text: &str) -> bool
+    ensures { IsTrue result ↔ (chars text.now ≡ []) }
+{
+    text.is_empty()
+}
 
 // Whether it inserts an empty text.
-fn inserts_nothing(op: &Op) -> bool
-    ensures { result ≡ inserts_nothing op.now }
+fn inserts_nothing(op: &SeenOp<'_>) -> bool
+    ensures { result ≡ inserts_nothing (seen_op op.now) }
 {
     match op {
-        Op::Text { text, .. } => text.is_empty(),
+        SeenOp::Text { text, .. } => is_empty(*text),
         _ => false,
     }
 }
@@ -169,9 +181,14 @@ impl Doc {
     }
 
     #[tactic(auto, unfolding(standard::specs::Act::act))]
-    fn make(&mut self, id: NodeId, name: Name, attributes: Attributes) -> Result<(), NoMemory>
+    fn make(
+        &mut self,
+        id: NodeId,
+        name: SeenName<'_>,
+        attributes: &Listed<'_>,
+    ) -> Result<(), NoMemory>
         requires { is_bound self.old.bound id ≡ false }
-        ensures ok { OnOk result (self.new ≡ act self.old (op.Make id name attributes)) }
+        ensures ok { OnOk result (self.new ≡ act self.old (op.Make id (seen_name name.entry) attributes.now)) }
         ensures err { OnErr result (self.new ≡ self.old) }
     {
         self.bound.make(id, &mut self.tree, name, attributes)
@@ -193,9 +210,9 @@ impl Doc {
         Ok(())
     }
 
-    fn text(&mut self, place: Place, text: Text) -> Result<(), NoMemory>
+    fn text(&mut self, place: Place, text: &str) -> Result<(), NoMemory>
         requires { IsPlaceBound (is_bound self.old.bound) place }
-        ensures ok { OnOk result (self.new ≡ acts self.old (spelled_one (op.Text place text))) }
+        ensures ok { OnOk result (self.new ≡ acts self.old (spelled_one (op.Text place (chars text.now)))) }
         ensures err { OnErr result (self.new ≡ self.old) }
     {
         let spot = self.spot(place);
@@ -203,8 +220,9 @@ impl Doc {
         Ok(())
     }
 
+    // A comment, which it takes.
     #[tactic(auto, unfolding(standard::specs::Act::act))]
-    fn note(&mut self, place: Place, text: Text) -> Result<(), NoMemory>
+    fn own_note(&mut self, place: Place, text: Text) -> Result<(), NoMemory>
         requires { IsPlaceBound (is_bound self.old.bound) place }
         ensures ok { OnOk result (self.new ≡ act self.old (op.Comment place text)) }
         ensures err { OnErr result (self.new ≡ self.old) }
@@ -213,13 +231,31 @@ impl Doc {
         self.tree.add(spot.parent, spot.before, Kind::Comment(text))
     }
 
+    fn note(&mut self, place: Place, text: &str) -> Result<(), NoMemory>
+        requires { IsPlaceBound (is_bound self.old.bound) place }
+        ensures ok { OnOk result (self.new ≡ act self.old (op.Comment place (chars text.now))) }
+        ensures err { OnErr result (self.new ≡ self.old) }
+    {
+        let own = Text::from_str(self.alloc, text)?;
+        self.own_note(place, own)
+    }
+
+    // A doctype, whose name it takes.
     #[tactic(auto, unfolding(standard::specs::Act::act))]
-    fn doctype(&mut self, name: Text) -> Result<(), NoMemory>
+    fn own_doctype(&mut self, name: Text) -> Result<(), NoMemory>
         ensures ok { OnOk result (self.new ≡ act self.old (op.Doctype name)) }
         ensures err { OnErr result (self.new ≡ self.old) }
     {
         let spot = end_of(&self.tree, 0);
         self.tree.add(spot.parent, spot.before, Kind::Doctype(name))
+    }
+
+    fn doctype(&mut self, name: &str) -> Result<(), NoMemory>
+        ensures ok { OnOk result (self.new ≡ act self.old (op.Doctype (chars name.now))) }
+        ensures err { OnErr result (self.new ≡ self.old) }
+    {
+        let own = Text::from_str(self.alloc, name)?;
+        self.own_doctype(own)
     }
 
     #[tactic(auto, unfolding(standard::specs::Act::act))]
@@ -244,45 +280,57 @@ impl Doc {
     }
 
     #[tactic(auto, unfolding(standard::specs::Act::act))]
-    fn add_attributes(&mut self, id: NodeId, attributes: Attributes) -> Result<(), NoMemory>
+    fn add_own(&mut self, id: NodeId, attributes: &Attributes) -> Result<(), NoMemory>
         requires { IsTrue (is_bound self.old.bound id) }
-        ensures ok { OnOk result (self.new ≡ act self.old (op.AddAttributes id attributes)) }
+        ensures ok { OnOk result (self.new ≡ act self.old (op.AddAttributes id attributes.now)) }
         ensures err { OnErr result (self.new ≡ self.old) }
     {
         let node = self.node(id);
-        self.tree.add_attributes(node, &attributes)
+        self.tree.add_attributes(node, attributes)
+    }
+
+    fn add_attributes(&mut self, id: NodeId, attributes: &Listed<'_>) -> Result<(), NoMemory>
+        requires { IsTrue (is_bound self.old.bound id) }
+        ensures ok { OnOk result (self.new ≡ act self.old (op.AddAttributes id attributes.now)) }
+        ensures err { OnErr result (self.new ≡ self.old) }
+    {
+        let own = attributes.to_attributes(self.alloc)?;
+        self.add_own(id, &own)
     }
 
     /// Does the operation on the tree as it is now; where it inserts text, the insertions of its characters one by one.
+    // In place of a call: `op` is then taken apart where it is read, and never laid into memory.
+    #[inline(always)]
     #[tactic(auto, unfolding(standard::specs::Act::acts))]
-    pub fn apply(&mut self, op: Op) -> Result<(), NoMemory>
-        requires { IsOpBound (is_bound self.old.bound) op }
-        ensures ok { OnOk result (self.new ≡ acts self.old (spelled_one op)) }
+    pub fn apply(&mut self, op: SeenOp<'_>) -> Result<(), NoMemory>
+        requires { IsOpBound (is_bound self.old.bound) (seen_op op) }
+        ensures ok { OnOk result (self.new ≡ acts self.old (spelled_one (seen_op op.entry))) }
         ensures err { OnErr result (self.new ≡ self.old) }
     {
         match op {
-            Op::Make {
+            SeenOp::Make {
                 id,
                 name,
                 attributes,
-            } => self.make(id, name, attributes),
-            Op::Put { node, place } => self.put(node, place),
-            Op::Text { place, text } => self.text(place, text),
-            Op::Comment { place, text } => self.note(place, text),
-            Op::Doctype { name } => self.doctype(name),
-            Op::Detach { node } => {
+            } => self.make(id, name, &attributes),
+            SeenOp::Put { node, place } => self.put(node, place),
+            SeenOp::Text { place, text } => self.text(place, text),
+            SeenOp::Comment { place, text } => self.note(place, text),
+            SeenOp::Doctype { name } => self.doctype(name),
+            SeenOp::Detach { node } => {
                 self.detach(node);
                 Ok(())
             }
-            Op::MoveChildren { from, to } => self.move_children(from, to),
-            Op::AddAttributes { node, attributes } => self.add_attributes(node, attributes),
+            SeenOp::MoveChildren { from, to } => self.move_children(from, to),
+            SeenOp::AddAttributes { node, attributes } => self.add_attributes(node, &attributes),
         }
     }
 
     // Does the operation, unless it inserts an empty text: then nothing is asked of its place.
-    fn apply_spelled(&mut self, op: Op) -> Result<(), NoMemory>
-        requires { AreOpsBound (is_bound self.old.bound) (spelled_one op) }
-        ensures ok { OnOk result (self.new ≡ acts self.old (spelled_one op)) }
+    #[inline(always)]
+    fn apply_spelled(&mut self, op: SeenOp<'_>) -> Result<(), NoMemory>
+        requires { AreOpsBound (is_bound self.old.bound) (spelled_one (seen_op op)) }
+        ensures ok { OnOk result (self.new ≡ acts self.old (spelled_one (seen_op op.entry))) }
         ensures err { OnErr result (self.new ≡ self.old) }
     {
         if inserts_nothing(&op) {
@@ -291,14 +339,16 @@ impl Doc {
         self.apply(op)
     }
 
-    /// Does the operations in order, whose names, attributes and texts it moves into the tree. Where memory runs out, the first of them are done, and no other.
-    pub fn apply_all(&mut self, ops: Ops) -> Result<(), NoMemory>
-        requires { AreOpsBound (is_bound self.old.bound) ops }
-        ensures ok { OnOk result (self.new ≡ acts self.old ops) }
-        ensures err { OnErr result (IsDoneInPart self.old self.new ops) }
+    /// Does the operations in order. Where memory runs out, the first of them are done, and no other.
+    pub fn apply_all(&mut self, ops: &Ops) -> Result<(), NoMemory>
+        requires { AreOpsBound (is_bound self.old.bound) ops.now }
+        ensures ok { OnOk result (self.new ≡ acts self.old ops.now) }
+        ensures err { OnErr result (IsDoneInPart self.old self.new ops.now) }
     {
-        for op in ops.into_vec() {
-            self.apply_spelled(op)?;
+        let list = ops.read();
+        let count = list.len();
+        for index in 0..count {
+            self.apply_spelled(list.at(index))?;
         }
         Ok(())
     }
@@ -306,7 +356,6 @@ impl Doc {
 
 // What a script asks for.
 impl Doc {
-    ghost use Rattle.std.specs.Str.{chars};
     ghost use Rattle.standard.specs.Tree.{detached, moved, lies_in, is_element_at, find_id, first_element};
 
     /// The Document's element.
@@ -350,7 +399,6 @@ impl Doc {
 
 // Fragments (13.4).
 impl Doc {
-    ghost use Rattle.std.specs.Prelude.{[]};
     ghost use Rattle.act_laws.specs.Staying.{Stays};
     ghost use Rattle.standard.specs.Tree.{new_tree};
     ghost use Rattle.standard.specs.Act.{node_of, is_bound, AreOpsBound};
@@ -379,24 +427,24 @@ impl Doc {
     }
 
     // With no id bound: the fragment's nodes under ids of their own.
-    fn make_fragment(&mut self, form: bool, ops: Ops) -> Result<(), NoMemory>
+    fn make_fragment(&mut self, form: bool, ops: &Ops) -> Result<(), NoMemory>
         requires none { self.old.bound ≡ [] }
-        requires bound { AreOpsBound (is_bound (with_fragment self.old.tree form []).bound) ops }
-        ensures ok { OnOk result (self.new ≡ with_fragment self.old.tree form ops) }
+        requires bound { AreOpsBound (is_bound (with_fragment self.old.tree form []).bound) ops.now }
+        ensures ok { OnOk result (self.new ≡ with_fragment self.old.tree form ops.now) }
         ensures root { OnOk result (IsTrue (is_bound self.new.bound (root_id 0))) }
         ensures stays { Stays self.old.tree self.new.tree }
     {
         let all = fragment_ops(self.alloc, form, ops)?;
-        self.apply_all(all)?;
+        self.apply_all(&all)?;
         Ok(())
     }
 
     // With no id bound: the fragment's nodes under ids of their own, and then the exchange.
-    fn fill_with(&mut self, target: usize, form: bool, ops: Ops) -> Result<(), NoMemory>
+    fn fill_with(&mut self, target: usize, form: bool, ops: &Ops) -> Result<(), NoMemory>
         requires none { self.old.bound ≡ [] }
         requires here { target < length self.old.tree }
-        requires bound { AreOpsBound (is_bound (with_fragment self.old.tree form []).bound) ops }
-        ensures ok { OnOk result (self.new.tree ≡ filled self.old.tree target form ops) }
+        requires bound { AreOpsBound (is_bound (with_fragment self.old.tree form []).bound) ops.now }
+        ensures ok { OnOk result (self.new.tree ≡ filled self.old.tree target form ops.now) }
         ensures stays { Stays self.old.tree self.new.tree }
     {
         self.make_fragment(form, ops)?;
@@ -407,10 +455,10 @@ impl Doc {
     /// what those operations make under the root of a fragment. They name the fragment's elements
     /// by ids of its own, of realm 0, of which none is bound behind it; what ids stand for stays.
     /// Also where memory runs out the nodes that there were keep their numbers; some may be new.
-    pub fn fill(&mut self, target: usize, form: bool, ops: Ops) -> Result<(), NoMemory>
+    pub fn fill(&mut self, target: usize, form: bool, ops: &Ops) -> Result<(), NoMemory>
         requires here { target < length self.old.tree }
-        requires bound { AreOpsBound (is_bound (with_fragment self.old.tree form []).bound) ops }
-        ensures ok { OnOk result (self.new ≡ record self.old { tree = filled self.old.tree target form ops }) }
+        requires bound { AreOpsBound (is_bound (with_fragment self.old.tree form []).bound) ops.now }
+        ensures ok { OnOk result (self.new ≡ record self.old { tree = filled self.old.tree target form ops.now }) }
         ensures bound { self.new.bound ≡ self.old.bound }
         ensures stays { Stays self.old.tree self.new.tree }
     {
@@ -430,7 +478,7 @@ impl Doc {
         ensures here { IfOk result (λ made. made.1 < length made.0.tree) }
     {
         let mut doc = Doc::new(alloc)?;
-        doc.make_fragment(form, ops)?;
+        doc.make_fragment(form, &ops)?;
         let root = doc.node(NodeId { realm: 0, n: 0 });
         Ok((doc, root))
     }

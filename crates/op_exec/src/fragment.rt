@@ -13,12 +13,13 @@ ghost use Rattle.standard.specs.Elements.{is_word};
 ghost use Rattle.standard.specs.Foreign.{is_annotation, is_html_encoding};
 ghost use Rattle.standard.specs.Fragment.{is_form, is_annotation_point, in_form_by, context_at, roots_made, place_in_root, all_in_root};
 ghost use Rattle.standard.specs.Tree.{attribute};
+ghost use Rattle.text_store.specs.Records.{seen_op};
 ghost use Rattle.text_store.specs.Views.{seen_kind, seen_name};
 
 use doc_tree::Tree;
-use html_types::{Attributes, Context, Name, NoMemory, NodeId, Op, Ops, Place, Space, Word};
+use html_types::{Attributes, Context, Name, NoMemory, NodeId, Op, Place, Space, Word};
 use std::alloc::Global;
-use text_store::{Listed, Seen, SeenName};
+use text_store::{Listed, Ops, Seen, SeenName, SeenOp};
 
 // Whether an element of that name is a form.
 fn is_the_form(name: SeenName<'_>) -> bool
@@ -145,43 +146,45 @@ fn place_in_root(place: Place) -> Place
 }
 
 // The operation in the root of a fragment: none of a doctype.
-fn in_root(op: Op) -> Option<Op>
-    ensures { MatchOption result (all_in_root (spelled_one op) ≡ []) (λ o. all_in_root (spelled_one op) ≡ spelled_one o) }
+fn in_root(op: SeenOp<'_>) -> Option<SeenOp<'_>>
+    ensures { MatchOption result (all_in_root (spelled_one (seen_op op.entry)) ≡ []) (λ o. all_in_root (spelled_one (seen_op op.entry)) ≡ spelled_one (seen_op o)) }
 {
     match op {
-        Op::Put { node, place } => Some(Op::Put {
+        SeenOp::Put { node, place } => Some(SeenOp::Put {
             node,
             place: place_in_root(place),
         }),
-        Op::Text { place, text } => Some(Op::Text {
+        SeenOp::Text { place, text } => Some(SeenOp::Text {
             place: place_in_root(place),
             text,
         }),
-        Op::Comment { place, text } => Some(Op::Comment {
+        SeenOp::Comment { place, text } => Some(SeenOp::Comment {
             place: place_in_root(place),
             text,
         }),
-        Op::Doctype { .. } => None,
+        SeenOp::Doctype { .. } => None,
         _ => Some(op),
     }
 }
 
 // Adds the operation in the root of a fragment at the end of others.
-fn push_in_root(all: &mut Ops, op: Op) -> Result<(), NoMemory>
-    ensures { OnOk result (all.new ≡ all.old ++ all_in_root (spelled_one op)) }
+fn push_in_root(all: &mut Ops, op: SeenOp<'_>) -> Result<(), NoMemory>
+    ensures { OnOk result (all.new ≡ all.old ++ all_in_root (spelled_one (seen_op op.entry))) }
 {
     match in_root(op) {
         None => Ok(()),
-        Some(op) => all.push(op),
+        Some(op) => all.push_seen(op),
     }
 }
 
 // Adds the operations in the root of a fragment at the end of others.
-fn push_all_in_root(all: &mut Ops, ops: Ops) -> Result<(), NoMemory>
-    ensures { OnOk result (all.new ≡ all.old ++ all_in_root ops) }
+fn push_all_in_root(all: &mut Ops, ops: &Ops) -> Result<(), NoMemory>
+    ensures { OnOk result (all.new ≡ all.old ++ all_in_root ops.now) }
 {
-    for op in ops.into_vec() {
-        push_in_root(all, op)?;
+    let list = ops.read();
+    let count = list.len();
+    for index in 0..count {
+        push_in_root(all, list.at(index))?;
     }
     Ok(())
 }
@@ -199,8 +202,8 @@ fn push_made(alloc: Global, all: &mut Ops, n: u32, word: Word) -> Result<(), NoM
 
 /// What makes a fragment's nodes under ids of their own: its root, the form element that its form element pointer names
 /// if there is one, and what is made of them in the root.
-pub(crate) fn fragment_ops(alloc: Global, form: bool, ops: Ops) -> Result<Ops, NoMemory>
-    ensures { IfOk result (λ all. all ≡ roots_made form ++ all_in_root ops) }
+pub(crate) fn fragment_ops(alloc: Global, form: bool, ops: &Ops) -> Result<Ops, NoMemory>
+    ensures { IfOk result (λ all. all ≡ roots_made form ++ all_in_root ops.now) }
 {
     let mut all = Ops::new(alloc);
     push_made(alloc, &mut all, 0, Word::Html)?;

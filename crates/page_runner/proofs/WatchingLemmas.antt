@@ -161,6 +161,7 @@ module _ (old new : BoardView) (showing : IsShowing old) (noted_all : old.pendin
     after_first =
         ap (after showing.changes) (seen.changes ∙ ap (λ (x : Stand). x.changes) marked-stand)
         ∙ (ap (λ (l : List Change). after l old.stand.changes) (sym (append-nil showing.changes)) ∙ is-after showing.changes [] old.stand showing.counts);
+    counts = seen.changes ∙ (ap (λ (x : Stand). x.changes) marked-stand ∙ showing.counts.count);
     marked = seen.last ∙ marked_last;
   }
 

@@ -14,7 +14,7 @@ use Rattle.core_definitions.specs.StandsFor.{StandsFor}
 use Rattle.standard.specs.Act.{Doc, new_doc}
 use Rattle.standard.specs.Outer.{document_text}
 use Rattle.doc_changes.specs.declared.change.Change.{Change}
-use Rattle.doc_changes.specs.Changes.{changed, after}
+use Rattle.doc_changes.specs.Changes.{changed, after, counted}
 use Rattle.tree_watch.specs.declared.watcher.Seen.{Seen}
 use Rattle.core_steps.specs.Sides.{Shown, IsReplayed}
 
@@ -55,10 +55,11 @@ pub record Follows (s : Shown) (doc : Doc) (shown : List Doc) : Type 0 where
   pub doc_is : doc ≡ s.desk.own.side.doc
   pub passed : AllPassed s shown
 
--- The text is the document's, which is the one after the first of the run's changes, as many as it counts, and it was seen with the mark.
+-- The text is the document's, which is the one after the first of the run's changes, as many as it counts, and those are all; it was seen with the mark.
 pub record IsLast (changes : List Change) (doc : Doc) (x : Seen) : Type 0 where
   pub text : x.text ≡ document_text doc.tree
   pub after_first : after changes x.changes ≡ doc
+  pub counts : x.changes ≡ counted changes
   pub marked : x.last ≡ true
 
 -- Changes lead to the document, and it was seen last.

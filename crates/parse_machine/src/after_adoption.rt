@@ -8,8 +8,9 @@ ghost use Rattle.builder_state.specs.Adopted.{is_other};
 
 use builder_state::{Adopted, Builder};
 use html_types::instruction::Instr::*;
-use html_types::{Next, NoMemory, Ops, Then, Token};
+use html_types::{Next, NoMemory, Then, Token};
 use std::alloc::Global;
+use text_store::Ops;
 
 /// The rest of the row.
 fn go_on(

@@ -6,8 +6,9 @@ ghost use Rattle.standard.specs.Fragment.{reading_in, fragment};
 
 use crate::machine::Machine;
 use entity_table::Table;
-use html_types::{Context, Name, NoMemory, Ops, RawText, TextState, TokState, Word};
+use html_types::{Context, Name, NoMemory, RawText, TextState, TokState, Word};
 use std::alloc::Global;
+use text_store::Ops;
 
 // How the tokenizer reads the text, where the context has that name; no start tag came before.
 fn reading_of(word: Word) -> TokState

@@ -18,9 +18,10 @@ use crate::process::{end_and_build, read_and_build};
 use crate::weight::is_light_state;
 use builder_state::Builder;
 use entity_table::Table;
-use html_types::{Context, Ending, Finish, NoMemory, NodeId, Ops, Stop, Why, char_at};
+use html_types::{Context, Ending, Finish, NoMemory, NodeId, Stop, Why, char_at};
 use std::alloc::Global;
 use std::marker::Model;
+use text_store::Ops;
 use tokenizer::Tokenizer;
 
 /// A parser: contracts see the tokenizer's state, whether the last character was a CR, and the open state.

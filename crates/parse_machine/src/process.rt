@@ -14,10 +14,10 @@ use builder_state::Builder;
 use char_class::class_of;
 use entity_table::Table;
 use html_types::{
-    Finish, Name, Next, NoMemory, Ops, RawText, Stop, TextState, TokState, Token, TokenizerSwitch,
-    Word,
+    Finish, Name, Next, NoMemory, RawText, Stop, TextState, TokState, Token, TokenizerSwitch, Word,
 };
 use std::alloc::Global;
+use text_store::Ops;
 use tokenizer::Tokenizer;
 use tokenizer::reading::is_plain;
 

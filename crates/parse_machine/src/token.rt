@@ -9,9 +9,10 @@ ghost use Rattle.parse_machine.specs.Rounds.{rounded, round_of};
 use crate::after_adoption::after_adopt;
 use builder_adoption::adopt;
 use builder_state::Builder;
-use html_types::{Mode, Next, NoMemory, Ops, Then, Token, Word};
+use html_types::{Mode, Next, NoMemory, Then, Token, Word};
 use insertion_modes::row;
 use std::alloc::Global;
+use text_store::Ops;
 
 /// No token goes by more rules than this.
 const ROUNDS: u32 = 8192;

@@ -3,7 +3,7 @@ use denote.RattleType.{RattleType}
 use denote.Param.Send.{IsSend, sendable}
 use Rattle.std.proofs.Crossing.{crosses}
 use Rattle.speculation.proofs.boxed.BoxedMachine.TheSendSync as boxed
-use Rattle.html_types.proofs.operation.Ops.TheSendSync as ops
+use Rattle.text_store.proofs.ops.Ops.TheSendSync as ops
 use Rattle.page_pieces.proofs.shared_text.SharedText.TheSendSync as text
 use Rattle.page_pieces.proofs.piece.Piece.TheSendSync as piece
 use Rattle.speculation.proofs.batch.Halt.TheSendSync as halt

@@ -101,6 +101,13 @@ take-more f (y ∷ xs) (suc k) x is = ap (λ l. f y ++ l) (take-more f xs k x is
     assoc [] b c = refl
     assoc (z ∷ zs) b c = ap (λ l. z ∷ l) (assoc zs b c)
 
+-- one operation more
+pub ops_more : (os : List Op) (i : ℕ) (o : Op) (listed now more : List (List ℕ)) → slice_get os i ≡ Some o → now ≡ firsts listed (flat_map wanted_in (take i os)) → more ≡ firsts now (wanted_in o)
+    → more ≡ firsts listed (flat_map wanted_in (take (i + 1) os))
+ops_more os i o listed now more there so_far one = rw add-one
+    (one ∙ (ap (λ l. firsts l (wanted_in o)) so_far
+    ∙ (sym (firsts_append listed (flat_map wanted_in (take i os)) (wanted_in o)) ∙ ap (firsts listed) (sym (take-more wanted_in os i o there)))))
+
 pub batch_more : (batches : List Batch) (k : ℕ) (b : Batch) (listed more : List (List ℕ)) → slice_get batches k ≡ Some b → listed ≡ firsts [] (flat_map wanted_in (flat_map (λ (x : Batch). x.ops) (take k batches)))
     → more ≡ firsts listed (flat_map wanted_in b.ops) → more ≡ firsts [] (flat_map wanted_in (flat_map (λ (x : Batch). x.ops) (take (k + 1) batches)))
 batch_more batches k b listed more there so_far one = rw add-one

@@ -1,9 +1,8 @@
 //! The scripts that a reply makes known.
 
 ghost use Rattle.std.specs.Prelude.{◌≡◌, ◌||◌, [], ◌∷◌, map, flat_map, is_some, codes, true, IfOk, IfSome, IfNone, OnOk};
-ghost use Rattle.std.specs.Option.{option_map};
 ghost use Rattle.std.specs.Str.{chars};
-ghost use Rattle.html_types.specs.Operations.{spelled};
+ghost use Rattle.text_store.specs.Records.{seen_op};
 ghost use Rattle.serial.specs.Scripts.{is_lawful};
 ghost use Rattle.standard.specs.Tree.{attribute};
 ghost use Rattle.standard.specs.Prepare.{has, may_run, prepared_with};
@@ -11,45 +10,34 @@ ghost use Rattle.preload.specs.Names.{wanted_by, wanted_in, wanted_of, is_listed
 
 use crate::name::ScriptName;
 use core_steps::is_lawful;
-use html_types::{Attribute, Attributes, Name, NoMemory, Op, Text, Word};
+use html_types::{NoMemory, Word};
 use op_exec::is_javascript;
 use speculation::{InForce, Reply};
 use std::alloc::Global;
-
-// The value of the attribute with that name.
-fn value_of<'a>(attributes: &'a [Attribute], name: &str) -> Option<&'a Text>
-    ensures { option_map (λ text. text.now) result ≡ attribute (chars name.now) attributes.now }
-{
-    for attribute in attributes {
-        if attribute.name.is(name) {
-            return Some(&attribute.value);
-        }
-    }
-    None
-}
+use text_store::{Listed, Ops, SeenName, SeenOp};
 
 // Whether an attribute has that name.
-fn has(attributes: &[Attribute], name: &str) -> bool
+fn has(attributes: &Listed<'_>, name: &str) -> bool
     ensures { result ≡ is_some (attribute (chars name.now) attributes.now) }
 {
-    value_of(attributes, name).is_some()
+    attributes.value_of(name).is_some()
 }
 
 // Whether the `type` says JavaScript.
 #[tactic(auto, using(std::proofs::lemmas::Grind::common_steps, op_exec::proofs::Literals::type_text))]
-fn has_javascript_type(attributes: &[Attribute]) -> bool
+fn has_javascript_type(attributes: &Listed<'_>) -> bool
     ensures { result ≡ is_javascript (attribute (codes "type") attributes.now) }
 {
-    match value_of(attributes, "type") {
+    match attributes.value_of("type") {
         None => true,
-        Some(text) => is_javascript(text.as_str()),
+        Some(text) => is_javascript(text),
     }
 }
 
 ghost use Rattle.standard.specs.Prepare.{is_javascript};
 
 #[tactic(auto, using(std::proofs::lemmas::Grind::common_steps, op_exec::proofs::Literals::nomodule_text))]
-fn may_run(attributes: &[Attribute]) -> bool
+fn may_run(attributes: &Listed<'_>) -> bool
     ensures { result ≡ may_run attributes.now }
 {
     has_javascript_type(attributes) && !has(attributes, "nomodule")
@@ -57,7 +45,7 @@ fn may_run(attributes: &[Attribute]) -> bool
 
 // Whether the script would run later.
 #[tactic(auto, using(std::proofs::lemmas::Grind::common_steps, op_exec::proofs::Literals::async_text, op_exec::proofs::Literals::defer_text))]
-fn is_later(attributes: &[Attribute]) -> bool
+fn is_later(attributes: &Listed<'_>) -> bool
     ensures { result ≡ (has "async" attributes.now || has "defer" attributes.now) }
 {
     has(attributes, "async") || has(attributes, "defer")
@@ -65,10 +53,10 @@ fn is_later(attributes: &[Attribute]) -> bool
 
 // The `src` of a script with these attributes, where it would be fetched.
 #[tactic(auto, using(std::proofs::lemmas::Grind::common_steps, op_exec::proofs::Literals::src_text, crate::proofs::Naming::wanted_still, crate::proofs::Naming::wanted_later, crate::proofs::Naming::wanted_none, crate::proofs::Naming::wanted_lawful, crate::proofs::Naming::wanted_unlawful))]
-fn wanted_src(attributes: &[Attribute]) -> Option<&Text>
-    ensures some { IfSome result (λ src. wanted_by (prepared_with attributes.now []) ≡ src.now ∷
+fn wanted_src<'a>(attributes: &Listed<'a>) -> Option<&'a str>
+    ensures some { IfSome result (λ src. wanted_by (prepared_with attributes.now []) ≡ chars src.now ∷
         []) }
-    ensures lawful { IfSome result (λ src. is_lawful src.now ≡ true) }
+    ensures lawful { IfSome result (λ src. is_lawful (chars src.now) ≡ true) }
     ensures none { IfNone result (wanted_by (prepared_with attributes.now []) ≡ []) }
 {
     if !may_run(attributes) {
@@ -77,12 +65,8 @@ fn wanted_src(attributes: &[Attribute]) -> Option<&Text>
     if is_later(attributes) {
         return None;
     }
-    let src = value_of(attributes, "src")?;
-    if is_lawful(src.as_str()) {
-        Some(src)
-    } else {
-        None
-    }
+    let src = attributes.value_of("src")?;
+    if is_lawful(src) { Some(src) } else { None }
 }
 
 // Whether the name is one of those.
@@ -114,39 +98,41 @@ fn add_name(alloc: Global, names: &mut Vec<ScriptName>, name: &str) -> Result<()
 fn add_script(
     alloc: Global,
     names: &mut Vec<ScriptName>,
-    attributes: &Attributes,
+    attributes: &Listed<'_>,
 ) -> Result<(), NoMemory>
     ensures { OnOk result (names.new.items ≡ firsts names.old.items
         (wanted_by (prepared_with attributes.now []))) }
 {
-    match wanted_src(attributes.as_slice()) {
+    match wanted_src(attributes) {
         None => Ok(()),
-        Some(src) => add_name(alloc, names, src.as_str()),
+        Some(src) => add_name(alloc, names, src),
     }
 }
 
 // Adds the name of the script that the operation makes.
-fn add_op(alloc: Global, names: &mut Vec<ScriptName>, op: &Op) -> Result<(), NoMemory>
-    ensures { OnOk result (names.new.items ≡ firsts names.old.items (wanted_in op.now)) }
+fn add_op(alloc: Global, names: &mut Vec<ScriptName>, op: SeenOp<'_>) -> Result<(), NoMemory>
+    ensures { OnOk result (names.new.items ≡ firsts names.old.items (wanted_in (seen_op op.entry))) }
 {
     match op {
-        Op::Make {
-            name: Name::Known(Word::Script),
+        SeenOp::Make {
+            name: SeenName::Known(Word::Script),
             attributes,
             ..
-        } => add_script(alloc, names, attributes),
+        } => add_script(alloc, names, &attributes),
         _ => Ok(()),
     }
 }
 
 // Adds the names of the scripts that these operations make.
 #[tactic(auto, using(std::proofs::lemmas::Grind::common_steps, crate::proofs::Naming::firsts_append, crate::proofs::Naming::wanted_spelled))]
-fn add_ops(alloc: Global, names: &mut Vec<ScriptName>, ops: &[Op]) -> Result<(), NoMemory>
+fn add_ops(alloc: Global, names: &mut Vec<ScriptName>, ops: &Ops) -> Result<(), NoMemory>
     ensures { OnOk result (names.new.items ≡ firsts names.old.items
-        (flat_map wanted_in (spelled ops.now))) }
+        (flat_map wanted_in ops.now)) }
 {
-    for op in ops {
-        add_op(alloc, names, op)?;
+    let list = ops.read();
+    let count = list.len();
+    for index in 0..count {
+        add_op(alloc, names, list.at(index))?;
     }
     Ok(())
 }
@@ -159,7 +145,7 @@ pub fn names<E: InForce>(alloc: Global, reply: &Reply<E>) -> Result<Vec<ScriptNa
     let mut names = Vec::new(alloc);
     let batches = reply.said.batches();
     for k in 0..batches.len() {
-        add_ops(alloc, &mut names, batches.at(k).ops().as_slice())?;
+        add_ops(alloc, &mut names, batches.at(k).ops())?;
     }
     Ok(names)
 }

@@ -5,13 +5,14 @@ ghost use Rattle.core_definitions.specs.Settling.{is_empty as has_none};
 ghost use Rattle.speculation.specs.Halting.{halt_of};
 
 use crate::checkpoint::Checkpoint;
-use html_types::{NoMemory, Ops, Stop};
+use html_types::{NoMemory, Stop};
 use page_pieces::SharedText;
 use parse_machine::{End, Machine};
 use std::alloc::Global;
 use std::collections::VecDeque;
 use std::marker::Model;
 use std::snapshot::Snapshot;
+use text_store::Ops;
 
 /// Why a batch ends.
 #[derive(Clone, Copy, PartialEq, Eq)]

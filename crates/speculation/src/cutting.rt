@@ -9,11 +9,12 @@ ghost use Rattle.speculation.specs.Halting.{first_batch};
 use crate::batch::{Batch, Batches, Halt};
 use crate::checkpoint::Checkpoint;
 use entity_table::Table;
-use html_types::{Ending, NoMemory, Ops, Stop};
+use html_types::{Ending, NoMemory, Stop};
 use page_pieces::{Piece, SharedText};
 use parse_machine::Machine;
 use std::alloc::Global;
 use std::snapshot::Snapshot;
+use text_store::Ops;
 
 // The batch up to the first stop in a text, which is taken off the text. Room is made for so many operations at once.
 fn next_batch(

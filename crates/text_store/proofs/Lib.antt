@@ -4,3 +4,4 @@ pub mod ListLemmas
 pub mod KindLemmas
 pub mod Lookups
 pub mod Literals
+pub mod RecordLemmas

@@ -3,3 +3,4 @@ pub mod Stores
 pub mod Lists
 pub mod Kinds
 pub mod Views
+pub mod Records

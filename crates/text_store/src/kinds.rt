@@ -1,6 +1,6 @@
 //! What a node of a tree is, with its texts and attributes in a store.
 
-ghost use Rattle.std.specs.Prelude.{◌≡◌, ◌++◌, IfOk};
+ghost use Rattle.std.specs.Prelude.{◌≡◌, ◌++◌, IfOk, OnOk};
 ghost use Rattle.std.specs.Str.{chars};
 ghost use Rattle.standard.specs.Tree.{is_element, is_document, is_text, with_more};
 ghost use Rattle.html_types.specs.declared.name.Name.TheVariants.{Other};
@@ -8,10 +8,13 @@ ghost use Rattle.html_types.specs.declared.tree.Kind.TheVariants as kind;
 ghost use Rattle.text_store.specs.Stores.{text_at, Holds, HoldsText};
 ghost use Rattle.text_store.specs.declared.store.Spot.TheVariants.{Inside};
 ghost use Rattle.text_store.specs.declared.lists.Store.{Store};
-ghost use Rattle.text_store.specs.Lists.{KeepsAll};
+ghost use Rattle.text_store.specs.Lists.{GetsMarks, HoldsList, KeepsAll};
+ghost use Rattle.text_store.specs.Views.{seen_name};
 ghost use Rattle.text_store.specs.Kinds.{kind_at, HoldsKind, MeansKind};
 
+use crate::listed::Listed;
 use crate::lists::{Run, Store};
+use crate::seen::SeenName;
 use crate::store::{Piece, Spot};
 use html_types::{Attribute, Attributes, Kind, Name, NoMemory, Space, Word};
 
@@ -95,10 +98,20 @@ fn are_long(name: &Name, attributes: &[Attribute]) -> bool {
     false
 }
 
+// Whether a copy of what is read takes more.
+fn is_long(name: SeenName<'_>, list: &Listed<'_>) -> bool {
+    if let SeenName::Other(_, text) = name {
+        if text.len() > MOST_COPIED {
+            return true;
+        }
+    }
+    are_long(&Name::Known(Word::Html), list.more)
+}
+
 impl Store {
-    // Adds a text.
+    /// Adds a text.
     #[tactic(auto, using(std::proofs::lemmas::Grind::common_steps, crate::proofs::ListLemmas::texts_kept))]
-    fn push_text(&mut self, text: &str) -> Result<Piece, NoMemory>
+    pub fn push_text(&mut self, text: &str) -> Result<Piece, NoMemory>
         ensures ok { IfOk result (λ p. HoldsText self.new.texts (Inside p) (chars text.now)) }
         ensures kept { KeepsAll self.old self.new }
     {
@@ -159,6 +172,127 @@ impl Store {
             self.push_long(name, attributes)
         } else {
             self.push_short(name, list)
+        }
+    }
+
+    /// Adds what an element is for a while: its attributes stay as they are, since they are copied when they are read.
+    #[inline]
+    pub(crate) fn push_tag(
+        &mut self,
+        name: &Name,
+        attributes: &Attributes,
+    ) -> Result<Kept, NoMemory>
+        ensures ok { IfOk result (λ k. MeansKind self.new k (kind.Element name.now attributes.now)) }
+        ensures kept { KeepsAll self.old self.new }
+    {
+        let list = attributes.as_slice();
+        let short = list.len() == 0 && name_size(name) <= MOST_COPIED;
+        if short {
+            self.push_short(name, list)
+        } else {
+            self.push_long(name, attributes)
+        }
+    }
+
+    // Adds attributes that are read from another store.
+    #[tactic(auto, using(std::proofs::lemmas::Grind::common_steps, crate::proofs::ListLemmas::all_not, crate::proofs::ListLemmas::all_then, crate::proofs::ListLemmas::gets_none))]
+    fn push_seen_marks(&mut self, list: &Listed<'_>) -> Result<(), NoMemory>
+        ensures ok { OnOk result (GetsMarks self.old self.new list.now) }
+        ensures kept { KeepsAll self.old self.new }
+    {
+        let count = list.len();
+        for index in 0..count {
+            let seen = list.at(index);
+            self.push_mark(seen.name, seen.value)?;
+        }
+        Ok(())
+    }
+
+    // Adds what an element of any name is that is read from another store.
+    #[tactic(auto, using(std::proofs::lemmas::Grind::common_steps, crate::proofs::ListLemmas::all_not, crate::proofs::ListLemmas::all_then))]
+    fn push_seen_other(
+        &mut self,
+        space: Space,
+        name: &str,
+        list: &Listed<'_>,
+    ) -> Result<Kept, NoMemory>
+        ensures ok { IfOk result (λ k. MeansKind self.new k (kind.Element (Other space (chars name.now)) list.now)) }
+        ensures kept { KeepsAll self.old self.new }
+    {
+        let from = self.marks.len();
+        self.push_mark(name, "")?;
+        self.push_seen_marks(list)?;
+        let place = self.run_from(from)?;
+        Ok(Kept::Other(space, place))
+    }
+
+    // Adds a list that is read from another store.
+    #[inline]
+    #[tactic(auto, using(std::proofs::lemmas::Grind::common_steps, crate::proofs::ListLemmas::all_not, crate::proofs::ListLemmas::no_list))]
+    fn push_seen_list(&mut self, list: &Listed<'_>) -> Result<Run, NoMemory>
+        ensures ok { IfOk result (λ r. HoldsList self.new r list.now) }
+        ensures kept { KeepsAll self.old self.new }
+    {
+        if list.len() == 0 {
+            return Ok(Run { from: 0, size: 0 });
+        }
+        let from = self.marks.len();
+        self.push_seen_marks(list)?;
+        let place = self.run_from(from)?;
+        Ok(place)
+    }
+
+    // Adds what an element is that is read from another store, whose attributes aren't shared.
+    #[inline]
+    #[tactic(auto, using(std::proofs::lemmas::Grind::common_steps, crate::proofs::ListLemmas::all_not, crate::proofs::KindLemmas::known_means))]
+    fn push_seen_short(&mut self, name: SeenName<'_>, list: &Listed<'_>) -> Result<Kept, NoMemory>
+        ensures ok { IfOk result (λ k. MeansKind self.new k (kind.Element (seen_name name.entry) list.now)) }
+        ensures kept { KeepsAll self.old self.new }
+    {
+        match name {
+            SeenName::Known(word) => {
+                let run = self.push_seen_list(list)?;
+                Ok(Kept::Known(word, run))
+            }
+            SeenName::Other(space, text) => self.push_seen_other(space, text, list),
+        }
+    }
+
+    // Adds what an element is that is read from another store, with its attributes as they are.
+    #[tactic(auto, using(std::proofs::lemmas::Grind::common_steps, crate::proofs::ListLemmas::all_not))]
+    fn push_shared(&mut self, name: SeenName<'_>, list: Attributes) -> Result<Kept, NoMemory>
+        ensures ok { IfOk result (λ k. MeansKind self.new k (kind.Element (seen_name name.entry) list)) }
+        ensures kept { KeepsAll self.old self.new }
+    {
+        let own = name.to_name(self.alloc)?;
+        self.push_apart(own, list)
+    }
+
+    /// Adds what an element is that is read from another store. Attributes that are shared stay so.
+    #[inline]
+    #[tactic(auto, using(std::proofs::lemmas::Grind::common_steps, crate::proofs::ListLemmas::all_not))]
+    pub fn push_seen(&mut self, name: SeenName<'_>, list: &Listed<'_>) -> Result<Kept, NoMemory>
+        ensures ok { IfOk result (λ k. MeansKind self.new k (kind.Element (seen_name name.entry) list.now)) }
+        ensures kept { KeepsAll self.old self.new }
+    {
+        if list.is_shared() && is_long(name, list) {
+            self.push_long_seen(name, list)
+        } else {
+            self.push_seen_short(name, list)
+        }
+    }
+
+    // The same where the attributes are shared.
+    #[inline(never)]
+    #[tactic(auto, using(std::proofs::lemmas::Grind::common_steps, crate::proofs::ListLemmas::all_not))]
+    fn push_long_seen(&mut self, name: SeenName<'_>, list: &Listed<'_>) -> Result<Kept, NoMemory>
+        ensures ok { IfOk result (λ k. MeansKind self.new k (kind.Element (seen_name name.entry) list.now)) }
+        ensures kept { KeepsAll self.old self.new }
+    {
+        let shared = list.shared(self.alloc)?;
+        match shared {
+            Some(attributes) => self.push_shared(name, attributes),
+            None => self.push_seen_short(name, list),
         }
     }
 

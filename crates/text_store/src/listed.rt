@@ -1,6 +1,6 @@
 //! Lists of attributes, as they are read.
 
-ghost use Rattle.std.specs.Prelude.{◌≡◌, ◌<◌, length, slice_get, Some, map, IfOk};
+ghost use Rattle.std.specs.Prelude.{◌≡◌, ◌<◌, length, slice_get, Some, map, IfOk, IfSome};
 ghost use Rattle.std.specs.Str.{chars};
 ghost use Rattle.std.specs.Option.{option_map};
 ghost use Rattle.standard.specs.Tree.{attribute};
@@ -22,10 +22,12 @@ pub struct Listed<'a> {
     pub(crate) marks: &'a [Mark],
     // Those behind the marks.
     pub(crate) more: &'a [Attribute],
+    // Where they are all of a list that can be shared.
+    pub(crate) whole: Option<&'a Attributes>,
 }
 
 impl<'a> Model for Listed<'a> {
-    ghost use Rattle.std.specs.Prelude.{List, map, length, ◌++◌, ◌+◌, ◌<◌, ◌^◌};
+    ghost use Rattle.std.specs.Prelude.{◌≡◌, List, map, length, ◌++◌, ◌+◌, ◌<◌, ◌^◌, IfSome};
     ghost use Rattle.html_types.specs.declared.attributes.Attribute.{Attribute};
     ghost use Rattle.text_store.specs.Lists.{mark_at, HoldsMarks};
 
@@ -33,7 +35,8 @@ impl<'a> Model for Listed<'a> {
 
     ghost view = { λ l. map (mark_at l.texts.now) l.marks.now ++ l.more.now };
 
-    ghost invariant = { λ l. HoldsMarks l.texts.now l.marks.now × (length l.marks.now + length l.more.now < 2 ^ 64) };
+    ghost invariant = { λ l. HoldsMarks l.texts.now l.marks.now × (length l.marks.now + length l.more.now < 2 ^ 64)
+        × IfSome l.whole (λ whole. whole.now ≡ map (mark_at l.texts.now) l.marks.now ++ l.more.now) };
 }
 
 /// An attribute, as it is read.
@@ -109,6 +112,7 @@ fn value_in<'a>(attributes: &'a [Attribute], name: &str) -> Option<&'a str>
 
 impl<'a> Listed<'a> {
     /// How many attributes there are.
+    #[inline(always)]
     pub fn len(&self) -> usize
         ensures { result ≡ length self.now }
     {
@@ -135,6 +139,22 @@ impl<'a> Listed<'a> {
         match value_among(self.texts, self.marks, name) {
             Some(value) => Some(value),
             None => value_in(self.more, name),
+        }
+    }
+
+    /// Whether they can be shared.
+    #[inline(always)]
+    pub(crate) fn is_shared(&self) -> bool {
+        self.whole.is_some()
+    }
+
+    /// The same attributes, shared, where they can be.
+    pub fn shared(&self, alloc: Global) -> Result<Option<Attributes>, NoMemory>
+        ensures { IfOk result (λ shared. IfSome shared (λ attributes. attributes ≡ self.now)) }
+    {
+        match self.whole {
+            Some(whole) => Ok(Some(whole.copy(alloc)?)),
+            None => Ok(None),
         }
     }
 

@@ -1,6 +1,6 @@
 //! What a node of a tree is, as it is read.
 
-ghost use Rattle.std.specs.Prelude.{◌≡◌, ◌+◌, ◌<◌, ◌≤◌, length, map, take, drop, IfOk};
+ghost use Rattle.std.specs.Prelude.{◌≡◌, ◌+◌, ◌<◌, ◌≤◌, length, map, take, drop, IfOk, IfSome};
 ghost use Rattle.std.specs.Str.{chars};
 ghost use Rattle.html_types.specs.Names.{name_text, space_of};
 ghost use Rattle.standard.specs.Fragment.{name_in};
@@ -100,6 +100,7 @@ fn seen_of(name: &Name) -> SeenName<'_>
 }
 
 // The marks of a run.
+#[inline]
 fn part(marks: &[Mark], run: Run) -> &[Mark]
     requires { run.from + run.size ≤ length marks.now }
     ensures marks { result.now ≡ take run.size (drop run.from marks.now) }
@@ -127,6 +128,7 @@ fn first_name<'a>(texts: &'a TextStore, marks: &[Mark]) -> &'a str
 }
 
 // Attributes whose texts lie there.
+#[inline(always)]
 fn listed_of<'a>(texts: &'a TextStore, marks: &'a [Mark]) -> Listed<'a>
     requires { HoldsMarks texts.now marks.now }
     ensures { result ≡ map (mark_at texts.now) marks.now }
@@ -135,17 +137,7 @@ fn listed_of<'a>(texts: &'a TextStore, marks: &'a [Mark]) -> Listed<'a>
         texts,
         marks,
         more: &[],
-    }
-}
-
-// Attributes that stand apart.
-fn listed_apart<'a>(texts: &'a TextStore, more: &'a [Attribute]) -> Listed<'a>
-    ensures { result ≡ more.now }
-{
-    Listed {
-        texts,
-        marks: &[],
-        more,
+        whole: None,
     }
 }
 
@@ -157,9 +149,35 @@ fn first_of(list: &Attributes, size: u32) -> &[Attribute]
     &list.as_slice()[..size as usize]
 }
 
+// The list, where all of it is meant.
+fn whole_of(list: &Attributes, size: u32) -> Option<&Attributes>
+    requires { size ≤ length list.now }
+    ensures { IfSome result (λ whole. whole.now ≡ take size list.now) }
+{
+    if list.as_slice().len() == size as usize {
+        Some(list)
+    } else {
+        None
+    }
+}
+
+// The first of the attributes that stand apart.
+fn listed_apart<'a>(texts: &'a TextStore, list: &'a Attributes, size: u32) -> Listed<'a>
+    requires { size ≤ length list.now }
+    ensures { result ≡ take size list.now }
+{
+    Listed {
+        texts,
+        marks: &[],
+        more: first_of(list, size),
+        whole: whole_of(list, size),
+    }
+}
+
 impl Store {
     // The list that lies there.
-    fn listed(&self, run: Run) -> Listed<'_>
+    #[inline(always)]
+    pub(crate) fn listed(&self, run: Run) -> Listed<'_>
         requires { HoldsList self.now run (list_at self.now run) }
         ensures { result ≡ list_at self.now run }
     {
@@ -192,7 +210,7 @@ impl Store {
     {
         let apart = self.element(run);
         let name = seen_of(&apart.name);
-        let list = listed_apart(&self.texts, first_of(&apart.list, run.size));
+        let list = listed_apart(&self.texts, &apart.list, run.size);
         Seen::Element(name, list)
     }
 

@@ -5,8 +5,7 @@ use Rattle.std.proofs.Math.Seq.{take-append_seam}
 use Rattle.std.proofs.lemmas.Grind.{flat_map-append}
 use Rattle.std.proofs.lemmas.List.{length-append, length-map}
 use Rattle.std.proofs.lemmas.List.Sums.{fold-append}
-use Rattle.html_types.specs.declared.operation.Op.TheVariants as op
-use Rattle.html_types.specs.declared.operation.Place.{Place}
+use Rattle.html_types.specs.declared.operation.Op.{Op}
 use Rattle.standard.specs.Act.{Doc, new_doc, act, acts}
 use Rattle.doc_changes.specs.declared.change.Change.{Change}
 use Rattle.doc_changes.specs.declared.change.Change.TheVariants as change
@@ -17,22 +16,14 @@ use Rattle.tree_watch.specs.Notes.{noted, start, mark}
 use Rattle.tree_watch.specs.Boards.{begun}
 use Rattle.tree_watch.specs.Counting.{IsAfter}
 
--- the insertions of a text's characters, one by one
-run-of-text : (d : Doc) (place : Place) (text : List ℕ)
-    → fold changed d (map change.Did (map (λ c. op.Text place (c ∷ [])) text)) ≡ acts d (map (λ c. op.Text place (c ∷ [])) text)
+-- the operations of a batch, one by one
+fold-batch : (d : Doc) (ops : List Op) → fold changed d (map (λ o. change.Did (o ∷ [])) ops) ≡ acts d ops
 unfolding acts
-run-of-text d place [] = refl
-run-of-text d place (c ∷ cs) = run-of-text (act d (op.Text place (c ∷ []))) place cs
+fold-batch d [] = refl
+fold-batch d (o ∷ os) = fold-batch (act d o) os
 
 fold-single : (d : Doc) (c : Change) → fold changed d (single c) ≡ changed d c
-fold-single d (change.Did (op.Make id name attributes)) = refl
-fold-single d (change.Did (op.Put id place)) = refl
-fold-single d (change.Did (op.Text place text)) = run-of-text d place text
-fold-single d (change.Did (op.Comment place text)) = refl
-fold-single d (change.Did (op.Doctype name)) = refl
-fold-single d (change.Did (op.Detach id)) = refl
-fold-single d (change.Did (op.MoveChildren from to)) = refl
-fold-single d (change.Did (op.AddAttributes id attributes)) = refl
+fold-single d (change.Did ops) = fold-batch d ops
 fold-single d (change.Removed node) = refl
 fold-single d (change.Moved first second) = refl
 fold-single d (change.Filled target fragment) = refl
@@ -44,15 +35,7 @@ fold-singles d (c ∷ cs) =
     ∙ (ap (λ (x : Doc). fold changed x (singles cs)) (fold-single d c) ∙ fold-singles (changed d c) cs)
 
 length-single : (c : Change) → length (single c) ≡ weight c
-length-single (change.Did (op.Make id name attributes)) = refl
-length-single (change.Did (op.Put id place)) = refl
-length-single (change.Did (op.Text place text)) =
-    length-map (map (λ c. op.Text place (c ∷ [])) text) change.Did ∙ length-map text (λ c. op.Text place (c ∷ []))
-length-single (change.Did (op.Comment place text)) = refl
-length-single (change.Did (op.Doctype name)) = refl
-length-single (change.Did (op.Detach id)) = refl
-length-single (change.Did (op.MoveChildren from to)) = refl
-length-single (change.Did (op.AddAttributes id attributes)) = refl
+length-single (change.Did ops) = length-map ops (λ o. change.Did (o ∷ []))
 length-single (change.Removed node) = refl
 length-single (change.Moved first second) = refl
 length-single (change.Filled target fragment) = refl

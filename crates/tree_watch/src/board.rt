@@ -1,6 +1,6 @@
 //! The board: the one who makes the document publishes it there.
 
-ghost use Rattle.std.specs.Prelude.{◌≡◌, ◌<◌, ◌^◌, ◌++◌, ◌∷◌, [], true, false, All, IfOk, OnOk, OnErr};
+ghost use Rattle.std.specs.Prelude.{◌≡◌, ◌<◌, ◌≤◌, ◌^◌, ◌++◌, ◌∷◌, [], length, true, false, All, IfOk, OnOk, OnErr};
 ghost use Rattle.tree_watch.specs.Boards.{Begins, IsNew, HasPublished, HasNotPublished};
 ghost use Rattle.tree_watch.specs.Seeing.{IsSeen};
 
@@ -67,7 +67,8 @@ fn watcher_of(head: &Head) -> Result<Watcher, AllocError>
 
 // For so many watchers, or for fewer where one finds no place or no memory.
 fn watchers_of(alloc: Global, head: &Head, most: usize) -> Vec<Watcher>
-    ensures { All (IsNew head.now.desk.place.table_id) result.items }
+    ensures new { All (IsNew head.now.desk.place.table_id) result.items }
+    ensures few { length result.items ≤ most }
 {
     let mut watchers = Vec::new(alloc);
     'places: for _ in 0..most {
@@ -92,6 +93,7 @@ impl Board {
         requires { (0 < watchers) × (watchers < 2 ^ 32) }
         ensures begins { IfOk result (λ made. Begins made.0) }
         ensures watchers { IfOk result (λ made. All (IsNew made.0.table) made.1.items) }
+        ensures few { IfOk result (λ made. length made.1.items ≤ watchers) }
     {
         let mut head = first_head(alloc, watchers)?;
         if head.append(Note::Opened).is_err() {

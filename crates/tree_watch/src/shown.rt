@@ -33,7 +33,6 @@ pub struct Stand {
 /// what it was before.
 #[derive(Drop)]
 pub struct Shown {
-    alloc: Global,
     doc: Doc,
     good: Snapshot<Doc>,
     changes: u64,
@@ -68,7 +67,6 @@ impl Shown {
         let doc = Doc::new(alloc)?;
         let good = Snapshot::of(&doc);
         Ok(Shown {
-            alloc,
             doc,
             good,
             changes: 0,
@@ -114,9 +112,8 @@ impl Shown {
         if self.spoiled {
             return Err(NoMemory);
         }
-        let weight = change.weight() as u64;
+        let weight = change.weight()? as u64;
         let changes = self.changes.checked_add(weight).ok_or(NoMemory)?;
-        let change = change.copy(self.alloc)?;
         self.spoiled = true;
         change.repeat(&mut self.doc)?;
         self.good = Snapshot::of(&self.doc);

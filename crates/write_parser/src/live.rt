@@ -19,12 +19,13 @@ use crate::nesting::{Begun, Nesting};
 use crate::rest::{Rest, parse_text};
 use doc_changes::{Fragment, Log};
 use entity_table::Table;
-use html_types::{Ending, NoMemory, NodeId, Ops, Stop, Text, Why};
+use html_types::{Ending, NoMemory, NodeId, Stop, Text, Why};
 use op_exec::{Doc, Put, ScriptKind};
 use parse_machine::{End, Machine, Ran, parse_fragment};
 use serial::{Line, Lines, Statement};
 use std::alloc::Global;
 use std::mem;
+use text_store::Ops;
 
 /// The most characters that the scripts of a page write.
 const WRITE_LIMIT: usize = 1_048_576;

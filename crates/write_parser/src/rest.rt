@@ -7,11 +7,12 @@ ghost use Rattle.write_parser.specs.Parsing.{IsServed, TextParsed, RestParsed};
 
 use doc_changes::Log;
 use entity_table::Table;
-use html_types::{NoMemory, Ops, Stop};
+use html_types::{NoMemory, Stop};
 use op_exec::Doc;
 use parse_machine::{Machine, Ran};
 use std::alloc::Global;
 use std::marker::Model;
+use text_store::Ops;
 
 /// A text whose front may be used: a contract sees the characters behind that.
 #[derive(Drop)]

@@ -14,13 +14,14 @@ use crate::left::Left;
 use crate::live::Live;
 use doc_changes::Log;
 use entity_table::Table;
-use html_types::{Ending, NoMemory, NodeId, Ops};
+use html_types::{Ending, NoMemory, NodeId};
 use op_exec::Doc;
 use parse_machine::{End, Machine, Ran};
 use serial::{Line, Lines};
 use std::alloc::Global;
 use std::marker::Model;
 use std::mem;
+use text_store::Ops;
 
 /// A parser and its document, the scripts that run between the characters of a page, and the text that they wrote. A contract
 /// sees it as a view, which stands for a moment of the serial parse.

@@ -1,59 +1,57 @@
-use Rattle.std.proofs.Common.{◌≡◌, [], ◌∷◌, ◌++◌, List, Result, Ok, Err, OnErr, refl, sym, ap, subst, ◌∙◌, length, append_assoc, append-nil, length-append, arith}
-use Rattle.std.specs.Vec.Iter.{into_iter_items, into_iter_len}
-use Rattle.std.proofs.lemmas.List.{nil_from_length}
-use Rattle.std.proofs.lemmas.Iterator.Consumers.{YieldsList-end}
-use Rattle.std.proofs.lemmas.Iterator.Adapters.{YieldsList-from_vec}
+use Rattle.std.proofs.Common.{◌≡◌, ◌+◌, ◌++◌, ◌∷◌, List, take, drop, Result, Ok, Err, OnErr, refl, sym, ap, subst, ◌∙◌, arith}
+use Rattle.std.proofs.lemmas.List.{take_all, take-append-drop}
 use Rattle.html_types.specs.Operations.{spelled}
 use Rattle.html_types.specs.declared.operation.Op.{Op}
 use Rattle.standard.specs.Act.{Doc, acts, is_bound, AreOpsBound}
+use Rattle.text_store.specs.Records.{seen_op}
 use Rattle.op_exec.specs.Docs.{IsDoneInPart}
-use Rattle.op_exec.proofs.Lists.{turn-bound, turn-bound_after, turn-done, turn-part}
+use Rattle.op_exec.proofs.Lists.{take_read, drop_read, turn-bound, turn-bound_after, turn-done, turn-part}
 use Rattle.op_exec.proofs.doc.Doc.apply_all.Goals as goal
 
 on_err : {T E : Type 0} (r : Result T E) (P : Type 0) → P → OnErr r P
 on_err (Ok x) P h = tt
 on_err (Err e) P h = h
 
-pub loop-op-init : goal.loop-op-init
+pub loop-index-init : goal.loop-index-init
 unfolding acts spelled
-loop-op-init c = record {
-  items = refl;
+loop-index-init c = record {
   done = refl;
-  bound = subst (λ (os : List Op). AreOpsBound (is_bound c.args.self.now.bound) os) (sym c.into_vec-op-items.ensures ∙ ap (λ (os : List Op). spelled os) (sym c.into_iter-op-iterator.ensures.into_iter_gives.0)) c.requires;
+  bound = subst (λ (os : List Op). AreOpsBound (is_bound c.args.self.now.bound) os) (sym c.read-list.ensures) c.requires;
 }
 
 pub apply_spelled-requires : goal.apply_spelled-requires
 apply_spelled-requires c =
-    let next = subst (λ (os : List Op). AreOpsBound (is_bound c.loop-op.self.bound) (spelled os)) c.in-Some.ensures.steps.0 c.loop-op.invariant.bound in
-    turn-bound c.args.self.now c.loop-op.self c.loop-op.yielded c.in-Some.op (into_iter_items c.next.new.self) c.loop-op.invariant.done next
+    let all = c.read-list.result in
+    let i = c.loop-index.index in
+    let o = seen_op c.at.result in
+    let next = subst (λ (os : List Op). AreOpsBound (is_bound c.loop-index.self.bound) (spelled os)) (drop_read all i o c.at.ensures) c.loop-index.invariant.bound in
+    turn-bound c.args.self.now c.loop-index.self (take i all) o (drop (i + 1) all) c.loop-index.invariant.done next
 
 pub returns-in_err-apply_spelled-clause-err : goal.returns-in_err-apply_spelled-clause-err
 returns-in_err-apply_spelled-clause-err c =
-    let next = subst (λ (os : List Op). AreOpsBound (is_bound c.loop-op.self.bound) (spelled os)) c.in-Some.ensures.steps.0 c.loop-op.invariant.bound in
-    let part = turn-part c.args.self.now c.loop-op.self c.loop-op.yielded c.in-Some.op (into_iter_items c.next.new.self) c.loop-op.invariant.done next in
-    let all : c.loop-op.yielded ++ c.in-Some.op ∷ into_iter_items c.next.new.self ≡ c.into_vec-op-items.result.items =
-    ap (λ (os : List Op). c.loop-op.yielded ++ os) (sym c.in-Some.ensures.steps.0) ∙ (c.loop-op.invariant.items ∙ c.into_iter-op-iterator.ensures.into_iter_gives.0) in
-    let whole = subst (λ (os : List Op). IsDoneInPart c.args.self.now c.loop-op.self os) (ap (λ (os : List Op). spelled os) all ∙ c.into_vec-op-items.ensures) part in
-    on_err _ _ (subst (λ (d : Doc). IsDoneInPart c.args.self.now d c.args.ops) (sym c.in_err-apply_spelled.ensures.err) whole)
+    let all = c.read-list.result in
+    let i = c.loop-index.index in
+    let o = seen_op c.at.result in
+    let next = subst (λ (os : List Op). AreOpsBound (is_bound c.loop-index.self.bound) (spelled os)) (drop_read all i o c.at.ensures) c.loop-index.invariant.bound in
+    let part = turn-part c.args.self.now c.loop-index.self (take i all) o (drop (i + 1) all) c.loop-index.invariant.done next in
+    let whole : take i all ++ o ∷ drop (i + 1) all ≡ all = ap (λ (os : List Op). take i all ++ os) (sym (drop_read all i o c.at.ensures)) ∙ take-append-drop i all in
+    let done = subst (λ (os : List Op). IsDoneInPart c.args.self.now c.loop-index.self os) (ap (λ (os : List Op). spelled os) whole ∙ c.read-list.ensures) part in
+    on_err _ _ (subst (λ (d : Doc). IsDoneInPart c.args.self.now d c.args.ops.now) (sym c.in_err-apply_spelled.ensures.err) done)
 
-pub loop-op-preserved : goal.loop-op-preserved
-loop-op-preserved c =
-    let next = subst (λ (os : List Op). AreOpsBound (is_bound c.loop-op.self.bound) (spelled os)) c.in-Some.ensures.steps.0 c.loop-op.invariant.bound in
+pub loop-index-preserved : goal.loop-index-preserved
+loop-index-preserved c =
+    let all = c.read-list.result in
+    let i = c.loop-index.index in
+    let o = seen_op c.at.result in
+    let next = subst (λ (os : List Op). AreOpsBound (is_bound c.loop-index.self.bound) (spelled os)) (drop_read all i o c.at.ensures) c.loop-index.invariant.bound in
+    let done = turn-done c.args.self.now c.loop-index.self (take i all) o (drop (i + 1) all) c.loop-index.invariant.done next c.apply_spelled.new.self c.in_ok-apply_spelled.ensures.ok in
     record {
-      items = append_assoc c.loop-op.yielded (c.in-Some.op ∷ []) (into_iter_items c.next.new.self) ∙ (ap (λ (os : List Op). c.loop-op.yielded ++ os) (sym c.in-Some.ensures.steps.0) ∙ c.loop-op.invariant.items);
-      done = turn-done c.args.self.now c.loop-op.self c.loop-op.yielded c.in-Some.op (into_iter_items c.next.new.self) c.loop-op.invariant.done next c.apply_spelled.new.self c.in_ok-apply_spelled.ensures.ok;
-      bound = turn-bound_after c.args.self.now c.loop-op.self c.loop-op.yielded c.in-Some.op (into_iter_items c.next.new.self) c.loop-op.invariant.done next c.apply_spelled.new.self c.in_ok-apply_spelled.ensures.ok;
+      done = done ∙ ap (λ (os : List Op). acts c.args.self.now (spelled os)) (sym (take_read all i o c.at.ensures));
+      bound = turn-bound_after c.args.self.now c.loop-index.self (take i all) o (drop (i + 1) all) c.loop-index.invariant.done next c.apply_spelled.new.self c.in_ok-apply_spelled.ensures.ok;
     }
 
 pub returns-clause-ok : goal.returns-clause-ok
 returns-clause-ok c =
-    let items = c.into_vec-op-items.result.items in
-    let gives = c.into_iter-op-iterator.ensures.into_iter_gives in
-    let all = into_iter_items c.into_iter-op-iterator.result in
-    let len : into_iter_len c.into_iter-op-iterator.result ≡ length all = gives.1 ∙ (c.into_vec-op-items.result.ok.0 ∙ ap length (sym gives.0)) in
-    let end' = YieldsList-end (YieldsList-from_vec {s = c.into_iter-op-iterator.result} all refl len) c.loop-op.yielded c.loop-op.op-iterator c.loop-op.yielded_by c.next.result c.next.new.self c.in-None.is c.next.ensures.steps in
-    let none : into_iter_items c.loop-op.op-iterator ≡ [] =
-    nil_from_length _ (omega (arith, end'.1, ap length c.loop-op.invariant.items, length-append c.loop-op.yielded (into_iter_items c.loop-op.op-iterator))) in
-    let whole : c.loop-op.yielded ≡ items =
-    sym (append-nil c.loop-op.yielded) ∙ (ap (λ (os : List Op). c.loop-op.yielded ++ os) (sym none) ∙ (c.loop-op.invariant.items ∙ gives.0)) in
-    c.loop-op.invariant.done ∙ (ap (λ (os : List Op). acts c.args.self.now (spelled os)) whole ∙ ap (λ (os : List Op). acts c.args.self.now os) c.into_vec-op-items.ensures)
+    let all = c.read-list.result in
+    let whole = take_all c.loop-index.index all (omega (arith, c.len-count.ensures)) in
+    c.loop-index.invariant.done ∙ (ap (λ (os : List Op). acts c.args.self.now (spelled os)) whole ∙ ap (λ (os : List Op). acts c.args.self.now os) c.read-list.ensures)

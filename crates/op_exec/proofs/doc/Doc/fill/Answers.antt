@@ -24,8 +24,8 @@ returns-clause-ok c =
     let old : Doc = c.args.self.now in
     let mid : Doc = c.fill_with-filled.new.self in
     let r = c.fill_with-filled.result in
-    let made : Nodes = filled old.tree c.args.target c.args.form c.args.ops in
-    let is : filled c.self.inside.tree c.args.target c.args.form c.args.ops ≡ made = ap (λ (d : Doc). filled d.tree c.args.target c.args.form c.args.ops) c.self.view_is in
+    let made : Nodes = filled old.tree c.args.target c.args.form c.args.ops.now in
+    let is : filled c.self.inside.tree c.args.target c.args.form c.args.ops.now ≡ made = ap (λ (d : Doc). filled d.tree c.args.target c.args.form c.args.ops.now) c.self.view_is in
     filled-again r old mid c.self-2.inside.tree made c.replace-bound.result (c.replace-bound.ensures.value ∙ ap (λ (d : Doc). d.bound) c.self.view_is) (ap (λ (d : Doc). d.tree) c.self-2.view_is)
     (subst (λ (u : Nodes). OnOk r (mid.tree ≡ u)) is c.fill_with-filled.ensures.ok)
 

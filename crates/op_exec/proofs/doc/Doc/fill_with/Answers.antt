@@ -10,7 +10,7 @@ exchange-requires-clause-here c =
 
 pub returns-clause-ok : goal.returns-clause-ok
 returns-clause-ok c =
-    filled-done c.exchange.result c.args.self.now c.make_fragment.new.self c.exchange.new.self c.args.target c.args.form c.args.ops c.in_ok-make_fragment.ensures.ok c.exchange.ensures.ok
+    filled-done c.exchange.result c.args.self.now c.make_fragment.new.self c.exchange.new.self c.args.target c.args.form c.args.ops.now c.in_ok-make_fragment.ensures.ok c.exchange.ensures.ok
 
 pub returns-clause-stays : goal.returns-clause-stays
 returns-clause-stays c =

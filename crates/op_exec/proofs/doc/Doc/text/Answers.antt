@@ -1,4 +1,5 @@
 use Rattle.std.proofs.Common.{◌≡◌, ℕ, [], ◌∷◌, map, Option, sym, ap, subst, ◌∙◌}
+use Rattle.std.specs.Str.{chars}
 use Rattle.html_types.specs.Numbers.{place_of}
 use Rattle.html_types.specs.declared.operation.Op.TheVariants as op
 use Rattle.standard.specs.Tree.{Nodes, IsTree, children_of, text_added}
@@ -11,8 +12,8 @@ use Rattle.op_exec.proofs.doc.Doc.text.Goals as goal
 pub invariant_of-self-2 : goal.invariant_of-self-2
 invariant_of-self-2 c =
     let spot : Spot = record { parent = c.spot-spot.result.parent; before = c.spot-spot.result.before } in
-    IsDoc-done c.add_text.result c.self.inside.tree c.add_text.new.self (text_at c.self.inside.tree c.args.text spot) c.self.inside.bound c.self.invariant
-    c.add_text.ensures.keeps c.add_text.ensures.ok c.add_text.ensures.err (Alike-text_at c.self.inside.tree c.args.text spot)
+    IsDoc-done c.add_text.result c.self.inside.tree c.add_text.new.self (text_at c.self.inside.tree (chars c.args.text.now) spot) c.self.inside.bound c.self.invariant
+    c.add_text.ensures.keeps c.add_text.ensures.ok c.add_text.ensures.err (Alike-text_at c.self.inside.tree (chars c.args.text.now) spot)
 
 pub returns-clause-ok : goal.returns-clause-ok
 returns-clause-ok c =
@@ -20,7 +21,7 @@ returns-clause-ok c =
     let bound = c.self.inside.bound in
     let d : Doc = record { tree = t; bound = bound } in
     let place = c.args.place in
-    let text = c.args.text in
+    let text = chars c.args.text.now in
     let spot = c.spot-spot.result in
     let tree : IsTree t = subst (λ (x : Doc). IsTree x.tree) (sym c.self.view_is) c.spot-spot.ensures.tree in
     let there : IsPlaceBound (is_bound bound) place = subst (λ (x : Doc). IsPlaceBound (is_bound x.bound) place) (sym c.self.view_is) c.requires in

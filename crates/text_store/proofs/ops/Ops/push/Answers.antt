@@ -1,0 +1,31 @@
+use Rattle.std.proofs.Common.{◌++◌, List, refl, ap, ◌∙◌}
+use Rattle.html_types.specs.declared.operation.Op.{Op}
+use Rattle.html_types.specs.Operations.{spelled_one}
+use Rattle.text_store.proofs.RecordLemmas.{still_held, still_spelled, pushed_held, pushed_spelled, on_err_held}
+use Rattle.text_store.proofs.ops.Ops.push.Goals as goal
+
+pub invariant_of-self : goal.invariant_of-self
+invariant_of-self c = still_held c.self.inside.store c.push_op.new.self c.push_op.ensures.kept c.self.inside.records.items c.self.inside.records.items c.self.invariant refl
+
+pub returns-in_err-record-clause-err : goal.returns-in_err-record-clause-err
+returns-in_err-record-clause-err c =
+    on_err_held c.from_residual.result (still_spelled c.self.inside.store c.push_op.new.self c.push_op.ensures.kept c.self.inside.records.items c.self.inside.records.items c.self.invariant refl ∙ c.self.view_is)
+
+pub invariant_of-self-in_err-push : goal.invariant_of-self-in_err-push
+invariant_of-self-in_err-push c =
+    still_held c.self.inside.store c.push_op.new.self c.push_op.ensures.kept c.self.inside.records.items c.push.new.self.items c.self.invariant c.in_err-push.ensures.items
+
+pub returns-in_err-push-clause-err : goal.returns-in_err-push-clause-err
+returns-in_err-push-clause-err c =
+    on_err_held c.from_residual-in_err-push.result (still_spelled c.self.inside.store c.push_op.new.self c.push_op.ensures.kept c.self.inside.records.items c.push.new.self.items c.self.invariant c.in_err-push.ensures.items ∙ c.self.view_is)
+
+pub invariant_of-self-2 : goal.invariant_of-self-2
+invariant_of-self-2 c =
+    pushed_held c.self.inside.store c.push_op.new.self c.push_op.ensures.kept c.self.inside.records.items c.push.new.self.items c.self.invariant c.in_ok-record.record c.args.op
+    c.in_ok-record.ensures.ok c.in_ok-push.ensures.items
+
+pub returns-clause-ok : goal.returns-clause-ok
+returns-clause-ok c =
+    pushed_spelled c.self.inside.store c.push_op.new.self c.push_op.ensures.kept c.self.inside.records.items c.push.new.self.items c.self.invariant c.in_ok-record.record c.args.op
+    c.in_ok-record.ensures.ok c.in_ok-push.ensures.items
+    ∙ ap (λ (l : List Op). l ++ spelled_one c.args.op) c.self.view_is
