@@ -45,12 +45,7 @@ fn on_if(so: bool) -> AtOnce
 }
 
 /// Inserts an element for the token's tag at the appropriate place, where one more may be open.
-fn insert_one(
-    alloc: Global,
-    state: &mut Open,
-    token: &Token,
-    ops: &mut Ops,
-) -> Result<AtOnce, NoMemory>
+fn insert_one(state: &mut Open, token: &Token, ops: &mut Ops) -> Result<AtOnce, NoMemory>
     requires { length state.old.stack ≤ 512 }
     ensures done { IfOk result (λ q. q ≢ AtOnce.Not → config state.new ops.new (flow_behind q) ≡ step ins.Insert token.now state.old ops.old) }
     ensures kept { IfOk result (λ q. q ≡ AtOnce.Not → state.new ≡ state.old) }
@@ -63,7 +58,7 @@ fn insert_one(
                 return Ok(AtOnce::Not);
             }
             let place = place_now(state);
-            push_made(alloc, state, place, tag, ops)?;
+            push_made(state, place, tag, ops)?;
             Ok(AtOnce::On)
         }
         _ => Ok(AtOnce::Not),
@@ -89,7 +84,7 @@ fn do_at_once(
         Instr::Unless(test) => return Ok(skip_unless(!test_holds(state, test, token))),
         Instr::Need(test) => return Ok(on_if(test_holds(state, test, token))),
         Instr::Reconstruct => return Ok(on_if(none_lost(&state.formats, &state.stack))),
-        Instr::Insert => return insert_one(alloc, state, token, ops),
+        Instr::Insert => return insert_one(state, token, ops),
         Instr::Reprocess => return Ok(AtOnce::Reprocess),
         Instr::InsertComment => insert_note(alloc, state, place_now(state), token, ops)?,
         Instr::PushFormatting => list_current(alloc, state, token, ops)?,

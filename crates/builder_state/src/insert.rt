@@ -60,7 +60,6 @@ fn make(state: &mut Open, place: Place, tag: &Tag, ops: &mut Ops) -> Result<Node
 /// Inserts an element for a tag at a place, and pushes it.
 #[inline(never)]
 fn insert_element(
-    alloc: Global,
     state: &mut Open,
     place: Place,
     tag: &Tag,
@@ -73,19 +72,13 @@ fn insert_element(
     if state.stack.len() >= LIMIT {
         return Ok(Flow::Leave(Next::Deep));
     }
-    push_made(alloc, state, place, tag, ops)?;
+    push_made(state, place, tag, ops)?;
     Ok(Flow::On)
 }
 
 /// Makes an element for a tag at a place, and pushes it.
 #[inline(always)]
-pub fn push_made(
-    alloc: Global,
-    state: &mut Open,
-    place: Place,
-    tag: &Tag,
-    ops: &mut Ops,
-) -> Result<(), NoMemory>
+pub fn push_made(state: &mut Open, place: Place, tag: &Tag, ops: &mut Ops) -> Result<(), NoMemory>
     requires { length state.old.stack < 512 }
     ensures state { IfOk result (λ _. state.new ≡ pushed tag.now state.old) }
     ensures ops { IfOk result (λ _. ops.new ≡ made place tag.now state.old ops.old) }
@@ -97,12 +90,7 @@ pub fn push_made(
 }
 
 /// Inserts an element for the token's tag at the appropriate place.
-pub fn insert_for(
-    alloc: Global,
-    state: &mut Open,
-    token: &Token,
-    ops: &mut Ops,
-) -> Result<Flow, NoMemory>
+pub fn insert_for(state: &mut Open, token: &Token, ops: &mut Ops) -> Result<Flow, NoMemory>
     requires { length state.old.stack ≤ 512 }
     ensures done { IfOk result (λ flow. config state.new ops.new flow ≡ for_tag insert token.now state.old ops.old) }
     ensures bounded { length state.new.stack ≤ 512 }
@@ -110,26 +98,21 @@ pub fn insert_for(
     match token {
         Token::StartTag(tag) | Token::EndTag(tag) => {
             let place = place_now(state);
-            insert_element(alloc, state, place, tag, ops)
+            insert_element(state, place, tag, ops)
         }
         _ => Ok(Flow::On),
     }
 }
 
 /// Inserts an element for the token's tag into the Document.
-pub fn insert_root_for(
-    alloc: Global,
-    state: &mut Open,
-    token: &Token,
-    ops: &mut Ops,
-) -> Result<Flow, NoMemory>
+pub fn insert_root_for(state: &mut Open, token: &Token, ops: &mut Ops) -> Result<Flow, NoMemory>
     requires { length state.old.stack ≤ 512 }
     ensures done { IfOk result (λ flow. config state.new ops.new flow ≡ for_tag insert_root token.now state.old ops.old) }
     ensures bounded { length state.new.stack ≤ 512 }
 {
     match token {
         Token::StartTag(tag) | Token::EndTag(tag) => {
-            insert_element(alloc, state, Place::Page, tag, ops)
+            insert_element(state, Place::Page, tag, ops)
         }
         _ => Ok(Flow::On),
     }
@@ -158,7 +141,7 @@ pub fn insert_bare(
     ensures bounded { length state.new.stack ≤ 512 }
 {
     let place = place_now(state);
-    insert_element(alloc, state, place, &bare_tag(alloc, word), ops)
+    insert_element(state, place, &bare_tag(alloc, word), ops)
 }
 
 /// Inserts an html element into the Document.
@@ -167,16 +150,11 @@ pub fn insert_bare_root(alloc: Global, state: &mut Open, ops: &mut Ops) -> Resul
     ensures done { IfOk result (λ flow. config state.new ops.new flow ≡ insert_root (tag_of word.Html) state.old ops.old) }
     ensures bounded { length state.new.stack ≤ 512 }
 {
-    insert_element(alloc, state, Place::Page, &bare_tag(alloc, Word::Html), ops)
+    insert_element(state, Place::Page, &bare_tag(alloc, Word::Html), ops)
 }
 
 /// Inserts an element for a tag at the appropriate place, and doesn't leave it on the stack.
-fn insert_closed(
-    alloc: Global,
-    state: &mut Open,
-    tag: &Tag,
-    ops: &mut Ops,
-) -> Result<Flow, NoMemory>
+fn insert_closed(state: &mut Open, tag: &Tag, ops: &mut Ops) -> Result<Flow, NoMemory>
     ensures done { IfOk result (λ flow. config state.new ops.new flow ≡ void tag.now state.old ops.old) }
     ensures stack { state.new.stack ≡ state.old.stack }
 {
@@ -189,17 +167,12 @@ fn insert_closed(
 }
 
 /// Inserts an element for the token's tag, and doesn't leave it on the stack.
-pub fn insert_void(
-    alloc: Global,
-    state: &mut Open,
-    token: &Token,
-    ops: &mut Ops,
-) -> Result<Flow, NoMemory>
+pub fn insert_void(state: &mut Open, token: &Token, ops: &mut Ops) -> Result<Flow, NoMemory>
     ensures done { IfOk result (λ flow. config state.new ops.new flow ≡ for_tag void token.now state.old ops.old) }
     ensures stack { state.new.stack ≡ state.old.stack }
 {
     match token {
-        Token::StartTag(tag) | Token::EndTag(tag) => insert_closed(alloc, state, tag, ops),
+        Token::StartTag(tag) | Token::EndTag(tag) => insert_closed(state, tag, ops),
         _ => Ok(Flow::On),
     }
 }
@@ -214,7 +187,7 @@ pub fn insert_bare_void(
     ensures done { IfOk result (λ flow. config state.new ops.new flow ≡ void (tag_of word) state.old ops.old) }
     ensures stack { state.new.stack ≡ state.old.stack }
 {
-    insert_closed(alloc, state, &bare_tag(alloc, word), ops)
+    insert_closed(state, &bare_tag(alloc, word), ops)
 }
 
 /// The tag under another name.
@@ -243,7 +216,7 @@ pub fn insert_void_as(
     match token {
         Token::StartTag(tag) | Token::EndTag(tag) => {
             let tag = renamed(alloc, tag, word)?;
-            insert_closed(alloc, state, &tag, ops)
+            insert_closed(state, &tag, ops)
         }
         _ => Ok(Flow::On),
     }
@@ -265,7 +238,7 @@ pub fn insert_in(
         Token::StartTag(tag) | Token::EndTag(tag) => {
             let tag = tag_in(alloc, space, tag)?;
             let place = place_now(state);
-            insert_element(alloc, state, place, &tag, ops)
+            insert_element(state, place, &tag, ops)
         }
         _ => Ok(Flow::On),
     }
@@ -296,14 +269,14 @@ pub fn insert_foreign(
         Token::StartTag(tag) | Token::EndTag(tag) => {
             let tag = foreign_tag(alloc, adjusted_space(state), tag)?;
             let place = place_now(state);
-            insert_element(alloc, state, place, &tag, ops)
+            insert_element(state, place, &tag, ops)
         }
         _ => Ok(Flow::On),
     }
 }
 
 /// Opens an entry of the list again that was lost from the stack.
-fn reopen_entry(alloc: Global, state: &mut Open, tag: Tag, ops: &mut Ops) -> Result<Flow, NoMemory>
+fn reopen_entry(state: &mut Open, tag: Tag, ops: &mut Ops) -> Result<Flow, NoMemory>
     requires { length state.old.stack ≤ 512 }
     ensures done { IfOk result (λ flow. config state.new ops.new flow ≡ reopen tag state.old ops.old) }
     ensures bounded { length state.new.stack ≤ 512 }
@@ -327,7 +300,7 @@ pub fn reopen_lost(alloc: Global, state: &mut Open, ops: &mut Ops) -> Result<Flo
 {
     let mut tags = take_lost(alloc, &mut state.formats, &state.stack)?;
     while let Some(tag) = tags.pop() {
-        match reopen_entry(alloc, state, tag, ops)? {
+        match reopen_entry(state, tag, ops)? {
             Flow::On => {}
             left => return Ok(left),
         }

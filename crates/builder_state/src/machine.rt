@@ -272,11 +272,11 @@ fn exec(
         Instr::Need(_) | Instr::Forbid(_) | Instr::When(_) | Instr::Unless(_) => {
             Ok(guard(state, instr, token, ops))
         }
-        Instr::Insert => insert_for(alloc, state, token, ops),
+        Instr::Insert => insert_for(state, token, ops),
         Instr::InsertA(word) => insert_bare(alloc, state, word, ops),
-        Instr::InsertRoot => insert_root_for(alloc, state, token, ops),
+        Instr::InsertRoot => insert_root_for(state, token, ops),
         Instr::InsertRootA => insert_bare_root(alloc, state, ops),
-        Instr::InsertAndPop => insert_void(alloc, state, token, ops),
+        Instr::InsertAndPop => insert_void(state, token, ops),
         Instr::InsertAndPopA(word) => insert_bare_void(alloc, state, word, ops),
         Instr::InsertAndPopAs(word) => insert_void_as(alloc, state, word, token, ops),
         Instr::InsertForeign => insert_foreign(alloc, state, token, ops),

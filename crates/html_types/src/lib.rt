@@ -39,7 +39,7 @@ pub use name_text::NameText;
 pub use open::{
     ActiveFormatting, Context, Elements, FormattingEntry, Modes, Open, OpenElement, Stack,
 };
-pub use operation::{NodeId, Op, Ops, Place};
+pub use operation::{NodeId, Op, Place};
 pub use reference_state::{ReferenceState, ReturnState};
 pub use state::{RawText, TagState, TextState, TokState, eq_state};
 pub use text::{Text, char_at};

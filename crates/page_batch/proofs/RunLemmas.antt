@@ -1,6 +1,6 @@
 -- A window: its pages are read, run and written.
 use Rattle.std.proofs.Common.{◌≡◌, ◌≤◌, ◌<◌, ℕ, List, [], ◌∷◌, ◌++◌, length, take, drop, take-append-drop, Option, sym, ap, subst, ◌∙◌, arith}
-use Rattle.std.specs.Prelude.{Result, Ok, Err, IfOk, OnOk, OnErr}
+use Rattle.std.specs.Prelude.{Result, Ok, Err, IfOk}
 use Rattle.std.specs.List.{AllByRecursion}
 use Rattle.standard.specs.Entities.{Entities}
 use Rattle.outside.specs.Outside.{Begun, Seen, KeepsOthers}
@@ -156,19 +156,3 @@ window-fits (Err e) m n fits count = tt
 pub window-some : {X : Type 0} (r : Result ℕ X) (m n : ℕ) → (0 < n → 0 < m) → IfOk r (λ k. k ≡ m) → IfOk r (λ k. 0 < n → 0 < k)
 window-some (Ok k) m n some count = λ filled. subst (λ i. 0 < i) (sym count) (some filled)
 window-some (Err e) m n some count = tt
-
-module _ {X : Type 0} (r : Result ℕ X) (es : Entities) (dir : List ℕ) (paths : List (List ℕ)) (olds : List Slotted) (before now after : Seen) (t0 t1 : Met) (u v : Option (List ℕ)) (read : ReadsFront paths (files_in olds) before now) (fresh : AllByRecursion IsNew olds) where
-  pub window-all : IfOk r (λ k. k ≡ length olds) → OnOk r ((first : Seen) → ReadsFront paths (files_in olds) first now → AllByRecursion IsNew olds → RunsWindow es dir (take (length olds) paths) first after t0 t1 u v) → IfOk r (λ k. RunsWindow es dir (take k paths) before after t0 t1 u v)
-  window-all count ran = by r count ran
-    where
-      by : (s : Result ℕ X) → IfOk s (λ k. k ≡ length olds) → OnOk s ((first : Seen) → ReadsFront paths (files_in olds) first now → AllByRecursion IsNew olds → RunsWindow es dir (take (length olds) paths) first after t0 t1 u v)
-          → IfOk s (λ k. RunsWindow es dir (take k paths) before after t0 t1 u v)
-      by (Ok k) is all = subst (λ i. RunsWindow es dir (take i paths) before after t0 t1 u v) (sym is) (all before read fresh)
-      by (Err e) is all = tt
-
-  pub window-cut : OnErr r ((first : Seen) → ReadsFront paths (files_in olds) first now → AllByRecursion IsNew olds → StopsInWindow es dir paths first after t0 t1 u v) → OnErr r (StopsInWindow es dir paths before after t0 t1 u v)
-  window-cut stops = by r stops
-    where
-      by : (s : Result ℕ X) → OnErr s ((first : Seen) → ReadsFront paths (files_in olds) first now → AllByRecursion IsNew olds → StopsInWindow es dir paths first after t0 t1 u v) → OnErr s (StopsInWindow es dir paths before after t0 t1 u v)
-      by (Ok k) all = tt
-      by (Err e) all = all before read fresh

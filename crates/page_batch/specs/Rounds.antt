@@ -1,7 +1,7 @@
 -- Rounds: pages go on side by side, and scripts are fetched between.
-use Rattle.std.specs.Prelude.{◌≡◌, ◌+◌, ℕ, List, [], ◌∷◌, Some, None}
+use Rattle.std.specs.Prelude.{◌≡◌, ◌+◌, ℕ, List, [], ◌∷◌, Some, None, Result, OnOk, OnErr}
 use Rattle.std.specs.List.{AllByRecursion}
-use Rattle.outside.specs.Outside.{Seen}
+use Rattle.outside.specs.Outside.{Seen, KeepsOthers}
 use Rattle.outside.specs.declared.traits.Port.TheVariants.{Script}
 use Rattle.serial.specs.Scripts.{Fetched, got, missing, faulted}
 use Rattle.page_turns.specs.Scripts.{Met, folder_with, Fetches, AreKnown}
@@ -53,3 +53,10 @@ pub record FetchesMore (unmet : List (List ℕ)) (dir : List ℕ) (before after 
 -- memory ran out perhaps
 abbrev pub FetchesOrSpends : List ℕ → Seen → Seen → Met → Met → Type 0
 FetchesOrSpends dir before after old new = (unmet : List (List ℕ)) × FetchesMore unmet dir before after old new
+
+-- What a call leaves that fetches scripts: each was fetched, or memory ran out; nothing else was
+-- done.
+pub record LeavesFetched {X Y : Type 0} (result : Result X Y) (dir : List ℕ) (before after : Seen) (old new : Met) : Type 0 where
+  pub fetched : OnOk result (FetchesMore [] dir before after old new)
+  pub spent : OnErr result (FetchesOrSpends dir before after old new)
+  pub others : KeepsOthers Script before after

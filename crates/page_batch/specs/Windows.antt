@@ -1,10 +1,12 @@
 -- Windows of a list: the pages of each are read, run and written before the next.
-use Rattle.std.specs.Prelude.{◌≡◌, ◌≤◌, ◌<◌, ℕ, List, [], ◌∷◌, ◌++◌, length, map, take, Option, Some}
+use Rattle.std.specs.Prelude.{◌≡◌, ◌≤◌, ◌<◌, ℕ, List, [], ◌∷◌, ◌++◌, length, map, take, Option, Some, Result, IfOk, OnErr, IsErrOf}
 use Rattle.std.specs.List.{AllByRecursion}
-use Rattle.outside.specs.Outside.{Begun, Seen, KeepsOthers}
+use Rattle.outside.specs.Outside.{Begun, Seen, KeepsOthers, Rose}
 use Rattle.outside.specs.declared.traits.Port.TheVariants.{Page}
 use Rattle.standard.specs.Entities.{Entities}
 use Rattle.page_turns.specs.declared.page.TheConstants.{PAGE_LIMIT}
+use Rattle.page_turns.specs.declared.page.Failure.{Failure}
+use Rattle.page_turns.specs.declared.page.Failure.TheVariants.{Write}
 use Rattle.page_turns.specs.Calls.{EachWithin}
 use Rattle.page_turns.specs.Given.{Given, KeepsEntities}
 use Rattle.page_turns.specs.Pages.{PageRead}
@@ -101,3 +103,13 @@ pub record StopsInWindow (es : Entities) (dir : List ℕ) (paths : List (List �
   pub parts : List Part
   pub settled : AreSettled es table' settled_pages parts
   pub took : TookFront taken taken' (texts_of front parts)
+
+-- Of a window so many pages were run and their parts written, or it was left in its midst.
+pub record EndsWindow {X : Type 0} (result : Result ℕ X) (es : Entities) (dir : List ℕ) (paths : List (List ℕ)) (before after : Seen) (table table' : Met) (taken taken' : Option (List ℕ)) : Type 0 where
+  pub ran : IfOk result (λ n. RunsWindow es dir (take n paths) before after table table' taken taken')
+  pub stopped : OnErr result (StopsInWindow es dir paths before after table table' taken taken')
+
+-- A failure to write is one that the sink counted, and its count never falls.
+pub record CountsFaults {X : Type 0} (result : Result X Failure) (old new : ℕ) : Type 0 where
+  pub write : IsErrOf result Write → Rose old new
+  pub never_less : old ≤ new

@@ -1,10 +1,10 @@
 // What a batch writes.
-ghost use Rattle.std.specs.Prelude.{◌≡◌, ◌++◌, ◌≤◌, IfOk, OnOk, OnErr, IsErrOf, flat_map};
+ghost use Rattle.std.specs.Prelude.{◌≡◌, ◌++◌, IfOk, OnOk, OnErr, flat_map};
 ghost use Rattle.serial.specs.Output.{line_text};
-ghost use Rattle.outside.specs.Outside.{Rose};
 ghost use Rattle.page_turns.specs.Taken.{Took, TookFront};
 ghost use Rattle.parse_machine.specs.Ends.{result_of};
 ghost use Rattle.page_batch.specs.Parts.{end_number, page_line, status_line};
+ghost use Rattle.page_batch.specs.Windows.{CountsFaults};
 
 use html_types::{NoMemory, Why};
 use outside::Sink;
@@ -63,8 +63,7 @@ pub(crate) fn write_part<K: Sink>(
         (page_line path.now ++ text.now ++ status_line number)) }
     ensures front { OnErr result (TookFront (K.taken out.old) (K.taken out.new)
         (page_line path.now ++ text.now ++ status_line number)) }
-    ensures write { IsErrOf result Failure.Write → Rose (K.faults out.old) (K.faults out.new) }
-    ensures faults { K.faults out.old ≤ K.faults out.new }
+    ensures faults { CountsFaults result (K.faults out.old) (K.faults out.new) }
 {
     let head = page_line(alloc, path)?;
     let foot = status_line(alloc, number)?;

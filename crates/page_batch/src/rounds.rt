@@ -1,17 +1,16 @@
 // The pages of a window go on in rounds, side by side; between these the scripts that they await
 // are fetched.
-ghost use Rattle.std.specs.Prelude.{◌≡◌, [], IfOk, OnOk, OnErr, None, false};
+ghost use Rattle.std.specs.Prelude.{◌≡◌, IfOk, OnOk, None, false};
 ghost use Rattle.std.specs.Bool.{OnFalse};
-ghost use Rattle.outside.specs.Outside.{KeepsOthers};
 ghost use Rattle.page_batch.specs.Slots.{GoesOn};
-ghost use Rattle.page_batch.specs.Rounds.{GoOnEach, RunsAll, NoneAwaits, FetchesMore, FetchesOrSpends};
+ghost use Rattle.page_batch.specs.Rounds.{GoOnEach, RunsAll, NoneAwaits, LeavesFetched};
 
 use crate::slot::Slot;
 use crate::table::ScriptTable;
 use core_steps::is_lawful;
 use entity_table::Table;
 use html_types::{NoMemory, Text};
-use outside::{Outside, Port};
+use outside::Outside;
 use page_turns::fetch_script;
 use rayon::prelude::*;
 use speculation::InForce;
@@ -47,11 +46,8 @@ fn fetch_new<F: Outside>(
     table: &mut ScriptTable,
     name: &Text,
 ) -> Result<(), NoMemory>
-    ensures fetched { OnOk result (FetchesMore [] dir.now (F.seen files.old)
-        (F.seen files.new) table.old table.new) }
-    ensures spent { OnErr result (FetchesOrSpends dir.now (F.seen files.old)
-        (F.seen files.new) table.old table.new) }
-    ensures others { KeepsOthers Port.Script (F.seen files.old) (F.seen files.new) }
+    ensures { LeavesFetched result dir.now (F.seen files.old) (F.seen files.new)
+        table.old table.new }
 {
     if table.find(name.as_str()).is_some() {
         return Ok(());
@@ -74,12 +70,9 @@ fn fetch_for<E: InForce, F: Outside>(
     slot: &Slot<E>,
     waits: bool,
 ) -> Result<bool, NoMemory>
-    ensures fetched { OnOk result (FetchesMore [] dir.now (F.seen files.old)
-        (F.seen files.new) table.old table.new) }
-    ensures spent { OnErr result (FetchesOrSpends dir.now (F.seen files.old)
-        (F.seen files.new) table.old table.new) }
+    ensures fetches { LeavesFetched result dir.now (F.seen files.old) (F.seen files.new)
+        table.old table.new }
     ensures none { IfOk result (λ one. OnFalse one ((waits ≡ false) × (slot.now.awaits ≡ None))) }
-    ensures others { KeepsOthers Port.Script (F.seen files.old) (F.seen files.new) }
 {
     let Some(name) = slot.awaited() else {
         return Ok(waits);
@@ -96,12 +89,9 @@ fn fetch_awaited<E: InForce, F: Outside>(
     table: &mut ScriptTable,
     slots: &[Slot<E>],
 ) -> Result<bool, NoMemory>
-    ensures fetched { OnOk result (FetchesMore [] dir.now (F.seen files.old)
-        (F.seen files.new) table.old table.new) }
-    ensures spent { OnErr result (FetchesOrSpends dir.now (F.seen files.old)
-        (F.seen files.new) table.old table.new) }
+    ensures fetches { LeavesFetched result dir.now (F.seen files.old) (F.seen files.new)
+        table.old table.new }
     ensures none { IfOk result (λ waits. OnFalse waits (NoneAwaits slots.now)) }
-    ensures others { KeepsOthers Port.Script (F.seen files.old) (F.seen files.new) }
 {
     let mut waits = false;
     for slot in slots {
@@ -124,11 +114,8 @@ pub(crate) fn run_rounds<R: Threads + Sync, E: InForce + Send, F: Outside>(
     requires { entities.now ≡ E.entities }
     ensures ran { OnOk result (RunsAll table.old table.new slots.old slots.new) }
     ensures none { OnOk result (NoneAwaits slots.new) }
-    ensures fetched { OnOk result (FetchesMore [] dir.now (F.seen files.old)
-        (F.seen files.new) table.old table.new) }
-    ensures spent { OnErr result (FetchesOrSpends dir.now (F.seen files.old)
-        (F.seen files.new) table.old table.new) }
-    ensures others { KeepsOthers Port.Script (F.seen files.old) (F.seen files.new) }
+    ensures fetches { LeavesFetched result dir.now (F.seen files.old) (F.seen files.new)
+        table.old table.new }
 {
     // Each round but the last has a page's script arrive, so there are never so many.
     for _ in 0..u64::MAX {

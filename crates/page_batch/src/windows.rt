@@ -1,10 +1,10 @@
 // A list is run window by window, so that memory doesn't grow with the list.
-ghost use Rattle.std.specs.Prelude.{◌≡◌, ◌<◌, ◌≤◌, [], map, take, length, IfOk, OnOk, OnErr, IsErrOf, IsTrue, false};
+ghost use Rattle.std.specs.Prelude.{◌≡◌, ◌<◌, ◌≤◌, [], map, length, IfOk, OnOk, OnErr, IsErrOf, IsTrue, false};
 ghost use Rattle.page_batch.specs.declared.windows.TheConstants.{MOST_BYTES};
 ghost use Rattle.std.specs.List.{AllByRecursion};
 ghost use Rattle.std.specs.String.{string_bytes};
 ghost use Rattle.outside.specs.Outside.{Rose};
-ghost use Rattle.page_batch.specs.Windows.{files_in, IsNew, ReadsFront, ReadsInPart, WritesAll, WritesInPart, RunsWindow, StopsInWindow};
+ghost use Rattle.page_batch.specs.Windows.{files_in, IsNew, ReadsFront, ReadsInPart, WritesAll, WritesInPart, EndsWindow, CountsFaults};
 ghost use Rattle.page_batch.specs.Batches.{GivesAll, GivesInPart};
 
 use crate::going::let_go;
@@ -110,8 +110,7 @@ fn write_window<E: InForce, K: Sink>(
         (K.taken out.old) (K.taken out.new)) }
     ensures front { OnErr result (WritesInPart E.entities (map string_bytes paths.now) slots.now
         (K.taken out.old) (K.taken out.new)) }
-    ensures write { IsErrOf result Failure.Write → Rose (K.faults out.old) (K.faults out.new) }
-    ensures faults { K.faults out.old ≤ K.faults out.new }
+    ensures faults { CountsFaults result (K.faults out.old) (K.faults out.new) }
 {
     for at in 0..slots.len() {
         let Some(part) = slots[at].part() else {
@@ -143,19 +142,13 @@ fn run_slots<R: Threads + Sync, E: InForce + Send, F: Outside, K: Sink>(
     requires entities { entities.now ≡ E.entities }
     requires fits { length slots.old ≤ length paths.now }
     ensures count { IfOk result (λ n. n ≡ length slots.old) }
-    ensures ran { OnOk result ((before : _)
+    ensures ends { (before : _)
         → ReadsFront (map string_bytes paths.now) (files_in slots.old) before (F.seen files.old)
         → AllByRecursion IsNew slots.old
-        → RunsWindow E.entities dir.now (take (length slots.old) (map string_bytes paths.now))
+        → EndsWindow result E.entities dir.now (map string_bytes paths.now)
         before (F.seen files.new)
-        table.old table.new (K.taken out.old) (K.taken out.new)) }
-    ensures stopped { OnErr result ((before : _)
-        → ReadsFront (map string_bytes paths.now) (files_in slots.old) before (F.seen files.old)
-        → AllByRecursion IsNew slots.old
-        → StopsInWindow E.entities dir.now (map string_bytes paths.now) before (F.seen files.new)
-        table.old table.new (K.taken out.old) (K.taken out.new)) }
-    ensures write { IsErrOf result Failure.Write → Rose (K.faults out.old) (K.faults out.new) }
-    ensures faults { K.faults out.old ≤ K.faults out.new }
+        table.old table.new (K.taken out.old) (K.taken out.new) }
+    ensures faults { CountsFaults result (K.faults out.old) (K.faults out.new) }
 {
     let count = slots.len();
     run_rounds(rt, alloc, entities, dir, files, table, slots)?;
@@ -177,15 +170,10 @@ fn run_window<R: Threads + Sync, E: InForce + Send, F: Outside, K: Sink>(
     requires { entities.now ≡ E.entities }
     ensures fits { IfOk result (λ n. n ≤ length paths.now) }
     ensures some { IfOk result (λ n. 0 < length paths.now → 0 < n) }
-    ensures ran { IfOk result (λ n.
-        RunsWindow E.entities dir.now (take n (map string_bytes paths.now))
+    ensures ends { EndsWindow result E.entities dir.now (map string_bytes paths.now)
         (F.seen files.old) (F.seen files.new)
-        table.old table.new (K.taken out.old) (K.taken out.new)) }
-    ensures stopped { OnErr result (StopsInWindow E.entities dir.now (map string_bytes paths.now)
-        (F.seen files.old) (F.seen files.new)
-        table.old table.new (K.taken out.old) (K.taken out.new)) }
-    ensures write { IsErrOf result Failure.Write → Rose (K.faults out.old) (K.faults out.new) }
-    ensures faults { K.faults out.old ≤ K.faults out.new }
+        table.old table.new (K.taken out.old) (K.taken out.new) }
+    ensures faults { CountsFaults result (K.faults out.old) (K.faults out.new) }
 {
     let mut slots: Vec<Slot<E>> = read_window(alloc, files, paths)?;
     let ran = run_slots(

@@ -11,4 +11,5 @@ pub mod BatchRuns
 pub mod Causes
 pub mod MakingLemmas
 pub mod WatchingLemmas
+pub mod PublishingLemmas
 mod Crossing

@@ -9,4 +9,5 @@ pub mod OnTwo
 pub mod Manner
 pub mod Partings
 pub mod Watching
+pub mod Publishing
 pub mod Batches

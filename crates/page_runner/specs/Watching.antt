@@ -1,5 +1,5 @@
 -- The board of a run, its watchers, and what they saw.
-use Rattle.std.specs.Prelude.{◌≡◌, ◌≢◌, ◌≤◌, ◌+◌, ℕ, Bool, false, length, List, [], ◌∷◌, ◌++◌, map, drop, fold, Option, Some, None, All, IfSome, IsTrue}
+use Rattle.std.specs.Prelude.{◌≡◌, ◌≢◌, ℕ, Bool, false, length, List, [], ◌∷◌, ◌++◌, map, drop, fold, Option, Some, None, All, IfSome, IsTrue}
 use Rattle.atomic_table.specs.Seated.{TableId}
 use Rattle.outside.specs.Outside.{Seen as Outside}
 use Rattle.standard.specs.Act.{Doc, new_doc}
@@ -8,7 +8,7 @@ use Rattle.core_steps.specs.Sides.{Shown}
 use Rattle.tree_watch.specs.declared.shown.Stand.{Stand}
 use Rattle.tree_watch.specs.declared.shown.Note.TheVariants.{Did}
 use Rattle.tree_watch.specs.declared.watcher.Seen.{Seen}
-use Rattle.tree_watch.specs.Boards.{BoardView, WatcherView, Begins, begun}
+use Rattle.tree_watch.specs.Boards.{BoardView, begun}
 use Rattle.tree_watch.specs.Counting.{IsAfter}
 use Rattle.tree_watch.specs.Notes.{noted}
 use Rattle.tree_watch.specs.Rule.{Log, latest}
@@ -18,7 +18,6 @@ use Rattle.page_runner.specs.declared.status.Status.TheVariants as status
 use Rattle.page_runner.specs.declared.watchers.Post.{Post}
 use Rattle.page_runner.specs.declared.watchers.Post.TheVariants as post
 use Rattle.page_runner.specs.Answers.{is_answered}
-use Rattle.page_runner.specs.Partings.{AreOfBoard}
 
 -- ---- the watchers
 
@@ -30,16 +29,9 @@ table_at (post.Here w) = w.table
 abbrev pub AreAtPosts : TableId → List Post → Type 0
 AreAtPosts table posts = All (λ p. table_at p ≡ table) posts
 
--- The board was just made, with its watchers, and there is room for their posts.
-pub record IsGathered (board : BoardView) (watchers : List WatcherView) (posts : List Post) (many posted room : ℕ) : Type 0 where
-  pub begins : Begins board
-  pub of_board : AreOfBoard board.table watchers
-  pub none : posts ≡ []
-  pub fits : posted + many ≤ room
-
 -- ---- the board, while the page is parsed
 
--- the board, until the run is over, and how many watch
+-- the board, where there is one, until the run is over, and how many watch
 pub record Watched : Type 0 where
   pub board : Option BoardView
   pub count : ℕ

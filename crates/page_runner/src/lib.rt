@@ -8,6 +8,7 @@ mod in_place;
 mod making;
 mod nowhere;
 mod on_two;
+mod publisher;
 mod report;
 mod running;
 mod status;

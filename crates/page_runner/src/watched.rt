@@ -11,9 +11,9 @@ ghost use Rattle.page_runner.specs.Watching.{IsWatched, IsLeftAlone};
 
 use crate::eye::Eye;
 use crate::on_two::{page_on_two, run_on_two, without_memory};
+use crate::publisher::{Publisher, fit_out};
 use crate::report::Report;
-use crate::running::begin_page;
-use crate::watching::{Crew, Watching};
+use crate::running::{begin_page, let_go};
 use outside::{Gate, Outside, Sink};
 use page_turns::Job;
 use speculation::InForce;
@@ -22,11 +22,13 @@ use std::sync::{Arc, Wait};
 use std::thread::Threads;
 
 /// Runs the page as `page_on_two` does, while so many watch its tree grow, each in a thread of its
-/// own: after each Do that changed it the tree is published, and at the end, whatever came of the
-/// page, with the mark. Behind the tree or its dump it writes for each watcher the text of the tree
-/// as that saw it last. One for which no thread can be made, or that finds no place at the board,
-/// looks at the end, in the calling thread. One that ends without having seen the mark makes the
-/// outcome want of memory. The board is made before the page is begun.
+/// own. What each Do changed is handed over to a publisher, in a thread of its own too, which
+/// publishes the tree as it is then, and at the end, whatever came of the page, with the mark.
+/// Where no thread can be made for it, the calling thread publishes. Behind the tree or its dump
+/// the text of the tree is written for each watcher, as that saw it last. One for which no thread
+/// can be made, or that finds no place at the board, looks at the end, in the publisher's thread.
+/// One that ends without having seen the mark, as all do where memory runs out in publishing, makes
+/// the outcome want of memory. The lane to the publisher is made before the page is begun.
 pub fn page_watched<
     R: Threads + Wait + Copy + Send + Sync + 'static,
     E: InForce + Send + 'static,
@@ -87,17 +89,17 @@ pub fn page_watched<
     if watchers == 0 {
         return page_on_two::<R, E, F, K, G>(rt, alloc, job, files, out, gate, helpers);
     }
-    let Ok(crew) = Crew::gather(rt, alloc, watchers as usize) else {
+    let Ok(outfit) = fit_out(alloc, eye) else {
         return without_memory(alloc);
     };
     match begin_page(files, out, job) {
         Some(outcome) => {
-            crew.dismiss(rt);
+            let_go(outfit);
             Report::bare(alloc, outcome)
         }
         None => {
-            let mut watching = crew.watch(rt, alloc, eye);
-            let report = run_on_two::<R, E, F, K, G, Watching<'_, R>>(
+            let mut publisher = Publisher::start(rt, alloc, outfit, watchers as usize, eye);
+            let report = run_on_two::<R, E, F, K, G, Publisher<'_, R>>(
                 rt,
                 alloc,
                 job,
@@ -105,9 +107,9 @@ pub fn page_watched<
                 out,
                 gate,
                 helpers,
-                &mut watching,
+                &mut publisher,
             );
-            watching.close();
+            publisher.close(alloc);
             report
         }
     }

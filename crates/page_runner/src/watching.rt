@@ -4,10 +4,10 @@ ghost use Rattle.standard.specs.Act.{new_doc};
 ghost use Rattle.tree_watch.specs.declared.shown.Note.TheVariants as note;
 ghost use Rattle.tree_watch.specs.declared.shown.Stand.{Stand};
 ghost use Rattle.tree_watch.specs.Rule.{latest};
-ghost use Rattle.tree_watch.specs.Boards.{HasPublished};
+ghost use Rattle.tree_watch.specs.Boards.{Begins, HasPublished};
 ghost use Rattle.tree_watch.specs.Seeing.{IsSeen};
 ghost use Rattle.page_turns.specs.Watched.{AreLast};
-ghost use Rattle.page_runner.specs.Watching.{HasShown, HasKept, IsShownFrom, IsLeftFrom, IsShowing, AreAtPosts, doc_on, doc_of, shown_of};
+ghost use Rattle.page_runner.specs.Watching.{HasShown, HasKept, IsShownFrom, IsLeftFrom, IsShowing, IsWatching, AreAtPosts, doc_on, doc_of, shown_of};
 
 use crate::eye::Eye;
 use crate::watchers::{Post, join_all, leave, post_all};
@@ -19,96 +19,13 @@ use std::marker::Model;
 use std::mem;
 use std::sync::{Arc, Wait};
 use std::thread::Threads;
-use tree_watch::{Board, Seen, Watcher};
-
-/// A board, and so many watchers of it, before the page is begun: fewer have a place there where one
-/// finds none. A contract sees how many were asked for. It isn't let go: `dismiss` or the run ends
-/// it.
-pub(crate) struct Crew {
-    board: Board,
-    watchers: Vec<Watcher>,
-    // With room for all.
-    posts: Vec<Post>,
-    count: usize,
-}
-
-impl Model for Crew {
-    ghost use Rattle.std.specs.Prelude.{ℕ};
-    ghost use Rattle.std.specs.Vec.{vec_len, vec_capacity};
-    ghost use Rattle.page_runner.specs.Watching.{IsGathered};
-
-    ghost Value = { ℕ };
-
-    ghost view = { λ c. c.count };
-
-    ghost invariant = { λ c. IsGathered c.board c.watchers.items c.posts.items
-        (vec_len c.watchers) (vec_len c.posts) (vec_capacity c.posts) };
-}
-
-impl Crew {
-    /// A board and its watchers.
-    pub(crate) fn gather<R: Wait>(rt: &R, alloc: Global, count: usize) -> Result<Crew, NoMemory>
-        requires { (0 < count) × (count < 2 ^ 32) }
-        ensures { IfOk result (λ crew. crew ≡ count) }
-    {
-        let (board, watchers) = Board::new(alloc, rt, count)?;
-        let mut posts = Vec::new(alloc);
-        let Ok(()) = posts.reserve(watchers.len()) else {
-            board.close(rt);
-            return Err(NoMemory);
-        };
-        Ok(Crew {
-            board,
-            watchers,
-            posts,
-            count,
-        })
-    }
-
-    /// The page isn't parsed.
-    pub(crate) fn dismiss<R: Wait>(self, rt: &R) {
-        let Crew {
-            board,
-            watchers: _watchers,
-            posts: _posts,
-            count: _count,
-        } = self;
-        board.close(rt);
-    }
-
-    /// Each watches from here on, where it can in a thread of its own.
-    pub(crate) fn watch<
-        'a,
-        R: Threads + Wait + Copy + Send + Sync + 'static,
-        Y: Eye + Drop + Send + Sync + 'static,
-    >(self, rt: &'a R, alloc: Global, eye: &Arc<Y, Global>) -> Watching<'a, R>
-        ensures count { result.count ≡ self }
-        ensures doc { doc_of result.board ≡ new_doc }
-        ensures shown { shown_of result.board ≡ [] }
-    {
-        let Crew {
-            board,
-            watchers,
-            posts,
-            count,
-        } = self;
-        let mut posts = posts;
-        post_all(rt, alloc, watchers, &mut posts, eye);
-        Watching {
-            rt,
-            board: Some(board),
-            failed: false,
-            posts,
-            count,
-        }
-    }
-}
+use tree_watch::{Board, Seen};
 
 /// The board of a run and its watchers. A contract sees what was published on it. It isn't let go:
 /// `close` ends it.
 pub(crate) struct Watching<'a, R> {
     rt: &'a R,
-    // None behind the end of the run.
+    // None behind the end of the run, or where memory ran out in making it.
     board: Option<Board>,
     // Memory ran out in noting or publishing: nothing more is published.
     failed: bool,
@@ -256,7 +173,8 @@ fn call_in<R: Threads + Wait>(
     (seen, all)
 }
 
-fn none_seen(alloc: Global) -> Vec<Seen>
+/// Nothing that anyone saw.
+pub(crate) fn none_seen(alloc: Global) -> Vec<Seen>
     ensures { result.items ≡ [] }
 {
     Vec::new(alloc)
@@ -306,9 +224,68 @@ fn end_on<R: Threads + Wait>(
     called
 }
 
+// A board, and its watchers at their posts, with room for all.
+fn post_watchers<
+    R: Threads + Wait + Copy + Send + Sync + 'static,
+    Y: Eye + Drop + Send + Sync + 'static,
+>(rt: &R, alloc: Global, count: usize, eye: &Arc<Y, Global>) -> Result<(Board, Vec<Post>), NoMemory>
+    requires { (0 < count) × (count < 2 ^ 32) }
+    ensures begins { IfOk result (λ made. Begins made.0) }
+    ensures posts { IfOk result (λ made. AreAtPosts made.0.table made.1.items) }
+{
+    let (board, watchers) = Board::new(alloc, rt, count)?;
+    let mut posts = Vec::new(alloc);
+    let Ok(()) = posts.reserve(watchers.len()) else {
+        board.close(rt);
+        return Err(NoMemory);
+    };
+    post_all(rt, alloc, watchers, &mut posts, eye);
+    Ok((board, posts))
+}
+
+// The same, or no board where memory runs out.
+fn try_to_post<
+    R: Threads + Wait + Copy + Send + Sync + 'static,
+    Y: Eye + Drop + Send + Sync + 'static,
+>(rt: &R, alloc: Global, count: usize, eye: &Arc<Y, Global>) -> (Option<Board>, Vec<Post>)
+    requires { (0 < count) × (count < 2 ^ 32) }
+    ensures watching { IsWatching result.0 false result.1.items }
+    ensures doc { doc_of result.0 ≡ new_doc }
+    ensures shown { shown_of result.0 ≡ [] }
+{
+    match post_watchers(rt, alloc, count, eye) {
+        Ok((board, posts)) => (Some(board), posts),
+        Err(NoMemory) => (None, Vec::new(alloc)),
+    }
+}
+
+impl<'a, R: Threads + Wait + Copy + Send + Sync + 'static> Watching<'a, R> {
+    /// A board, and so many who watch it from here on, each where it can in a thread of its own:
+    /// fewer have a place there where one finds none. Where memory runs out nothing is shown.
+    pub(crate) fn begin<Y: Eye + Drop + Send + Sync + 'static>(
+        rt: &'a R,
+        alloc: Global,
+        count: usize,
+        eye: &Arc<Y, Global>,
+    ) -> Watching<'a, R>
+        requires { (0 < count) × (count < 2 ^ 32) }
+        ensures count { result.count ≡ count }
+        ensures doc { doc_of result.board ≡ new_doc }
+        ensures shown { shown_of result.board ≡ [] }
+    {
+        let (board, posts) = try_to_post(rt, alloc, count, eye);
+        Watching {
+            rt,
+            board,
+            failed: false,
+            posts,
+            count,
+        }
+    }
+}
+
 impl<'a, R: Threads + Wait> Watching<'a, R> {
-    /// Ends it, behind the run. Where memory ran out before the page was parsed, the mark is
-    /// published here.
+    /// Ends it, behind the run: `end` came before.
     pub(crate) fn close(self) {
         let Watching {
             rt,
@@ -318,7 +295,6 @@ impl<'a, R: Threads + Wait> Watching<'a, R> {
             count: _count,
         } = self;
         if let Some(board) = board {
-            let (board, _marked) = board.publish(rt, true);
             board.close(rt);
         }
         join_all(rt, posts);

@@ -1,4 +1,4 @@
-use Rattle.std.proofs.Common.{◌≡◌, [], ◌∷◌, None, true, sym, subst, ◌∙◌}
+use Rattle.std.proofs.Common.{◌≡◌, [], ◌∷◌, None, true, sym, subst, ◌∙◌, rules}
 use Rattle.std.specs.Str.{chars}
 use Rattle.serial.specs.Scripts.{is_lawful}
 use Rattle.core_steps.specs.Journals.{found}
@@ -16,45 +16,41 @@ fetch_script-requires g c =
     let lawful = subst (λ n. is_lawful n ≡ true) c.as_str-2.ensures (sym c.is_lawful.ensures ∙ c.if-not-is_lawful.false) in
     subst (λ n. is_lawful n ≡ true) (sym c.as_str-3.ensures) lawful
 
-pub returns-then-is_some-clause-fetched : goal.returns-then-is_some-clause-fetched
-returns-then-is_some-clause-fetched g c = more-none [] c.args.dir.now (g.F.Outside.seen c.args.files.now) c.args.table.now
+pub returns-then-is_some : goal.returns-then-is_some
+returns-then-is_some g c = record { fetched = more-none [] c.args.dir.now (g.F.Outside.seen c.args.files.now) c.args.table.now; spent = search rules; others = search rules }
 
-pub returns-then-not-is_lawful-clause-spent : goal.returns-then-not-is_lawful-clause-spent
-returns-then-not-is_lawful-clause-spent g c = ([], more-none [] c.args.dir.now (g.F.Outside.seen c.args.files.now) c.args.table.now)
+pub returns-then-not-is_lawful : goal.returns-then-not-is_lawful
+returns-then-not-is_lawful g c = record { fetched = search rules; spent = ([], more-none [] c.args.dir.now (g.F.Outside.seen c.args.files.now) c.args.table.now); others = search rules }
 
-pub returns-in_err-fetch-clause-spent : goal.returns-in_err-fetch-clause-spent
-returns-in_err-fetch-clause-spent g c =
+pub returns-in_err-fetch : goal.returns-in_err-fetch
+returns-in_err-fetch g c =
     let at = g.F.Outside.seen in
     let fresh = subst (λ n. found n c.args.table.now ≡ None) c.as_str.ensures (none-there c.find.result (found (chars c.as_str.result.now) c.args.table.now ≡ None) c.is_some.result c.is_some.ensures c.if-is_some.false c.find.ensures.none) in
     let lawful = subst (λ n. is_lawful n ≡ true) c.as_str-2.ensures (sym c.is_lawful.ensures ∙ c.if-not-is_lawful.false) in
     let begins = subst (λ n. BeginsFile c.args.dir.now n (at c.args.files.now) (at c.fetch_script.new.files)) c.as_str-3.ensures c.fetch_script.ensures.begins in
     let spent : FetchesOrSpends c.args.dir.now (at c.args.files.now) (at c.fetch_script.new.files) c.args.table.now c.args.table.now =
     (c.args.name.now ∷ [], more-cut c.args.dir.now c.args.name.now (at c.args.files.now) (at c.fetch_script.new.files) lawful c.args.table.now fresh (c.fetch_script.ensures.others.faults port.Script) begins) in
-    on_err _ _ spent
+    record { fetched = search rules; spent = on_err _ _ spent; others = search rules }
 
-pub returns-in_err-copy-clause-spent : goal.returns-in_err-copy-clause-spent
-returns-in_err-copy-clause-spent g c =
+pub returns-in_err-copy : goal.returns-in_err-copy
+returns-in_err-copy g c =
     let at = g.F.Outside.seen in
     let fresh = subst (λ n. found n c.args.table.now ≡ None) c.as_str.ensures (none-there c.find.result (found (chars c.as_str.result.now) c.args.table.now ≡ None) c.is_some.result c.is_some.ensures c.if-is_some.false c.find.ensures.none) in
     let lawful = subst (λ n. is_lawful n ≡ true) c.as_str-2.ensures (sym c.is_lawful.ensures ∙ c.if-not-is_lawful.false) in
     let begins = subst (λ n. BeginsFile c.args.dir.now n (at c.args.files.now) (at c.fetch_script.new.files)) c.as_str-3.ensures c.fetch_script.ensures.begins in
     let spent : FetchesOrSpends c.args.dir.now (at c.args.files.now) (at c.fetch_script.new.files) c.args.table.now c.args.table.now =
     (c.args.name.now ∷ [], more-cut c.args.dir.now c.args.name.now (at c.args.files.now) (at c.fetch_script.new.files) lawful c.args.table.now fresh (c.fetch_script.ensures.others.faults port.Script) begins) in
-    on_err _ _ spent
+    record { fetched = search rules; spent = on_err _ _ spent; others = search rules }
 
-pub returns-clause-fetched : goal.returns-clause-fetched
-returns-clause-fetched g c =
+pub returns : goal.returns
+returns g c =
     let at = g.F.Outside.seen in
     let fresh = subst (λ n. found n c.args.table.now ≡ None) c.as_str.ensures (none-there c.find.result (found (chars c.as_str.result.now) c.args.table.now ≡ None) c.is_some.result c.is_some.ensures c.if-is_some.false c.find.ensures.none) in
     let lawful = subst (λ n. is_lawful n ≡ true) c.as_str-2.ensures (sym c.is_lawful.ensures ∙ c.if-not-is_lawful.false) in
     let begins = subst (λ n. BeginsFile c.args.dir.now n (at c.args.files.now) (at c.fetch_script.new.files)) c.as_str-3.ensures c.fetch_script.ensures.begins in
     let may = subst (λ n. MayGive SCRIPT_LIMIT port.Script (path_of c.args.dir.now n) (at c.args.files.now) (at c.fetch_script.new.files) (given_of c.in_ok-fetch.fetch)) c.as_str-3.ensures c.in_ok-fetch.ensures.given in
-    fetched-new c.add.result c.args.dir.now c.args.name.now _ (at c.args.files.now) (at c.fetch_script.new.files) lawful c.args.table.now c.add.new.self fresh (c.fetch_script.ensures.others.faults port.Script) begins c.in_ok-fetch.fetch may c.in_ok-copy.ensures c.add.ensures.ok
-
-pub returns-clause-spent : goal.returns-clause-spent
-returns-clause-spent g c =
-    let at = g.F.Outside.seen in
-    let fresh = subst (λ n. found n c.args.table.now ≡ None) c.as_str.ensures (none-there c.find.result (found (chars c.as_str.result.now) c.args.table.now ≡ None) c.is_some.result c.is_some.ensures c.if-is_some.false c.find.ensures.none) in
-    let lawful = subst (λ n. is_lawful n ≡ true) c.as_str-2.ensures (sym c.is_lawful.ensures ∙ c.if-not-is_lawful.false) in
-    let begins = subst (λ n. BeginsFile c.args.dir.now n (at c.args.files.now) (at c.fetch_script.new.files)) c.as_str-3.ensures c.fetch_script.ensures.begins in
-    spent-new c.add.result c.args.dir.now c.args.name.now (at c.args.files.now) (at c.fetch_script.new.files) lawful c.args.table.now c.add.new.self fresh (c.fetch_script.ensures.others.faults port.Script) begins c.add.ensures.err
+    record {
+      fetched = fetched-new c.add.result c.args.dir.now c.args.name.now _ (at c.args.files.now) (at c.fetch_script.new.files) lawful c.args.table.now c.add.new.self fresh (c.fetch_script.ensures.others.faults port.Script) begins c.in_ok-fetch.fetch may c.in_ok-copy.ensures c.add.ensures.ok;
+      spent = spent-new c.add.result c.args.dir.now c.args.name.now (at c.args.files.now) (at c.fetch_script.new.files) lawful c.args.table.now c.add.new.self fresh (c.fetch_script.ensures.others.faults port.Script) begins c.add.ensures.err;
+      others = search rules;
+    }

@@ -1,4 +1,4 @@
-use Rattle.std.proofs.Common.{[]}
+use Rattle.std.proofs.Common.{[], rules}
 use Rattle.std.proofs.lemmas.Bool.{OnFalse_at}
 use Rattle.outside.proofs.KeepsLemmas.{keeps-same, keeps-then}
 use Rattle.outside.specs.declared.traits.Port.TheVariants.{Script}
@@ -17,38 +17,40 @@ loop-preserved g c =
     let at = g.F.Outside.seen in
     let i = c.loop.invariant in
     record {
-      ran = ran-on [] c.args.dir.now (at c.loop.files) (at c.fetch_awaited.new.files) c.args.table.now c.loop.table c.fetch_awaited.new.table c.args.slots.now c.loop.slots c.run_round.new.slots i.ran c.run_round.ensures c.in_ok-fetch_awaited.ensures.fetched;
-      fetched = fetched-on c.args.dir.now (at c.args.files.now) (at c.loop.files) (at c.fetch_awaited.new.files) c.args.table.now c.loop.table c.fetch_awaited.new.table i.others c.fetch_awaited.ensures.others i.fetched [] c.in_ok-fetch_awaited.ensures.fetched;
-      others = keeps-then Script (at c.args.files.now) (at c.loop.files) (at c.fetch_awaited.new.files) i.others c.fetch_awaited.ensures.others;
+      ran = ran-on [] c.args.dir.now (at c.loop.files) (at c.fetch_awaited.new.files) c.args.table.now c.loop.table c.fetch_awaited.new.table c.args.slots.now c.loop.slots c.run_round.new.slots i.ran c.run_round.ensures c.in_ok-fetch_awaited.ensures.fetches.fetched;
+      fetched = fetched-on c.args.dir.now (at c.args.files.now) (at c.loop.files) (at c.fetch_awaited.new.files) c.args.table.now c.loop.table c.fetch_awaited.new.table i.others c.in_ok-fetch_awaited.ensures.fetches.others i.fetched [] c.in_ok-fetch_awaited.ensures.fetches.fetched;
+      others = keeps-then Script (at c.args.files.now) (at c.loop.files) (at c.fetch_awaited.new.files) i.others c.in_ok-fetch_awaited.ensures.fetches.others;
     }
 
 pub returns-then-not-branch-clause-ran : goal.returns-then-not-branch-clause-ran
 returns-then-not-branch-clause-ran g c =
     let at = g.F.Outside.seen in
-    ran-on [] c.args.dir.now (at c.loop.files) (at c.fetch_awaited.new.files) c.args.table.now c.loop.table c.fetch_awaited.new.table c.args.slots.now c.loop.slots c.run_round.new.slots c.loop.invariant.ran c.run_round.ensures c.in_ok-fetch_awaited.ensures.fetched
+    ran-on [] c.args.dir.now (at c.loop.files) (at c.fetch_awaited.new.files) c.args.table.now c.loop.table c.fetch_awaited.new.table c.args.slots.now c.loop.slots c.run_round.new.slots c.loop.invariant.ran c.run_round.ensures c.in_ok-fetch_awaited.ensures.fetches.fetched
 
 pub returns-then-not-branch-clause-none : goal.returns-then-not-branch-clause-none
 returns-then-not-branch-clause-none g c = OnFalse_at c.if-not-branch.true c.in_ok-fetch_awaited.ensures.none
 
-pub returns-then-not-branch-clause-fetched : goal.returns-then-not-branch-clause-fetched
-returns-then-not-branch-clause-fetched g c =
+pub returns-then-not-branch-clause-fetches : goal.returns-then-not-branch-clause-fetches
+returns-then-not-branch-clause-fetches g c =
     let at = g.F.Outside.seen in
     let i = c.loop.invariant in
-    fetched-on c.args.dir.now (at c.args.files.now) (at c.loop.files) (at c.fetch_awaited.new.files) c.args.table.now c.loop.table c.fetch_awaited.new.table i.others c.fetch_awaited.ensures.others i.fetched [] c.in_ok-fetch_awaited.ensures.fetched
+    let more = c.in_ok-fetch_awaited.ensures.fetches in
+    record {
+      fetched = fetched-on c.args.dir.now (at c.args.files.now) (at c.loop.files) (at c.fetch_awaited.new.files) c.args.table.now c.loop.table c.fetch_awaited.new.table i.others more.others i.fetched [] more.fetched;
+      spent = search rules;
+      others = keeps-then Script (at c.args.files.now) (at c.loop.files) (at c.fetch_awaited.new.files) i.others more.others;
+    }
 
-pub returns-then-not-branch-clause-others : goal.returns-then-not-branch-clause-others
-returns-then-not-branch-clause-others g c =
-    let at = g.F.Outside.seen in keeps-then Script (at c.args.files.now) (at c.loop.files) (at c.fetch_awaited.new.files) c.loop.invariant.others c.fetch_awaited.ensures.others
-
-pub returns-in_err-fetch_awaited-clause-spent : goal.returns-in_err-fetch_awaited-clause-spent
-returns-in_err-fetch_awaited-clause-spent g c =
+pub returns-in_err-fetch_awaited-clause-fetches : goal.returns-in_err-fetch_awaited-clause-fetches
+returns-in_err-fetch_awaited-clause-fetches g c =
     let at = g.F.Outside.seen in
     let i = c.loop.invariant in
-    on_err _ _ (spent-on c.args.dir.now (at c.args.files.now) (at c.loop.files) (at c.fetch_awaited.new.files) c.args.table.now c.loop.table c.fetch_awaited.new.table i.others c.fetch_awaited.ensures.others i.fetched c.in_err-fetch_awaited.ensures.spent)
+    let more = c.in_err-fetch_awaited.ensures.fetches in
+    record {
+      fetched = search rules;
+      spent = on_err _ _ (spent-on c.args.dir.now (at c.args.files.now) (at c.loop.files) (at c.fetch_awaited.new.files) c.args.table.now c.loop.table c.fetch_awaited.new.table i.others more.others i.fetched more.spent);
+      others = keeps-then Script (at c.args.files.now) (at c.loop.files) (at c.fetch_awaited.new.files) i.others more.others;
+    }
 
-pub returns-in_err-fetch_awaited-clause-others : goal.returns-in_err-fetch_awaited-clause-others
-returns-in_err-fetch_awaited-clause-others g c =
-    let at = g.F.Outside.seen in keeps-then Script (at c.args.files.now) (at c.loop.files) (at c.fetch_awaited.new.files) c.loop.invariant.others c.fetch_awaited.ensures.others
-
-pub returns-clause-spent : goal.returns-clause-spent
-returns-clause-spent g c = ([], c.loop.invariant.fetched)
+pub returns-clause-fetches : goal.returns-clause-fetches
+returns-clause-fetches g c = record { fetched = search rules; spent = ([], c.loop.invariant.fetched); others = c.loop.invariant.others }

@@ -34,8 +34,8 @@ windows-preserved g c =
       done = i.done ++ take n rest;
       is = list-more (map string_bytes c.args.paths.now) i.done rest (map string_bytes behind) n i.is next;
       ran = window-then g.E.InForce.entities c.args.dir.now i.done (take n rest) (at c.args.files.now) (at c.windows.files) (at c.run_window.new.files) [] c.windows.table c.run_window.new.table (taken c.args.out.now) (taken c.windows.out) (taken c.run_window.new.out) i.ran
-          c.in_ok-count.ensures.ran;
-      faults = omega (arith, i.faults, c.run_window.ensures.faults);
+          c.in_ok-count.ensures.ends.ran;
+      faults = omega (arith, i.faults, c.in_ok-count.ensures.faults.never_less);
     }
 
 pub windows-smaller : goal.windows-smaller
@@ -52,7 +52,7 @@ returns-in_err-count-clause-in_part g c =
     let taken = g.K.Sink.taken in
     let i = c.windows.invariant in
     on_err _ _ (list-cut g.E.InForce.entities c.args.entities.now c.requires c.args.dir.now (map string_bytes c.args.paths.now) i.done (map string_bytes c.windows.rest.now) i.is (at c.args.files.now) (at c.windows.files) c.windows.table (taken c.args.out.now)
-    (taken c.windows.out) i.ran (at c.run_window.new.files) c.run_window.new.table (taken c.run_window.new.out) c.in_err-count.ensures.stopped)
+    (taken c.windows.out) i.ran (at c.run_window.new.files) c.run_window.new.table (taken c.run_window.new.out) c.in_err-count.ensures.ends.stopped)
 
 pub returns-in_err-finish-clause-in_part : goal.returns-in_err-finish-clause-in_part
 returns-in_err-finish-clause-in_part g c =

@@ -28,7 +28,7 @@ loop-at-preserved g c =
     record {
       written = writes-at g.E.InForce.entities (map string_bytes c.args.paths.now) c.args.slots.now c.loop-at.at len (taken c.args.out.now) (taken c.loop-at.out) i.written (string_bytes path) c.index-slots-at.result part there here c.index-slots-at.is c.in-Some.ensures
           (taken c.write_part.new.out) took;
-      faults = omega (arith, i.faults, c.write_part.ensures.faults);
+      faults = omega (arith, i.faults, c.in_ok-write_part.ensures.faults.never_less);
     }
 
 pub returns-in_default-clause-front : goal.returns-in_default-clause-front

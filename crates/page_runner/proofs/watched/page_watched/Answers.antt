@@ -1,4 +1,4 @@
-use Rattle.std.proofs.Common.{◌≡◌, true, IfSome, Ok, refl, sym, subst, ◌∙◌, inl, inr, arith}
+use Rattle.std.proofs.Common.{◌≡◌, true, IfSome, Ok, refl, sym, subst, inl, inr, arith}
 use Rattle.std.specs.String.{string_bytes}
 use Rattle.page_runner.specs.Manner.{manner}
 use Rattle.page_runner.specs.Watching.{IsWatched}
@@ -26,9 +26,9 @@ pub returns-in-None-clause-answer : goal.returns-in-None-clause-answer
 returns-in-None-clause-answer g c =
     let at = g.F.Outside.seen in
     let b = c.in-None.ensures.begins in
-    let count : c.watch-watching.result.count ≡ c.args.watchers = c.watch-watching.ensures.count ∙ c.in-Ok.ensures in
+    let count : c.start-publisher.result.count ≡ c.args.watchers = c.start-publisher.ensures.count in
     rw (sym count, sym c.in-None.ensures.untouched)
-    (page_since c.args.job.now.table.now (manner c.args.job.now.dump c.watch-watching.result.count) (string_bytes c.args.job.now.page) _
+    (page_since c.args.job.now.table.now (manner c.args.job.now.dump c.start-publisher.result.count) (string_bytes c.args.job.now.page) _
     (at c.args.files.now) (at c.begin_page.new.files) (at c.run_on_two-report.new.files) _ _ _ _ _ (string_bytes c.args.job.now.page) (Ok true) b.others b.no_fault b.calls c.run_on_two-report.ensures.answer)
 
 pub returns-in-None-clause-reads : goal.returns-in-None-clause-reads
@@ -42,10 +42,10 @@ pub returns-in-None-clause-reports : goal.returns-in-None-clause-reports
 returns-in-None-clause-reports g c =
     let at = g.F.Outside.seen in
     let b = c.in-None.ensures.begins in
-    let count : c.watch-watching.result.count ≡ c.args.watchers = c.watch-watching.ensures.count ∙ c.in-Ok.ensures in
+    let count : c.start-publisher.result.count ≡ c.args.watchers = c.start-publisher.ensures.count in
     rw (sym count, sym c.in-None.ensures.untouched)
     (if_some c.run_on_two-report.result.side
-    (λ side reports. reports_since c.args.job.now.table.now c.args.job.now.ahead (manner c.args.job.now.dump c.watch-watching.result.count) (string_bytes c.args.job.now.page) _ (at c.args.files.now) (at c.begin_page.new.files) (at c.run_on_two-report.new.files) _ _ side _
+    (λ side reports. reports_since c.args.job.now.table.now c.args.job.now.ahead (manner c.args.job.now.dump c.start-publisher.result.count) (string_bytes c.args.job.now.page) _ (at c.args.files.now) (at c.begin_page.new.files) (at c.run_on_two-report.new.files) _ _ side _
     b.others b.no_fault (first_begun (string_bytes c.args.job.now.page) (Ok true) (at c.args.files.now) (at c.begin_page.new.files) _ b.calls) reports) c.run_on_two-report.ensures.reports)
 
 pub returns-in-None-clause-side : goal.returns-in-None-clause-side
@@ -65,7 +65,7 @@ returns-in-None-clause-cut g c =
 
 pub returns-in-None-clause-watched : goal.returns-in-None-clause-watched
 returns-in-None-clause-watched g c = λ some.
-    let count : c.watch-watching.result.count ≡ c.args.watchers = c.watch-watching.ensures.count ∙ c.in-Ok.ensures in
+    let count : c.start-publisher.result.count ≡ c.args.watchers = c.start-publisher.ensures.count in
     let report = c.run_on_two-report.result in
     subst (λ n. IfSome report.side (λ side. IsWatched side report.outcome n report.seen.items)) count (c.run_on_two-report.ensures.watched refl)
 
@@ -86,7 +86,7 @@ returns-then-watchers-eq0-clause-watched g c = λ some. absurd (omega (arith, so
 pub returns-then-watchers-eq0-clause-side : goal.returns-then-watchers-eq0-clause-side
 returns-then-watchers-eq0-clause-side g c = inl c.page_on_two.ensures.side
 
--- ---- there was no memory for the board
+-- ---- there was no memory for the lane
 
 pub returns-in_default-clause-answer : goal.returns-in_default-clause-answer
 returns-in_default-clause-answer g c = rw c.without_memory.ensures.outcome (page_no_memory _ _ _ _ _ _ _)

@@ -1,7 +1,0 @@
-use Rattle.std.proofs.Common.{refl}
-use Rattle.html_types.specs.Operations.{spelled}
-use Rattle.html_types.proofs.operation.Ops.new.Goals as goal
-
-pub returns : goal.returns
-unfolding spelled
-returns c = rw c.new.ensures.items refl
