@@ -1,4 +1,5 @@
-//! From the furthest block up to the formatting element: the elements between them are cloned, each into the next.
+//! From the furthest block up to the formatting element: the elements between them are cloned, each
+//! into the next.
 
 ghost use Rattle.std.specs.Prelude.{◌≡◌, ◌++◌, ◌∷◌, [], None, IfOk};
 ghost use Rattle.html_types.specs.declared.operation.Op.TheVariants as op;
@@ -25,7 +26,8 @@ pub struct Climb {
     pub bookmark: Option<NodeId>,
 }
 
-/// One element: where it has an entry it becomes its clone there and on the stack, and the last node is put into that one.
+/// One element: where it has an entry it becomes its clone there and on the stack, and the last
+/// node is put into that one.
 fn climb_one(
     alloc: Global,
     left: u8,
@@ -35,8 +37,12 @@ fn climb_one(
     reached: &mut Climb,
     ops: &mut Ops,
 ) -> Result<(), NoMemory>
-    ensures { IfOk result (λ _. climb_at formats.new next.new ops.new reached.new.kept.items reached.new.last reached.new.bookmark
-        ≡ climb_one left id (climb_at formats.old next.old ops.old reached.old.kept.items reached.old.last reached.old.bookmark)) }
+    ensures { IfOk result
+        (λ _. climb_at formats.new next.new ops.new reached.new.kept.items reached.new.last
+        reached.new.bookmark
+        ≡ climb_one left id
+        (climb_at formats.old next.old ops.old reached.old.kept.items reached.old.last
+        reached.old.bookmark)) }
 {
     if left == 0 {
         take_entry_off(formats, id)?;
@@ -65,8 +71,12 @@ pub fn climb_all(
     reached: &mut Climb,
     ops: &mut Ops,
 ) -> Result<(), NoMemory>
-    ensures { IfOk result (λ _. climb_at formats.new next.new ops.new reached.new.kept.items reached.new.last reached.new.bookmark
-        ≡ climb 3 elements.now (climb_at formats.old next.old ops.old reached.old.kept.items reached.old.last reached.old.bookmark)) }
+    ensures { IfOk result
+        (λ _. climb_at formats.new next.new ops.new reached.new.kept.items reached.new.last
+        reached.new.bookmark
+        ≡ climb 3 elements.now
+        (climb_at formats.old next.old ops.old reached.old.kept.items reached.old.last
+        reached.old.bookmark)) }
 {
     let mut elements = elements;
     let mut left = KEPT;

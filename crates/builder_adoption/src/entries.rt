@@ -1,7 +1,8 @@
 //! The list of active formatting elements, by the elements of its entries.
 
 ghost use Rattle.std.specs.Prelude.{◌≡◌, ◌++◌, IfOk};
-ghost use Rattle.standard.specs.Formatting.{has_entry, tag_of_entry, later_than, entry_on, with_id, with_behind};
+ghost use Rattle.standard.specs.Formatting.{has_entry, tag_of_entry, later_than, entry_on, with_id};
+ghost use Rattle.standard.specs.Formatting.{with_behind};
 
 use html_types::{ActiveFormatting, FormattingEntry, NoMemory, NodeId, Tag};
 use std::alloc::Global;

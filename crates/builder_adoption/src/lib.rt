@@ -1,10 +1,11 @@
-//! The adoption agency algorithm (13.2.6.4.7).
+//! The adoption agency algorithm (13.2.6.4.7 #parsing-main-inbody).
 #![tactic(auto)]
 
 ghost use Rattle.std.specs.Prelude.{◌≡◌, Some, IfOk};
 ghost use Rattle.standard.specs.Elements.{is_word};
 ghost use Rattle.standard.specs.Stack.{current_id};
-ghost use Rattle.standard.specs.Adoption.{turned, turn, turn_at, turns, adopted, is_plain, is_other as is_other_turn, adopt};
+ghost use Rattle.standard.specs.Adoption.{turned, turn, turn_at, turns, adopted, is_plain};
+ghost use Rattle.standard.specs.Adoption.{is_other as is_other_turn, adopt};
 ghost use Rattle.builder_state.specs.Adopted.{is_other};
 
 mod climb;
@@ -32,7 +33,8 @@ fn take_turn_at(
     element: NodeId,
     ops: &mut Ops,
 ) -> Result<Turn, NoMemory>
-    ensures { IfOk result (λ t. turned state.new ops.new t ≡ turn_at (Some element) state.old ops.old) }
+    ensures { IfOk result
+        (λ t. turned state.new ops.new t ≡ turn_at (Some element) state.old ops.old) }
 {
     if !has_open(&state.stack, element) {
         take_entry_off(&mut state.formats, element)?;
@@ -56,7 +58,8 @@ fn take_turn_at(
 
 /// A turn: the formatting element is that of the latest entry of the name behind the last marker.
 fn take_turn(alloc: Global, state: &mut Open, name: Word, ops: &mut Ops) -> Result<Turn, NoMemory>
-    ensures { IfOk result (λ t. turned state.new ops.new t ≡ turn (is_word name) state.old ops.old) }
+    ensures { IfOk result
+        (λ t. turned state.new ops.new t ≡ turn (is_word name) state.old ops.old) }
 {
     match entry_of(&state.formats, name) {
         None => Ok(Turn::Other),
@@ -67,7 +70,9 @@ fn take_turn(alloc: Global, state: &mut Open, name: Word, ops: &mut Ops) -> Resu
 /// At most eight turns.
 #[tactic(auto, using(std::proofs::lemmas::Grind::common_steps, crate::proofs::Turns::turns_over, crate::proofs::Turns::turns_other))]
 fn take_turns(alloc: Global, state: &mut Open, name: Word, ops: &mut Ops) -> Result<Turn, NoMemory>
-    ensures { IfOk result (λ t. turned state.new ops.new t ≡ turns 8 (is_word name) (turned state.old ops.old Turn.More)) }
+    ensures { IfOk result
+        (λ t. turned state.new ops.new t
+        ≡ turns 8 (is_word name) (turned state.old ops.old Turn.More)) }
 {
     let mut turn = Turn::More;
     let mut left = TURNS;
@@ -105,7 +110,8 @@ fn after_turns(turn: Turn) -> Adopted
 /// The algorithm on an open state.
 #[tactic(auto, unfolding(standard::specs::Adoption::adopt))]
 fn adopt_in(alloc: Global, state: &mut Open, name: Word, ops: &mut Ops) -> Result<Adopted, NoMemory>
-    ensures { IfOk result (λ a. adopted state.new ops.new (is_other a) ≡ adopt name state.old ops.old) }
+    ensures { IfOk result
+        (λ a. adopted state.new ops.new (is_other a) ≡ adopt name state.old ops.old) }
 {
     if is_plain(state, name) {
         state.stack.pop();
@@ -114,15 +120,16 @@ fn adopt_in(alloc: Global, state: &mut Open, name: Word, ops: &mut Ops) -> Resul
     Ok(after_turns(take_turns(alloc, state, name, ops)?))
 }
 
-/// The adoption agency algorithm for an end tag of that name: adds the operations that it asks for. Where it answers
-/// NoMemory, the builder and the operations only keep their type.
+/// The adoption agency algorithm for an end tag of that name: adds the operations that it asks for.
+/// Where it answers NoMemory, the builder and the operations only keep their type.
 pub fn adopt(
     alloc: Global,
     builder: &mut Builder,
     name: Word,
     ops: &mut Ops,
 ) -> Result<Adopted, NoMemory>
-    ensures { IfOk result (λ a. adopted builder.new ops.new (is_other a) ≡ adopt name builder.old ops.old) }
+    ensures { IfOk result
+        (λ a. adopted builder.new ops.new (is_other a) ≡ adopt name builder.old ops.old) }
 {
     if builder.close_latest(name) {
         return Ok(Adopted::Done);

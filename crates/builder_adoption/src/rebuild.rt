@@ -5,7 +5,8 @@ ghost use Rattle.html_types.specs.declared.operation.Op.TheVariants as op;
 ghost use Rattle.html_types.specs.declared.operation.Place.TheVariants.{Inside};
 ghost use Rattle.standard.specs.Stack.{below, above};
 ghost use Rattle.standard.specs.Adoption as definition;
-ghost use Rattle.standard.specs.Adoption.{climb_at, climb, joined, turned, turn_with, put_at_bookmark};
+ghost use Rattle.standard.specs.Adoption.{climb_at, climb, joined, turned, turn_with};
+ghost use Rattle.standard.specs.Adoption.{put_at_bookmark};
 
 use crate::climb::{Climb, climb_all};
 use crate::entries::{insert_behind, renew_entry};
@@ -15,8 +16,8 @@ use html_types::{ActiveFormatting, FormattingEntry, NoMemory, NodeId, Op, Open, 
 use std::alloc::Global;
 use text_store::Ops;
 
-/// Climbs over the elements between the furthest block and the formatting element, and leaves on the stack what is left of
-/// them. Answers the node that was put last, and the bookmark.
+/// Climbs over the elements between the furthest block and the formatting element, and leaves on
+/// the stack what is left of them. Answers the node that was put last, and the bookmark.
 fn climb_between(
     alloc: Global,
     state: &mut Open,
@@ -24,8 +25,15 @@ fn climb_between(
     block: NodeId,
     ops: &mut Ops,
 ) -> Result<(NodeId, Option<NodeId>), NoMemory>
-    ensures { IfOk result (λ r. let all : definition.Climb = climb 3 (below element (above block state.old.stack)) (climb_at state.old.formats state.old.next ops.old [] block None) in
-        (state.new ≡ record state.old { stack = joined element block state.old.stack all.kept; formats = all.formats; next = all.next })
+    ensures { IfOk result
+        (λ r. let all : definition.Climb = climb 3 (below element (above block state.old.stack))
+        (climb_at state.old.formats state.old.next ops.old [] block None) in
+        (state.new
+        ≡ record state.old {
+          stack = joined element block state.old.stack all.kept;
+          formats = all.formats;
+          next = all.next;
+        })
         × (ops.new ≡ all.ops) × (r.0 ≡ all.last) × (r.1 ≡ all.bookmark)) }
 {
     let upper = take_through(alloc, &mut state.stack, block)?;
@@ -55,7 +63,9 @@ fn climb_between(
 
 /// Asks for a clone, which takes the children of the furthest block and stands in it.
 fn make_clone(clone: NodeId, tag: &Tag, block: NodeId, ops: &mut Ops) -> Result<(), NoMemory>
-    ensures { IfOk result (λ _. ops.new ≡ ops.old ++ op.Make clone tag.now.name tag.now.attributes ∷ [] ++ op.MoveChildren block clone ∷ [] ++ op.Put clone (Inside block) ∷ []) }
+    ensures { IfOk result
+        (λ _. ops.new ≡ ops.old ++ op.Make clone tag.now.name tag.now.attributes ∷ []
+        ++ op.MoveChildren block clone ∷ [] ++ op.Put clone (Inside block) ∷ []) }
 {
     ops.push_make(clone, &tag.name, &tag.attributes)?;
     ops.push(Op::MoveChildren {
@@ -74,7 +84,8 @@ fn mark_entry(
     tag: Tag,
     bookmark: Option<NodeId>,
 ) -> Result<(), NoMemory>
-    ensures { IfOk result (λ _. formats.new ≡ put_at_bookmark element clone tag bookmark formats.old) }
+    ensures { IfOk result
+        (λ _. formats.new ≡ put_at_bookmark element clone tag bookmark formats.old) }
 {
     match bookmark {
         None => renew_entry(alloc, formats, element, clone),
@@ -90,8 +101,9 @@ fn mark_entry(
     }
 }
 
-/// 13.2.6.4.7 steps 4.9 to 4.19: the elements between the formatting element and the furthest block are rebuilt, and the formatting
-/// element's clone takes its place on the stack just below the block.
+/// 13.2.6.4.7 #parsing-main-inbody steps 4.9 to 4.19: the elements between the formatting element
+/// and the furthest block are rebuilt, and the formatting element's clone takes its place on the
+/// stack just below the block.
 pub fn rebuild(
     alloc: Global,
     state: &mut Open,
@@ -100,7 +112,9 @@ pub fn rebuild(
     block: NodeId,
     ops: &mut Ops,
 ) -> Result<Turn, NoMemory>
-    ensures { IfOk result (λ t. turned state.new ops.new t ≡ turn_with element (Some tag) (Some block) state.old ops.old) }
+    ensures { IfOk result
+        (λ t. turned state.new ops.new t
+        ≡ turn_with element (Some tag) (Some block) state.old ops.old) }
 {
     let (last, bookmark) = climb_between(alloc, state, element, block, ops)?;
     let place = place_above(&state.stack, state.foster, element);

@@ -1,7 +1,8 @@
 //! The stack of open elements, taken apart and put together again.
 
 ghost use Rattle.std.specs.Prelude.{◌≡◌, ◌++◌, None, IfOk};
-ghost use Rattle.standard.specs.Stack.{below, from_on, through, above, with_below, block_below, place_for};
+ghost use Rattle.standard.specs.Stack.{below, from_on, through, above, with_below, block_below};
+ghost use Rattle.standard.specs.Stack.{place_for};
 
 use builder_state::place_for_last;
 use html_types::{Group, NoMemory, NodeId, OpenElement, Place, Stack};

@@ -1,4 +1,4 @@
--- The top of a stack (13.2.4.2: html stands there).
+-- The top of a stack (13.2.4.2 #the-stack-of-open-elements: html stands there).
 use Rattle.std.proofs.Common.{◌≡◌, ◌∙◌, ◌<◌, ◌≤◌, refl, sym, ap, List, [], ◌∷◌, ◌++◌, length, reverse, get_or, Some, None, arith}
 use Rattle.std.proofs.lemmas.List.{reverse-append, reverse-reverse, length-reverse}
 use Rattle.html_types.specs.declared.open.OpenElement.{OpenElement}

@@ -1,4 +1,5 @@
--- "Any other end tag" in foreign content (13.2.6.5), as a search and then the popping.
+-- "Any other end tag" in foreign content (13.2.6.5 #parsing-main-inforeign), as a search and then
+-- the popping.
 use Rattle.std.specs.Prelude.{ℕ, if◌then◌else◌, List, [], ◌∷◌, Option, None, Some}
 use Rattle.html_types.specs.Names.{name_text}
 use Rattle.html_types.specs.declared.open.OpenElement.{OpenElement}

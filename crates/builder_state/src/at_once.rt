@@ -1,4 +1,5 @@
-//! The instructions that pages have most, done at once: the rows that have no others make no `Flow`.
+//! The instructions that pages have most, done at once: the rows that have no others make no
+//! `Flow`.
 
 ghost use Rattle.std.specs.Prelude.{◌≡◌, ◌≢◌, ◌≤◌, length, IfOk, if◌then◌else◌};
 ghost use Rattle.standard.specs.Instructions.{config, on, step, run};
@@ -47,7 +48,9 @@ fn on_if(so: bool) -> AtOnce
 /// Inserts an element for the token's tag at the appropriate place, where one more may be open.
 fn insert_one(state: &mut Open, token: &Token, ops: &mut Ops) -> Result<AtOnce, NoMemory>
     requires { length state.old.stack ≤ 512 }
-    ensures done { IfOk result (λ q. q ≢ AtOnce.Not → config state.new ops.new (flow_behind q) ≡ step ins.Insert token.now state.old ops.old) }
+    ensures done { IfOk result
+        (λ q. q ≢ AtOnce.Not
+        → config state.new ops.new (flow_behind q) ≡ step ins.Insert token.now state.old ops.old) }
     ensures kept { IfOk result (λ q. q ≡ AtOnce.Not → state.new ≡ state.old) }
     ensures none_added { IfOk result (λ q. q ≡ AtOnce.Not → ops.new ≡ ops.old) }
     ensures bounded { length state.new.stack ≤ 512 }
@@ -74,7 +77,9 @@ fn do_at_once(
     ops: &mut Ops,
 ) -> Result<AtOnce, NoMemory>
     requires { length state.old.stack ≤ 512 }
-    ensures done { IfOk result (λ q. q ≢ AtOnce.Not → config state.new ops.new (flow_behind q) ≡ step instr token.now state.old ops.old) }
+    ensures done { IfOk result
+        (λ q. q ≢ AtOnce.Not
+        → config state.new ops.new (flow_behind q) ≡ step instr token.now state.old ops.old) }
     ensures kept { IfOk result (λ q. q ≡ AtOnce.Not → state.new ≡ state.old) }
     ensures none_added { IfOk result (λ q. q ≡ AtOnce.Not → ops.new ≡ ops.old) }
     ensures bounded { length state.new.stack ≤ 512 }
@@ -126,7 +131,9 @@ fn answer_rest(
     ops: &mut Ops,
 ) -> Result<Next, NoMemory>
     requires { length state.old.stack ≤ 512 }
-    ensures done { IfOk result (λ next. answer state.new ops.new next ≡ answer_of (run token.now (on state.old ops.old) program.now)) }
+    ensures done { IfOk result
+        (λ next. answer state.new ops.new next
+        ≡ answer_of (run token.now (on state.old ops.old) program.now)) }
     ensures bounded { length state.new.stack ≤ 512 }
 {
     let flow = run_row(alloc, state, program, token, ops)?;
@@ -143,7 +150,9 @@ pub fn answer_row(
     ops: &mut Ops,
 ) -> Result<Next, NoMemory>
     requires { length state.old.stack ≤ 512 }
-    ensures done { IfOk result (λ next. answer state.new ops.new next ≡ answer_of (run token.now (on state.old ops.old) program.now)) }
+    ensures done { IfOk result
+        (λ next. answer state.new ops.new next
+        ≡ answer_of (run token.now (on state.old ops.old) program.now)) }
     ensures bounded { length state.new.stack ≤ 512 }
 {
     let mut left = program;

@@ -3,7 +3,8 @@
 ghost use Rattle.std.specs.Prelude.{◌≡◌};
 ghost use Rattle.html_types.specs.Names.{name_of};
 ghost use Rattle.standard.specs.Elements.{is_word};
-ghost use Rattle.standard.specs.Instructions.{holds, in_form, is_quirky, closes_itself, is_breaking};
+ghost use Rattle.standard.specs.Instructions.{holds, in_form, is_quirky, closes_itself};
+ghost use Rattle.standard.specs.Instructions.{is_breaking};
 
 use crate::formatting::is_listed;
 use crate::inputs::is_hidden_input;
@@ -50,7 +51,8 @@ fn closes_itself(token: &Token) -> bool
     }
 }
 
-/// Whether the token is a start tag at which foreign content is left (13.2.6.5).
+/// Whether the token is a start tag at which foreign content is left
+/// (13.2.6.5 #parsing-main-inforeign).
 fn is_breaking(token: &Token) -> bool
     ensures { result ≡ is_breaking token.now }
 {

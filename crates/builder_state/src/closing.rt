@@ -30,11 +30,12 @@ fn closes_latest(state: &Open, word: Word) -> bool
     }
 }
 
-/// The adoption agency algorithm (13.2.6.4.7) for an end tag of that name, where it only pops the current node and takes its entry off. Else
-/// nothing changes.
+/// The adoption agency algorithm (13.2.6.4.7 #parsing-main-inbody) for an end tag of that name,
+/// where it only pops the current node and takes its entry off. Else nothing changes.
 #[tactic(auto, using(std::proofs::lemmas::Grind::common_steps, crate::proofs::Latest::closed_by))]
 pub fn close_latest(state: &mut Open, word: Word) -> bool
-    ensures closed { IsTrue result → (o : List Op) → adopted state.new o false ≡ adopt word state.old o }
+    ensures closed { IsTrue result → (o : List Op)
+        → adopted state.new o false ≡ adopt word state.old o }
     ensures kept { IsFalse result → state.new ≡ state.old }
     ensures shorter { length state.new.stack ≤ length state.old.stack }
 {

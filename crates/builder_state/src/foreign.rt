@@ -1,4 +1,6 @@
-//! Foreign elements: the adjusted current node (13.2.4.2), the integration points (13.2.6), and the tags of foreign elements (13.2.6.1).
+//! Foreign elements: the adjusted current node (13.2.4.2 #the-stack-of-open-elements), the
+//! integration points (13.2.6 #tree-construction), and the tags of foreign elements
+//! (13.2.6.1 #creating-and-inserting-nodes).
 
 ghost use Rattle.std.specs.Prelude.{◌≡◌, false, IfOk, unwrap_or, option_map};
 ghost use Rattle.std.specs.Str.{chars};
@@ -14,7 +16,7 @@ use html_types::{
 use std::alloc::Global;
 use tag_sets::{is_annotation, is_html_annotation, is_math_text, is_svg_point, is_the};
 
-/// The adjusted current node (13.2.4.2).
+/// The adjusted current node (13.2.4.2 #the-stack-of-open-elements).
 pub fn adjusted(state: &Open) -> Option<&OpenElement>
     ensures { option_map (λ e. e.now) result ≡ definition.adjusted state.now }
 {
@@ -35,7 +37,7 @@ pub fn is_html(name: &Name) -> bool
     }
 }
 
-/// Whether the element is a MathML text integration point (13.2.6).
+/// Whether the element is a MathML text integration point (13.2.6 #tree-construction).
 pub fn is_text_point(element: &OpenElement) -> bool
     ensures { result ≡ definition.is_text_point element.now }
 {
@@ -45,7 +47,7 @@ pub fn is_text_point(element: &OpenElement) -> bool
     }
 }
 
-/// Whether the element is an HTML integration point (13.2.6).
+/// Whether the element is an HTML integration point (13.2.6 #tree-construction).
 pub fn is_html_point(element: &OpenElement) -> bool
     ensures { result ≡ definition.is_html_point element.now }
 {
@@ -55,7 +57,8 @@ pub fn is_html_point(element: &OpenElement) -> bool
     }
 }
 
-/// Whether an element is of HTML or an integration point: leaving foreign content stops there (13.2.6.5).
+/// Whether an element is of HTML or an integration point: leaving foreign content stops there
+/// (13.2.6.5 #parsing-main-inforeign).
 #[tactic(auto, unfolding(standard::specs::Foreign::is_html_or_point))]
 pub fn is_html_or_point(element: &OpenElement) -> bool
     ensures { result ≡ definition.is_html_or_point element.now }
@@ -94,7 +97,8 @@ fn is_svg_start(token: &Token) -> bool
     }
 }
 
-/// Whether the token goes by the rules of the insertion mode, where the adjusted current node is this one.
+/// Whether the token goes by the rules of the insertion mode, where the adjusted current node is
+/// this one.
 fn goes_by_mode(element: &OpenElement, token: &Token) -> bool
     ensures { result ≡ definition.goes_by_mode token.now element.now }
 {
@@ -105,7 +109,7 @@ fn goes_by_mode(element: &OpenElement, token: &Token) -> bool
         || matches!(token, Token::EndOfFile)
 }
 
-/// Whether the token goes by the rules for foreign content (13.2.6).
+/// Whether the token goes by the rules for foreign content (13.2.6 #tree-construction).
 #[tactic(auto, unfolding(standard::specs::Foreign::goes_foreign))]
 pub fn goes_foreign(state: &Open, token: &Token) -> bool
     ensures { result ≡ definition.goes_foreign token.now (definition.adjusted state.now) }
@@ -116,7 +120,8 @@ pub fn goes_foreign(state: &Open, token: &Token) -> bool
     }
 }
 
-/// The rules that a token goes by (13.2.6): those of the insertion mode, or those for foreign content.
+/// The rules that a token goes by (13.2.6 #tree-construction): those of the insertion mode, or
+/// those for foreign content.
 pub fn rules_for(state: &Open, token: &Token) -> Mode
     ensures { result ≡ rules_of token.now state.now }
 {
@@ -134,7 +139,8 @@ pub fn text_rules(state: &Open) -> Mode
     rules_for(state, &Token::Character('\0'))
 }
 
-/// Whether the adjusted current node (13.2.4.2) is an element of MathML or SVG.
+/// Whether the adjusted current node (13.2.4.2 #the-stack-of-open-elements) is an element of MathML
+/// or SVG.
 #[tactic(auto, unfolding(standard::specs::Foreign::is_foreign))]
 pub fn is_foreign(state: &Open) -> bool
     ensures { result ≡ definition.is_foreign state.now }
@@ -183,7 +189,8 @@ fn foreign_name(alloc: Global, space: Space, name: &Name) -> Result<Name, NoMemo
 
 /// How a namespace spells the name of an attribute, where it isn't in lower case.
 fn respelled(space: Space, lower: &str) -> Option<&'static str>
-    ensures { unwrap_or (option_map (λ name. chars name.now) result) (chars lower.now) ≡ definition.attribute_name space (chars lower.now) }
+    ensures { unwrap_or (option_map (λ name. chars name.now) result) (chars lower.now)
+        ≡ definition.attribute_name space (chars lower.now) }
 {
     match space {
         Space::Html => None,
@@ -215,7 +222,8 @@ fn has_respelled(space: Space, attributes: &[Attribute]) -> bool
     false
 }
 
-/// Attributes under the names that a namespace has for them (13.2.6.1).
+/// Attributes under the names that a namespace has for them
+/// (13.2.6.1 #creating-and-inserting-nodes).
 #[tactic(auto, unfolding(standard::specs::Foreign::foreign_attributes))]
 fn foreign_attributes(
     alloc: Global,

@@ -1,10 +1,11 @@
-//! How foreign content is left (13.2.6.5).
+//! How foreign content is left (13.2.6.5 #parsing-main-inforeign).
 
 ghost use Rattle.std.specs.Prelude.{◌≡◌, ◌≤◌, length};
 ghost use Rattle.std.specs.Str.{chars};
 ghost use Rattle.html_types.specs.Names.{name_text};
 ghost use Rattle.builder_state.specs.ForeignEnds.{end_found, through};
-ghost use Rattle.standard.specs.Instructions.{config, for_tag, pop_foreign, break_out, foreign_end, end_foreign, end_foreign_with};
+ghost use Rattle.standard.specs.Instructions.{config, for_tag, pop_foreign, break_out, foreign_end};
+ghost use Rattle.standard.specs.Instructions.{end_foreign, end_foreign_with};
 
 use crate::foreign::{is_html, is_html_or_point};
 use foreign_tables::is_lower_of;
@@ -80,7 +81,9 @@ fn pop_through(stack: &mut Stack, lower: &str)
 /// The end tag of that name.
 #[tactic(auto, using(std::proofs::lemmas::Grind::common_steps, crate::proofs::ForeignEnds::foreign_end_found))]
 fn end_named(state: &mut Open, name: &Name, ops: &Ops) -> Flow
-    ensures done { config state.new ops.now result ≡ end_foreign_with (foreign_end (name_text name.now) state.old.stack state.old.stack) state.old ops.now }
+    ensures done { config state.new ops.now result
+        ≡ end_foreign_with (foreign_end (name_text name.now) state.old.stack state.old.stack)
+        state.old ops.now }
     ensures shorter { length state.new.stack ≤ length state.old.stack }
 {
     match end_found(&state.stack, name.as_str()) {
@@ -93,9 +96,10 @@ fn end_named(state: &mut Open, name: &Name, ops: &Ops) -> Flow
     }
 }
 
-/// "Any other end tag" of the rules for foreign content (13.2.6.5).
+/// "Any other end tag" of the rules for foreign content (13.2.6.5 #parsing-main-inforeign).
 pub fn end_foreign(state: &mut Open, token: &Token, ops: &Ops) -> Flow
-    ensures done { config state.new ops.now result ≡ for_tag end_foreign token.now state.old ops.now }
+    ensures done { config state.new ops.now result
+        ≡ for_tag end_foreign token.now state.old ops.now }
     ensures shorter { length state.new.stack ≤ length state.old.stack }
 {
     match token {

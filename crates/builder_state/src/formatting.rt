@@ -1,8 +1,11 @@
-//! Walks over the list of active formatting elements (13.2.4.3), from the latest entry up.
+//! Walks over the list of active formatting elements
+//! (13.2.4.3 #the-list-of-active-formatting-elements), from the latest entry up.
 
-ghost use Rattle.std.specs.Prelude.{◌≡◌, ◌<◌, [], length, reverse, remove, IfOk, IsTrue, MatchOption};
+ghost use Rattle.std.specs.Prelude.{◌≡◌, ◌<◌, [], length, reverse, remove, IfOk, IsTrue};
+ghost use Rattle.std.specs.Prelude.{MatchOption};
 ghost use Rattle.standard.specs.Elements.{is_meant, is_word};
-ghost use Rattle.standard.specs.Formatting.{listed, clear_to_marker, lost, kept, entry_named, without_entry};
+ghost use Rattle.standard.specs.Formatting.{listed, clear_to_marker, lost, kept, entry_named};
+ghost use Rattle.standard.specs.Formatting.{without_entry};
 ghost use Rattle.standard.specs.Stack.{is_open};
 
 use crate::walks::has_open;
@@ -50,7 +53,8 @@ pub fn entry_of(formats: &ActiveFormatting, word: Word) -> Option<NodeId>
 fn place_of_entry(formats: &ActiveFormatting, id: NodeId) -> Option<usize>
     ensures { MatchOption result
         (without_entry id formats.now ≡ formats.now)
-        (λ i. (i < length formats.now) × (without_entry id formats.now ≡ reverse (remove (reverse formats.now) i))) }
+        (λ i. (i < length formats.now)
+        × (without_entry id formats.now ≡ reverse (remove (reverse formats.now) i))) }
 {
     let mut walk = formats.walk();
     while let Some(entry) = walk.next() {
@@ -100,8 +104,8 @@ fn is_last(stack: &Stack, id: NodeId) -> bool
     }
 }
 
-/// Whether no entry stands behind the last marker or open entry, as at nearly each character of a page. Mostly the latest
-/// entry's element is the current node.
+/// Whether no entry stands behind the last marker or open entry, as at nearly each character of a
+/// page. Mostly the latest entry's element is the current node.
 #[inline]
 pub fn none_lost(formats: &ActiveFormatting, stack: &Stack) -> bool
     ensures lost { IsTrue result → lost stack.now formats.now ≡ [] }
@@ -116,7 +120,8 @@ pub fn none_lost(formats: &ActiveFormatting, stack: &Stack) -> bool
     }
 }
 
-/// Takes the entries behind the last marker or open entry off the list: their tags, the latest first.
+/// Takes the entries behind the last marker or open entry off the list: their tags, the latest
+/// first.
 pub fn take_lost(
     alloc: Global,
     formats: &mut ActiveFormatting,

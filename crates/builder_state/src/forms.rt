@@ -1,4 +1,4 @@
-//! The end of a form (13.2.6.4.7).
+//! The end of a form (13.2.6.4.7 #parsing-main-inbody).
 
 ghost use Rattle.std.specs.Prelude.{◌≡◌, ◌≤◌, length, IfOk};
 ghost use Rattle.standard.specs.Elements.{is_meant};
@@ -10,7 +10,8 @@ use text_store::Ops;
 
 /// Closes the form element that the pointer named, where it is in scope.
 fn close_form(stack: &mut Stack, form: Option<NodeId>, token: &Token) -> Result<(), NoMemory>
-    ensures left { IfOk result (λ _. stack.new ≡ form_closed (is_meant Who.Nobody token.now) form stack.old) }
+    ensures left { IfOk result
+        (λ _. stack.new ≡ form_closed (is_meant Who.Nobody token.now) form stack.old) }
     ensures shorter { length stack.new ≤ length stack.old }
 {
     if let Some(id) = form {
@@ -33,9 +34,10 @@ fn close_form_in_template(stack: &mut Stack, token: &Token)
     }
 }
 
-/// The end tag `form` (13.2.6.4.7).
+/// The end tag `form` (13.2.6.4.7 #parsing-main-inbody).
 pub fn end_form_element(state: &mut Open, token: &Token, ops: &Ops) -> Result<(), NoMemory>
-    ensures done { IfOk result (λ _. on state.new ops.now ≡ end_form (is_meant Who.Nobody token.now) state.old ops.now) }
+    ensures done { IfOk result
+        (λ _. on state.new ops.now ≡ end_form (is_meant Who.Nobody token.now) state.old ops.now) }
     ensures shorter { length state.new.stack ≤ length state.old.stack }
 {
     if is_on_stack(&state.stack, Who::The(Word::Template), token) {

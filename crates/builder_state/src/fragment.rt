@@ -1,4 +1,4 @@
-//! How tree construction begins for a fragment (13.4).
+//! How tree construction begins for a fragment (13.4 #parsing-html-fragments).
 
 ghost use Rattle.std.specs.Prelude.{◌≡◌, ◌↔◌, ◌∷◌, [], IsTrue, IfOk, if◌then◌else◌, Some, None};
 ghost use Rattle.standard.specs.Fragment.{form_id, root_element, modes_in, fragment_opening};

@@ -1,4 +1,4 @@
-//! The `type` of an input (13.2.6.4.7).
+//! The `type` of an input (13.2.6.4.7 #parsing-main-inbody).
 
 ghost use Rattle.std.specs.Prelude.{◌≡◌, codes, Some};
 ghost use Rattle.standard.specs.Tree.{attribute};

@@ -1,4 +1,5 @@
-//! Insertions (13.2.6.1), and reconstructing the active formatting elements (13.2.4.3).
+//! Insertions (13.2.6.1 #creating-and-inserting-nodes), and reconstructing the active formatting
+//! elements (13.2.4.3 #the-list-of-active-formatting-elements).
 
 ghost use Rattle.std.specs.Prelude.{◌≡◌, ◌<◌, ◌≤◌, ◌++◌, ◌∷◌, [], length, IfOk};
 ghost use Rattle.html_types.specs.Operations.{later};
@@ -6,7 +7,12 @@ ghost use Rattle.html_types.specs.declared.word.Word.TheVariants as word;
 ghost use Rattle.html_types.specs.declared.operation.Op.TheVariants as op;
 ghost use Rattle.standard.specs.Foreign.{adjusted as adjusted_of};
 ghost use Rattle.standard.specs.Stack.{first_open, second_open};
-ghost use Rattle.standard.specs.Instructions.{on, config, made, pushed, insert_at, insert, insert_root, void, void_as, tag_of, named, for_tag, here, reopen, reconstruct, insert_foreign, insert_in, space_or_html, insert_text, insert_replacement, insert_comment, append_doctype, add_attributes, detach_second, push_head};
+ghost use Rattle.standard.specs.Instructions.{on, config, made, pushed, insert_at, insert};
+ghost use Rattle.standard.specs.Instructions.{insert_root, void, void_as, tag_of, named, for_tag};
+ghost use Rattle.standard.specs.Instructions.{here, reopen, reconstruct, insert_foreign, insert_in};
+ghost use Rattle.standard.specs.Instructions.{space_or_html, insert_text, insert_replacement};
+ghost use Rattle.standard.specs.Instructions.{insert_comment, append_doctype, add_attributes};
+ghost use Rattle.standard.specs.Instructions.{detach_second, push_head};
 
 use crate::foreign::{adjusted, foreign_tag, opened, tag_in};
 use crate::formatting::take_lost;
@@ -47,7 +53,8 @@ pub fn take_id(next: &mut NodeId) -> Result<NodeId, NoMemory>
 #[inline]
 fn make(state: &mut Open, place: Place, tag: &Tag, ops: &mut Ops) -> Result<NodeId, NoMemory>
     ensures id { IfOk result (λ id. id ≡ state.old.next) }
-    ensures state { IfOk result (λ _. state.new ≡ record state.old { next = later 1 state.old.next }) }
+    ensures state { IfOk result
+        (λ _. state.new ≡ record state.old { next = later 1 state.old.next }) }
     ensures ops { IfOk result (λ _. ops.new ≡ made place tag.now state.old ops.old) }
     ensures stack { state.new.stack ≡ state.old.stack }
 {
@@ -66,7 +73,8 @@ fn insert_element(
     ops: &mut Ops,
 ) -> Result<Flow, NoMemory>
     requires { length state.old.stack ≤ 512 }
-    ensures done { IfOk result (λ flow. config state.new ops.new flow ≡ insert_at place tag.now state.old ops.old) }
+    ensures done { IfOk result
+        (λ flow. config state.new ops.new flow ≡ insert_at place tag.now state.old ops.old) }
     ensures bounded { length state.new.stack ≤ 512 }
 {
     if state.stack.len() >= LIMIT {
@@ -92,7 +100,8 @@ pub fn push_made(state: &mut Open, place: Place, tag: &Tag, ops: &mut Ops) -> Re
 /// Inserts an element for the token's tag at the appropriate place.
 pub fn insert_for(state: &mut Open, token: &Token, ops: &mut Ops) -> Result<Flow, NoMemory>
     requires { length state.old.stack ≤ 512 }
-    ensures done { IfOk result (λ flow. config state.new ops.new flow ≡ for_tag insert token.now state.old ops.old) }
+    ensures done { IfOk result
+        (λ flow. config state.new ops.new flow ≡ for_tag insert token.now state.old ops.old) }
     ensures bounded { length state.new.stack ≤ 512 }
 {
     match token {
@@ -107,7 +116,8 @@ pub fn insert_for(state: &mut Open, token: &Token, ops: &mut Ops) -> Result<Flow
 /// Inserts an element for the token's tag into the Document.
 pub fn insert_root_for(state: &mut Open, token: &Token, ops: &mut Ops) -> Result<Flow, NoMemory>
     requires { length state.old.stack ≤ 512 }
-    ensures done { IfOk result (λ flow. config state.new ops.new flow ≡ for_tag insert_root token.now state.old ops.old) }
+    ensures done { IfOk result
+        (λ flow. config state.new ops.new flow ≡ for_tag insert_root token.now state.old ops.old) }
     ensures bounded { length state.new.stack ≤ 512 }
 {
     match token {
@@ -137,7 +147,8 @@ pub fn insert_bare(
     ops: &mut Ops,
 ) -> Result<Flow, NoMemory>
     requires { length state.old.stack ≤ 512 }
-    ensures done { IfOk result (λ flow. config state.new ops.new flow ≡ insert (tag_of word) state.old ops.old) }
+    ensures done { IfOk result
+        (λ flow. config state.new ops.new flow ≡ insert (tag_of word) state.old ops.old) }
     ensures bounded { length state.new.stack ≤ 512 }
 {
     let place = place_now(state);
@@ -147,7 +158,8 @@ pub fn insert_bare(
 /// Inserts an html element into the Document.
 pub fn insert_bare_root(alloc: Global, state: &mut Open, ops: &mut Ops) -> Result<Flow, NoMemory>
     requires { length state.old.stack ≤ 512 }
-    ensures done { IfOk result (λ flow. config state.new ops.new flow ≡ insert_root (tag_of word.Html) state.old ops.old) }
+    ensures done { IfOk result
+        (λ flow. config state.new ops.new flow ≡ insert_root (tag_of word.Html) state.old ops.old) }
     ensures bounded { length state.new.stack ≤ 512 }
 {
     insert_element(state, Place::Page, &bare_tag(alloc, Word::Html), ops)
@@ -155,7 +167,8 @@ pub fn insert_bare_root(alloc: Global, state: &mut Open, ops: &mut Ops) -> Resul
 
 /// Inserts an element for a tag at the appropriate place, and doesn't leave it on the stack.
 fn insert_closed(state: &mut Open, tag: &Tag, ops: &mut Ops) -> Result<Flow, NoMemory>
-    ensures done { IfOk result (λ flow. config state.new ops.new flow ≡ void tag.now state.old ops.old) }
+    ensures done { IfOk result
+        (λ flow. config state.new ops.new flow ≡ void tag.now state.old ops.old) }
     ensures stack { state.new.stack ≡ state.old.stack }
 {
     if state.stack.len() >= LIMIT {
@@ -168,7 +181,8 @@ fn insert_closed(state: &mut Open, tag: &Tag, ops: &mut Ops) -> Result<Flow, NoM
 
 /// Inserts an element for the token's tag, and doesn't leave it on the stack.
 pub fn insert_void(state: &mut Open, token: &Token, ops: &mut Ops) -> Result<Flow, NoMemory>
-    ensures done { IfOk result (λ flow. config state.new ops.new flow ≡ for_tag void token.now state.old ops.old) }
+    ensures done { IfOk result
+        (λ flow. config state.new ops.new flow ≡ for_tag void token.now state.old ops.old) }
     ensures stack { state.new.stack ≡ state.old.stack }
 {
     match token {
@@ -184,7 +198,8 @@ pub fn insert_bare_void(
     word: Word,
     ops: &mut Ops,
 ) -> Result<Flow, NoMemory>
-    ensures done { IfOk result (λ flow. config state.new ops.new flow ≡ void (tag_of word) state.old ops.old) }
+    ensures done { IfOk result
+        (λ flow. config state.new ops.new flow ≡ void (tag_of word) state.old ops.old) }
     ensures stack { state.new.stack ≡ state.old.stack }
 {
     insert_closed(state, &bare_tag(alloc, word), ops)
@@ -210,7 +225,9 @@ pub fn insert_void_as(
     token: &Token,
     ops: &mut Ops,
 ) -> Result<Flow, NoMemory>
-    ensures done { IfOk result (λ flow. config state.new ops.new flow ≡ for_tag (void_as word) token.now state.old ops.old) }
+    ensures done { IfOk result
+        (λ flow. config state.new ops.new flow
+        ≡ for_tag (void_as word) token.now state.old ops.old) }
     ensures stack { state.new.stack ≡ state.old.stack }
 {
     match token {
@@ -222,7 +239,8 @@ pub fn insert_void_as(
     }
 }
 
-/// Inserts a foreign element (13.2.6.1) for the token's tag in a namespace, and pushes it.
+/// Inserts a foreign element (13.2.6.1 #creating-and-inserting-nodes) for the token's tag in a
+/// namespace, and pushes it.
 pub fn insert_in(
     alloc: Global,
     state: &mut Open,
@@ -231,7 +249,9 @@ pub fn insert_in(
     ops: &mut Ops,
 ) -> Result<Flow, NoMemory>
     requires { length state.old.stack ≤ 512 }
-    ensures done { IfOk result (λ flow. config state.new ops.new flow ≡ for_tag (insert_in space) token.now state.old ops.old) }
+    ensures done { IfOk result
+        (λ flow. config state.new ops.new flow
+        ≡ for_tag (insert_in space) token.now state.old ops.old) }
     ensures bounded { length state.new.stack ≤ 512 }
 {
     match token {
@@ -254,7 +274,8 @@ fn adjusted_space(state: &Open) -> Space
     }
 }
 
-/// Inserts a foreign element for the token's tag in the namespace of the adjusted current node, and pushes it.
+/// Inserts a foreign element for the token's tag in the namespace of the adjusted current node, and
+/// pushes it.
 pub fn insert_foreign(
     alloc: Global,
     state: &mut Open,
@@ -262,7 +283,9 @@ pub fn insert_foreign(
     ops: &mut Ops,
 ) -> Result<Flow, NoMemory>
     requires { length state.old.stack ≤ 512 }
-    ensures done { IfOk result (λ flow. config state.new ops.new flow ≡ for_tag insert_foreign token.now state.old ops.old) }
+    ensures done { IfOk result
+        (λ flow. config state.new ops.new flow
+        ≡ for_tag insert_foreign token.now state.old ops.old) }
     ensures bounded { length state.new.stack ≤ 512 }
 {
     match token {
@@ -278,7 +301,8 @@ pub fn insert_foreign(
 /// Opens an entry of the list again that was lost from the stack.
 fn reopen_entry(state: &mut Open, tag: Tag, ops: &mut Ops) -> Result<Flow, NoMemory>
     requires { length state.old.stack ≤ 512 }
-    ensures done { IfOk result (λ flow. config state.new ops.new flow ≡ reopen tag state.old ops.old) }
+    ensures done { IfOk result
+        (λ flow. config state.new ops.new flow ≡ reopen tag state.old ops.old) }
     ensures bounded { length state.new.stack ≤ 512 }
 {
     if state.stack.len() >= LIMIT {
@@ -291,11 +315,12 @@ fn reopen_entry(state: &mut Open, tag: Tag, ops: &mut Ops) -> Result<Flow, NoMem
     Ok(Flow::On)
 }
 
-/// Reconstructs the active formatting elements (13.2.4.3).
+/// Reconstructs the active formatting elements (13.2.4.3 #the-list-of-active-formatting-elements).
 #[tactic(auto, using(std::proofs::lemmas::Grind::common_steps, crate::proofs::Runs::reopen_all_ended))]
 pub fn reopen_lost(alloc: Global, state: &mut Open, ops: &mut Ops) -> Result<Flow, NoMemory>
     requires { length state.old.stack ≤ 512 }
-    ensures done { IfOk result (λ flow. config state.new ops.new flow ≡ reconstruct state.old ops.old) }
+    ensures done { IfOk result
+        (λ flow. config state.new ops.new flow ≡ reconstruct state.old ops.old) }
     ensures bounded { length state.new.stack ≤ 512 }
 {
     let mut tags = take_lost(alloc, &mut state.formats, &state.stack)?;
@@ -342,7 +367,8 @@ pub fn insert_note(
     token: &Token,
     ops: &mut Ops,
 ) -> Result<(), NoMemory>
-    ensures { IfOk result (λ _. on state.now ops.new ≡ insert_comment place token.now state.now ops.old) }
+    ensures { IfOk result
+        (λ _. on state.now ops.new ≡ insert_comment place token.now state.now ops.old) }
 {
     match token {
         Token::Comment(text) => {
@@ -383,7 +409,9 @@ pub fn add_to_first(
     token: &Token,
     ops: &mut Ops,
 ) -> Result<(), NoMemory>
-    ensures { IfOk result (λ _. on state.now ops.new ≡ for_tag (add_attributes (first_open state.now.stack)) token.now state.now ops.old) }
+    ensures { IfOk result
+        (λ _. on state.now ops.new
+        ≡ for_tag (add_attributes (first_open state.now.stack)) token.now state.now ops.old) }
 {
     match token {
         Token::StartTag(tag) | Token::EndTag(tag) => match first_element(&state.stack) {
@@ -401,7 +429,9 @@ pub fn add_to_second(
     token: &Token,
     ops: &mut Ops,
 ) -> Result<(), NoMemory>
-    ensures { IfOk result (λ _. on state.now ops.new ≡ for_tag (add_attributes (second_open state.now.stack)) token.now state.now ops.old) }
+    ensures { IfOk result
+        (λ _. on state.now ops.new
+        ≡ for_tag (add_attributes (second_open state.now.stack)) token.now state.now ops.old) }
 {
     match token {
         Token::StartTag(tag) | Token::EndTag(tag) => match second_element(&state.stack) {
@@ -413,7 +443,8 @@ pub fn add_to_second(
 }
 
 fn add_to(alloc: Global, node: NodeId, tag: &Tag, ops: &mut Ops) -> Result<(), NoMemory>
-    ensures { IfOk result (λ _. ops.new ≡ ops.old ++ op.AddAttributes node tag.now.attributes ∷ []) }
+    ensures { IfOk result
+        (λ _. ops.new ≡ ops.old ++ op.AddAttributes node tag.now.attributes ∷ []) }
 {
     let attributes = tag.attributes.copy(alloc)?;
     ops.push(Op::AddAttributes { node, attributes })
@@ -421,7 +452,9 @@ fn add_to(alloc: Global, node: NodeId, tag: &Tag, ops: &mut Ops) -> Result<(), N
 
 /// Takes the second element of the stack out of its parent. It stays on the stack.
 pub fn take_second_out(state: &Open, ops: &mut Ops) -> Result<(), NoMemory>
-    ensures { IfOk result (λ _. on state.now ops.new ≡ detach_second (second_open state.now.stack) state.now ops.old) }
+    ensures { IfOk result
+        (λ _. on state.now ops.new
+        ≡ detach_second (second_open state.now.stack) state.now ops.old) }
 {
     match second_element(&state.stack) {
         Some(second) => ops.push(Op::Detach { node: second.id }),
@@ -432,7 +465,8 @@ pub fn take_second_out(state: &Open, ops: &mut Ops) -> Result<(), NoMemory>
 /// Pushes the node that the head element pointer names.
 pub fn push_pointed_head(state: &mut Open, ops: &Ops) -> Result<Flow, NoMemory>
     requires { length state.old.stack ≤ 512 }
-    ensures done { IfOk result (λ flow. config state.new ops.now flow ≡ push_head state.old.head state.old ops.now) }
+    ensures done { IfOk result
+        (λ flow. config state.new ops.now flow ≡ push_head state.old.head state.old ops.now) }
     ensures bounded { length state.new.stack ≤ 512 }
 {
     let Some(id) = state.head else {

@@ -1,4 +1,5 @@
-//! The open state of tree construction (13.2.4), and what the instructions of a row do to it (13.2.6).
+//! The open state of tree construction (13.2.4 #parse-state), and what the instructions of a row do
+//! to it (13.2.6 #tree-construction).
 #![tactic(auto)]
 
 mod at_once;

@@ -1,8 +1,11 @@
-//! An entry more in the list of active formatting elements: of four that are alike the earliest goes (13.2.4.3).
+//! An entry more in the list of active formatting elements: of four that are alike the earliest
+//! goes (13.2.4.3 #the-list-of-active-formatting-elements).
 
 ghost use Rattle.std.specs.Prelude.{◌≡◌, ◌<◌, length, reverse, remove, IfOk, MatchOption};
 ghost use Rattle.builder_state.specs.Pairs.{pair_text, pairs_of, all_found};
-ghost use Rattle.standard.specs.Formatting.{same_attribute, has_attribute, are_among, same_attributes, is_like, likes, without_earliest, list_element};
+ghost use Rattle.standard.specs.Formatting.{same_attribute, has_attribute, are_among};
+ghost use Rattle.standard.specs.Formatting.{same_attributes, is_like, likes, without_earliest};
+ghost use Rattle.standard.specs.Formatting.{list_element};
 
 use html_types::{
     ActiveFormatting, Attribute, Attributes, FormattingEntry, NoMemory, NodeId, Tag, Text,
@@ -100,8 +103,8 @@ fn are_same_of_many(alloc: Global, a: &[Attribute], b: &[Attribute]) -> Result<b
     all_found(alloc, b, &pairs_of(alloc, a)?)
 }
 
-/// Whether two lists have the same attributes, whatever their order. Of a few those of the other are asked for first: where
-/// it has no name twice, one that is missing is soon met.
+/// Whether two lists have the same attributes, whatever their order. Of a few those of the other
+/// are asked for first: where it has no name twice, one that is missing is soon met.
 fn are_same(alloc: Global, a: &[Attribute], b: &[Attribute]) -> Result<bool, NoMemory>
     ensures { IfOk result (λ same. same ≡ same_attributes a.now b.now) }
 {
@@ -114,7 +117,8 @@ fn are_same(alloc: Global, a: &[Attribute], b: &[Attribute]) -> Result<bool, NoM
     are_same_of_many(alloc, a, b)
 }
 
-/// Whether two tags have the same name and the same attributes. Most that have not are told apart by their sums.
+/// Whether two tags have the same name and the same attributes. Most that have not are told apart
+/// by their sums.
 #[tactic(auto, using(std::proofs::lemmas::Grind::common_steps, crate::proofs::Apart::never_same, crate::proofs::Apart::same_itself))]
 fn are_alike(alloc: Global, a: &Tag, b: &Tag) -> Result<bool, NoMemory>
     ensures { IfOk result (λ alike. alike ≡ is_like a.now b.now) }
@@ -149,7 +153,8 @@ fn count_alike(alloc: Global, formats: &ActiveFormatting, tag: &Tag) -> Result<u
     Ok(count)
 }
 
-/// Where the earliest of so many entries stands that are like the tag, counted from the first entry.
+/// Where the earliest of so many entries stands that are like the tag, counted from the first
+/// entry.
 fn place_of_earliest(
     alloc: Global,
     formats: &ActiveFormatting,
@@ -159,7 +164,8 @@ fn place_of_earliest(
     requires { count ≡ likes tag.now formats.now }
     ensures { IfOk result (λ place. MatchOption place
         (without_earliest tag.now formats.now ≡ formats.now)
-        (λ i. (i < length formats.now) × (without_earliest tag.now formats.now ≡ reverse (remove (reverse formats.now) i)))) }
+        (λ i. (i < length formats.now)
+        × (without_earliest tag.now formats.now ≡ reverse (remove (reverse formats.now) i)))) }
 {
     let mut left = count;
     let mut walk = formats.walk();
@@ -179,7 +185,8 @@ fn place_of_earliest(
     Ok(None)
 }
 
-/// Makes an element the latest entry. Where three entries behind the last marker are like it, the earliest of them goes.
+/// Makes an element the latest entry. Where three entries behind the last marker are like it, the
+/// earliest of them goes.
 pub fn enter(
     alloc: Global,
     formats: &mut ActiveFormatting,

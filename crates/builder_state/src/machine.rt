@@ -1,13 +1,15 @@
 //! What each instruction of a row does, and the row as a whole.
 
-ghost use Rattle.std.specs.Prelude.{◌≡◌, ◌≤◌, length, IsTrue, IfOk, None, Some, true, if◌then◌else◌};
+ghost use Rattle.std.specs.Prelude.{◌≡◌, ◌≤◌, length, IsTrue, IfOk, None, Some, true};
+ghost use Rattle.std.specs.Prelude.{if◌then◌else◌};
 ghost use Rattle.html_types.specs.declared.instruction.Flow.TheVariants.{On, Skip, Leave};
 ghost use Rattle.html_types.specs.declared.instruction.Next.TheVariants as next;
 ghost use Rattle.standard.specs.Formatting.{entry_named, without_entry};
 ghost use Rattle.standard.specs.Stack.{without_open};
 ghost use Rattle.standard.specs.Reset.{reset_mode};
 ghost use Rattle.standard.specs.Elements.{is_word};
-ghost use Rattle.standard.specs.Instructions.{config, on, original_or, stop_at_script, for_tag, enlist, adopt_own, adopt_anchor, step, run};
+ghost use Rattle.standard.specs.Instructions.{config, on, original_or, stop_at_script, for_tag};
+ghost use Rattle.standard.specs.Instructions.{enlist, adopt_own, adopt_anchor, step, run};
 ghost use Rattle.builder_state.specs.Kinds.{is_guard, goes_on, is_change};
 
 use crate::checks::test_holds;
@@ -37,7 +39,9 @@ use text_store::Ops;
 
 /// Takes the head element pointer's node off the stack.
 fn take_head_off(state: &mut Open) -> Result<(), NoMemory>
-    ensures left { IfOk result (λ _. state.new ≡ record state.old { stack = without_open state.old.head state.old.stack }) }
+    ensures left { IfOk result
+        (λ _. state.new
+        ≡ record state.old { stack = without_open state.old.head state.old.stack }) }
     ensures shorter { length state.new.stack ≤ length state.old.stack }
 {
     if let Some(id) = state.head {
@@ -46,18 +50,24 @@ fn take_head_off(state: &mut Open) -> Result<(), NoMemory>
     Ok(())
 }
 
-/// The mode is the original mode again. (There always is one in the modes "text" and "in table text": `open_state_is_proper` of `rule_laws`.)
+/// The mode is the original mode again. (There always is one in the modes "text" and "in table
+/// text": `open_state_is_proper` of `rule_laws`.)
 fn restore(state: &mut Open)
-    ensures { state.new ≡ record state.old { mode = original_or Mode.InBody state.old.original; original = None } }
+    ensures { state.new
+        ≡ record state.old { mode = original_or Mode.InBody state.old.original; original = None } }
 {
     state.mode = state.original.unwrap_or(Mode::InBody);
     state.original = None;
 }
 
-/// Resets the insertion mode appropriately (13.2.4.1).
+/// Resets the insertion mode appropriately (13.2.4.1 #the-insertion-mode).
 #[inline(never)]
 fn reset(state: &mut Open)
-    ensures { state.new ≡ record state.old { mode = reset_mode state.old.context state.old.stack state.old.head state.old.template_modes } }
+    ensures { state.new
+        ≡ record state.old {
+          mode = reset_mode state.old.context state.old.stack state.old.head
+              state.old.template_modes;
+        } }
 {
     state.mode = mode_to_reset_to(
         &state.context,
@@ -76,9 +86,11 @@ fn foster(state: &mut Open) -> Flow
     Flow::Leave(Next::InBodyFostering)
 }
 
-/// Pops the current node, a script, at which the parser stops, but in a fragment (13.4).
+/// Pops the current node, a script, at which the parser stops, but in a fragment
+/// (13.4 #parsing-html-fragments).
 fn stop_at(state: &mut Open, ops: &Ops) -> Flow
-    ensures done { config state.new ops.now result ≡ stop_at_script state.old.stack state.old ops.now }
+    ensures done { config state.new ops.now result
+        ≡ stop_at_script state.old.stack state.old ops.now }
     ensures shorter { length state.new.stack ≤ length state.old.stack }
 {
     match current_node(&state.stack) {
@@ -93,7 +105,8 @@ fn stop_at(state: &mut Open, ops: &Ops) -> Flow
     }
 }
 
-/// The current node becomes an entry of the list of active formatting elements, with the token's tag.
+/// The current node becomes an entry of the list of active formatting elements, with the token's
+/// tag.
 #[inline(never)]
 pub fn list_current(
     alloc: Global,
@@ -101,7 +114,8 @@ pub fn list_current(
     token: &Token,
     ops: &Ops,
 ) -> Result<(), NoMemory>
-    ensures done { IfOk result (λ _. on state.new ops.now ≡ for_tag enlist token.now state.old ops.now) }
+    ensures done { IfOk result
+        (λ _. on state.new ops.now ≡ for_tag enlist token.now state.old ops.now) }
     ensures stack { state.new.stack ≡ state.old.stack }
 {
     match token {
@@ -117,14 +131,19 @@ pub fn list_current(
 
 /// Takes an element off the list of active formatting elements and off the stack.
 fn take_element_off(state: &mut Open, id: NodeId) -> Result<(), NoMemory>
-    ensures left { IfOk result (λ _. state.new ≡ record state.old { stack = without_open (Some id) state.old.stack; formats = without_entry id state.old.formats }) }
+    ensures left { IfOk result
+        (λ _. state.new
+        ≡ record state.old {
+          stack = without_open (Some id) state.old.stack;
+          formats = without_entry id state.old.formats;
+        }) }
     ensures shorter { length state.new.stack ≤ length state.old.stack }
 {
     take_off(&mut state.stack, id)?;
     take_entry_off(&mut state.formats, id)
 }
 
-/// The adoption agency algorithm (13.2.6.4.7) for the token's name.
+/// The adoption agency algorithm (13.2.6.4.7 #parsing-main-inbody) for the token's name.
 fn ask_adoption(state: &Open, token: &Token, ops: &Ops) -> Flow
     ensures { config state.now ops.now result ≡ for_tag adopt_own token.now state.now ops.now }
 {
@@ -139,7 +158,8 @@ fn ask_adoption(state: &Open, token: &Token, ops: &Ops) -> Flow
 
 /// The same for `a`, where one is listed.
 fn ask_anchor_adoption(state: &Open, ops: &Ops) -> Flow
-    ensures { config state.now ops.now result ≡ adopt_anchor (entry_named (is_word Word.A) state.now.formats) state.now ops.now }
+    ensures { config state.now ops.now result
+        ≡ adopt_anchor (entry_named (is_word Word.A) state.now.formats) state.now ops.now }
 {
     match entry_of(&state.formats, Word::A) {
         None => Flow::On,
@@ -186,7 +206,8 @@ fn guard(state: &Open, instr: Instr, token: &Token, ops: &Ops) -> Flow
     }
 }
 
-/// An instruction that closes elements, or changes the list, a flag, a pointer or a mode. It takes no memory.
+/// An instruction that closes elements, or changes the list, a flag, a pointer or a mode. It takes
+/// no memory.
 fn change(state: &mut Open, instr: Instr, token: &Token, ops: &Ops)
     requires { IsTrue (is_change instr) }
     ensures done { on state.new ops.now ≡ step instr token.now state.old ops.now }
@@ -231,7 +252,8 @@ fn exec_on(
     ops: &mut Ops,
 ) -> Result<(), NoMemory>
     requires { IsTrue (goes_on instr) }
-    ensures done { IfOk result (λ _. on state.new ops.new ≡ step instr token.now state.old ops.old) }
+    ensures done { IfOk result
+        (λ _. on state.new ops.new ≡ step instr token.now state.old ops.old) }
     ensures shorter { length state.new.stack ≤ length state.old.stack }
 {
     match instr {
@@ -265,7 +287,8 @@ fn exec(
     ops: &mut Ops,
 ) -> Result<Flow, NoMemory>
     requires { length state.old.stack ≤ 512 }
-    ensures done { IfOk result (λ flow. config state.new ops.new flow ≡ step instr token.now state.old ops.old) }
+    ensures done { IfOk result
+        (λ flow. config state.new ops.new flow ≡ step instr token.now state.old ops.old) }
     ensures bounded { length state.new.stack ≤ 512 }
 {
     match instr {
@@ -312,7 +335,8 @@ pub fn run_row(
     ops: &mut Ops,
 ) -> Result<Flow, NoMemory>
     requires { length state.old.stack ≤ 512 }
-    ensures done { IfOk result (λ flow. config state.new ops.new flow ≡ run token.now (on state.old ops.old) program.now) }
+    ensures done { IfOk result
+        (λ flow. config state.new ops.new flow ≡ run token.now (on state.old ops.old) program.now) }
     ensures bounded { length state.new.stack ≤ 512 }
 {
     let mut left = program;

@@ -1,10 +1,12 @@
-//! The pending table character tokens (13.2.6.4.10).
+//! The pending table character tokens (13.2.6.4.10 #parsing-main-intabletext).
 
 ghost use Rattle.std.specs.Prelude.{◌≡◌, ◌≤◌, ◌++◌, ◌∷◌, [], ◌&&◌, ◌||◌, length, IfOk};
 ghost use Rattle.std.specs.Str.{chars};
-ghost use Rattle.standard.specs.Instructions.{config, on, append_pending, all_space, texts, here, body_character, body_characters, insert_pending};
+ghost use Rattle.standard.specs.Instructions.{config, on, append_pending, all_space, texts, here};
+ghost use Rattle.standard.specs.Instructions.{body_character, body_characters, insert_pending};
 ghost use Rattle.standard.specs.WhiteSpace.{is_space as is_white_space};
-ghost use Rattle.builder_state.specs.Texts.{keeps_ok as mode_keeps_ok, text_rules as rules_of_text, behind_text};
+ghost use Rattle.builder_state.specs.Texts.{keeps_ok as mode_keeps_ok, text_rules as rules_of_text};
+ghost use Rattle.builder_state.specs.Texts.{behind_text};
 
 use crate::foreign::text_rules;
 use crate::insert::{place_now, reopen_lost};
@@ -16,7 +18,8 @@ use text_store::Ops;
 
 /// Adds the token's character to the pending ones.
 pub fn keep_character(state: &mut Open, token: &Token, ops: &Ops) -> Result<(), NoMemory>
-    ensures done { IfOk result (λ _. on state.new ops.now ≡ append_pending token.now state.old ops.now) }
+    ensures done { IfOk result
+        (λ _. on state.new ops.now ≡ append_pending token.now state.old ops.now) }
     ensures stack { state.new.stack ≡ state.old.stack }
 {
     match token {
@@ -49,7 +52,7 @@ fn insert_characters(alloc: Global, place: Place, text: &str, ops: &mut Ops) -> 
     Ok(())
 }
 
-/// Inserts a character by the rules of "in body" (13.2.6.4.7).
+/// Inserts a character by the rules of "in body" (13.2.6.4.7 #parsing-main-inbody).
 pub fn insert_body_character(
     alloc: Global,
     state: &mut Open,
@@ -57,7 +60,8 @@ pub fn insert_body_character(
     ops: &mut Ops,
 ) -> Result<Flow, NoMemory>
     requires { length state.old.stack ≤ 512 }
-    ensures done { IfOk result (λ flow. config state.new ops.new flow ≡ body_character c state.old ops.old) }
+    ensures done { IfOk result
+        (λ flow. config state.new ops.new flow ≡ body_character c state.old ops.old) }
     ensures bounded { length state.new.stack ≤ 512 }
 {
     match reopen_lost(alloc, state, ops)? {
@@ -71,19 +75,15 @@ pub fn insert_body_character(
     Ok(Flow::On)
 }
 
-/// Inserts characters where there is nothing to reopen: by the rules of "in body", or as those of "text", of "in select" and for foreign
-/// content do.
-pub fn insert_body_text(
-    alloc: Global,
-    state: &mut Open,
-    text: &str,
-    ops: &mut Ops,
-) -> Result<(), NoMemory>
-    ensures inserted { IfOk result (λ _. ops.new ≡ ops.old ++ texts (here state.old) (chars text.now)) }
+/// Inserts characters where there is nothing to reopen: by the rules of "in body", or as those of
+/// "text", of "in select" and for foreign content do.
+pub fn insert_body_text(state: &mut Open, text: &str, ops: &mut Ops) -> Result<(), NoMemory>
+    ensures inserted { IfOk result
+        (λ _. ops.new ≡ ops.old ++ texts (here state.old) (chars text.now)) }
     ensures done { IfOk result (λ _. state.new ≡ behind_text (chars text.now) state.old) }
     ensures stack { state.new.stack ≡ state.old.stack }
 {
-    ops.push_text(alloc, place_now(state), text)?;
+    ops.push_text(place_now(state), text)?;
     state.frameset_ok = stays_ok(state, text);
     Ok(())
 }
@@ -116,19 +116,24 @@ fn keeps_ok(rules: Mode) -> bool
 
 /// Whether a frameset may still replace the body behind a text.
 fn stays_ok(state: &Open, text: &str) -> bool
-    ensures { result ≡ ((mode_keeps_ok (rules_of_text state.now) || all_space (chars text.now)) && state.now.frameset_ok) }
+    ensures { result
+        ≡ ((mode_keeps_ok (rules_of_text state.now) || all_space (chars text.now))
+        && state.now.frameset_ok) }
 {
     state.frameset_ok && (keeps_ok(text_rules(state)) || is_all_space(text))
 }
 
 /// Whether it may behind a character.
 fn stays_ok_behind(state: &Open, c: char) -> bool
-    ensures { result ≡ ((mode_keeps_ok (rules_of_text state.now) || all_space (c ∷ [])) && state.now.frameset_ok) }
+    ensures { result
+        ≡ ((mode_keeps_ok (rules_of_text state.now) || all_space (c ∷ []))
+        && state.now.frameset_ok) }
 {
     state.frameset_ok && (keeps_ok(text_rules(state)) || is_space(c))
 }
 
-/// Inserts characters by the rules of "in body", up to one at which an element more than 512 would be open.
+/// Inserts characters by the rules of "in body", up to one at which an element more than 512 would
+/// be open.
 fn insert_body_characters(
     alloc: Global,
     state: &mut Open,
@@ -136,7 +141,9 @@ fn insert_body_characters(
     ops: &mut Ops,
 ) -> Result<Flow, NoMemory>
     requires { length state.old.stack ≤ 512 }
-    ensures done { IfOk result (λ flow. config state.new ops.new flow ≡ body_characters (chars text.now) (on state.old ops.old)) }
+    ensures done { IfOk result
+        (λ flow. config state.new ops.new flow
+        ≡ body_characters (chars text.now) (on state.old ops.old)) }
     ensures bounded { length state.new.stack ≤ 512 }
 {
     for c in text.chars() {
@@ -148,11 +155,12 @@ fn insert_body_characters(
     Ok(Flow::On)
 }
 
-/// Inserts the pending characters: as they are where all are white space, else by the rules of "in body" with foster
-/// parenting on. There are none then.
+/// Inserts the pending characters: as they are where all are white space, else by the rules of "in
+/// body" with foster parenting on. There are none then.
 pub fn insert_pending_text(alloc: Global, state: &mut Open, ops: &mut Ops) -> Result<Flow, NoMemory>
     requires { length state.old.stack ≤ 512 }
-    ensures done { IfOk result (λ flow. config state.new ops.new flow ≡ insert_pending state.old ops.old) }
+    ensures done { IfOk result
+        (λ flow. config state.new ops.new flow ≡ insert_pending state.old ops.old) }
     ensures bounded { length state.new.stack ≤ 512 }
 {
     let text = mem::replace(&mut state.pending_text, Text::new(alloc));

@@ -1,8 +1,9 @@
-//! Where a node goes (13.2.6.1).
+//! Where a node goes (13.2.6.1 #creating-and-inserting-nodes).
 
 ghost use Rattle.std.specs.Prelude.{◌≡◌};
 ghost use Rattle.standard.specs.Elements.{is_word};
-ghost use Rattle.standard.specs.Stack.{place, place_for, foster_place, first_open, second_open, is_the};
+ghost use Rattle.standard.specs.Stack.{place, place_for, foster_place, first_open, second_open};
+ghost use Rattle.standard.specs.Stack.{is_the};
 ghost use Rattle.standard.specs.Instructions.{end_of};
 
 use crate::walks::{first_element, second_element};
@@ -41,7 +42,8 @@ pub fn place_for_last(foster: bool, left: Elements<'_>, stack: &Stack) -> Place
     }
 }
 
-/// Where foster parenting puts a node: the latest template or table decides, else the first element.
+/// Where foster parenting puts a node: the latest template or table decides, else the first
+/// element.
 fn fostered(stack: &Stack) -> Place
     ensures { result ≡ foster_place stack.now }
 {

@@ -1,10 +1,11 @@
-//! Reset the insertion mode appropriately (13.2.4.1).
+//! Reset the insertion mode appropriately (13.2.4.1 #the-insertion-mode).
 
 ghost use Rattle.std.specs.Prelude.{◌≡◌, ◌||◌, [], ◌∷◌, unwrap_or, MatchOption};
 ghost use Rattle.html_types.specs.declared.instruction.Group.TheVariants as group;
 ghost use Rattle.standard.specs.Elements.{is_word, is_one_of};
 ghost use Rattle.standard.specs.Instructions.{is_table_mode as is_of_table};
-ghost use Rattle.standard.specs.Reset.{select_mode, template_mode, root_mode, told_mode, context_mode, reset_mode};
+ghost use Rattle.standard.specs.Reset.{select_mode, template_mode, root_mode, told_mode};
+ghost use Rattle.standard.specs.Reset.{context_mode, reset_mode};
 
 use html_types::{Elements, Mode, Modes, Name, NodeId, OpenElement, Stack, Word};
 use tag_sets::is_the;
@@ -19,8 +20,8 @@ pub fn is_table_mode(mode: Mode) -> bool
     )
 }
 
-/// The mode of a select that stands right below the elements that are left of a walk: "in select in table" where it stands in a table, with no
-/// template between.
+/// The mode of a select that stands right below the elements that are left of a walk: "in select in
+/// table" where it stands in a table, with no template between.
 fn mode_of_select(above: Elements<'_>) -> Mode
     ensures { result ≡ select_mode above.entry }
 {
@@ -55,9 +56,11 @@ fn mode_of_root(head: Option<NodeId>) -> Mode
     }
 }
 
-/// The mode that an element of that name tells, which stands right below the elements that are left of a walk.
+/// The mode that an element of that name tells, which stands right below the elements that are left
+/// of a walk.
 fn told_mode(name: &Name, above: &Elements<'_>, head: Option<NodeId>, modes: &Modes) -> Option<Mode>
-    ensures { result ≡ told_mode name.now (select_mode above.now) (template_mode modes.now) (root_mode head) }
+    ensures { result
+        ≡ told_mode name.now (select_mode above.now) (template_mode modes.now) (root_mode head) }
 {
     let Name::Known(word) = name else {
         return None;
@@ -89,7 +92,8 @@ fn tells_none(name: &Name) -> bool
     )
 }
 
-/// The mode that the context tells, where the first element of the stack stands for it: td, th and head tell none.
+/// The mode that the context tells, where the first element of the stack stands for it: td, th and
+/// head tell none.
 fn mode_of_context(
     context: &OpenElement,
     above: &Elements<'_>,
@@ -97,7 +101,9 @@ fn mode_of_context(
     modes: &Modes,
 ) -> Mode
     requires { above.now ≡ [] }
-    ensures { result ≡ unwrap_or (context_mode context.now.name (template_mode modes.now) (root_mode head)) Mode.InBody }
+    ensures { result
+        ≡ unwrap_or (context_mode context.now.name (template_mode modes.now) (root_mode head))
+        Mode.InBody }
 {
     if tells_none(&context.name) {
         return Mode::InBody;
@@ -105,8 +111,9 @@ fn mode_of_context(
     told_mode(&context.name, above, head, modes).unwrap_or(Mode::InBody)
 }
 
-/// The mode that an element tells, right above which those stand that are left of a walk; in a fragment the first element of the stack stands
-/// for the context, and then there is one in any case.
+/// The mode that an element tells, right above which those stand that are left of a walk; in a
+/// fragment the first element of the stack stands for the context, and then there is one in any
+/// case.
 fn mode_at(
     context: &Option<OpenElement>,
     element: &OpenElement,
@@ -114,7 +121,8 @@ fn mode_at(
     head: Option<NodeId>,
     modes: &Modes,
 ) -> Option<Mode>
-    ensures { let mode = reset_mode context.now (element.now ∷ above.now) head modes.now in MatchOption result
+    ensures { let mode = reset_mode context.now (element.now ∷ above.now) head modes.now
+        in MatchOption result
         (mode ≡ reset_mode context.now above.now head modes.now)
         (λ told. mode ≡ told) }
 {
@@ -126,8 +134,8 @@ fn mode_at(
     told_mode(&element.name, above, head, modes)
 }
 
-/// The mode that resetting it comes to: that of the first element, from the current node on, that tells one. In a fragment the first element
-/// of the stack stands for the context.
+/// The mode that resetting it comes to: that of the first element, from the current node on, that
+/// tells one. In a fragment the first element of the stack stands for the context.
 pub fn mode_to_reset_to(
     context: &Option<OpenElement>,
     stack: &Stack,

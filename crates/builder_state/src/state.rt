@@ -1,8 +1,10 @@
 //! The builder of a tree: the open state with at most 512 open elements.
 
-ghost use Rattle.std.specs.Prelude.{◌≡◌, ◌≤◌, ◌↔◌, ◌++◌, ◌∷◌, [], List, length, IsTrue, IsFalse, IfOk, true, false};
+ghost use Rattle.std.specs.Prelude.{◌≡◌, ◌≤◌, ◌↔◌, ◌++◌, ◌∷◌, [], List, length, IsTrue, IsFalse};
+ghost use Rattle.std.specs.Prelude.{IfOk, true, false};
 ghost use Rattle.std.specs.Str.{chars};
-ghost use Rattle.standard.specs.Instructions.{config, on, here, reconstruct, run, texts, body_character};
+ghost use Rattle.standard.specs.Instructions.{config, on, here, reconstruct, run, texts};
+ghost use Rattle.standard.specs.Instructions.{body_character};
 ghost use Rattle.standard.specs.Foreign as foreign;
 ghost use Rattle.standard.specs.Formatting.{lost, kept};
 ghost use Rattle.standard.specs.Adoption.{adopted, adopt};
@@ -11,7 +13,8 @@ ghost use Rattle.standard.specs.Rules.{answer, answer_of, rules_for as rules_of}
 ghost use Rattle.standard.specs.Parser.{opening};
 ghost use Rattle.standard.specs.Fragment.{fragment_opening};
 ghost use Rattle.builder_state.specs.Push.{opened};
-ghost use Rattle.builder_state.specs.Texts.{takes_characters as mode_takes_characters, reopens as mode_reopens, TakesText, behind_text};
+ghost use Rattle.builder_state.specs.Texts.{takes_characters as mode_takes_characters};
+ghost use Rattle.builder_state.specs.Texts.{reopens as mode_reopens, TakesText, behind_text};
 
 use crate::at_once::{answer_row, asked};
 use crate::closing::close_latest;
@@ -40,16 +43,17 @@ pub enum Pushed {
     Deep,
 }
 
-/// What the adoption agency algorithm (13.2.6.4.7) came to.
+/// What the adoption agency algorithm (13.2.6.4.7 #parsing-main-inbody) came to.
 #[derive(Clone, Copy)]
 pub enum Adopted {
     Done,
-    /// At a turn no entry behind the last marker has the name: the token goes by "any other end tag".
+    /// At a turn no entry behind the last marker has the name: the token goes by "any other end
+    /// tag".
     Other,
 }
 
-/// The open state of tree construction (13.2.4). At most 512 elements are open. Where one of its calls answers NoMemory,
-/// nothing more is known of it.
+/// The open state of tree construction (13.2.4 #parse-state). At most 512 elements are open. Where
+/// one of its calls answers NoMemory, nothing more is known of it.
 #[derive(Drop)]
 pub struct Builder {
     state: Open,
@@ -76,9 +80,9 @@ impl Builder {
         }
     }
 
-    /// The open state at the beginning of a fragment (13.4), whose ids are of that realm. The
-    /// caller makes an html element under the realm's first id and, where the context is in a
-    /// form, a form element under its second.
+    /// The open state at the beginning of a fragment (13.4 #parsing-html-fragments), whose ids are
+    /// of that realm. The caller makes an html element under the realm's first id and, where the
+    /// context is in a form, a form element under its second.
     pub fn fragment(alloc: Global, context: Context, realm: u32) -> Result<Builder, NoMemory>
         ensures { IfOk result (λ b. b ≡ fragment_opening context realm) }
     {
@@ -93,7 +97,8 @@ impl Builder {
         self.state.quirks
     }
 
-    /// Takes the open state out, for a change that no row makes. The builder is as at the beginning of a page then.
+    /// Takes the open state out, for a change that no row makes. The builder is as at the beginning
+    /// of a page then.
     pub fn take(&mut self, alloc: Global) -> Open
         ensures taken { result ≡ self.old }
         ensures bounded { length result.stack ≤ 512 }
@@ -109,8 +114,8 @@ impl Builder {
         self.state = state;
     }
 
-    /// Does a row's instructions for a token, and adds the operations that they ask for. It also answers NoMemory where no
-    /// next id is left.
+    /// Does a row's instructions for a token, and adds the operations that they ask for. It also
+    /// answers NoMemory where no next id is left.
     pub fn run(
         &mut self,
         alloc: Global,
@@ -118,7 +123,9 @@ impl Builder {
         token: &Token,
         ops: &mut Ops,
     ) -> Result<Flow, NoMemory>
-        ensures { IfOk result (λ flow. config self.new ops.new flow ≡ run token.now (on self.old ops.old) program.now) }
+        ensures { IfOk result
+            (λ flow. config self.new ops.new flow
+            ≡ run token.now (on self.old ops.old) program.now) }
     {
         run_row(alloc, &mut self.state, program, token, ops)
     }
@@ -131,26 +138,30 @@ impl Builder {
         token: &Token,
         ops: &mut Ops,
     ) -> Result<Next, NoMemory>
-        ensures { IfOk result (λ next. answer self.new ops.new next ≡ answer_of (run token.now (on self.old ops.old) program.now)) }
+        ensures { IfOk result
+            (λ next. answer self.new ops.new next
+            ≡ answer_of (run token.now (on self.old ops.old) program.now)) }
     {
         answer_row(alloc, &mut self.state, program, token, ops)
     }
 
-    /// Inserts a character by the rules of "in body" (13.2.6.4.7), which are the same for each character but U+0000, and says
-    /// what is asked of the caller then.
+    /// Inserts a character by the rules of "in body" (13.2.6.4.7 #parsing-main-inbody), which are
+    /// the same for each character but U+0000, and says what is asked of the caller then.
     pub fn insert_body_character(
         &mut self,
         alloc: Global,
         c: char,
         ops: &mut Ops,
     ) -> Result<Next, NoMemory>
-        ensures { IfOk result (λ next. answer self.new ops.new next ≡ answer_of (body_character c self.old ops.old)) }
+        ensures { IfOk result
+            (λ next. answer self.new ops.new next ≡ answer_of (body_character c self.old ops.old)) }
     {
         let flow = insert_body_character(alloc, &mut self.state, c, ops)?;
         Ok(asked(flow))
     }
 
-    /// Whether a text's characters are inserted as they are. Where the answer is no, they may be all the same.
+    /// Whether a text's characters are inserted as they are. Where the answer is no, they may be
+    /// all the same.
     pub fn takes_text(&self) -> bool
         ensures { IsTrue result → TakesText self.now }
     {
@@ -161,18 +172,16 @@ impl Builder {
             && reopens_none(rules, &self.state)
     }
 
-    /// Inserts a text's characters where there is nothing to reopen: by the rules of "in body" (13.2.6.4.7), or as those of "text", of "in
-    /// select" and for foreign content do (13.2.6.4.8, 13.2.6.4.16, 13.2.6.5).
-    pub fn insert_body_text(
-        &mut self,
-        alloc: Global,
-        text: &str,
-        ops: &mut Ops,
-    ) -> Result<(), NoMemory>
-        ensures inserted { IfOk result (λ _. ops.new ≡ ops.old ++ texts (here self.old) (chars text.now)) }
+    /// Inserts a text's characters where there is nothing to reopen: by the rules of "in body"
+    /// (13.2.6.4.7 #parsing-main-inbody), or as those of "text", of "in select" and for foreign
+    /// content do (13.2.6.4.8 #parsing-main-incdata, 13.2.6.4.16 #parsing-main-inselect,
+    /// 13.2.6.5 #parsing-main-inforeign).
+    pub fn insert_body_text(&mut self, text: &str, ops: &mut Ops) -> Result<(), NoMemory>
+        ensures inserted { IfOk result
+            (λ _. ops.new ≡ ops.old ++ texts (here self.old) (chars text.now)) }
         ensures done { IfOk result (λ _. self.new ≡ behind_text (chars text.now) self.old) }
     {
-        insert_body_text(alloc, &mut self.state, text, ops)
+        insert_body_text(&mut self.state, text, ops)
     }
 
     /// Inserts a character in the same way.
@@ -183,18 +192,23 @@ impl Builder {
         insert_body_one(alloc, &mut self.state, c, ops)
     }
 
-    /// The adoption agency algorithm (13.2.6.4.7) for an end tag of that name, where it only pops the current node and takes its entry off, as
-    /// at nearly each such end tag: the current node is the element of the latest entry, which has the name. Else nothing changes.
+    /// The adoption agency algorithm (13.2.6.4.7 #parsing-main-inbody) for an end tag of that name,
+    /// where it only pops the current node and takes its entry off, as at nearly each such end tag:
+    /// the current node is the element of the latest entry, which has the name. Else nothing
+    /// changes.
     pub fn close_latest(&mut self, word: Word) -> bool
-        ensures closed { IsTrue result → (o : List Op) → adopted self.new o false ≡ adopt word self.old o }
+        ensures closed { IsTrue result → (o : List Op)
+            → adopted self.new o false ≡ adopt word self.old o }
         ensures kept { IsFalse result → self.new ≡ self.old }
     {
         close_latest(&mut self.state, word)
     }
 
-    /// Reconstructs the active formatting elements (13.2.4.3).
+    /// Reconstructs the active formatting elements
+    /// (13.2.4.3 #the-list-of-active-formatting-elements).
     pub fn reconstruct(&mut self, alloc: Global, ops: &mut Ops) -> Result<Flow, NoMemory>
-        ensures { IfOk result (λ flow. config self.new ops.new flow ≡ reconstruct self.old ops.old) }
+        ensures { IfOk result
+            (λ flow. config self.new ops.new flow ≡ reconstruct self.old ops.old) }
     {
         reopen_lost(alloc, &mut self.state, ops)
     }
@@ -210,7 +224,7 @@ impl Builder {
         Ok(Pushed::Done)
     }
 
-    /// The appropriate place for inserting a node (13.2.6.1).
+    /// The appropriate place for inserting a node (13.2.6.1 #creating-and-inserting-nodes).
     pub fn place(&self) -> Place
         ensures { result ≡ here self.now }
     {
@@ -224,14 +238,16 @@ impl Builder {
         self.state.mode
     }
 
-    /// The rules that a token goes by (13.2.6): those of the insertion mode, or those for foreign content.
+    /// The rules that a token goes by (13.2.6 #tree-construction): those of the insertion mode, or
+    /// those for foreign content.
     pub fn rules_for(&self, token: &Token) -> Mode
         ensures { result ≡ rules_of token.now self.now }
     {
         rules_for(&self.state, token)
     }
 
-    /// Whether the adjusted current node (13.2.4.2) is an element of MathML or SVG.
+    /// Whether the adjusted current node (13.2.4.2 #the-stack-of-open-elements) is an element of
+    /// MathML or SVG.
     pub fn is_foreign(&self) -> bool
         ensures { result ≡ foreign.is_foreign self.now }
     {
@@ -378,8 +394,10 @@ fn reopens(rules: Mode) -> bool
 
 /// Whether no character reopens a formatting element, by these rules.
 fn reopens_none(rules: Mode, state: &Open) -> bool
-    ensures lost { IsTrue result → mode_reopens rules ≡ true → lost state.now.stack state.now.formats ≡ [] }
-    ensures kept { IsTrue result → mode_reopens rules ≡ true → kept state.now.stack state.now.formats ≡ state.now.formats }
+    ensures lost { IsTrue result → mode_reopens rules ≡ true
+        → lost state.now.stack state.now.formats ≡ [] }
+    ensures kept { IsTrue result → mode_reopens rules ≡ true
+        → kept state.now.stack state.now.formats ≡ state.now.formats }
 {
     !reopens(rules) || none_lost(&state.formats, &state.stack)
 }

@@ -1,8 +1,14 @@
-//! Walks over the stack of open elements (13.2.4.2), from the current node up.
+//! Walks over the stack of open elements (13.2.4.2 #the-stack-of-open-elements), from the current
+//! node up.
 
-ghost use Rattle.std.specs.Prelude.{◌≡◌, ◌≤◌, ◌<◌, length, reverse, remove, Some, IfOk, MatchOption, option_map};
+ghost use Rattle.std.specs.Prelude.{◌≡◌, ◌≤◌, ◌<◌, length, reverse, remove, Some, IfOk};
+ghost use Rattle.std.specs.Prelude.{MatchOption, option_map};
 ghost use Rattle.standard.specs.Elements.{is_meant, is_one_of};
-ghost use Rattle.standard.specs.Stack.{in_scope, on_stack, is_open, current_is, current_id, until, pop_to, pop_to_root, implied, implied_thoroughly, option_in_optgroup, close, item_found, close_item, end_found, other_end, without_open, open_in_scope, first_open, second_open};
+ghost use Rattle.standard.specs.Stack.{in_scope, on_stack, is_open, current_is, current_id, until};
+ghost use Rattle.standard.specs.Stack.{pop_to, pop_to_root, implied, implied_thoroughly};
+ghost use Rattle.standard.specs.Stack.{option_in_optgroup, close, item_found, close_item};
+ghost use Rattle.standard.specs.Stack.{end_found, other_end, without_open, open_in_scope};
+ghost use Rattle.standard.specs.Stack.{first_open, second_open};
 
 use html_types::{Group, NoMemory, NodeId, OpenElement, Scope, Stack, Token, Who, Word};
 use tag_sets::{ends, is_any, is_the, meant};
@@ -134,7 +140,8 @@ pub fn pop_to_first(stack: &mut Stack)
     }
 }
 
-/// Generates implied end tags (13.2.6.3), but for those that are meant.
+/// Generates implied end tags (13.2.6.3 #closing-elements-that-have-implied-end-tags), but for
+/// those that are meant.
 pub fn pop_implied(stack: &mut Stack, but: Who, token: &Token)
     ensures left { stack.new ≡ implied (is_meant but token.now) stack.old }
     ensures shorter { length stack.new ≤ length stack.old }
@@ -147,7 +154,8 @@ pub fn pop_implied(stack: &mut Stack, but: Who, token: &Token)
     }
 }
 
-/// Generates all implied end tags thoroughly (13.2.6.3).
+/// Generates all implied end tags thoroughly
+/// (13.2.6.3 #closing-elements-that-have-implied-end-tags).
 pub fn pop_implied_thoroughly(stack: &mut Stack)
     ensures left { stack.new ≡ implied_thoroughly stack.old }
     ensures shorter { length stack.new ≤ length stack.old }
@@ -160,7 +168,8 @@ pub fn pop_implied_thoroughly(stack: &mut Stack)
     }
 }
 
-/// Where one that is meant is in scope: implied end tags but for it, then popped until it is popped.
+/// Where one that is meant is in scope: implied end tags but for it, then popped until it is
+/// popped.
 pub fn close_in_scope(stack: &mut Stack, scope: Scope, who: Who, token: &Token)
     ensures left { stack.new ≡ close scope (is_meant who token.now) stack.old }
     ensures shorter { length stack.new ≤ length stack.old }
@@ -185,7 +194,8 @@ fn finds_item(stack: &Stack, who: Who, token: &Token) -> bool
     false
 }
 
-/// Closes a list item that is meant: it is sought up to a special element that is no address, div or p.
+/// Closes a list item that is meant: it is sought up to a special element that is no address, div
+/// or p.
 pub fn close_found_item(stack: &mut Stack, who: Who, token: &Token)
     ensures left { stack.new ≡ close_item (is_meant who token.now) stack.old }
     ensures shorter { length stack.new ≤ length stack.old }
@@ -210,7 +220,7 @@ fn finds_end(stack: &Stack, token: &Token) -> bool
     false
 }
 
-/// "Any other end tag" of "in body" (13.2.6.4.7).
+/// "Any other end tag" of "in body" (13.2.6.4.7 #parsing-main-inbody).
 pub fn close_other_end(stack: &mut Stack, token: &Token)
     ensures left { stack.new ≡ other_end (is_meant Who.Own token.now) stack.old }
     ensures shorter { length stack.new ≤ length stack.old }
@@ -225,7 +235,8 @@ pub fn close_other_end(stack: &mut Stack, token: &Token)
 fn place_of(stack: &Stack, id: NodeId) -> Option<usize>
     ensures { MatchOption result
         (without_open (Some id) stack.now ≡ stack.now)
-        (λ i. (i < length stack.now) × (without_open (Some id) stack.now ≡ reverse (remove (reverse stack.now) i))) }
+        (λ i. (i < length stack.now)
+        × (without_open (Some id) stack.now ≡ reverse (remove (reverse stack.now) i))) }
 {
     let mut walk = stack.walk();
     while let Some(element) = walk.next() {

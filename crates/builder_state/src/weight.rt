@@ -1,11 +1,13 @@
-//! How much of an open state a copy copies, and a comparison reads. These are hints: no contract speaks of them.
+//! How much of an open state a copy copies, and a comparison reads. These are hints: no contract
+//! speaks of them.
 
 use html_types::{ActiveFormatting, Elements, FormattingEntry, Name, Open, Tag};
 
 /// A text of so many bytes is short.
 const SHORT: usize = 4096;
 
-/// Lists are short where a comparison of two reads so many bytes, an entry counted for sixteen more.
+/// Lists are short where a comparison of two reads so many bytes, an entry counted for sixteen
+/// more.
 const SHORT_LISTS: usize = 16_384;
 
 fn left_of_name(name: &Name, bytes: usize) -> Option<usize> {
@@ -20,7 +22,8 @@ fn left_of_tag(tag: &Tag, bytes: usize) -> Option<usize> {
     tag.attributes.left_of(left)
 }
 
-/// What is left of so many bytes behind the entries and the names and attributes of their tags, where they have no more.
+/// What is left of so many bytes behind the entries and the names and attributes of their tags,
+/// where they have no more.
 fn left_of_formats(formats: &ActiveFormatting, bytes: usize) -> Option<usize> {
     let mut left = bytes;
     for entry in formats.walk() {
@@ -48,8 +51,8 @@ fn are_short(state: &Open) -> bool {
     }
 }
 
-/// Whether the pending text is short, and so are the two lists, where a comparison goes through what copies share. (Template modes are no more
-/// than the open elements, at most 512.)
+/// Whether the pending text is short, and so are the two lists, where a comparison goes through
+/// what copies share. (Template modes are no more than the open elements, at most 512.)
 pub(crate) fn is_light(state: &Open) -> bool {
     state.pending_text.as_str().len() <= SHORT && are_short(state)
 }

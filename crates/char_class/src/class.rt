@@ -1,4 +1,4 @@
-//! Classes of characters (13.2.5).
+//! Classes of characters (13.2.5 #tokenization).
 
 ghost use Rattle.std.specs.Prelude.{◌≡◌, ◌<◌, ◌≤◌, false};
 ghost use Rattle.std.specs.Char.{is_ascii_alphabetic};
@@ -41,7 +41,8 @@ fn high_class(c: char) -> Class
     }
 }
 
-/// The class of a character. Letters come first, and what is below `@` by itself: so LLVM makes a table of it.
+/// The class of a character. Letters come first, and what is below `@` by itself: so LLVM makes a
+/// table of it.
 #[tactic(auto, using(std::proofs::lemmas::Grind::common_steps, crate::proofs::Classes::letter_class))]
 #[inline]
 pub fn class_of(c: char) -> Class
@@ -64,7 +65,8 @@ pub fn shown(c: char) -> char
     if c == '\0' { '\u{fffd}' } else { c }
 }
 
-/// The character that a name gets for one of the input: U+FFFD for NUL, and ASCII letters in lower case.
+/// The character that a name gets for one of the input: U+FFFD for NUL, and ASCII letters in lower
+/// case.
 #[inline]
 pub fn name_char(c: char) -> char
     ensures { result ≡ classes.name_char c }

@@ -1,5 +1,5 @@
-//! Classes of characters as the tokenizer's rows tell them apart (13.2.5), where a run of plain
-//! text ends, and white space.
+//! Classes of characters as the tokenizer's rows tell them apart (13.2.5 #tokenization), where a
+//! run of plain text ends, and white space.
 #![tactic(auto)]
 
 pub mod class;

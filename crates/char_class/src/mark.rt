@@ -36,8 +36,9 @@ fn mark_in(bytes: &[u8]) -> usize
     }
 }
 
-/// The place of the first `<`, `&`, NUL or CR, or the length where there is none. All that stands before it, the data state
-/// emits as it is, and the input stream's treatment of newlines (13.2.3.5) leaves it alone.
+/// The place of the first `<`, `&`, NUL or CR, or the length where there is none. All that stands
+/// before it, the data state emits as it is, and the input stream's treatment of newlines (13.2.3.5
+/// #preprocessing-the-input-stream) leaves it alone.
 pub fn first_mark(bytes: &[u8]) -> usize
     ensures { result ≡ classes.first_mark bytes.now }
 {

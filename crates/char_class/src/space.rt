@@ -1,4 +1,4 @@
-//! White space, as tree construction takes it (13.2.6).
+//! White space, as tree construction takes it (13.2.6 #tree-construction).
 
 ghost use Rattle.std.specs.Prelude.{◌≡◌};
 ghost use Rattle.standard.specs.WhiteSpace.{is_space as is_white};

@@ -1,11 +1,17 @@
 // The command line, read by `clap`.
 ghost use Rattle.std.specs.Option.{option_map};
 ghost use Rattle.clap.specs.Words.{subcommand_rows_of, subcommand_of};
-ghost use Rattle.std.specs.Prelude.{◌≡◌, ◌≤◌, ◌<◌, ◌^◌, [], map, codes, Some, None, true, false, IfOk, IfErr};
+ghost use Rattle.std.specs.Prelude.{◌≡◌, ◌≤◌, ◌<◌, ◌^◌, [], map, codes, Some, None, true, false};
+ghost use Rattle.std.specs.Prelude.{IfOk, IfErr};
 ghost use Rattle.std.specs.String.{string_bytes};
 ghost use Rattle.clap.specs.Words.{app_of, rule_of};
 ghost use Rattle.clap.specs.declared.builder.command.Command.TheViews.{out-Command as fields_of};
-ghost use Rattle.command_words.specs.Words.{number_option, flag, required, required_number, page_command, make_command, batch_command, specparse, AreInGrammar, value_of, text_from, number_from, flag_from, is_make, is_batch, page_asked, make_asked, batch_asked, asked, shown, batch_shown, asked_for, AreWithin};
+ghost use Rattle.command_words.specs.Words.{number_option, flag, required, required_number};
+ghost use Rattle.command_words.specs.Words.{page_command, make_command, batch_command, specparse};
+ghost use Rattle.command_words.specs.Words.{AreInGrammar, value_of, text_from, number_from};
+ghost use Rattle.command_words.specs.Words.{flag_from, is_make, is_batch, page_asked, make_asked};
+ghost use Rattle.command_words.specs.Words.{batch_asked, asked, shown, batch_shown, asked_for};
+ghost use Rattle.command_words.specs.Words.{AreWithin};
 
 use clap::builder::ValueParser;
 use clap::error::ErrorKind;
@@ -161,8 +167,10 @@ fn specparse<'a>(alloc: Global) -> Result<Command<'a>, AllocError>
 // The matches, where the words are in the grammar.
 fn matches_of<'a>(alloc: Global, words: &'a [String]) -> Result<ArgMatches<'a>, Refused>
     ensures taken { IfOk result (λ _. AreInGrammar (map string_bytes words.entry.now)) }
-    ensures usage { IfErr result (λ refused. refused ≡ Refused.Usage → ¬ (AreInGrammar (map string_bytes words.entry.now))) }
-    ensures rows { IfOk result (λ m. subcommand_rows_of m ≡ subcommand_of specparse (map string_bytes words.entry.now)) }
+    ensures usage { IfErr result
+        (λ refused. refused ≡ Refused.Usage → ¬ (AreInGrammar (map string_bytes words.entry.now))) }
+    ensures rows { IfOk result
+        (λ m. subcommand_rows_of m ≡ subcommand_of specparse (map string_bytes words.entry.now)) }
 {
     let Ok(command) = specparse(alloc) else {
         return Err(Refused::NoMemory);
@@ -181,7 +189,8 @@ fn matches_of<'a>(alloc: Global, words: &'a [String]) -> Result<ArgMatches<'a>, 
 
 // The value of an argument.
 fn value_of<'a>(matches: &ArgMatches<'a>, name: &str) -> Option<&'a str>
-    ensures { option_map (λ value. value.now) result ≡ value_of name.now (subcommand_rows_of matches.now) }
+    ensures { option_map (λ value. value.now) result
+        ≡ value_of name.now (subcommand_rows_of matches.now) }
 {
     let (_, command) = matches.subcommand()?;
     command.get_str(name)
@@ -217,7 +226,8 @@ fn number_of(
     most: usize,
     otherwise: usize,
 ) -> usize
-    ensures { result ≡ number_from least most otherwise (value_of name.now (subcommand_rows_of matches.now)) }
+    ensures { result
+        ≡ number_from least most otherwise (value_of name.now (subcommand_rows_of matches.now)) }
 {
     match value_of(matches, name) {
         Some(text) => number_in(text, least, most, otherwise),
@@ -277,7 +287,8 @@ fn make_words(matches: &ArgMatches<'_>) -> MakeWords
 }
 
 fn batch_words(alloc: Global, matches: &ArgMatches<'_>) -> Result<BatchWords, AllocError>
-    ensures { IfOk result (λ read. batch_shown read ≡ batch_asked (subcommand_rows_of matches.now)) }
+    ensures { IfOk result
+        (λ read. batch_shown read ≡ batch_asked (subcommand_rows_of matches.now)) }
 {
     Ok(BatchWords {
         list: String::from_str(alloc, text_of(matches, "LIST"))?,
@@ -286,11 +297,12 @@ fn batch_words(alloc: Global, matches: &ArgMatches<'_>) -> Result<BatchWords, Al
     })
 }
 
-/// Reads the words of the command, of which the program's name is the first. `Usage` comes exactly where the command's
-/// grammar doesn't take them, but where memory runs out.
+/// Reads the words of the command, of which the program's name is the first. `Usage` comes exactly
+/// where the command's grammar doesn't take them, but where memory runs out.
 pub fn read_words(alloc: Global, words: &[String]) -> Result<CommandWords, Refused>
     ensures ok { IfOk result (λ read. Some (asked_for read) ≡ asked (map string_bytes words.now)) }
-    ensures usage { IfErr result (λ refused. refused ≡ Refused.Usage → asked (map string_bytes words.now) ≡ None) }
+    ensures usage { IfErr result
+        (λ refused. refused ≡ Refused.Usage → asked (map string_bytes words.now) ≡ None) }
     ensures within { IfOk result (λ read. AreWithin read) }
 {
     let matches = match matches_of(alloc, words) {

@@ -1,5 +1,6 @@
--- What the parser's side makes of the page's text, piece by piece, ahead of the document. (The speculative parser of 13.2.8 looks
--- ahead only for what to fetch; that its work is used is this project's own.)
+-- What the parser's side makes of the page's text, piece by piece, ahead of the document. (The
+-- speculative parser of 13.2.8 #speculative-html-parsing looks ahead only for what to fetch; that
+-- its work is used is this project's own.)
 use Rattle.std.specs.Prelude.{ℕ, zero, suc, List, [], ◌∷◌, ◌++◌, length, take, drop, Option, Some, None}
 use Rattle.html_types.specs.declared.operation.Op.{Op}
 use Rattle.html_types.specs.declared.instruction.Stop.{Stop}
@@ -44,7 +45,7 @@ text_batch p t r = record { start = p; text = t; ops = r.ops; after = r.parser; 
 
 -- ---- the page's ending, which a batch of empty text carries
 
--- what the end of the input comes to (13.2.7)
+-- what the end of the input comes to (13.2.7 #the-end)
 abbrev pub result_at : Finish → Result
 result_at finale.Finished = finished
 result_at finale.Deep = refused why.Depth

@@ -2,8 +2,8 @@
 
 use html_types::Text;
 
-/// An event of the core: a push or a pop on one of the two lanes between the sides, the return of a fetch, or a step that one
-/// side takes by itself.
+/// An event of the core: a push or a pop on one of the two lanes between the sides, the return of a
+/// fetch, or a step that one side takes by itself.
 #[derive(Drop)]
 pub enum Event {
     /// The document's side sends a piece of the page.

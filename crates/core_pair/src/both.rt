@@ -1,6 +1,7 @@
 //! Both sides and what is under way between them, while memory lasts.
 
-ghost use Rattle.std.specs.Prelude.{◌≡◌, ◌≤◌, ◌<◌, ◌+◌, ◌++◌, None, Some, false, length, is_some, OnOk, OnErr, IfOk, IsTrue};
+ghost use Rattle.std.specs.Prelude.{◌≡◌, ◌≤◌, ◌<◌, ◌+◌, ◌++◌, None, Some, false, length, is_some};
+ghost use Rattle.std.specs.Prelude.{OnOk, OnErr, IfOk, IsTrue};
 ghost use Rattle.std.specs.Str.{chars};
 ghost use Rattle.core_definitions.specs.declared.event.Event.TheVariants as event;
 ghost use Rattle.core_definitions.specs.Core.{joined, enabled};
@@ -12,7 +13,8 @@ ghost use Rattle.core_steps.specs.Fetches.{names_of, fetched_of};
 ghost use Rattle.core_steps.specs.Sides.{first_shown, standing_of, with_ending};
 ghost use Rattle.core_pair.specs.Interleaving.{unless_busy};
 ghost use Rattle.core_pair.specs.Nearer.{IsNearer, LeavesLess};
-ghost use Rattle.core_pair.specs.Pairs.{setup_of, first_paired, with_pieces, StepsShown, stepped, IsApplicable, Applied, IsRun, brought};
+ghost use Rattle.core_pair.specs.Pairs.{setup_of, first_paired, with_pieces, StepsShown, stepped};
+ghost use Rattle.core_pair.specs.Pairs.{IsApplicable, Applied, IsRun, brought};
 
 use crate::scripts::Scripts;
 use crate::setup::Setup;
@@ -56,7 +58,8 @@ impl<E: InForce> Model for Both<E> {
 
     ghost Value = { Paired };
 
-    ghost view = { λ b. told_of b.doc (map (λ r. r.request) b.requests.items) b.work (map (λ r. r.said.reply) b.replies.items) b.scripts b.ending (events_of b.events.items) };
+    ghost view = { λ b. told_of b.doc (map (λ r. r.request) b.requests.items) b.work
+        (map (λ r. r.said.reply) b.replies.items) b.scripts b.ending (events_of b.events.items) };
 
     ghost invariant = { λ b. b.table ≡ b.doc.entities };
 }
@@ -64,7 +67,8 @@ impl<E: InForce> Model for Both<E> {
 // Hands in the page's pieces.
 fn hand_in(alloc: Global, doc: &mut DocSide, pieces: &[Text]) -> Result<(), NoMemory>
     requires no_ending { doc.old.journal.ending ≡ None }
-    requires within { length (joined doc.old.journal.pieces) + length (joined pieces.now) ≤ page_limit }
+    requires within { length (joined doc.old.journal.pieces)
+        + length (joined pieces.now) ≤ page_limit }
     ensures { OnOk result (doc.new ≡ with_pieces pieces.now doc.old) }
 {
     let mut rest = pieces;
@@ -128,7 +132,9 @@ impl<E: InForce> Both<E> {
         requires some { 0 < setup.ahead }
         requires few { setup.ahead ≤ 64 }
         requires within { length (joined setup.pieces.items) ≤ page_limit }
-        ensures { IfOk result (λ b. b ≡ first_paired setup.entry.table.now setup.entry.scripts setup.entry.pieces.items setup.entry.ending setup.entry.ahead) }
+        ensures { IfOk result
+            (λ b. b ≡ first_paired setup.entry.table.now setup.entry.scripts
+            setup.entry.pieces.items setup.entry.ending setup.entry.ahead) }
     {
         let Setup {
             table,
@@ -225,8 +231,10 @@ impl<E: InForce> Both<E> {
 impl<E: InForce> Both<E> {
     /// The lines that scripts gave since lines were last taken.
     pub fn take_lines(&mut self) -> Result<Lines, NoMemory>
-        ensures lines { IfOk result (λ lines. self.old.core.desk.own.side.lines ≡ self.old.given ++ lines) }
-        ensures taken { IfOk result (λ lines. self.new ≡ record self.old { given = self.old.given ++ lines }) }
+        ensures lines { IfOk result
+            (λ lines. self.old.core.desk.own.side.lines ≡ self.old.given ++ lines) }
+        ensures taken { IfOk result
+            (λ lines. self.new ≡ record self.old { given = self.old.given ++ lines }) }
         ensures err { OnErr result (self.new ≡ self.old) }
     {
         self.doc.take_lines()
@@ -353,7 +361,8 @@ impl<E: InForce> Both<E> {
         requires run { IsRun E.entities self.old }
         requires can { IsTrue (enabled (setup_of self.old) event self.old.core) }
         ensures run { OnOk result (IsRun E.entities self.new) }
-        ensures steps { OnOk result (StepsShown (setup_of self.old) event self.old.core self.new.core) }
+        ensures steps { OnOk result
+            (StepsShown (setup_of self.old) event self.old.core self.new.core) }
         ensures others { OnOk result (self.new ≡ stepped event self.new.core self.old) }
         ensures nearer { OnOk result (IsNearer event self.old.core self.new.core) }
         ensures journal { OnErr result (self.new.journal ≡ self.old.journal) }

@@ -1,5 +1,6 @@
-//! The core as one: both sides, and the requests and replies that are under way between them, event by event, in whatever order. What each
-//! event does is exactly what the definitions in `core_definitions` say of it, and what `core_laws` proves of every list of events holds of it.
+//! The core as one: both sides, and the requests and replies that are under way between them, event
+//! by event, in whatever order. What each event does is exactly what the definitions in
+//! `core_definitions` say of it, and what `core_laws` proves of every list of events holds of it.
 #![tactic(auto)]
 
 mod both;

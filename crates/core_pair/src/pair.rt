@@ -1,17 +1,22 @@
 //! The pair of both sides.
 
-ghost use Rattle.std.specs.Prelude.{◌≡◌, ◌≢◌, ◌↔◌, ◌≤◌, ◌<◌, ◌++◌, ℕ, List, false, true, length, IfOk, OnOk, OnErr, IsErr, IsTrue};
+ghost use Rattle.std.specs.Prelude.{◌≡◌, ◌≢◌, ◌↔◌, ◌≤◌, ◌<◌, ◌++◌, ℕ, List, false, true, length};
+ghost use Rattle.std.specs.Prelude.{IfOk, OnOk, OnErr, IsErr, IsTrue};
 ghost use Rattle.core_definitions.specs.declared.event.Event.TheVariants as event;
 ghost use Rattle.core_definitions.specs.Core.{joined, enabled};
 ghost use Rattle.core_laws.specs.CoreLaws.{IsIdle};
 ghost use Rattle.speculation.specs.Asking.{page_limit};
 ghost use Rattle.core_steps.specs.Sides.{running, awaiting};
 ghost use Rattle.core_steps.specs.States.{standing_told};
-ghost use Rattle.core_pair.specs.Interleaving.{standing_of_core, Awaits, IsReached, AlwaysStandsFor, EndsAsSerial, EndsInEach, LinesBegin, EndStays, CreditIsKept, BoundedWhereItStands, BoundedByTheParse};
+ghost use Rattle.core_pair.specs.Interleaving.{standing_of_core, Awaits, IsReached};
+ghost use Rattle.core_pair.specs.Interleaving.{AlwaysStandsFor, EndsAsSerial, EndsInEach};
+ghost use Rattle.core_pair.specs.Interleaving.{LinesBegin, EndStays, CreditIsKept};
+ghost use Rattle.core_pair.specs.Interleaving.{BoundedWhereItStands, BoundedByTheParse};
 ghost use Rattle.core_pair.specs.Nearer.{IsNearer};
 ghost use Rattle.core_definitions.specs.Desk.{can_arrive};
 ghost use Rattle.core_steps.specs.Fetches.{fetched_of};
-ghost use Rattle.core_pair.specs.Pairs.{setup_of, first_paired, StepsShown, stepped, is_busy, brought};
+ghost use Rattle.core_pair.specs.Pairs.{setup_of, first_paired, StepsShown, stepped, is_busy};
+ghost use Rattle.core_pair.specs.Pairs.{brought};
 
 use crate::both::{Both, Could};
 use crate::setup::Setup;
@@ -24,12 +29,12 @@ use std::alloc::Global;
 use std::marker::Model;
 use std::snapshot::Snapshot;
 
-/// The core: both sides, and the requests and replies that are under way. A contract sees the core of the definitions, with the document side's
-/// journal, what the pair was given, and the events so far. Of a parse that is over it sees result, document and lines, and what is kept of the
-/// pieces.
+/// The core: both sides, and the requests and replies that are under way. A contract sees the core
+/// of the definitions, with the document side's journal, what the pair was given, and the events so
+/// far. Of a parse that is over it sees result, document and lines, and what is kept of the pieces.
 ///
-/// After an event that answered want of memory it answers that to every later one, and shows what it did before that event; what is enabled and
-/// where it stands it tells as before it too.
+/// After an event that answered want of memory it answers that to every later one, and shows what
+/// it did before that event; what is enabled and where it stands it tells as before it too.
 #[derive(Drop)]
 pub struct Pair<E: InForce> {
     both: Both<E>,
@@ -50,13 +55,16 @@ impl<E: InForce> Model for Pair<E> {
 }
 
 impl<E: InForce> Pair<E> {
-    /// Before any event: nothing is sent, the first epoch goes on, and no file of a script has arrived.
+    /// Before any event: nothing is sent, the first epoch goes on, and no file of a script has
+    /// arrived.
     pub fn new(alloc: Global, setup: Setup<'_>) -> Result<Pair<E>, NoMemory>
         requires entities { setup.table.now ≡ E.entities }
         requires some { 0 < setup.ahead }
         requires few { setup.ahead ≤ 64 }
         requires within { length (joined setup.pieces.items) ≤ page_limit }
-        ensures { IfOk result (λ p. p ≡ first_paired setup.entry.table.now setup.entry.scripts setup.entry.pieces.items setup.entry.ending setup.entry.ahead) }
+        ensures { IfOk result
+            (λ p. p ≡ first_paired setup.entry.table.now setup.entry.scripts
+            setup.entry.pieces.items setup.entry.ending setup.entry.ahead) }
     {
         let both = Both::new(alloc, setup)?;
         let before = Snapshot::of(&both);
@@ -107,7 +115,8 @@ impl<E: InForce> Pair<E> {
     pub fn step(&mut self, event: Event) -> Result<(), NoMemory>
         requires { IsTrue (enabled (setup_of self.old) event self.old.core) }
         ensures spent { self.old.spent ≡ true → IsErr result }
-        ensures steps { OnOk result (StepsShown (setup_of self.old) event self.old.core self.new.core) }
+        ensures steps { OnOk result
+            (StepsShown (setup_of self.old) event self.old.core self.new.core) }
         ensures others { OnOk result (self.new ≡ stepped event self.new.core self.old) }
         ensures setup { OnOk result (setup_of self.new ≡ setup_of self.old) }
         ensures stands_for { OnOk result (AlwaysStandsFor self.new) }
@@ -126,7 +135,8 @@ impl<E: InForce> Pair<E> {
         Ok(())
     }
 
-    /// Sets what comes of fetching the script of that name, which hasn't arrived. Of what was set for one name the last counts.
+    /// Sets what comes of fetching the script of that name, which hasn't arrived. Of what was set
+    /// for one name the last counts.
     pub fn bring(&mut self, name: Text, fetch: Fetch) -> Result<(), NoMemory>
         requires { IsTrue (can_arrive name self.old.core.desk) }
         ensures ok { OnOk result (self.new ≡ brought name (fetched_of fetch) self.old) }
@@ -150,8 +160,10 @@ impl<E: InForce> Pair<E> {
     /// Where it stands.
     pub fn status(&self) -> State<'_>
         ensures told { standing_told result ≡ standing_of_core (setup_of self.now) self.now.core }
-        ensures never_stuck { IsIdle (setup_of self.now) self.now.core → standing_told result ≢ running }
-        ensures awaits { (name : List ℕ) → (standing_told result ≡ awaiting name) ↔ Awaits name self.now }
+        ensures never_stuck { IsIdle (setup_of self.now) self.now.core
+            → standing_told result ≢ running }
+        ensures awaits { (name : List ℕ)
+            → (standing_told result ≡ awaiting name) ↔ Awaits name self.now }
         ensures ends { EndsAsSerial self.now }
     {
         let busy = self.is_busy();
@@ -175,8 +187,10 @@ impl<E: InForce> Pair<E> {
     /// The lines that scripts gave since lines were last taken.
     pub fn take_lines(&mut self) -> Result<Lines, NoMemory>
         ensures spent { self.old.spent ≡ true → IsErr result }
-        ensures lines { IfOk result (λ lines. self.old.core.desk.own.side.lines ≡ self.old.given ++ lines) }
-        ensures taken { IfOk result (λ lines. self.new ≡ record self.old { given = self.old.given ++ lines }) }
+        ensures lines { IfOk result
+            (λ lines. self.old.core.desk.own.side.lines ≡ self.old.given ++ lines) }
+        ensures taken { IfOk result
+            (λ lines. self.new ≡ record self.old { given = self.old.given ++ lines }) }
         ensures err { OnErr result (self.new ≡ self.old) }
     {
         if self.spent {

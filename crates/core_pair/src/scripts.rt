@@ -1,6 +1,7 @@
 //! The files of scripts, by their names.
 
-ghost use Rattle.std.specs.Prelude.{◌≡◌, [], ◌∷◌, ◌++◌, None, Some, OnOk, OnErr, IfOk, IfSome, IfNone};
+ghost use Rattle.std.specs.Prelude.{◌≡◌, [], ◌∷◌, ◌++◌, None, Some, OnOk, OnErr, IfOk, IfSome};
+ghost use Rattle.std.specs.Prelude.{IfNone};
 ghost use Rattle.std.specs.Str.{chars};
 ghost use Rattle.core_steps.specs.Acting.{fetch_or_missing};
 ghost use Rattle.core_steps.specs.Fetches.{fetched_of};
@@ -12,7 +13,8 @@ use html_types::{NoMemory, Text};
 use std::alloc::Global;
 use std::marker::Model;
 
-/// What comes of fetching scripts, by their names: a contract sees the list of them. Of two with one name the first counts.
+/// What comes of fetching scripts, by their names: a contract sees the list of them. Of two with
+/// one name the first counts.
 #[derive(Drop)]
 pub struct Scripts {
     files: Vec<FetchedFile>,
@@ -31,7 +33,8 @@ impl Model for Scripts {
 
 // What comes of the script of that name, where it is listed.
 fn find_in<'a>(files: &'a [FetchedFile], name: &str) -> Option<&'a Fetch>
-    ensures found { IfSome result (λ fetch. found (chars name.now) (files_of files.now) ≡ Some (fetched_of fetch.now)) }
+    ensures found { IfSome result
+        (λ fetch. found (chars name.now) (files_of files.now) ≡ Some (fetched_of fetch.now)) }
     ensures none { IfNone result (found (chars name.now) (files_of files.now) ≡ None) }
 {
     let mut rest = files;
@@ -74,7 +77,8 @@ impl Scripts {
 
     /// What comes of fetching the script of that name: it is missing where it isn't listed.
     pub fn fetch(&self, alloc: Global, name: &str) -> Result<Fetch, NoMemory>
-        ensures { IfOk result (λ f. fetched_of f ≡ fetch_or_missing (found (chars name.now) self.now)) }
+        ensures { IfOk result
+            (λ f. fetched_of f ≡ fetch_or_missing (found (chars name.now) self.now)) }
     {
         match find_in(self.files.as_slice(), name) {
             Some(fetch) => fetch.copy(alloc),

@@ -5,3 +5,4 @@ pub mod Acting
 pub mod States
 pub mod Tallies
 pub mod Working
+pub mod Changing

@@ -1,14 +1,18 @@
 //! The document's side.
 
-ghost use Rattle.std.specs.Prelude.{◌≡◌, ◌<◌, ◌≤◌, ◌+◌, ◌++◌, ℕ, List, length, true, false, None, IfOk, OnOk, OnErr, IsErr, IsTrue, string_bytes};
+ghost use Rattle.std.specs.Prelude.{◌≡◌, ◌<◌, ◌≤◌, ◌+◌, ◌++◌, ℕ, List, length, true, false, None};
+ghost use Rattle.std.specs.Prelude.{IfOk, OnOk, OnErr, IsErr, IsTrue, string_bytes};
 ghost use Rattle.std.specs.Str.{chars};
 ghost use Rattle.core_definitions.specs.declared.event.Event.TheVariants as event;
 ghost use Rattle.core_definitions.specs.Core.{joined};
-ghost use Rattle.core_definitions.specs.Desk.{can_send, can_do, wants_reply, can_arrive, sends, takes};
+ghost use Rattle.core_definitions.specs.Desk.{can_send, can_do, wants_reply, can_arrive, sends};
+ghost use Rattle.core_definitions.specs.Desk.{takes};
 ghost use Rattle.speculation.specs.Asking.{page_limit};
-ghost use Rattle.doc_changes.specs.Logs.{Logs};
+ghost use Rattle.core_steps.specs.Changing.{LogsDo};
 ghost use Rattle.core_steps.specs.Fetches.{fetched_of};
-ghost use Rattle.core_steps.specs.Sides.{first_shown, with_piece, with_ending, journaled, with_fetch, IsRequestFor, sent_before, DoesShow, awaiting, standing_of, left_to_do, IsReplayed};
+ghost use Rattle.core_steps.specs.Sides.{first_shown, with_piece, with_ending, journaled};
+ghost use Rattle.core_steps.specs.Sides.{with_fetch, IsRequestFor, sent_before, DoesShow, awaiting};
+ghost use Rattle.core_steps.specs.Sides.{standing_of, left_to_do, IsReplayed};
 ghost use Rattle.core_steps.specs.States.{standing_told};
 ghost use Rattle.core_steps.specs.Tallies.{IsTallyOf};
 
@@ -27,12 +31,14 @@ use std::alloc::Global;
 use std::marker::Model;
 use std::snapshot::Snapshot;
 
-/// The document's side of the core: it sends the page's text out piece by piece, takes what was made of each, executes it in order, runs the
-/// scripts that it meets, and decides behind each whether what was made ahead is kept. A contract sees the desk of the definitions, with the
+/// The document's side of the core: it sends the page's text out piece by piece, takes what was
+/// made of each, executes it in order, runs the scripts that it meets, and decides behind each
+/// whether what was made ahead is kept. A contract sees the desk of the definitions, with the
 /// journal that replays to it.
 ///
-/// After an event that answered want of memory it answers that to every later one, its desk and journal being as before that event; where it
-/// stands and which events are enabled it tells as before it too.
+/// After an event that answered want of memory it answers that to every later one, its desk and
+/// journal being as before that event; where it stands and which events are enabled it tells as
+/// before it too.
 #[derive(Drop)]
 pub struct DocSide {
     side: Side,
@@ -50,7 +56,8 @@ impl Model for DocSide {
 
     ghost view = { λ d. shown_of (if d.spent then d.before.value else d.side) d.spent };
 
-    ghost invariant = { λ d. IsKept d.side d.before.value d.could d.spent (shown_of (if d.spent then d.before.value else d.side) d.spent) };
+    ghost invariant = { λ d. IsKept d.side d.before.value d.could d.spent
+        (shown_of (if d.spent then d.before.value else d.side) d.spent) };
 }
 
 impl DocSide {
@@ -74,7 +81,8 @@ impl DocSide {
     /// Hands in the page's next piece.
     pub fn piece(&mut self, text: String) -> Result<(), NoMemory>
         requires no_ending { self.old.journal.ending ≡ None }
-        requires within { length (joined self.old.journal.pieces) + length (chars (string_bytes text)) ≤ page_limit }
+        requires within { length (joined self.old.journal.pieces)
+            + length (chars (string_bytes text)) ≤ page_limit }
         ensures spent { self.old.spent ≡ true → IsErr result }
         ensures ok { OnOk result (self.new ≡ with_piece (chars (string_bytes text)) self.old) }
         ensures err { OnErr result (self.new ≡ record self.old { spent = true }) }
@@ -149,9 +157,11 @@ impl DocSide {
     pub fn send(&mut self) -> Result<Request, NoMemory>
         requires can { IsTrue (can_send self.old.ahead self.old.desk) }
         ensures spent { self.old.spent ≡ true → IsErr result }
-        ensures request { IfOk result (λ r. IsRequestFor self.old.desk.to_send self.old.desk r.request) }
+        ensures request { IfOk result
+            (λ r. IsRequestFor self.old.desk.to_send self.old.desk r.request) }
         ensures from { IfOk result (λ r. r.from ≡ sent_before self.old) }
-        ensures sent { OnOk result (self.new ≡ journaled event.Send (sends self.old.desk) self.old) }
+        ensures sent { OnOk result
+            (self.new ≡ journaled event.Send (sends self.old.desk) self.old) }
         ensures err { OnErr result (self.new ≡ record self.old { spent = true }) }
     {
         if self.spent {
@@ -165,13 +175,14 @@ impl DocSide {
         Ok(request)
     }
 
-    /// Takes a reply. Whatever it says, the desk takes the answer that is called for; or, where the request was of an epoch that has ended,
-    /// drops it.
+    /// Takes a reply. Whatever it says, the desk takes the answer that is called for; or, where the
+    /// request was of an epoch that has ended, drops it.
     pub fn take<E: InForce>(&mut self, reply: Reply<E>) -> Result<(), NoMemory>
         requires entities { self.old.entities ≡ E.entities }
         requires wanted { IsTrue (wants_reply self.old.desk) }
         ensures spent { self.old.spent ≡ true → IsErr result }
-        ensures took { OnOk result (self.new ≡ journaled event.Take (takes self.old.entities self.old.desk) self.old) }
+        ensures took { OnOk result
+            (self.new ≡ journaled event.Take (takes self.old.entities self.old.desk) self.old) }
         ensures err { OnErr result (self.new ≡ record self.old { spent = true }) }
     {
         if self.spent {
@@ -186,15 +197,16 @@ impl DocSide {
     }
 
     /// Executes a batch, or runs the script that is in hand, until it ends or a script is awaited.
-    /// The log gains what that changed in the document.
+    /// The log gains the changes that it made.
     pub fn act(&mut self, log: &mut Log) -> Result<(), NoMemory>
         requires can { IsTrue (can_do self.old.desk) }
         ensures spent { self.old.spent ≡ true → IsErr result }
-        ensures does { OnOk result (DoesShow self.old.entities self.old.journal.fetches self.old.desk self.new.desk) }
+        ensures does { OnOk result
+            (DoesShow self.old.entities self.old.journal.fetches self.old.desk self.new.desk) }
         ensures others { OnOk result (self.new ≡ journaled event.Do self.new.desk self.old) }
         ensures less { OnOk result (left_to_do self.new.desk < left_to_do self.old.desk) }
-        ensures logged { OnOk result (Logs log.old self.old.desk.own.side.doc
-            log.new self.new.desk.own.side.doc) }
+        ensures logged { OnOk result (LogsDo self.old.entities self.old.journal.fetches
+            self.old.desk self.new.desk log.old log.new) }
         ensures err { OnErr result (self.new ≡ record self.old { spent = true }) }
     {
         if self.spent {
@@ -230,7 +242,8 @@ impl DocSide {
     pub fn status(&self) -> State<'_>
         ensures standing { standing_told result ≡ standing_of self.now.desk }
         // A script that is awaited may arrive.
-        ensures awaited { (name : List ℕ) → awaiting name ≡ standing_told result → IsTrue (can_arrive name self.now.desk) }
+        ensures awaited { (name : List ℕ) → awaiting name ≡ standing_told result
+            → IsTrue (can_arrive name self.now.desk) }
     {
         if self.spent {
             return self.stood();
@@ -238,7 +251,8 @@ impl DocSide {
         self.side.status()
     }
 
-    // Where it stood before the event that was refused. Only Do changes what is in hand where it is refused.
+    // Where it stood before the event that was refused. Only Do changes what is in hand where it is
+    // refused.
     fn stood(&self) -> State<'_>
         requires { self.now.spent ≡ true }
         ensures { standing_told result ≡ standing_of self.now.desk }
@@ -249,9 +263,11 @@ impl DocSide {
         self.side.status()
     }
 
-    /// The lines that scripts gave since lines were last taken. After want of memory it tells nothing.
+    /// The lines that scripts gave since lines were last taken. After want of memory it tells
+    /// nothing.
     pub fn lines(&self) -> &Lines
-        ensures { self.now.spent ≡ false → self.now.desk.own.side.lines ≡ self.now.given ++ result.now }
+        ensures { self.now.spent ≡ false
+            → self.now.desk.own.side.lines ≡ self.now.given ++ result.now }
     {
         self.side.lines()
     }
@@ -259,8 +275,10 @@ impl DocSide {
     /// Takes the lines that scripts gave since lines were last taken.
     pub fn take_lines(&mut self) -> Result<Lines, NoMemory>
         ensures spent { self.old.spent ≡ true → IsErr result }
-        ensures lines { IfOk result (λ lines. self.old.desk.own.side.lines ≡ self.old.given ++ lines) }
-        ensures taken { IfOk result (λ lines. self.new ≡ record self.old { given = self.old.given ++ lines }) }
+        ensures lines { IfOk result
+            (λ lines. self.old.desk.own.side.lines ≡ self.old.given ++ lines) }
+        ensures taken { IfOk result
+            (λ lines. self.new ≡ record self.old { given = self.old.given ++ lines }) }
         ensures err { OnErr result (self.new ≡ self.old) }
     {
         if self.spent {

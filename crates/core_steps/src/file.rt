@@ -15,7 +15,8 @@ use utf8_pieces::without_mark;
 /// The most bytes of a script's file.
 pub const SCRIPT_LIMIT: usize = 1_048_576;
 
-// A text that isn't in the language of scripts. It stands for a file that is too long or isn't UTF-8.
+// A text that isn't in the language of scripts. It stands for a file that is too long or isn't
+// UTF-8.
 const OUTSIDE_THE_LANGUAGE: &str = "?";
 
 fn is_name_character(c: char) -> bool
@@ -30,7 +31,8 @@ fn are_name_characters(name: &str) -> bool
     name.chars().all(is_name_character)
 }
 
-/// Whether a script's file may have the name: 1 to 100 letters, digits, `.`, `_` and `-`, with no dot at the front.
+/// Whether a script's file may have the name: 1 to 100 letters, digits, `.`, `_` and `-`, with no
+/// dot at the front.
 pub fn is_lawful(name: &str) -> bool
     ensures { result ≡ is_lawful (chars name.now) }
 {
@@ -41,10 +43,11 @@ pub fn is_lawful(name: &str) -> bool
     are_name_characters(name) && name.len() <= 100
 }
 
-/// The text of a file that runs as a script, without a byte order mark at its front. A file that is too long or isn't UTF-8 counts as a text
-/// outside the language.
+/// The text of a file that runs as a script, without a byte order mark at its front. A file that is
+/// too long or isn't UTF-8 counts as a text outside the language.
 pub fn text_of(alloc: Global, bytes: &[u8]) -> Result<String, NoMemory>
-    ensures { IfOk result (λ text. statements (chars (string_bytes text)) ≡ file_statements bytes.now) }
+    ensures { IfOk result
+        (λ text. statements (chars (string_bytes text)) ≡ file_statements bytes.now) }
 {
     if bytes.len() > SCRIPT_LIMIT {
         return Ok(String::from_str(alloc, OUTSIDE_THE_LANGUAGE)?);

@@ -1,6 +1,7 @@
 //! The journal of a run.
 
-ghost use Rattle.std.specs.Prelude.{◌≡◌, ◌++◌, ◌∷◌, [], None, Some, OnOk, OnErr, IfSome, IfNone, length};
+ghost use Rattle.std.specs.Prelude.{◌≡◌, ◌++◌, ◌∷◌, [], None, Some, OnOk, OnErr, IfSome, IfNone};
+ghost use Rattle.std.specs.Prelude.{length};
 ghost use Rattle.std.specs.Str.{chars};
 ghost use Rattle.core_definitions.specs.declared.event.Event.TheVariants.{Arrive as arrived};
 ghost use Rattle.core_steps.specs.Fetches.{fetched_of};
@@ -15,8 +16,9 @@ use std::collections::BTreeMap;
 use std::marker::Model;
 use std::snapshot::Snapshot;
 
-/// What a run leaves behind: the pieces of the page's text as they were read, its ending where that was read, each name that was fetched with
-/// what came of it, the latest first, and the events of the document's side. The pieces are held no more: only contracts see their texts.
+/// What a run leaves behind: the pieces of the page's text as they were read, its ending where that
+/// was read, each name that was fetched with what came of it, the latest first, and the events of
+/// the document's side. The pieces are held no more: only contracts see their texts.
 #[derive(Drop)]
 pub struct Journal {
     alloc: Global,
@@ -38,7 +40,13 @@ impl Model for Journal {
 
     ghost Value = { rules.Journal };
 
-    ghost view = { λ j. record { pieces = pieces_read j.pieces.items; ending = j.ending; fetches = fetches_of (reverse j.fetched.items); events = j.events.items } };
+    ghost view = { λ j.
+        record {
+          pieces = pieces_read j.pieces.items;
+          ending = j.ending;
+          fetches = fetches_of (reverse j.fetched.items);
+          events = j.events.items;
+        } };
 
     ghost invariant = { λ j. AreIndexed j.fetches (fetches_of (reverse j.fetched.items)) };
 }
@@ -80,15 +88,16 @@ impl Journal {
         self.events.as_slice()
     }
 
-    /// How many characters of the page the document's side parsed itself, where it had no batch that holds a machine. It measures, and tells
-    /// nothing of what the events come to.
+    /// How many characters of the page the document's side parsed itself, where it had no batch
+    /// that holds a machine. It measures, and tells nothing of what the events come to.
     pub fn parsed_here(&self) -> u64 {
         self.parsed_here
     }
 
     /// What came of the script of that name, where it was fetched.
     pub fn find(&self, name: &str) -> Option<&Fetch>
-        ensures found { IfSome result (λ fetch. found (chars name.now) self.now.fetches ≡ Some (fetched_of fetch.now)) }
+        ensures found { IfSome result
+            (λ fetch. found (chars name.now) self.now.fetches ≡ Some (fetched_of fetch.now)) }
         ensures none { IfNone result (found (chars name.now) self.now.fetches ≡ None) }
     {
         self.fetches.get(name)
@@ -96,7 +105,8 @@ impl Journal {
 
     /// Adds a piece that was read.
     pub(crate) fn add_piece(&mut self, piece: Snapshot<SharedText>) -> Result<(), NoMemory>
-        ensures ok { OnOk result (self.new ≡ record self.old { pieces = self.old.pieces ++ piece.value ∷ [] }) }
+        ensures ok { OnOk result
+            (self.new ≡ record self.old { pieces = self.old.pieces ++ piece.value ∷ [] }) }
         ensures err { OnErr result (self.new ≡ self.old) }
     {
         self.pieces.push(piece)?;
@@ -119,7 +129,8 @@ impl Journal {
 
     /// Adds an event.
     pub(crate) fn add_event(&mut self, event: Event) -> Result<(), NoMemory>
-        ensures ok { OnOk result (self.new ≡ record self.old { events = self.old.events ++ event ∷ [] }) }
+        ensures ok { OnOk result
+            (self.new ≡ record self.old { events = self.old.events ++ event ∷ [] }) }
         ensures err { OnErr result (self.new ≡ self.old) }
     {
         self.events.push(event)?;
@@ -128,7 +139,12 @@ impl Journal {
 
     /// The fetch of the script of that name has returned.
     pub(crate) fn add_fetch(&mut self, name: Text, fetch: Fetch) -> Result<(), NoMemory>
-        ensures ok { OnOk result (self.new ≡ record self.old { fetches = (name, fetched_of fetch) ∷ self.old.fetches; events = self.old.events ++ arrived name ∷ [] }) }
+        ensures ok { OnOk result
+            (self.new
+            ≡ record self.old {
+              fetches = (name, fetched_of fetch) ∷ self.old.fetches;
+              events = self.old.events ++ arrived name ∷ [];
+            }) }
         ensures err { OnErr result (self.new ≡ self.old) }
     {
         let key = String::from_str(self.alloc, name.as_str())?;

@@ -1,14 +1,19 @@
 //! What the document's side holds, while memory lasts, and its events.
 
-ghost use Rattle.std.specs.Prelude.{◌≡◌, ◌<◌, ◌++◌, ◌∷◌, [], false, None, Some, IfOk, OnOk, OnErr, IsTrue, not, length, string_bytes};
+ghost use Rattle.std.specs.Prelude.{◌≡◌, ◌<◌, ◌++◌, ◌∷◌, [], false, None, Some, IfOk, OnOk, OnErr};
+ghost use Rattle.std.specs.Prelude.{IsTrue, not, length, string_bytes};
 ghost use Rattle.std.specs.Str.{chars};
 ghost use Rattle.core_definitions.specs.declared.event.Event.TheVariants as event;
 ghost use Rattle.core_definitions.specs.Batches.{answer};
 ghost use Rattle.core_definitions.specs.Core.{joined};
-ghost use Rattle.core_definitions.specs.Desk.{is_done, has_arrived, can_send, can_do, wants_reply, sends, takes};
+ghost use Rattle.core_definitions.specs.Desk.{is_done, has_arrived, can_send, can_do, wants_reply};
+ghost use Rattle.core_definitions.specs.Desk.{sends, takes};
 ghost use Rattle.core_definitions.specs.Settling.{is_empty as has_none};
 ghost use Rattle.speculation.specs.Asking.{page_limit};
-ghost use Rattle.doc_changes.specs.Logs.{Logs};
+ghost use Rattle.doc_changes.specs.Logs.{with_more};
+ghost use Rattle.write_parser.specs.Made.{at_view, Made, MadeAtTag, LogsBy};
+ghost use Rattle.core_steps.specs.Changing.{of_first, MadeByFile, ReachesView, MadeFirst, MadeIn};
+ghost use Rattle.core_steps.specs.Changing.{LogsDo};
 ghost use Rattle.core_steps.specs.Fetches.{fetched_of};
 ghost use Rattle.core_steps.specs.States.{standing_told};
 ghost use Rattle.core_steps.specs.Tallies.{AreInHand, IsTallyOf};
@@ -16,9 +21,15 @@ ghost use Rattle.std.specs.Prelude.{◌+◌, ◌≤◌, suc};
 ghost use Rattle.standard.specs.Act.{is_bound};
 ghost use Rattle.core_definitions.specs.declared.verdict.Verdict.TheVariants as verdict;
 ghost use Rattle.moment_laws.specs.Served.{AreBelow, IsRoomy};
-ghost use Rattle.core_steps.specs.Acting.{ended, IsFront, UsedUp, free_hand, behind_first, at_stage, Executed, MeetsTag, runs_there, RunsBatch, JudgedAs, Judged, Settled, RunsTagged, met, RunsFetched, ActsBy};
+ghost use Rattle.core_steps.specs.Acting.{ended, IsFront, UsedUp, free_hand, behind_first};
+ghost use Rattle.core_steps.specs.Acting.{at_stage, Executed, MeetsTag, runs_there, RunsBatch};
+ghost use Rattle.core_steps.specs.Acting.{JudgedAs, Judged, Settled, RunsTagged, met, RunsFetched};
+ghost use Rattle.core_steps.specs.Acting.{ActsBy};
 ghost use Rattle.core_steps.specs.Sides.{IsFree, IsHolding, IsTagged, IsWaiting, IsPlaced};
-ghost use Rattle.core_steps.specs.Sides.{first_shown, standing_of, lines_given, with_piece, with_ending, journaled, with_fetch, IsRequestFor, sent_before, DoesShow, left_to_do, hand_of, desk_of, shown_of, AreAhead, IsSound};
+ghost use Rattle.core_steps.specs.Sides.{first_shown, standing_of, lines_given, with_piece};
+ghost use Rattle.core_steps.specs.Sides.{with_ending, journaled, with_fetch, IsRequestFor};
+ghost use Rattle.core_steps.specs.Sides.{sent_before, DoesShow, left_to_do, hand_of, desk_of};
+ghost use Rattle.core_steps.specs.Sides.{shown_of, AreAhead, IsSound};
 
 use crate::fetch::Fetch;
 use crate::file::{is_lawful, text_of};
@@ -40,7 +51,8 @@ use std::mem;
 use std::snapshot::Snapshot;
 use write_parser::{Left, Writer};
 
-/// The epoch, the next realm of ids, and two places in the page: of what is left of the piece in hand, and of the pieces to be sent.
+/// The epoch, the next realm of ids, and two places in the page: of what is left of the piece in
+/// hand, and of the pieces to be sent.
 #[derive(Drop)]
 pub(crate) struct Counts {
     pub epoch: u64,
@@ -67,7 +79,8 @@ pub(crate) struct Side {
     pub given: Vec<Snapshot<Lines>>,
     pub ledger: Ledger,
     pub stage: Stage,
-    // The batches in hand, where a reply had them. Where there are none, what is left of the piece in hand is parsed as it is executed.
+    // The batches in hand, where a reply had them. Where there are none, what is left of the piece
+    // in hand is parsed as it is executed.
     pub ready: Batches,
     pub begins: Option<Machine>,
     pub counts: Counts,
@@ -136,9 +149,12 @@ impl Side {
     pub fn piece(&mut self, text: String) -> Result<(), NoMemory>
         requires sound { IsSound self.old }
         requires no_ending { self.old.journal.ending ≡ None }
-        requires within { length (joined self.old.journal.pieces) + length (chars (string_bytes text)) ≤ page_limit }
+        requires within { length (joined self.old.journal.pieces)
+            + length (chars (string_bytes text)) ≤ page_limit }
         ensures sound { OnOk result (IsSound self.new) }
-        ensures shown { OnOk result (shown_of self.new false ≡ with_piece (chars (string_bytes text)) (shown_of self.old false)) }
+        ensures shown { OnOk result
+            (shown_of self.new false
+            ≡ with_piece (chars (string_bytes text)) (shown_of self.old false)) }
         ensures journal { OnErr result (self.new.journal ≡ self.old.journal) }
         ensures stage { OnErr result (self.new.stage ≡ self.old.stage) }
     {
@@ -153,7 +169,8 @@ impl Side {
         requires sound { IsSound self.old }
         requires no_ending { self.old.journal.ending ≡ None }
         ensures sound { OnOk result (IsSound self.new) }
-        ensures shown { OnOk result (shown_of self.new false ≡ with_ending ending (shown_of self.old false)) }
+        ensures shown { OnOk result
+            (shown_of self.new false ≡ with_ending ending (shown_of self.old false)) }
         ensures journal { OnErr result (self.new.journal ≡ self.old.journal) }
         ensures stage { OnErr result (self.new.stage ≡ self.old.stage) }
     {
@@ -244,9 +261,12 @@ impl Side {
         requires sound { IsSound self.old }
         requires can { IsTrue (can_send self.old.ledger.ahead (desk_of self.old)) }
         ensures sound { OnOk result (IsSound self.new) }
-        ensures request { IfOk result (λ r. IsRequestFor self.old.ledger.to_send (desk_of self.old) r.request) }
+        ensures request { IfOk result
+            (λ r. IsRequestFor self.old.ledger.to_send (desk_of self.old) r.request) }
         ensures from { IfOk result (λ r. r.from ≡ sent_before (shown_of self.old false)) }
-        ensures shown { OnOk result (shown_of self.new false ≡ journaled event.Send (sends (desk_of self.old)) (shown_of self.old false)) }
+        ensures shown { OnOk result
+            (shown_of self.new false
+            ≡ journaled event.Send (sends (desk_of self.old)) (shown_of self.old false)) }
         ensures journal { OnErr result (self.new.journal ≡ self.old.journal) }
         ensures stage { OnErr result (self.new.stage ≡ self.old.stage) }
     {
@@ -261,7 +281,8 @@ impl Side {
 
     // Whether a reply is the one called for: to the piece in hand, from where the parser stands.
     fn is_called_for(&self, said: &Said) -> bool
-        ensures { IsTrue result → (said.now.start ≡ Some self.now.writer.parser) × (said.now.piece ≡ self.now.ledger.left) }
+        ensures { IsTrue result → (said.now.start ≡ Some self.now.writer.parser)
+            × (said.now.piece ≡ self.now.ledger.left) }
     {
         said.epoch() == self.counts.epoch
             && said.number() == (self.ledger.sent() - self.ledger.outstanding()) as u64
@@ -272,7 +293,8 @@ impl Side {
 
     // The batches of a reply, where it is the one called for.
     fn batches_of<E: InForce>(&self, reply: Reply<E>) -> Batches
-        ensures { AreAhead result (answer E.entities (Some self.now.writer.parser) self.now.ledger.left).batches }
+        ensures { AreAhead result
+            (answer E.entities (Some self.now.writer.parser) self.now.ledger.left).batches }
     {
         let said = reply.said;
         if !self.is_called_for(&said) {
@@ -281,13 +303,17 @@ impl Side {
         said.into_batches()
     }
 
-    /// Takes a reply. It is dropped where an epoch that has ended sent the request; else what was made of the piece is in hand.
+    /// Takes a reply. It is dropped where an epoch that has ended sent the request; else what was
+    /// made of the piece is in hand.
     pub fn take<E: InForce>(&mut self, reply: Reply<E>) -> Result<(), NoMemory>
         requires entities { self.old.table ≡ E.entities }
         requires sound { IsSound self.old }
         requires wanted { IsTrue (wants_reply (desk_of self.old)) }
         ensures sound { OnOk result (IsSound self.new) }
-        ensures shown { OnOk result (shown_of self.new false ≡ journaled event.Take (takes self.old.table (desk_of self.old)) (shown_of self.old false)) }
+        ensures shown { OnOk result
+            (shown_of self.new false
+            ≡ journaled event.Take (takes self.old.table (desk_of self.old))
+            (shown_of self.old false)) }
         ensures journal { OnErr result (self.new.journal ≡ self.old.journal) }
         ensures stage { OnErr result (self.new.stage ≡ self.old.stage) }
     {
@@ -302,7 +328,9 @@ impl Side {
     pub fn arrive(&mut self, name: Text, fetch: Fetch) -> Result<(), NoMemory>
         requires sound { IsSound self.old }
         ensures sound { OnOk result (IsSound self.new) }
-        ensures shown { OnOk result (shown_of self.new false ≡ with_fetch name (fetched_of fetch) (shown_of self.old false)) }
+        ensures shown { OnOk result
+            (shown_of self.new false
+            ≡ with_fetch name (fetched_of fetch) (shown_of self.old false)) }
         ensures journal { OnErr result (self.new.journal ≡ self.old.journal) }
         ensures stage { OnErr result (self.new.stage ≡ self.old.stage) }
     {
@@ -329,8 +357,9 @@ impl Side {
         }
     }
 
-    /// What it comes to in numbers. Each script of the page that was in hand took a realm of ids, and each that failed one more and an epoch. A
-    /// script that is in hand is neither kept nor failed.
+    /// What it comes to in numbers. Each script of the page that was in hand took a realm of ids,
+    /// and each that failed one more and an epoch. A script that is in hand is neither kept nor
+    /// failed.
     pub fn tally(&self) -> Tally
         ensures { IsTallyOf (desk_of self.now) result }
     {
@@ -352,7 +381,10 @@ impl Side {
     pub fn take_lines(&mut self) -> Result<Lines, NoMemory>
         requires { IsSound self.old }
         ensures lines { IfOk result (λ lines. self.old.writer.lines ≡ lines) }
-        ensures taken { IfOk result (λ lines. shown_of self.new false ≡ record (shown_of self.old false) { given = lines_given self.old.given.items ++ lines }) }
+        ensures taken { IfOk result
+            (λ lines. shown_of self.new false
+            ≡ record (shown_of self.old false)
+            { given = lines_given self.old.given.items ++ lines }) }
         ensures sound { IsSound self.new }
         ensures err { OnErr result (shown_of self.new false ≡ shown_of self.old false) }
     {
@@ -372,7 +404,7 @@ impl Side {
         requires some { has_none (free_hand self.old) ≡ false }
         ensures executed { IfOk result (λ halt. Executed self.old halt self.new) }
         ensures journal { self.new.journal ≡ self.old.journal }
-        ensures logged { OnOk result (Logs log.old self.old.writer.doc log.new self.new.writer.doc) }
+        ensures logged { OnOk result (log.new ≡ with_more (of_first (free_hand self.old)) log.old) }
     {
         match self.ready.pop() {
             Some(batch) => self.execute_ready(log, batch),
@@ -385,10 +417,11 @@ impl Side {
         requires going { self.old.writer.spent ≡ false }
         requires free { IsFree self.old.counts.realm self.old.writer }
         requires first { free_hand self.old ≡ batch ∷ self.old.ready }
-        requires placed { IsPlaced self.old.counts.place self.old.counts.sent_to self.old.ledger self.old.journal }
+        requires placed { IsPlaced self.old.counts.place self.old.counts.sent_to self.old.ledger
+            self.old.journal }
         ensures executed { IfOk result (λ halt. Executed self.old halt self.new) }
         ensures journal { self.new.journal ≡ self.old.journal }
-        ensures logged { OnOk result (Logs log.old self.old.writer.doc log.new self.new.writer.doc) }
+        ensures logged { OnOk result (log.new ≡ with_more (of_first (free_hand self.old)) log.old) }
     {
         let halt = batch.halt();
         let used = batch.text().as_str().len();
@@ -406,7 +439,8 @@ impl Side {
     // So many bytes of the piece in hand are executed.
     fn use_up(&mut self, bytes: usize)
         requires front { IsFront bytes self.old.ledger.left.text }
-        requires placed { IsPlaced self.old.counts.place self.old.counts.sent_to self.old.ledger self.old.journal }
+        requires placed { IsPlaced self.old.counts.place self.old.counts.sent_to self.old.ledger
+            self.old.journal }
         ensures { UsedUp bytes self.old self.new }
     {
         let left = self.ledger.left().text();
@@ -423,10 +457,11 @@ impl Side {
         requires free { IsFree self.old.counts.realm self.old.writer }
         requires some { has_none (free_hand self.old) ≡ false }
         requires ahead { AreAhead self.old.ready (behind_first (free_hand self.old)) }
-        requires placed { IsPlaced self.old.counts.place self.old.counts.sent_to self.old.ledger self.old.journal }
+        requires placed { IsPlaced self.old.counts.place self.old.counts.sent_to self.old.ledger
+            self.old.journal }
         ensures executed { IfOk result (λ halt. Executed self.old halt self.new) }
         ensures journal { self.new.journal ≡ self.old.journal }
-        ensures logged { OnOk result (Logs log.old self.old.writer.doc log.new self.new.writer.doc) }
+        ensures logged { OnOk result (log.new ≡ with_more (of_first (free_hand self.old)) log.old) }
     {
         if self.ledger.left().text().is_empty() {
             return self.parse_ending(log);
@@ -447,10 +482,11 @@ impl Side {
         requires some { has_none (free_hand self.old) ≡ false }
         requires ends { self.old.ledger.left.text ≡ [] }
         requires ahead { AreAhead self.old.ready (behind_first (free_hand self.old)) }
-        requires placed { IsPlaced self.old.counts.place self.old.counts.sent_to self.old.ledger self.old.journal }
+        requires placed { IsPlaced self.old.counts.place self.old.counts.sent_to self.old.ledger
+            self.old.journal }
         ensures executed { IfOk result (λ halt. Executed self.old halt self.new) }
         ensures journal { self.new.journal ≡ self.old.journal }
-        ensures logged { OnOk result (Logs log.old self.old.writer.doc log.new self.new.writer.doc) }
+        ensures logged { OnOk result (log.new ≡ with_more (of_first (free_hand self.old)) log.old) }
     {
         match self.ledger.left().ending() {
             Some(ending) => {
@@ -472,7 +508,10 @@ impl Side {
     // A realm that no element's id has, and the next behind it.
     fn new_realm(&mut self) -> Result<u32, NoMemory>
         ensures realm { IfOk result (λ realm. realm ≡ self.old.counts.realm) }
-        ensures next { OnOk result (self.new ≡ record self.old { counts = record self.old.counts { realm = suc self.old.counts.realm } }) }
+        ensures next { OnOk result
+            (self.new
+            ≡ record self.old
+            { counts = record self.old.counts { realm = suc self.old.counts.realm } }) }
         ensures err { OnErr result (self.new ≡ self.old) }
     {
         let realm = self.counts.realm;
@@ -487,7 +526,8 @@ impl Side {
         put(&mut self.stage, stage);
     }
 
-    // The end tag of a script was met. One that runs is in hand from here on, and what it writes has ids of its own.
+    // The end tag of a script was met. One that runs is in hand from here on, and what it writes
+    // has ids of its own.
     fn meet_end_tag(&mut self, id: NodeId) -> Result<(), NoMemory>
         requires bound { IsTrue (is_bound self.old.writer.doc.bound id) }
         requires room { IsRoomy self.old.counts.realm self.old.writer.parser self.old.writer.doc }
@@ -512,7 +552,8 @@ impl Side {
         requires some { has_none (free_hand self.old) ≡ false }
         ensures runs { OnOk result (RunsBatch self.old self.new) }
         ensures journal { self.new.journal ≡ self.old.journal }
-        ensures logged { OnOk result (Logs log.old self.old.writer.doc log.new self.new.writer.doc) }
+        ensures logged { OnOk result (LogsBy (λ more. MadeFirst (free_hand self.old)
+            self.old.writer more self.new.writer) log.old log.new) }
     {
         match self.execute_batch(log)? {
             Halt::At(Stop::InputEnd) => {}
@@ -528,10 +569,13 @@ impl Side {
 impl Side {
     // Runs the script whose end tag was met.
     fn run_tagged(&mut self, log: &mut Log, id: NodeId, held: Machine) -> Result<(), NoMemory>
-        requires { IsTagged self.old.counts.realm held self.old.writer (is_bound self.old.writer.doc.bound id) }
+        requires { IsTagged self.old.counts.realm held self.old.writer
+            (is_bound self.old.writer.doc.bound id) }
         ensures runs { OnOk result (RunsTagged id held self.old self.new) }
         ensures journal { self.new.journal ≡ self.old.journal }
-        ensures logged { OnOk result (Logs log.old self.old.writer.doc log.new self.new.writer.doc) }
+        ensures logged { OnOk result
+            (LogsBy (λ more. ReachesView (MadeAtTag self.old.table id (at_view self.old.writer))
+            more self.new.writer) log.old log.new) }
     {
         self.writer.end_tag(log, &self.table, id)?;
         self.settle(log, held)
@@ -540,9 +584,13 @@ impl Side {
     // Runs the script that was awaited.
     fn run_awaited(&mut self, log: &mut Log, name: &Text, held: Machine) -> Result<(), NoMemory>
         requires { IsWaiting self.old.counts.realm name.now held self.old.writer }
-        ensures runs { OnOk result (RunsFetched (met self.old name.now) name.now held self.old self.new) }
+        ensures runs { OnOk result
+            (RunsFetched (met self.old name.now) name.now held self.old self.new) }
         ensures journal { self.new.journal ≡ self.old.journal }
-        ensures logged { OnOk result (Logs log.old self.old.writer.doc log.new self.new.writer.doc) }
+        ensures logged { OnOk result
+            (LogsBy (λ more. ReachesView (MadeByFile (met self.old name.now) self.old.table
+            (at_view self.old.writer))
+            more self.new.writer) log.old log.new) }
     {
         match self.journal.find(name.as_str()) {
             // A name that isn't lawful is missing.
@@ -564,10 +612,13 @@ impl Side {
 
     // Parses what was written, until it is used, a script is awaited, or the page is refused.
     fn settle(&mut self, log: &mut Log, held: Machine) -> Result<(), NoMemory>
-        requires { self.old.writer.halted ≡ None → IsHolding self.old.counts.realm held self.old.writer }
+        requires { self.old.writer.halted ≡ None
+            → IsHolding self.old.counts.realm held self.old.writer }
         ensures settled { OnOk result (Settled held self.old self.new) }
         ensures journal { self.new.journal ≡ self.old.journal }
-        ensures logged { OnOk result (Logs log.old self.old.writer.doc log.new self.new.writer.doc) }
+        ensures logged { OnOk result
+            (LogsBy (λ more. ReachesView (Made self.old.table (at_view self.old.writer))
+            more self.new.writer) log.old log.new) }
     {
         match self.writer.feed_left(log, &self.table)? {
             Left::Empty => self.judge(held)?,
@@ -577,7 +628,8 @@ impl Side {
         Ok(())
     }
 
-    // The script has ended, and all that was written is used: what was made ahead of it is kept or thrown away.
+    // The script has ended, and all that was written is used: what was made ahead of it is kept or
+    // thrown away.
     fn judge(&mut self, held: Machine) -> Result<(), NoMemory>
         requires { IsHolding self.old.counts.realm held self.old.writer }
         ensures judged { OnOk result (Judged held self.old self.new) }
@@ -596,7 +648,8 @@ impl Side {
     // The epoch ends: what isn't executed of the pieces that were sent is sent again.
     fn rewind(&mut self) -> Result<(), NoMemory>
         requires { AreBelow self.old.counts.realm (is_bound self.old.writer.doc.bound) }
-        ensures rewound { OnOk result (JudgedAs verdict.Rewind self.old.writer.parser self.old self.new) }
+        ensures rewound { OnOk result
+            (JudgedAs verdict.Rewind self.old.writer.parser self.old self.new) }
         ensures journal { self.new.journal ≡ self.old.journal }
     {
         let epoch = self.counts.epoch.checked_add(1).ok_or(NoMemory)?;
@@ -611,7 +664,13 @@ impl Side {
 
     // An epoch begins with nothing in hand, and from there.
     fn begin_epoch(&mut self, epoch: u64, begins: Machine)
-        ensures { self.new ≡ record self.old { ready = []; begins = Some begins; stage = Stage.Free; counts = record self.old.counts { epoch = epoch; sent_to = self.old.counts.place } } }
+        ensures { self.new
+            ≡ record self.old {
+              ready = [];
+              begins = Some begins;
+              stage = Stage.Free;
+              counts = record self.old.counts { epoch = epoch; sent_to = self.old.counts.place };
+            } }
     {
         put(&mut self.ready, Batches::new(self.alloc));
         put(&mut self.begins, Some(begins));
@@ -627,7 +686,8 @@ impl Side {
         requires can { IsTrue (can_do (desk_of (at_stage stage self.old))) }
         ensures acts { OnOk result (ActsBy stage self.old self.new) }
         ensures journal { self.new.journal ≡ self.old.journal }
-        ensures logged { OnOk result (Logs log.old self.old.writer.doc log.new self.new.writer.doc) }
+        ensures logged { OnOk result (LogsBy (λ more. MadeIn stage self.old more self.new)
+            log.old log.new) }
     {
         match stage {
             Stage::Free => self.run_batch(log),
@@ -642,11 +702,16 @@ impl Side {
         requires sound { IsSound self.old }
         requires can { IsTrue (can_do (desk_of self.old)) }
         ensures sound { OnOk result (IsSound self.new) }
-        ensures does { OnOk result (DoesShow self.old.table self.old.journal.fetches (desk_of self.old) (desk_of self.new)) }
-        ensures others { OnOk result (shown_of self.new false ≡ journaled event.Do (desk_of self.new) (shown_of self.old false)) }
+        ensures does { OnOk result
+            (DoesShow self.old.table self.old.journal.fetches (desk_of self.old)
+            (desk_of self.new)) }
+        ensures others { OnOk result
+            (shown_of self.new false
+            ≡ journaled event.Do (desk_of self.new) (shown_of self.old false)) }
         ensures less { OnOk result (left_to_do (desk_of self.new) < left_to_do (desk_of self.old)) }
         ensures journal { OnErr result (self.new.journal ≡ self.old.journal) }
-        ensures logged { OnOk result (Logs log.old self.old.writer.doc log.new self.new.writer.doc) }
+        ensures logged { OnOk result (LogsDo self.old.table self.old.journal.fetches
+            (desk_of self.old) (desk_of self.new) log.old log.new) }
     {
         let stage = mem::replace(&mut self.stage, Stage::Free);
         self.act_in(log, stage)?;

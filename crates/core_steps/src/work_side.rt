@@ -10,7 +10,8 @@ use speculation::{InForce, Reply, Request, Worker};
 use std::alloc::Global;
 use std::marker::Model;
 
-/// The parser's side of the core: it picks a request, and gives the reply to it. A contract sees the definitions' parser's side.
+/// The parser's side of the core: it picks a request, and gives the reply to it. A contract sees
+/// the definitions' parser's side.
 #[derive(Drop)]
 pub struct WorkSide {
     alloc: Global,
@@ -54,8 +55,8 @@ impl WorkSide {
         self.hand = Some(request);
     }
 
-    /// Gives the reply to the request in its hand, with the named character references of `table`, which are those in force. Where it answers
-    /// want of memory, it only keeps its type.
+    /// Gives the reply to the request in its hand, with the named character references of `table`,
+    /// which are those in force. Where it answers want of memory, it only keeps its type.
     pub fn give<E: InForce>(&mut self, table: &Table) -> Result<Reply<E>, NoMemory>
         requires table { table.now ≡ E.entities }
         requires full { IsTrue (is_some self.old.hand) }

@@ -1,4 +1,5 @@
-//! What the parser's side makes of a long text. Contracts see an operation a character; that it makes one of them all is only tested here.
+//! What the parser's side makes of a long text. Contracts see an operation a character; that it
+//! makes one of them all is only tested here.
 
 ghost use Rattle.std.specs.Prelude.{◌≡◌};
 

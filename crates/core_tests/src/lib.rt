@@ -1,5 +1,5 @@
-//! Tests of the core: events that were worked out, pages whose scripts are kept or fail, and events in many orders. All that is wanted was
-//! worked out by hand.
+//! Tests of the core: events that were worked out, pages whose scripts are kept or fail, and events
+//! in many orders. All that is wanted was worked out by hand.
 #![tactic(auto)]
 
 #[cfg(test)]

@@ -1,4 +1,5 @@
-//! A parser's state is copied and held, with ample memory. The crates above call `Machine::run` and `finish` and `Worker::answer`.
+//! A parser's state is copied and held, with ample memory. The crates above call `Machine::run` and
+//! `finish` and `Worker::answer`.
 
 use html_types::{NoMemory, NodeId};
 use parse_machine::Machine;

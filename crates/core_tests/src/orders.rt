@@ -1,4 +1,5 @@
-//! Events in many orders: each gives the lines and the tree that were worked out, and stays within the bounds.
+//! Events in many orders: each gives the lines and the tree that were worked out, and stays within
+//! the bounds.
 
 use crate::events::{KINDS, Kind};
 use crate::running::{Page, Told, entities, run};
@@ -9,7 +10,8 @@ use rand_pcg::Pcg32;
 use std::alloc::Global;
 use std::test::Fail;
 
-// A part of a page's body, what comes of it, the lines of its scripts, and how many of them fail. All its elements are closed.
+// A part of a page's body, what comes of it, the lines of its scripts, and how many of them fail.
+// All its elements are closed.
 #[derive(Clone, Copy)]
 struct Part {
     text: &'static str,
@@ -132,7 +134,8 @@ fn is_within_bounds(told: &Told, failed: u64, ahead: usize) -> bool {
     told.sent <= most && told.dropped <= failed.saturating_mul(ahead as u64)
 }
 
-// Whether the page comes to what is wanted by events in an order that is drawn, in pieces of so many characters at most.
+// Whether the page comes to what is wanted by events in an order that is drawn, in pieces of so
+// many characters at most.
 fn gives(
     alloc: Global,
     table: &Table,

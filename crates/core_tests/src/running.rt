@@ -249,7 +249,8 @@ fn take_first<E: InForce>(
     Ok(false)
 }
 
-// Takes the events of `order` over and over, in the place of one that isn't enabled the first that is, until none is.
+// Takes the events of `order` over and over, in the place of one that isn't enabled the first that
+// is, until none is.
 fn take_all<E: InForce>(
     alloc: Global,
     pair: &mut Pair<E>,
@@ -314,8 +315,9 @@ fn run_in_force<E: InForce>(
     told
 }
 
-/// Runs a page until no event is enabled, each time taking the next event of `order`, behind whose last the first comes again, or where that one
-/// isn't enabled the first that is. `NoMemory` also where the page is long, or no such number of requests may be ahead.
+/// Runs a page until no event is enabled, each time taking the next event of `order`, behind whose
+/// last the first comes again, or where that one isn't enabled the first that is. `NoMemory` also
+/// where the page is long, or no such number of requests may be ahead.
 pub fn run(alloc: Global, table: &Table, page: Page<'_>, order: &[Kind]) -> Result<Told, NoMemory> {
     run_in_force::<Brand>(alloc, table, page, order)
 }

@@ -16,7 +16,8 @@ struct Row {
 }
 
 const ROWS: [Row; 8] = [
-    // Nodes were added, and the parser stands as before: two requests are sent, and no reply is dropped.
+    // Nodes were added, and the parser stands as before: two requests are sent, and no reply is
+    // dropped.
     Row {
         text: "<p>a<script>document.write(\"<b>x</b>\");</script>b",
         body: "<p>a<script>document.write(\"<b>x</b>\");</script><b>x</b>b</p>",
@@ -73,8 +74,8 @@ fn run_whole(alloc: Global, table: &Table, text: &str) -> Result<Told, NoMemory>
     run(alloc, table, page, &[Kind::Send])
 }
 
-// Whether a page comes to that tree, by so many failed scripts: each time the rest of the page is sent again, and its ending, the reply to which was
-// dropped.
+// Whether a page comes to that tree, by so many failed scripts: each time the rest of the page is
+// sent again, and its ending, the reply to which was dropped.
 fn gives(
     alloc: Global,
     table: &Table,

@@ -1,4 +1,5 @@
-//! A page event by event, with the numbers of requests and of dropped replies that were worked out for it.
+//! A page event by event, with the numbers of requests and of dropped replies that were worked out
+//! for it.
 
 use crate::events::Kind;
 use crate::running::{Page, entities, run};

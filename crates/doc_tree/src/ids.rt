@@ -21,8 +21,8 @@ pub enum Holder {
     Several,
 }
 
-/// For each id that an element was ever given, who may have it. An element keeps its id for good, in the Document or out of it: so removals and
-/// moves are nothing to the index.
+/// For each id that an element was ever given, who may have it. An element keeps its id for good,
+/// in the Document or out of it: so removals and moves are nothing to the index.
 #[derive(Drop)]
 pub struct Ids {
     // By the number that an id comes to.
@@ -31,7 +31,8 @@ pub struct Ids {
     lost: bool,
 }
 
-// The number that an id comes to. Ids that come to one number are told as one that several nodes have.
+// The number that an id comes to. Ids that come to one number are told as one that several nodes
+// have.
 fn number_of(id: &str) -> u64
     ensures { result ≡ key_of (chars id.now) }
 {

@@ -1,6 +1,8 @@
 //! What reads a tree: walks in tree order, texts, and a node's own fields.
 
-ghost use Rattle.std.specs.Prelude.{◌≡◌, ◌≢◌, ◌<◌, ◌≤◌, ◌++◌, ◌∷◌, [], true, false, if◌then◌else◌, codes, ◌↔◌, ℕ, ◌||◌, ◌&&◌, IsTrue, IsFalse, length, slice_index, reverse, vec_len, IfOk, OnOk, OnErr, IsSome};
+ghost use Rattle.std.specs.Prelude.{◌≡◌, ◌≢◌, ◌<◌, ◌≤◌, ◌++◌, ◌∷◌, [], true, false, if◌then◌else◌};
+ghost use Rattle.std.specs.Prelude.{codes, ◌↔◌, ℕ, ◌||◌, ◌&&◌, IsTrue, IsFalse, length};
+ghost use Rattle.std.specs.Prelude.{slice_index, reverse, vec_len, IfOk, OnOk, OnErr, IsSome};
 ghost use Rattle.std.specs.Str.{chars};
 ghost use Rattle.std.specs.Option.{ForSome};
 ghost use Rattle.doc_tree.specs.Rows.{next_of};
@@ -49,7 +51,8 @@ fn is_text(value: &str, text: &str) -> bool
 
 // Whether the node is an element with that `id`.
 fn has_id(kind: &Seen<'_>, id: &str) -> bool
-    ensures { result ≡ is_value (chars id.now) (attribute (codes "id") (attributes_of (seen_kind kind.now))) }
+    ensures { result
+        ≡ is_value (chars id.now) (attribute (codes "id") (attributes_of (seen_kind kind.now))) }
 {
     let Seen::Element(_, attributes) = kind else {
         return false;
@@ -64,8 +67,9 @@ fn has_id(kind: &Seen<'_>, id: &str) -> bool
 impl Tree {
     ghost use Rattle.standard.specs.Tree.{kind_of, children_of, has_id, find_id, script_text};
 
-    /// The first element of the Document, in tree order, with that `id`. An empty one finds nothing. It takes no memory. Where one element alone
-    /// was ever given the id, it is looked up, and its way up is walked; where several were, the Document is.
+    /// The first element of the Document, in tree order, with that `id`. An empty one finds
+    /// nothing. It takes no memory. Where one element alone was ever given the id, it is looked up,
+    /// and its way up is walked; where several were, the Document is.
     pub fn find_id(&self, id: &str) -> Option<usize>
         ensures found { result ≡ find_id self.now (chars id.now) }
         ensures here { ForSome result (λ k. k < length self.now) }
@@ -149,7 +153,9 @@ impl Tree {
 // Readers.
 impl Tree {
     ghost use Rattle.standard.specs.Fragment.{name_in};
-    ghost use Rattle.standard.specs.Tree.{IsTree, is_connected, kind_of, parent_of, children_of, contents_of, shown_of, first_of, last_of, after_node, previous_of, first_element};
+    ghost use Rattle.standard.specs.Tree.{IsTree, is_connected, kind_of, parent_of, children_of};
+    ghost use Rattle.standard.specs.Tree.{contents_of, shown_of, first_of, last_of, after_node};
+    ghost use Rattle.standard.specs.Tree.{previous_of, first_element};
 
     /// How many nodes there are; they have the numbers below that.
     pub fn len(&self) -> usize
@@ -175,7 +181,8 @@ impl Tree {
         self.nodes.name_in(node)
     }
 
-    /// The node's parent; none where it stands nowhere, and none of the Document and of a template's contents.
+    /// The node's parent; none where it stands nowhere, and none of the Document and of a
+    /// template's contents.
     pub fn parent(&self, node: usize) -> Option<usize>
         requires { node < length self.now }
         ensures parent { result ≡ parent_of self.now node }
@@ -203,7 +210,8 @@ impl Tree {
         self.nodes.first_child(node)
     }
 
-    /// The first of the nodes that a text shows under the node: its children, or for a template those of its contents.
+    /// The first of the nodes that a text shows under the node: its children, or for a template
+    /// those of its contents.
     pub fn first_shown(&self, node: usize) -> Option<usize>
         requires { node < length self.now }
         ensures { result ≡ first_of (shown_of self.now node) }

@@ -1,6 +1,9 @@
-//! The tree (DOM 4.2, 4.4) and its changes; `readers` has what reads it.
+//! The tree (DOM 4.2 #node-trees, 4.4 #interface-node) and its changes; `readers` has what reads
+//! it.
 
-ghost use Rattle.std.specs.Prelude.{◌≡◌, ◌≢◌, ◌<◌, ◌≤◌, ◌++◌, ◌∷◌, [], false, if◌then◌else◌, codes, ◌↔◌, ℕ, ◌||◌, ◌&&◌, IsTrue, IsFalse, length, slice_index, reverse, vec_len, IfOk, OnOk, OnErr, IsSome};
+ghost use Rattle.std.specs.Prelude.{◌≡◌, ◌≢◌, ◌<◌, ◌≤◌, ◌++◌, ◌∷◌, [], false, if◌then◌else◌, codes};
+ghost use Rattle.std.specs.Prelude.{◌↔◌, ℕ, ◌||◌, ◌&&◌, IsTrue, IsFalse, length, slice_index};
+ghost use Rattle.std.specs.Prelude.{reverse, vec_len, IfOk, OnOk, OnErr, IsSome};
 ghost use Rattle.std.specs.Str.{chars};
 ghost use Rattle.std.specs.Option.{ForSome};
 
@@ -11,7 +14,8 @@ use std::alloc::Global;
 use std::marker::Model;
 use text_store::{Listed, Seen, SeenName};
 
-/// A tree: a contract sees the list of its nodes. The nodes have the numbers below `len`, and the Document is number 0.
+/// A tree: a contract sees the list of its nodes. The nodes have the numbers below `len`, and the
+/// Document is number 0.
 #[derive(Drop)]
 pub struct Tree {
     pub(crate) alloc: Global,
@@ -46,7 +50,12 @@ ghost use Rattle.doc_tree.specs.Rows.{next_of, is_given, sibling_before};
 
 // Changes of the tree.
 impl Tree {
-    ghost use Rattle.standard.specs.Tree.{IsTree, Keeps, kind_of, parent_of, children_of, host_of, new_tree, detached, moved, put_of, put_before_of, is_impossible, is_impossible_before, is_second_element, is_other_element, is_leaf, lies_in, with_new, with_kind, with_more, text_added, text_before, text_put, put_under, lone, with_template};
+    ghost use Rattle.standard.specs.Tree.{IsTree, Keeps, kind_of, parent_of, children_of, host_of};
+    ghost use Rattle.standard.specs.Tree.{new_tree, detached, moved, put_of, put_before_of};
+    ghost use Rattle.standard.specs.Tree.{is_impossible, is_impossible_before, is_second_element};
+    ghost use Rattle.standard.specs.Tree.{is_other_element, is_leaf, lies_in, with_new, with_kind};
+    ghost use Rattle.standard.specs.Tree.{with_more, text_added, text_before, text_put, put_under};
+    ghost use Rattle.standard.specs.Tree.{lone, with_template};
 
     /// The Document alone.
     pub fn new(alloc: Global) -> Result<Tree, NoMemory>
@@ -59,7 +68,8 @@ impl Tree {
 
     /// Makes a node that stands nowhere, and says its number.
     pub fn make(&mut self, kind: Kind) -> Result<usize, NoMemory>
-        ensures ok { IfOk result (λ n. (n ≡ length self.old) × (self.new ≡ self.old ++ lone kind ∷ [])) }
+        ensures ok { IfOk result
+            (λ n. (n ≡ length self.old) × (self.new ≡ self.old ++ lone kind ∷ [])) }
         ensures err { OnErr result (self.new ≡ self.old) }
         ensures keeps { Keeps self.old self.new }
     {
@@ -73,7 +83,10 @@ impl Tree {
         name: SeenName<'_>,
         attributes: &Listed<'_>,
     ) -> Result<usize, NoMemory>
-        ensures ok { IfOk result (λ n. (n ≡ length self.old) × (self.new ≡ self.old ++ lone (kind.Element (seen_name name.entry) attributes.now) ∷ [])) }
+        ensures ok { IfOk result
+            (λ n. (n ≡ length self.old)
+            × (self.new ≡ self.old
+            ++ lone (kind.Element (seen_name name.entry) attributes.now) ∷ [])) }
         ensures err { OnErr result (self.new ≡ self.old) }
         ensures keeps { Keeps self.old self.new }
     {
@@ -83,7 +96,9 @@ impl Tree {
 
     // Makes a Text that stands nowhere, and says its number.
     fn make_text(&mut self, text: &str) -> Result<usize, NoMemory>
-        ensures ok { IfOk result (λ n. (n ≡ length self.old) × (self.new ≡ self.old ++ lone (kind.Text (chars text.now)) ∷ [])) }
+        ensures ok { IfOk result
+            (λ n. (n ≡ length self.old)
+            × (self.new ≡ self.old ++ lone (kind.Text (chars text.now)) ∷ [])) }
         ensures err { OnErr result (self.new ≡ self.old) }
         ensures keeps { Keeps self.old self.new }
     {
@@ -93,7 +108,8 @@ impl Tree {
 
     /// Makes an element with contents of its own, which get the number behind its.
     pub fn make_template(&mut self, kind: Kind) -> Result<usize, NoMemory>
-        ensures ok { IfOk result (λ n. (n ≡ length self.old) × (self.new ≡ with_template self.old kind)) }
+        ensures ok { IfOk result
+            (λ n. (n ≡ length self.old) × (self.new ≡ with_template self.old kind)) }
         ensures err { OnErr result (self.new ≡ self.old) }
         ensures keeps { Keeps self.old self.new }
     {
@@ -119,7 +135,8 @@ impl Tree {
         self.nodes.first_child(node).is_none() && self.nodes.contents(node).is_none()
     }
 
-    // Whether `place` is the node or stands under it. The way up from the place is walked, unless nothing stands under the node.
+    // Whether `place` is the node or stands under it. The way up from the place is walked, unless
+    // nothing stands under the node.
     fn lies_in(&self, place: usize, node: usize) -> bool
         requires place_here { place < length self.now }
         requires node_here { node < length self.now }
@@ -180,7 +197,8 @@ impl Tree {
     // The given node where it is a child of the parent.
     fn child(&self, parent: usize, before: Option<usize>) -> Option<usize>
         requires { parent < length self.now }
-        ensures place { place_of (children_of self.now parent) result ≡ place_of (children_of self.now parent) before }
+        ensures place { place_of (children_of self.now parent) result
+            ≡ place_of (children_of self.now parent) before }
         ensures child { ForSome result (λ b. parent_of self.now b ≡ Some parent) }
         ensures here { ForSome result (λ b. b < length self.now) }
         ensures tree { IsTree self.now }
@@ -235,7 +253,8 @@ impl Tree {
         requires parent_here { parent < length self.old }
         requires not_document { node ≢ 0 }
         requires no_contents { host_of self.old node ≡ None }
-        ensures answer { result ≡ (if is_impossible self.old node parent then Put.Impossible else Put.Done) }
+        ensures answer { result
+            ≡ (if is_impossible self.old node parent then Put.Impossible else Put.Done) }
         ensures put { self.new ≡ put_of self.old node parent before }
         ensures keeps { Keeps self.old self.new }
     {
@@ -246,14 +265,17 @@ impl Tree {
         Put::Done
     }
 
-    /// Puts the node at the end of the parent's children, from wherever it stands. Impossible, and then nothing changes, exactly where the
-    /// parent is the node or stands under it, or is a Document that has another element than the node, which is one too.
+    /// Puts the node at the end of the parent's children, from wherever it stands. Impossible, and
+    /// then nothing changes, exactly where the parent is the node or stands under it, or is a
+    /// Document that has another element than the node, which is one too.
     pub fn put_last(&mut self, node: usize, parent: usize) -> Result<Put, NoMemory>
         requires node_here { node < length self.old }
         requires parent_here { parent < length self.old }
         requires not_document { node ≢ 0 }
         requires no_contents { host_of self.old node ≡ None }
-        ensures answer { IfOk result (λ put. put ≡ (if is_impossible self.old node parent then Put.Impossible else Put.Done)) }
+        ensures answer { IfOk result
+            (λ put. put
+            ≡ (if is_impossible self.old node parent then Put.Impossible else Put.Done)) }
         ensures ok { OnOk result (self.new ≡ put_of self.old node parent None) }
         ensures err { OnErr result (self.new ≡ self.old) }
         ensures keeps { Keeps self.old self.new }
@@ -268,7 +290,9 @@ impl Tree {
         requires has_parent { IsSome (parent_of self.old before) }
         requires not_document { node ≢ 0 }
         requires no_contents { host_of self.old node ≡ None }
-        ensures answer { IfOk result (λ put. put ≡ (if is_impossible_before self.old node before then Put.Impossible else Put.Done)) }
+        ensures answer { IfOk result
+            (λ put. put
+            ≡ (if is_impossible_before self.old node before then Put.Impossible else Put.Done)) }
         ensures ok { OnOk result (self.new ≡ put_before_of self.old node before) }
         ensures err { OnErr result (self.new ≡ self.old) }
         ensures keeps { Keeps self.old self.new }
@@ -283,7 +307,9 @@ impl Tree {
     /// Makes a node among the parent's children, before the given one or last.
     pub fn add(&mut self, parent: usize, before: Option<usize>, kind: Kind) -> Result<(), NoMemory>
         requires { parent < length self.old }
-        ensures ok { OnOk result (self.new ≡ with_new self.old parent (place_of (children_of self.old parent) before) kind) }
+        ensures ok { OnOk result
+            (self.new
+            ≡ with_new self.old parent (place_of (children_of self.old parent) before) kind) }
         ensures err { OnErr result (self.new ≡ self.old) }
         ensures keeps { Keeps self.old self.new }
     {
@@ -296,7 +322,9 @@ impl Tree {
     // What stands just before a child of the parent, or the last child.
     fn before(&self, parent: usize, before: Option<usize>) -> Option<usize>
         requires { parent < length self.now }
-        ensures before { result ≡ sibling_before (children_of self.now parent) (place_of (children_of self.now parent) before) }
+        ensures before { result
+            ≡ sibling_before (children_of self.now parent)
+            (place_of (children_of self.now parent) before) }
         ensures here { ForSome result (λ m. m < length self.now) }
     {
         match self.child(parent, before) {
@@ -308,7 +336,8 @@ impl Tree {
     // The Text just before a child of the parent, or the last child.
     fn text_before(&self, parent: usize, before: Option<usize>) -> Option<usize>
         requires { parent < length self.now }
-        ensures found { result ≡ text_before self.now parent (place_of (children_of self.now parent) before) }
+        ensures found { result
+            ≡ text_before self.now parent (place_of (children_of self.now parent) before) }
         ensures here { ForSome result (λ m. m < length self.now) }
     {
         match self.before(parent, before) {
@@ -326,7 +355,9 @@ impl Tree {
     // More text behind that of a Text.
     fn append_text(&mut self, node: usize, text: &str) -> Result<(), NoMemory>
         requires { node < length self.old }
-        ensures ok { OnOk result (self.new ≡ with_kind self.old node (with_more (kind_of self.old node) (chars text.now))) }
+        ensures ok { OnOk result
+            (self.new
+            ≡ with_kind self.old node (with_more (kind_of self.old node) (chars text.now))) }
         ensures err { OnErr result (self.new ≡ self.old) }
         ensures keeps { Keeps self.old self.new }
     {
@@ -342,7 +373,10 @@ impl Tree {
         text: &str,
     ) -> Result<(), NoMemory>
         requires { parent < length self.old }
-        ensures ok { OnOk result (self.new ≡ with_new self.old parent (place_of (children_of self.old parent) before) (kind.Text (chars text.now))) }
+        ensures ok { OnOk result
+            (self.new
+            ≡ with_new self.old parent (place_of (children_of self.old parent) before)
+            (kind.Text (chars text.now))) }
         ensures err { OnErr result (self.new ≡ self.old) }
         ensures keeps { Keeps self.old self.new }
     {
@@ -352,10 +386,14 @@ impl Tree {
         Ok(())
     }
 
-    // Text among the parent's children, before the given one or last, joined to a Text just before it; else it becomes a node.
+    // Text among the parent's children, before the given one or last, joined to a Text just before
+    // it; else it becomes a node.
     fn put_text(&mut self, parent: usize, before: Option<usize>, text: &str) -> Result<(), NoMemory>
         requires { parent < length self.old }
-        ensures ok { OnOk result (self.new ≡ (let place = place_of (children_of self.old parent) before in text_put self.old parent place (chars text.now) (text_before self.old parent place))) }
+        ensures ok { OnOk result
+            (self.new
+            ≡ (let place = place_of (children_of self.old parent) before in text_put self.old
+            parent place (chars text.now) (text_before self.old parent place))) }
         ensures err { OnErr result (self.new ≡ self.old) }
         ensures keeps { Keeps self.old self.new }
     {
@@ -365,8 +403,8 @@ impl Tree {
         }
     }
 
-    /// Puts text among the parent's children, before the given one or last. It joins a Text just before it; a Document takes none, and an
-    /// empty text changes nothing.
+    /// Puts text among the parent's children, before the given one or last. It joins a Text just
+    /// before it; a Document takes none, and an empty text changes nothing.
     pub fn add_text(
         &mut self,
         parent: usize,
@@ -374,7 +412,10 @@ impl Tree {
         text: &str,
     ) -> Result<(), NoMemory>
         requires { parent < length self.old }
-        ensures ok { OnOk result (self.new ≡ text_added self.old parent (place_of (children_of self.old parent) before) (chars text.now)) }
+        ensures ok { OnOk result
+            (self.new
+            ≡ text_added self.old parent (place_of (children_of self.old parent) before)
+            (chars text.now)) }
         ensures err { OnErr result (self.new ≡ self.old) }
         ensures keeps { Keeps self.old self.new }
     {
@@ -391,7 +432,8 @@ impl Tree {
 
 // All children of a node move at once.
 impl Tree {
-    ghost use Rattle.standard.specs.Tree.{IsTree, Keeps, parent_of, children_of, children_moved, emptied};
+    ghost use Rattle.standard.specs.Tree.{IsTree, Keeps, parent_of, children_of, children_moved};
+    ghost use Rattle.standard.specs.Tree.{emptied};
 
     /// Takes the children of a node out, one after another. It takes no memory.
     pub fn take_children(&mut self, node: usize)
@@ -404,7 +446,8 @@ impl Tree {
         }
     }
 
-    /// Puts the children of a node, in order, each at the end of another's. One that can't be put there stays where it is.
+    /// Puts the children of a node, in order, each at the end of another's. One that can't be put
+    /// there stays where it is.
     pub fn move_children(&mut self, from: usize, to: usize) -> Result<(), NoMemory>
         requires from_here { from < length self.old }
         requires to_here { to < length self.old }
@@ -424,7 +467,9 @@ impl Tree {
     // The sibling behind the node, unless the node is the last that is meant.
     fn behind(&self, node: usize, last: Option<usize>) -> Option<usize>
         requires { node < length self.now }
-        ensures behind { result ≡ (if is_given last node then None else next_of self.now node (parent_of self.now node)) }
+        ensures behind { result
+            ≡ (if is_given last node then None else next_of self.now node
+            (parent_of self.now node)) }
         ensures tree { IsTree self.now }
     {
         // Its invariant is that this is a tree.
@@ -439,12 +484,14 @@ impl Tree {
 // Attributes.
 impl Tree {
     ghost use Rattle.std.specs.Option.{option_map};
-    ghost use Rattle.standard.specs.Tree.{Keeps, kind_of, attributes_of, attribute, with_lacking, attributes_added};
+    ghost use Rattle.standard.specs.Tree.{Keeps, kind_of, attributes_of, attribute, with_lacking};
+    ghost use Rattle.standard.specs.Tree.{attributes_added};
 
     /// The value of an element's attribute.
     pub fn attribute(&self, node: usize, name: &str) -> Option<&str>
         requires { node < length self.now }
-        ensures { option_map (λ text. chars text.now) result ≡ attribute (chars name.now) (attributes_of (kind_of self.now node)) }
+        ensures { option_map (λ text. chars text.now) result
+            ≡ attribute (chars name.now) (attributes_of (kind_of self.now node)) }
     {
         match self.nodes.kind(node) {
             Seen::Element(_, attributes) => attributes.value_of(name),
@@ -452,7 +499,8 @@ impl Tree {
         }
     }
 
-    /// Gives an element copies of those attributes that it lacks, in order. A node that is no element stays as it is.
+    /// Gives an element copies of those attributes that it lacks, in order. A node that is no
+    /// element stays as it is.
     pub fn add_attributes(&mut self, node: usize, more: &Attributes) -> Result<(), NoMemory>
         requires { node < length self.old }
         ensures ok { OnOk result (self.new ≡ attributes_added self.old node more.now) }

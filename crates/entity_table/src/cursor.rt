@@ -1,6 +1,7 @@
 //! The longest name that a text begins with, found while the text comes character by character.
 
-ghost use Rattle.std.specs.Prelude.{◌≡◌, ℕ, List, [], ◌∷◌, ◌++◌, ◌+◌, ◌<◌, ◌≤◌, true, false, length, IsTrue, ◌↔◌};
+ghost use Rattle.std.specs.Prelude.{◌≡◌, ℕ, List, [], ◌∷◌, ◌++◌, ◌+◌, ◌<◌, ◌≤◌, true, false};
+ghost use Rattle.std.specs.Prelude.{length, IsTrue, ◌↔◌};
 ghost use Rattle.std.specs.List.Sorted.{IsPartitionedBy, IsPartitionPoint};
 ghost use Rattle.entity_table.specs.Order.{AreInOrder};
 ghost use Rattle.entity_table.specs.Parts.{IsPart, is_below, is_up_to, rests, row_names};
@@ -15,8 +16,8 @@ pub(crate) struct Part {
     pub(crate) high: usize,
 }
 
-/// Where a text stands among the names of a table, while it is held: the part of the names that begin with it, its
-/// length, and the longest name that it begins with.
+/// Where a text stands among the names of a table, while it is held: the part of the names that
+/// begin with it, its length, and the longest name that it begins with.
 #[derive(Clone, Copy)]
 pub struct Cursor {
     part: Part,
@@ -29,7 +30,8 @@ pub struct Cursor {
 pub enum Step {
     /// Some name begins with the text.
     More,
-    /// No name begins with it. The match is the longest name that the text before the character begins with.
+    /// No name begins with it. The match is the longest name that the text before the character
+    /// begins with.
     Stop(Option<Match>),
 }
 
@@ -53,7 +55,8 @@ fn count_up_to(rows: &[Row], depth: usize, c: char) -> usize
     rows.partition_point(|row| goes_up_to(row, depth, c))
 }
 
-/// Whether the first and the last row go on with `c` at `depth`, so that all do, as they are in order.
+/// Whether the first and the last row go on with `c` at `depth`, so that all do, as they are in
+/// order.
 fn all_go_on(rows: &[Row], depth: usize, c: char) -> bool
     ensures some { IsTrue result → 0 < length rows.now }
     ensures below { IsTrue result → IsPartitionedBy (is_below c) (rests depth rows.now)
@@ -130,7 +133,8 @@ impl Cursor {
         cursor
     }
 
-    /// Holds one more character. The time doesn't depend on the text, and grows with the logarithm of the table's size.
+    /// Holds one more character. The time doesn't depend on the text, and grows with the logarithm
+    /// of the table's size.
     pub fn push(&mut self, table: &Table, c: char) -> Step
         ensures holds { (text : List ℕ) → Holds table.now self.old text
             → Holds table.now self.new (text ++ c ∷ []) }

@@ -1,5 +1,6 @@
-//! Where a name may stand among the rows, guessed from its bytes or from those of its front. A guess is looked at before it is used, and a wrong one
-//! costs time alone: so no contract speaks of them.
+//! Where a name may stand among the rows, guessed from its bytes or from those of its front. A
+//! guess is looked at before it is used, and a wrong one costs time alone: so no contract speaks of
+//! them.
 
 use crate::row::Row;
 use std::alloc::{AllocError, Global};
@@ -39,7 +40,8 @@ fn note_fronts(rows: &mut [usize], name: &str, place: usize) {
     }
 }
 
-/// For each sum the last row whose name, or a front of it, has it, and the first row where none has.
+/// For each sum the last row whose name, or a front of it, has it, and the first row where none
+/// has.
 #[derive(Drop)]
 pub(crate) struct Guesses {
     names: Vec<usize>,

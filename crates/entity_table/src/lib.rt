@@ -1,4 +1,5 @@
-//! The standard's named character references (13.5): reading their file, the name that a text is, and the longest name that a text begins with.
+//! The standard's named character references (13.5 #named-character-references): reading their
+//! file, the name that a text is, and the longest name that a text begins with.
 #![tactic(auto)]
 
 pub mod cursor;

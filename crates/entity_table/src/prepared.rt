@@ -1,12 +1,16 @@
 //! A table as bytes that are read quickly: writing them, and reading them.
 
-ghost use Rattle.std.specs.Prelude.{◌≡◌, ◌++◌, ◌<◌, ◌^◌, [], ◌∷◌, Some, None, IfOk, IfErr, OnOk, IfSome, MatchOption, option_map, string_bytes};
+ghost use Rattle.std.specs.Prelude.{◌≡◌, ◌++◌, ◌<◌, ◌^◌, [], ◌∷◌, Some, None, IfOk, IfErr, OnOk};
+ghost use Rattle.std.specs.Prelude.{IfSome, MatchOption, option_map, string_bytes};
 ghost use Rattle.std.specs.Char.{IsScalar};
 ghost use Rattle.entity_table.specs.Order.{AreNames};
 ghost use Rattle.entity_table.specs.Parts.{row_names};
-ghost use Rattle.entity_table.specs.Prepared.{take_bytes, take_number, characters_at, take_characters, take_entity, take_above, entities_above, take_count, loaded};
+ghost use Rattle.entity_table.specs.Prepared.{take_bytes, take_number, characters_at};
+ghost use Rattle.entity_table.specs.Prepared.{take_characters, take_entity, take_above};
+ghost use Rattle.entity_table.specs.Prepared.{entities_above, take_count, loaded};
 ghost use Rattle.entity_table.specs.View.{characters_in, entity_in, entity_read, rows_in};
-ghost use Rattle.entity_table.specs.Written.{number_bytes, number_of as number_in, characters_bytes, row_bytes, IsCharacter, IsWritable};
+ghost use Rattle.entity_table.specs.Written.{number_bytes, number_of as number_in};
+ghost use Rattle.entity_table.specs.Written.{characters_bytes, row_bytes, IsCharacter, IsWritable};
 
 use crate::read::is_name;
 use crate::row::{Characters, Row};

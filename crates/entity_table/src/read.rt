@@ -2,7 +2,9 @@
 
 ghost use Rattle.std.specs.Prelude.{◌≡◌, Some, None, IfOk, IfErr, option_map};
 ghost use Rattle.std.specs.Prelude.{string_bytes};
-ghost use Rattle.standard.specs.Entities.{is_name as is_named, code_point as code_in, inner as inside, one_or_two as one_or_two_of, characters_of, entity_of, entities_in, entities_of};
+ghost use Rattle.standard.specs.Entities.{is_name as is_named, code_point as code_in};
+ghost use Rattle.standard.specs.Entities.{inner as inside, one_or_two as one_or_two_of};
+ghost use Rattle.standard.specs.Entities.{characters_of, entity_of, entities_in, entities_of};
 ghost use Rattle.std.specs.Prelude.{IsUtf8};
 ghost use Rattle.std.specs.List.{list_all};
 ghost use Rattle.std.specs.Char.{is_ascii_alphanumeric};

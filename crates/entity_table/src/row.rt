@@ -13,7 +13,8 @@ pub struct Characters {
     pub second: Option<char>,
 }
 
-/// What was found: a name's length in characters, `&` and `;` counted, whether it ends in `;`, and what it stands for.
+/// What was found: a name's length in characters, `&` and `;` counted, whether it ends in `;`, and
+/// what it stands for.
 #[derive(Clone, Copy, PartialEq, Eq)]
 pub struct Match {
     pub length: usize,

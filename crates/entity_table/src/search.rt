@@ -1,6 +1,7 @@
 //! The row of a name.
 
-ghost use Rattle.std.specs.Prelude.{◌≡◌, ◌<◌, ◌≤◌, ◌≢◌, true, false, length, EachIndex, IfSome, IsTrue};
+ghost use Rattle.std.specs.Prelude.{◌≡◌, ◌<◌, ◌≤◌, ◌≢◌, true, false, length, EachIndex, IfSome};
+ghost use Rattle.std.specs.Prelude.{IsTrue};
 ghost use Rattle.std.specs.List.Sorted.{IsPartitionedBy, IsPartitionPoint};
 ghost use Rattle.entity_table.specs.Order.{AreInOrder, precedes};
 ghost use Rattle.entity_table.specs.Parts.{name_at, row_names};
@@ -21,7 +22,8 @@ fn count_below(rows: &[Row], name: &str) -> usize
 fn is_at(rows: &[Row], place: usize, name: &str) -> bool
     ensures within { IsTrue result → place < length rows.now }
     ensures named { IsTrue result → name_at (row_names rows.now) place ≡ name.now }
-    ensures other { result ≡ false → place < length rows.now → name_at (row_names rows.now) place ≢ name.now }
+    ensures other { result ≡ false → place < length rows.now
+        → name_at (row_names rows.now) place ≢ name.now }
 {
     match rows.get(place) {
         Some(row) => row.name.as_str() == name,
@@ -29,7 +31,8 @@ fn is_at(rows: &[Row], place: usize, name: &str) -> bool
     }
 }
 
-/// The place of the row with this name: the one that is guessed, or else the one that a binary search finds.
+/// The place of the row with this name: the one that is guessed, or else the one that a binary
+/// search finds.
 pub(crate) fn place_of(rows: &[Row], guess: usize, name: &str) -> Option<usize>
     ensures within { IfSome result (λ place. place < length rows.now) }
     ensures named { IfSome result (λ place. name_at (row_names rows.now) place ≡ name.now) }

@@ -1,6 +1,7 @@
 //! The table of all named character references.
 
-ghost use Rattle.std.specs.Prelude.{◌≡◌, ℕ, List, [], ◌∷◌, ◌++◌, true, false, Some, None, IfOk, IfErr, IfSome, IsTrue};
+ghost use Rattle.std.specs.Prelude.{◌≡◌, ℕ, List, [], ◌∷◌, ◌++◌, true, false, Some, None, IfOk};
+ghost use Rattle.std.specs.Prelude.{IfErr, IfSome, IsTrue};
 ghost use Rattle.std.specs.Str.{chars};
 ghost use Rattle.standard.specs.Entities.{begins_some, entities_of, is_name, longest};
 ghost use Rattle.entity_table.specs.Matches.{Tells};
@@ -76,9 +77,10 @@ impl Model for Table {
 }
 
 impl Table {
-    /// The table that a file lists: an object whose keys are the names, each `&`, one or more ASCII letters and digits and
-    /// perhaps `;`, and whose values are objects with `codepoints`, a list of one or two Unicode scalar values. Other
-    /// members are ignored, and of equal keys the last counts.
+    /// The table that a file lists: an object whose keys are the names, each `&`, one or more ASCII
+    /// letters and digits and perhaps `;`, and whose values are objects with `codepoints`, a list
+    /// of one or two Unicode scalar values. Other members are ignored, and of equal keys the last
+    /// counts.
     pub fn read(alloc: Global, bytes: &[u8]) -> Result<Table, TableFault>
         ensures table { IfOk result (λ t. entities_of bytes.now ≡ Some t) }
         ensures no_table { result ≡ Err TableFault.NotTable → entities_of bytes.now ≡ None }
@@ -87,7 +89,8 @@ impl Table {
         Table::of(alloc, rows)
     }
 
-    /// The table that prepared bytes list, which takes a small part of the time in which `read` reads a file.
+    /// The table that prepared bytes list, which takes a small part of the time in which `read`
+    /// reads a file.
     pub fn load(alloc: Global, bytes: &[u8]) -> Result<Table, TableFault>
         ensures table { IfOk result (λ t. loaded bytes.now ≡ Some t) }
         ensures no_table { result ≡ Err TableFault.NotTable → loaded bytes.now ≡ None }
@@ -122,7 +125,8 @@ impl Table {
         self.names.rows.as_slice()
     }
 
-    /// What a name stands for, its `&` counted and its `;` if it has one; none where the text isn't a name of the table, or goes on behind one.
+    /// What a name stands for, its `&` counted and its `;` if it has one; none where the text isn't
+    /// a name of the table, or goes on behind one.
     pub fn find(&self, name: &str) -> Option<Match>
         ensures found { Tells (entity_named (chars name.now) self.now) result }
         // A text that is a name begins with no longer one.
@@ -136,7 +140,8 @@ impl Table {
         }
     }
 
-    /// Whether some name begins with a text and a character behind it. Where the answer is no, some name may begin so all the same, and a cursor tells.
+    /// Whether some name begins with a text and a character behind it. Where the answer is no, some
+    /// name may begin so all the same, and a cursor tells.
     pub fn goes_on(&self, text: &str, c: char) -> bool
         ensures { IsTrue result → IsTrue (begins_some (chars text.now ++ c ∷ []) self.now) }
     {

@@ -1,9 +1,10 @@
-//! The start tags at which foreign content is left (13.2.6.5).
+//! The start tags at which foreign content is left (13.2.6.5 #parsing-main-inforeign).
 
 ghost use Rattle.std.specs.Prelude.{◌≡◌};
 ghost use Rattle.std.specs.List.{list_any};
 ghost use Rattle.standard.specs.Rows.{has_word};
-ghost use Rattle.standard.specs.Foreign.{breaking_words, is_font_attribute, breaks_out as breaks_out_of};
+ghost use Rattle.standard.specs.Foreign.{breaking_words, is_font_attribute};
+ghost use Rattle.standard.specs.Foreign.{breaks_out as breaks_out_of};
 
 use html_types::word::Word::*;
 use html_types::{Attribute, Name, Tag, Word};
@@ -80,7 +81,8 @@ fn has_font_attribute(attributes: &[Attribute]) -> bool
     false
 }
 
-/// Whether foreign content is left at a start tag: at `font` only where it has an attribute `color`, `face` or `size`.
+/// Whether foreign content is left at a start tag: at `font` only where it has an attribute
+/// `color`, `face` or `size`.
 #[tactic(auto, unfolding(standard::specs::Foreign::breaks_out))]
 pub fn breaks_out(tag: &Tag) -> bool
     ensures { result ≡ breaks_out_of tag.now }

@@ -1,4 +1,5 @@
-//! The names that are spelled otherwise in foreign content, and the start tags at which it is left (13.2.6.5).
+//! The names that are spelled otherwise in foreign content, and the start tags at which it is left
+//! (13.2.6.5 #parsing-main-inforeign).
 #![tactic(auto)]
 
 mod breaking;

@@ -1,11 +1,14 @@
-//! The names of SVG elements and of foreign attributes that aren't all in lower case (13.2.6.1, 13.2.6.5).
+//! The names of SVG elements and of foreign attributes that aren't all in lower case
+//! (13.2.6.1 #creating-and-inserting-nodes, 13.2.6.5 #parsing-main-inforeign).
 
 ghost use Rattle.std.specs.Prelude.{◌≡◌, map};
 ghost use Rattle.std.specs.Str.{chars};
 ghost use Rattle.std.specs.Char.{to_ascii_lowercase};
 ghost use Rattle.std.specs.Option.{option_map};
 ghost use Rattle.html_types.specs.Text.{same_text};
-ghost use Rattle.standard.specs.ForeignNames.{respelled, svg_names as svg_names_of, svg_attributes as svg_attributes_of, math_attributes as math_attributes_of};
+ghost use Rattle.standard.specs.ForeignNames.{respelled, svg_names as svg_names_of};
+ghost use Rattle.standard.specs.ForeignNames.{svg_attributes as svg_attributes_of};
+ghost use Rattle.standard.specs.ForeignNames.{math_attributes as math_attributes_of};
 ghost use Rattle.foreign_tables.specs.Split.{FindsFrom};
 
 /// Whether a name in ASCII lower case is `lower`.
@@ -27,7 +30,8 @@ pub fn is_lower_of(lower: &str, name: &str) -> bool
 // The first of the names that is `lower` in ASCII lower case.
 #[tactic(auto, unfolding(standard::specs::ForeignNames::respelled))]
 fn respelled(names: &'static [&'static str], lower: &str) -> Option<&'static str>
-    ensures { option_map (λ name. chars name.now) result ≡ respelled (map (λ name. chars name.now) names.now) (chars lower.now) }
+    ensures { option_map (λ name. chars name.now) result
+        ≡ respelled (map (λ name. chars name.now) names.now) (chars lower.now) }
 {
     for name in names {
         if is_lower_of(lower, name) {
@@ -37,9 +41,10 @@ fn respelled(names: &'static [&'static str], lower: &str) -> Option<&'static str
     None
 }
 
-/// The name of an SVG element whose name in lower case this is. (13.2.6.5)
+/// The name of an SVG element whose name in lower case this is. (13.2.6.5 #parsing-main-inforeign)
 pub fn svg_name(lower: &str) -> Option<&'static str>
-    ensures { option_map (λ name. chars name.now) result ≡ respelled svg_names_of (chars lower.now) }
+    ensures { option_map (λ name. chars name.now) result
+        ≡ respelled svg_names_of (chars lower.now) }
 {
     match lower.chars().next() {
         Some(letter) => respelled(svg_names_from(letter), lower),
@@ -47,9 +52,11 @@ pub fn svg_name(lower: &str) -> Option<&'static str>
     }
 }
 
-/// The name of an SVG attribute whose name in lower case this is: "adjust SVG attributes". (13.2.6.1)
+/// The name of an SVG attribute whose name in lower case this is: "adjust SVG attributes".
+/// (13.2.6.1 #creating-and-inserting-nodes)
 pub fn svg_attribute(lower: &str) -> Option<&'static str>
-    ensures { option_map (λ name. chars name.now) result ≡ respelled svg_attributes_of (chars lower.now) }
+    ensures { option_map (λ name. chars name.now) result
+        ≡ respelled svg_attributes_of (chars lower.now) }
 {
     match lower.chars().next() {
         Some(letter) => respelled(svg_attributes_from(letter), lower),
@@ -57,9 +64,11 @@ pub fn svg_attribute(lower: &str) -> Option<&'static str>
     }
 }
 
-/// The name of a MathML attribute whose name in lower case this is: "adjust MathML attributes". (13.2.6.1)
+/// The name of a MathML attribute whose name in lower case this is: "adjust MathML attributes".
+/// (13.2.6.1 #creating-and-inserting-nodes)
 pub fn math_attribute(lower: &str) -> Option<&'static str>
-    ensures { option_map (λ name. chars name.now) result ≡ respelled math_attributes_of (chars lower.now) }
+    ensures { option_map (λ name. chars name.now) result
+        ≡ respelled math_attributes_of (chars lower.now) }
 {
     respelled(math_attributes(), lower)
 }

@@ -1,4 +1,4 @@
--- What setting an element's children to a fragment (13.4) does to a tree.
+-- What setting an element's children to a fragment (13.4 #parsing-html-fragments) does to a tree.
 use Rattle.std.specs.Prelude.{◌≡◌, ◌≢◌, ◌<◌, ℕ, suc, ◌+◌, Bool, false, List, [], ◌∷◌, length, map, Some, None}
 use Rattle.std.specs.Option.{option_map}
 use Rattle.html_types.specs.declared.ending.Why.TheVariants as why

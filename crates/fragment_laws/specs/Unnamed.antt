@@ -1,4 +1,5 @@
--- The nodes of a fragment (13.4) have no id. So no operation that comes names one, and no script at whose end tag the parser stops is one.
+-- The nodes of a fragment (13.4 #parsing-html-fragments) have no id. So no operation that comes
+-- names one, and no script at whose end tag the parser stops is one.
 use Rattle.std.specs.Prelude.{◌≡◌, ◌≢◌, ◌<◌, ◌≤◌, ℕ, Bool, IsTrue, List, length, Option, Some}
 use Rattle.html_types.specs.declared.ending.Ending.{Ending}
 use Rattle.html_types.specs.declared.instruction.Stop.TheVariants as stop

@@ -1,10 +1,16 @@
-//! Laws of fragments (13.4) on a tree: what setting an element's children comes to, and what it
-//! leaves as it was. Each stands on a function that does nothing, so that a contract names it.
+//! Laws of fragments (13.4 #parsing-html-fragments) on a tree: what setting an element's children
+//! comes to, and what it leaves as it was. Each stands on a function that does nothing, so that a
+//! contract names it.
 #![tactic(auto)]
 
-ghost use Rattle.fragment_laws.specs.Laws.{NodesStay, OthersStand, MadeAsAlone, TargetHolds, SetsChildren, SetsTree, SetsTooDeep};
-ghost use Rattle.fragment_laws.specs.Unnamed.{FragmentsAreUnnamed, OperationsKeepUnnamed, ScriptsKeepUnnamed, StatementsKeepUnnamed, MomentsKeepUnnamed, StopsAreNamed, MomentsRunOthers};
-ghost use Rattle.fragment_laws.specs.Whole.{MomentsAreWhole, ScriptsAreWhole, StatementsSet, TagsAreOthers, StatementsStayUnnamed, MomentsStayUnnamed};
+ghost use Rattle.fragment_laws.specs.Laws.{NodesStay, OthersStand, MadeAsAlone, TargetHolds};
+ghost use Rattle.fragment_laws.specs.Laws.{SetsChildren, SetsTree, SetsTooDeep};
+ghost use Rattle.fragment_laws.specs.Unnamed.{FragmentsAreUnnamed, OperationsKeepUnnamed};
+ghost use Rattle.fragment_laws.specs.Unnamed.{ScriptsKeepUnnamed, StatementsKeepUnnamed};
+ghost use Rattle.fragment_laws.specs.Unnamed.{MomentsKeepUnnamed, StopsAreNamed, MomentsRunOthers};
+ghost use Rattle.fragment_laws.specs.Whole.{MomentsAreWhole, ScriptsAreWhole, StatementsSet};
+ghost use Rattle.fragment_laws.specs.Whole.{TagsAreOthers, StatementsStayUnnamed};
+ghost use Rattle.fragment_laws.specs.Whole.{MomentsStayUnnamed};
 
 /// A fragment's nodes are made behind those that there were, which stay as they are. Once its
 /// nodes are an element's children (a template's: its contents' children), each node that there
@@ -33,9 +39,9 @@ pub fn statement_sets_the_tree()
     ensures too_deep { SetsTooDeep }
 {}
 
-/// No script of a fragment (13.4) is ever executed. Its nodes have no id, and come to have none,
-/// whatever is done then. A script runs only where the parser stops at its end tag, and that is
-/// one for which an id stands.
+/// No script of a fragment (13.4 #parsing-html-fragments) is ever executed. Its nodes have no id,
+/// and come to have none, whatever is done then. A script runs only where the parser stops at its
+/// end tag, and that is one for which an id stands.
 pub fn no_script_of_a_fragment_runs()
     ensures unnamed { FragmentsAreUnnamed }
     ensures operations { OperationsKeepUnnamed }

@@ -9,7 +9,8 @@ ghost use Rattle.serial.specs.Page.{page_of};
 ghost use Rattle.serial.specs.Quiet.{tree, refused, made, ended_quietly, quiet};
 ghost use Rattle.html_document.specs.declared.feeding.TheConstants.{PAGE_LIMIT};
 ghost use Rattle.html_document.specs.Stage.{IsServed};
-ghost use Rattle.html_document.specs.Fed.{CameTo, Furthers, HasFed, refused_at, shown_refusal, refused_so_far};
+ghost use Rattle.html_document.specs.Fed.{CameTo, Furthers, HasFed, refused_at, shown_refusal};
+ghost use Rattle.html_document.specs.Fed.{refused_so_far};
 
 use crate::refused::Refused;
 use entity_table::Table;

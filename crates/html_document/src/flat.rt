@@ -1,12 +1,15 @@
 //! A tree in three flat lists, which hold no pointer.
 
-ghost use Rattle.std.specs.Prelude.{◌≡◌, ◌<◌, ◌≤◌, ◌++◌, ◌∷◌, [], length, encode_utf8_all, IfOk, OnOk};
+ghost use Rattle.std.specs.Prelude.{◌≡◌, ◌<◌, ◌≤◌, ◌++◌, ◌∷◌, [], length, encode_utf8_all, IfOk};
+ghost use Rattle.std.specs.Prelude.{OnOk};
 ghost use Rattle.std.specs.Str.{chars};
 ghost use Rattle.html_types.specs.declared.name.Space.{Space};
 ghost use Rattle.standard.specs.Tree.{attributes_of};
 ghost use Rattle.text_store.specs.Views.{seen_attribute, seen_kind};
 ghost use Rattle.html_document.specs.declared.spans.TheConstants.{NONE};
-ghost use Rattle.html_document.specs.Flat.{space_number, space_at, kind_number, words_of, link_number, IsText, AttributesAdded, IsNode, RowAdded, Shows};
+ghost use Rattle.html_document.specs.Flat.{space_number, space_at, kind_number, words_of};
+ghost use Rattle.html_document.specs.Flat.{link_number, IsText, AttributesAdded, IsNode, RowAdded};
+ghost use Rattle.html_document.specs.Flat.{Shows};
 
 use crate::spans::{FlatAttribute, FlatNode, NONE, Span};
 use doc_tree::Tree;

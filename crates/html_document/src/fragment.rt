@@ -1,4 +1,4 @@
-//! A fragment's document (13.4).
+//! A fragment's document (13.4 #parsing-html-fragments).
 
 ghost use Rattle.std.specs.Prelude.{◌≡◌, ◌<◌, IfOk, None, length};
 ghost use Rattle.std.specs.Str.{chars};

@@ -1,6 +1,7 @@
 //! Attributes in a list, with an index of their names once there are many.
 
-ghost use Rattle.std.specs.Prelude.{◌≡◌, [], ◌∷◌, ◌++◌, ◌||◌, if◌then◌else◌, IsTrue, IfOk, OnOk, OnErr, take, length};
+ghost use Rattle.std.specs.Prelude.{◌≡◌, [], ◌∷◌, ◌++◌, ◌||◌, if◌then◌else◌, IsTrue, IfOk, OnOk};
+ghost use Rattle.std.specs.Prelude.{OnErr, take, length};
 ghost use Rattle.html_types.specs.Text.{same_text};
 ghost use Rattle.html_types.specs.Attributes.{has_name, with_missing, Indexes};
 ghost use Rattle.html_types.specs.Sums.{AreApart};
@@ -13,10 +14,12 @@ use crate::text::Text;
 use std::alloc::{AllocError, Global};
 use std::marker::Model;
 
-// So many attributes are looked through one after another; where there are more, their names are in an index.
+// So many attributes are looked through one after another; where there are more, their names are in
+// an index.
 const FEW: usize = 16;
 
-/// Attributes in their order: a contract sees the list of them. A name is found in the logarithm of their number.
+/// Attributes in their order: a contract sees the list of them. A name is found in the logarithm of
+/// their number.
 #[derive(Drop)]
 pub(crate) struct AttributeList {
     alloc: Global,
@@ -37,7 +40,8 @@ impl Model for AttributeList {
 
     ghost view = { λ a. a.list.items };
 
-    ghost invariant = { λ a. Indexes a.index (λ name. has_name name a.list.items) × HasSum a.list.items a.sum };
+    ghost invariant = { λ a. Indexes a.index (λ name. has_name name a.list.items)
+        × HasSum a.list.items a.sum };
 }
 
 // Whether one of them has this name.
@@ -60,7 +64,8 @@ fn add_name(
     name: &Text,
 ) -> Result<(), NoMemory>
     requires { Indexes index.old (λ n. has_name n list.now) }
-    ensures ok { OnOk result (Indexes index.new (λ n. same_text name.now n || has_name n list.now)) }
+    ensures ok { OnOk result
+        (Indexes index.new (λ n. same_text name.now n || has_name n list.now)) }
     ensures err { OnErr result (Indexes index.new (λ n. has_name n list.now)) }
 {
     if let Some(names) = index {
@@ -178,7 +183,8 @@ impl AttributeList {
         Ok(())
     }
 
-    /// Whether two lists are known to differ in more than their order, since their sums do. False tells nothing.
+    /// Whether two lists are known to differ in more than their order, since their sums do. False
+    /// tells nothing.
     pub(crate) fn are_apart(&self, other: &AttributeList) -> bool
         ensures { IsTrue result → AreApart self.now other.now }
     {

@@ -36,8 +36,8 @@ impl Attribute {
     }
 }
 
-/// Attributes in their order: a contract sees the list of them. A name is found in the logarithm of their number. A copy
-/// shares them, until one of the two changes.
+/// Attributes in their order: a contract sees the list of them. A name is found in the logarithm of
+/// their number. A copy shares them, until one of the two changes.
 #[derive(Drop)]
 pub struct Attributes {
     alloc: Global,
@@ -126,7 +126,8 @@ impl Attributes {
         same_lists(self.as_slice(), other.as_slice())
     }
 
-    /// Makes the sum by which `are_apart` tells lists apart; a copy has it too, and a change drops it.
+    /// Makes the sum by which `are_apart` tells lists apart; a copy has it too, and a change drops
+    /// it.
     pub fn sum_up(&mut self) -> Result<(), NoMemory>
         ensures { self.new ≡ self.old }
     {
@@ -136,7 +137,8 @@ impl Attributes {
         Ok(())
     }
 
-    /// Whether two lists are known to differ in more than their order, since their sums do. False tells nothing.
+    /// Whether two lists are known to differ in more than their order, since their sums do. False
+    /// tells nothing.
     pub fn are_apart(&self, other: &Attributes) -> bool
         ensures { IsTrue result → AreApart self.now other.now }
     {
@@ -146,8 +148,8 @@ impl Attributes {
         }
     }
 
-    /// What is left of so many bytes behind all names and values, each attribute counted for one more; nothing where they
-    /// have more. It is a hint: no contract speaks of it.
+    /// What is left of so many bytes behind all names and values, each attribute counted for one
+    /// more; nothing where they have more. It is a hint: no contract speaks of it.
     pub fn left_of(&self, bytes: usize) -> Option<usize> {
         let mut left = bytes;
         for attribute in self.as_slice() {

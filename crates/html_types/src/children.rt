@@ -2,7 +2,8 @@
 
 use std::marker::Model;
 
-/// The children of a node, in order. A program's tree keeps links instead; this is what contracts speak of: the list of their numbers.
+/// The children of a node, in order. A program's tree keeps links instead; this is what contracts
+/// speak of: the list of their numbers.
 #[derive(Drop)]
 pub struct Children {
     list: Vec<usize>,

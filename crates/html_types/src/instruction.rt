@@ -1,10 +1,10 @@
-//! What a row of tree construction (13.2.6) is made of.
+//! What a row of tree construction (13.2.6 #tree-construction) is made of.
 
 use crate::name::Space;
 use crate::operation::NodeId;
 use crate::word::Word;
 
-/// The insertion modes (13.2.4.1), and the rules for foreign content.
+/// The insertion modes (13.2.4.1 #the-insertion-mode), and the rules for foreign content.
 #[derive(Clone, Copy, PartialEq, Eq)]
 pub enum Mode {
     Initial,
@@ -30,7 +30,8 @@ pub enum Mode {
     AfterFrameset,
     AfterAfterBody,
     AfterAfterFrameset,
-    /// The rules for parsing tokens in foreign content (13.2.6.5): no insertion mode, and never entered.
+    /// The rules for parsing tokens in foreign content (13.2.6.5 #parsing-main-inforeign): no
+    /// insertion mode, and never entered.
     InForeign,
 }
 
@@ -43,7 +44,7 @@ pub enum TokenizerSwitch {
     Plaintext,
 }
 
-/// Where "has an element in scope" stops (13.2.4.2).
+/// Where "has an element in scope" stops (13.2.4.2 #the-stack-of-open-elements).
 #[derive(Clone, Copy)]
 pub enum Scope {
     Default,
@@ -60,25 +61,29 @@ pub enum Group {
     Headings,
     /// dd and dt
     DefinitionItems,
-    /// The special category (13.2.4.2).
+    /// The special category (13.2.4.2 #the-stack-of-open-elements).
     Special,
-    /// The elements whose end tag is generated (13.2.6.3).
+    /// The elements whose end tag is generated
+    /// (13.2.6.3 #closing-elements-that-have-implied-end-tags).
     ClosedImplicitly,
-    /// The elements whose end tag is generated where all implied end tags are, thoroughly (13.2.6.3).
+    /// The elements whose end tag is generated where all implied end tags are, thoroughly
+    /// (13.2.6.3 #closing-elements-that-have-implied-end-tags).
     ClosedThoroughly,
-    /// Where "clear the stack back to a table context" stops (13.2.6.4.9).
+    /// Where "clear the stack back to a table context" stops (13.2.6.4.9 #parsing-main-intable).
     TableContext,
-    /// Where "clear the stack back to a table body context" stops (13.2.6.4.13).
+    /// Where "clear the stack back to a table body context" stops
+    /// (13.2.6.4.13 #parsing-main-intbody).
     TableBodyContext,
-    /// Where "clear the stack back to a table row context" stops (13.2.6.4.14).
+    /// Where "clear the stack back to a table row context" stops (13.2.6.4.14 #parsing-main-intr).
     RowContext,
     /// tbody, tfoot and thead
     TableSections,
     /// td and th
     Cells,
-    /// The current nodes at which "in table" keeps characters as pending ones (13.2.6.4.9).
+    /// The current nodes at which "in table" keeps characters as pending ones
+    /// (13.2.6.4.9 #parsing-main-intable).
     TextTargets,
-    /// The targets from which a node is foster parented (13.2.6.1).
+    /// The targets from which a node is foster parented (13.2.6.1 #creating-and-inserting-nodes).
     FosterTargets,
     /// The special elements at which the search for a list item goes on.
     PassedItems,
@@ -120,9 +125,11 @@ pub enum Test {
     OptionInOptgroup,
     /// The token's self-closing flag is set.
     SelfClosing,
-    /// The token is a start tag at which foreign content is left (13.2.6.5).
+    /// The token is a start tag at which foreign content is left
+    /// (13.2.6.5 #parsing-main-inforeign).
     BreaksOut,
-    /// The parser was made for a fragment (13.4): the open state has a context.
+    /// The parser was made for a fragment (13.4 #parsing-html-fragments): the open state has a
+    /// context.
     InFragment,
 }
 
@@ -152,8 +159,9 @@ pub enum Instr {
     InsertAndPopA(Word),
     /// The same for a start tag of that name with the token's attributes.
     InsertAndPopAs(Word),
-    /// A foreign element for the token (13.2.6.1) in the namespace of the adjusted current node, pushed; the names of tag and
-    /// attributes are adjusted as that namespace has it.
+    /// A foreign element for the token (13.2.6.1 #creating-and-inserting-nodes) in the namespace of
+    /// the adjusted current node, pushed; the names of tag and attributes are adjusted as that
+    /// namespace has it.
     InsertForeign,
     /// The same in that namespace; the attributes' names are adjusted.
     InsertIn(Space),
@@ -179,25 +187,28 @@ pub enum Instr {
     PopToRoot,
     /// Implied end tags.
     GenerateImplied,
-    /// All implied end tags, thoroughly (13.2.6.3).
+    /// All implied end tags, thoroughly (13.2.6.3 #closing-elements-that-have-implied-end-tags).
     GenerateImpliedThoroughly,
     GenerateImpliedBut(Who),
     /// Where one of these is in scope: implied end tags but it, then until it.
     Close(Scope, Who),
-    /// From the current node up to one of these, or to a special element that is no address, div or p.
+    /// From the current node up to one of these, or to a special element that is no address, div or
+    /// p.
     CloseItem(Who),
     /// "Any other end tag" of "in body".
     AnyOtherEnd,
-    /// Popped while the current node is neither HTML nor an integration point; the token is then processed by the rules of
-    /// the mode (13.2.6.5).
+    /// Popped while the current node is neither HTML nor an integration point; the token is then
+    /// processed by the rules of the mode (13.2.6.5 #parsing-main-inforeign).
     BreakOut,
-    /// "Any other end tag" of the rules for foreign content (13.2.6.5).
+    /// "Any other end tag" of the rules for foreign content (13.2.6.5 #parsing-main-inforeign).
     ForeignEnd,
 
-    /// Reconstruct the active formatting elements (13.2.4.3).
+    /// Reconstruct the active formatting elements
+    /// (13.2.4.3 #the-list-of-active-formatting-elements).
     Reconstruct,
-    /// The current node, with the token's tag, becomes an entry of the list of active formatting elements. Where three
-    /// entries behind the last marker have its name and its attributes, the earliest of them is dropped before.
+    /// The current node, with the token's tag, becomes an entry of the list of active formatting
+    /// elements. Where three entries behind the last marker have its name and its attributes, the
+    /// earliest of them is dropped before.
     PushFormatting,
     PushMarker,
     ClearToMarker,
@@ -218,7 +229,7 @@ pub enum Instr {
     TakeHeadOff,
     /// The form element pointer is the current node.
     SetFormPointer,
-    /// The end tag `form` (13.2.6.4.7).
+    /// The end tag `form` (13.2.6.4.7 #parsing-main-inbody).
     EndForm,
     /// The token's attributes that the first element of the stack lacks are added to it.
     AddToFirst,
@@ -234,16 +245,17 @@ pub enum Instr {
     /// The mode becomes the current template insertion mode.
     PushTemplateMode(Mode),
     PopTemplateMode,
-    /// Reset the insertion mode appropriately (13.2.4.1).
+    /// Reset the insertion mode appropriately (13.2.4.1 #the-insertion-mode).
     ResetMode,
 
     /// The character is added to the pending table character tokens.
     AppendPending,
-    /// The pending table character tokens are inserted (13.2.6.4.10): as they are where all are white space, else each by
-    /// the rules of "in body" with foster parenting on. There are none then.
+    /// The pending table character tokens are inserted (13.2.6.4.10 #parsing-main-intabletext): as
+    /// they are where all are white space, else each by the rules of "in body" with foster
+    /// parenting on. There are none then.
     InsertPending,
 
-    /// The adoption agency algorithm (13.2.6.4.7) for the token's name.
+    /// The adoption agency algorithm (13.2.6.4.7 #parsing-main-inbody) for the token's name.
     Adopt,
     /// The same for `a`; that element is then taken off, and the link is made.
     AdoptAnchor,
@@ -259,7 +271,7 @@ pub enum Instr {
     Reprocess,
     /// The current node, a script, is popped, and the parser stops at it.
     StopAtScript,
-    /// Parsing stops (13.2.7).
+    /// Parsing stops (13.2.7 #the-end).
     Finish,
 }
 
@@ -279,7 +291,8 @@ pub enum Then {
 pub enum Turn {
     More,
     Over,
-    /// No entry behind the last marker has the name: as "any other end tag" (13.2.6.4.7).
+    /// No entry behind the last marker has the name: as "any other end tag"
+    /// (13.2.6.4.7 #parsing-main-inbody).
     Other,
 }
 
@@ -287,7 +300,7 @@ pub enum Turn {
 #[derive(Clone, Copy)]
 pub enum Next {
     Done,
-    /// The adoption agency algorithm (13.2.6.4.7), and what comes behind it.
+    /// The adoption agency algorithm (13.2.6.4.7 #parsing-main-inbody), and what comes behind it.
     Adopt { name: Word, then: Then },
     /// Once more, by the mode as it is now.
     Reprocess,
@@ -327,7 +340,7 @@ pub enum Stop {
 /// What the end of the input comes to.
 #[derive(Clone, Copy, PartialEq, Eq)]
 pub enum Finish {
-    /// Parsing stopped (13.2.7).
+    /// Parsing stopped (13.2.7 #the-end).
     Finished,
     /// At a push that would open element 513.
     Deep,

@@ -1,6 +1,6 @@
 //! The plain data that the parser's parts hand to one another, and that the definitions speak of:
-//! texts, names, tags, tokens, the tokenizer's states, instructions, operations, the open state, nodes.
-//! A contract sees each of them as plain data: a text is the list of its characters.
+//! texts, names, tags, tokens, the tokenizer's states, instructions, operations, the open state,
+//! nodes. A contract sees each of them as plain data: a text is the list of its characters.
 #![tactic(auto)]
 
 mod attribute_list;

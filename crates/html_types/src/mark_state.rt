@@ -1,4 +1,5 @@
-//! The tokenizer's states of comments, markup declarations, doctypes and CDATA sections (13.2.5.41 to 13.2.5.71).
+//! The tokenizer's states of comments, markup declarations, doctypes and CDATA sections
+//! (13.2.5.41 #bogus-comment-state to 13.2.5.71 #cdata-section-end-state).
 
 ghost use Rattle.std.specs.Prelude.{◌≡◌, ◌↔◌, IsTrue, IfOk};
 
@@ -10,74 +11,86 @@ use std::alloc::Global;
 /// The states of comments: the comment's text so far, where it isn't empty for sure.
 #[derive(Drop)]
 pub enum CommentState {
-    /// 13.2.5.43 Comment start state
+    /// 13.2.5.43 #comment-start-state Comment start state
     Start,
-    /// 13.2.5.44 Comment start dash state
+    /// 13.2.5.44 #comment-start-dash-state Comment start dash state
     StartDash,
-    /// 13.2.5.45 Comment state
+    /// 13.2.5.45 #comment-state Comment state
     Inside(Text),
-    /// 13.2.5.46 Comment less-than sign state
+    /// 13.2.5.46 #comment-less-than-sign-state Comment less-than sign state
     LessThan(Text),
-    /// 13.2.5.47 Comment less-than sign bang state
+    /// 13.2.5.47 #comment-less-than-sign-bang-state Comment less-than sign bang state
     LessThanBang(Text),
-    /// 13.2.5.48 Comment less-than sign bang dash state
+    /// 13.2.5.48 #comment-less-than-sign-bang-dash-state Comment less-than sign bang dash state
     LessThanBangDash(Text),
-    /// 13.2.5.49 Comment less-than sign bang dash dash state
+    /// 13.2.5.49 #comment-less-than-sign-bang-dash-dash-state Comment less-than sign bang dash dash
+    /// state
     LessThanBangDashDash(Text),
-    /// 13.2.5.50 Comment end dash state
+    /// 13.2.5.50 #comment-end-dash-state Comment end dash state
     EndDash(Text),
-    /// 13.2.5.51 Comment end state
+    /// 13.2.5.51 #comment-end-state Comment end state
     End(Text),
-    /// 13.2.5.52 Comment end bang state
+    /// 13.2.5.52 #comment-end-bang-state Comment end bang state
     EndBang(Text),
 }
 
 /// The states of doctypes: the name so far. Identifiers are read and dropped.
 #[derive(Drop)]
 pub enum DoctypeState {
-    /// 13.2.5.53 DOCTYPE state
+    /// 13.2.5.53 #doctype-state DOCTYPE state
     Doctype,
-    /// 13.2.5.54 Before DOCTYPE name state
+    /// 13.2.5.54 #before-doctype-name-state Before DOCTYPE name state
     BeforeName,
-    /// 13.2.5.55 DOCTYPE name state
+    /// 13.2.5.55 #doctype-name-state DOCTYPE name state
     Name(Text),
-    /// 13.2.5.56 After DOCTYPE name state
+    /// 13.2.5.56 #after-doctype-name-state After DOCTYPE name state
     AfterName(Text),
-    /// 13.2.5.56 After DOCTYPE name state: the letters of `public` or `system` that were read, in lower case; at least one
+    /// 13.2.5.56 #after-doctype-name-state After DOCTYPE name state: the letters of `public` or
+    /// `system` that were read, in lower case; at least one
     Keyword(Text, Text),
-    /// 13.2.5.57 After DOCTYPE public keyword state, 13.2.5.58 Before DOCTYPE public identifier state
+    /// 13.2.5.57 #after-doctype-public-keyword-state After DOCTYPE public keyword state,
+    /// 13.2.5.58 #before-doctype-public-identifier-state Before DOCTYPE public identifier state
     AfterPublicKeyword(Text),
-    /// 13.2.5.59, 13.2.5.60 DOCTYPE public identifier (double-quoted), (single-quoted) state
+    /// 13.2.5.59 #doctype-public-identifier-(double-quoted)-state,
+    /// 13.2.5.60 #doctype-public-identifier-(single-quoted)-state DOCTYPE public identifier
+    /// (double-quoted), (single-quoted) state
     PublicIdentifier(Text, Quote),
-    /// 13.2.5.61 After DOCTYPE public identifier state, 13.2.5.62 Between DOCTYPE public and system identifiers state
+    /// 13.2.5.61 #after-doctype-public-identifier-state After DOCTYPE public identifier state,
+    /// 13.2.5.62 #between-doctype-public-and-system-identifiers-state Between DOCTYPE public and
+    /// system identifiers state
     AfterPublicIdentifier(Text),
-    /// 13.2.5.63 After DOCTYPE system keyword state, 13.2.5.64 Before DOCTYPE system identifier state
+    /// 13.2.5.63 #after-doctype-system-keyword-state After DOCTYPE system keyword state,
+    /// 13.2.5.64 #before-doctype-system-identifier-state Before DOCTYPE system identifier state
     AfterSystemKeyword(Text),
-    /// 13.2.5.65, 13.2.5.66 DOCTYPE system identifier (double-quoted), (single-quoted) state
+    /// 13.2.5.65 #doctype-system-identifier-(double-quoted)-state,
+    /// 13.2.5.66 #doctype-system-identifier-(single-quoted)-state DOCTYPE system identifier
+    /// (double-quoted), (single-quoted) state
     SystemIdentifier(Text, Quote),
-    /// 13.2.5.67 After DOCTYPE system identifier state
+    /// 13.2.5.67 #after-doctype-system-identifier-state After DOCTYPE system identifier state
     AfterSystemIdentifier(Text),
-    /// 13.2.5.68 Bogus DOCTYPE state: the name, and whether the force-quirks flag is set
+    /// 13.2.5.68 #bogus-doctype-state Bogus DOCTYPE state: the name, and whether the force-quirks
+    /// flag is set
     Bogus(Text, bool),
 }
 
 /// The states of CDATA sections.
 #[derive(Clone, Copy, PartialEq, Eq)]
 pub enum CdataState {
-    /// 13.2.5.69 CDATA section state
+    /// 13.2.5.69 #cdata-section-state CDATA section state
     Section,
-    /// 13.2.5.70 CDATA section bracket state
+    /// 13.2.5.70 #cdata-section-bracket-state CDATA section bracket state
     Bracket,
-    /// 13.2.5.71 CDATA section end state
+    /// 13.2.5.71 #cdata-section-end-state CDATA section end state
     End,
 }
 
 /// The states of what begins with `<!`, and of bogus comments.
 #[derive(Drop)]
 pub enum MarkState {
-    /// 13.2.5.42 Markup declaration open state: what was read of `--`, `DOCTYPE` or `[CDATA[`, as it was written
+    /// 13.2.5.42 #markup-declaration-open-state Markup declaration open state: what was read of
+    /// `--`, `DOCTYPE` or `[CDATA[`, as it was written
     MarkupDeclarationOpen(Text),
-    /// 13.2.5.41 Bogus comment state: the comment's text so far
+    /// 13.2.5.41 #bogus-comment-state Bogus comment state: the comment's text so far
     BogusComment(Text),
     Comment(CommentState),
     Doctype(DoctypeState),

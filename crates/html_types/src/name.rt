@@ -19,8 +19,9 @@ pub enum Space {
     Svg,
 }
 
-/// The name of an element, with its namespace: an HTML name that the rules speak of, or any other. The name of a tag is
-/// made from its text by `from_text` or `of` alone, and so is each HTML name; a name of MathML or SVG is always `Other`.
+/// The name of an element, with its namespace: an HTML name that the rules speak of, or any other.
+/// The name of a tag is made from its text by `from_text` or `of` alone, and so is each HTML name;
+/// a name of MathML or SVG is always `Other`.
 #[derive(Drop)]
 pub enum Name {
     Known(Word),
@@ -28,7 +29,8 @@ pub enum Name {
 }
 
 impl Name {
-    /// The HTML name that is written so, in lower case. It takes memory only where the rules don't speak of the name.
+    /// The HTML name that is written so, in lower case. It takes memory only where the rules don't
+    /// speak of the name.
     pub fn from_text(text: Text) -> Result<Name, NoMemory>
         ensures { IfOk result (λ n. n ≡ name_of text) }
     {

@@ -29,8 +29,10 @@ impl NameIndex {
     /// Adds a name.
     pub(crate) fn add(&mut self, alloc: Global, name: &Text) -> Result<(), NoMemory>
         ensures ok { OnOk result
-            ((f : List ℕ → Bool) → Finds self.old.names f → Finds self.new.names (λ n. same_text name.now n || f n)) }
-        ensures err { OnErr result ((f : List ℕ → Bool) → Finds self.old.names f → Finds self.new.names f) }
+            ((f : List ℕ → Bool) → Finds self.old.names f
+            → Finds self.new.names (λ n. same_text name.now n || f n)) }
+        ensures err { OnErr result
+            ((f : List ℕ → Bool) → Finds self.old.names f → Finds self.new.names f) }
     {
         let copied = String::from_str(alloc, name.as_str())?;
         self.names.insert(copied)?;

@@ -1,6 +1,7 @@
-//! The open state of tree construction (13.2.4): it names elements by their ids.
+//! The open state of tree construction (13.2.4 #parse-state): it names elements by their ids.
 
-ghost use Rattle.std.specs.Prelude.{◌≡◌, ◌↔◌, ◌∷◌, [], reverse, IsTrue, IfOk, OnOk, OnErr, IfSome, IfNone};
+ghost use Rattle.std.specs.Prelude.{◌≡◌, ◌↔◌, ◌∷◌, [], reverse, IsTrue, IfOk, OnOk, OnErr, IfSome};
+ghost use Rattle.std.specs.Prelude.{IfNone};
 
 use crate::instruction::Mode;
 use crate::memory::NoMemory;
@@ -17,7 +18,8 @@ use std::marker::Model;
 pub struct OpenElement {
     pub id: NodeId,
     pub name: Name,
-    /// An annotation-xml of MathML whose start tag named an encoding of HTML: an HTML integration point (13.2.6).
+    /// An annotation-xml of MathML whose start tag named an encoding of HTML: an HTML integration
+    /// point (13.2.6 #tree-construction).
     pub html_point: bool,
 }
 
@@ -36,13 +38,16 @@ impl Entry for OpenElement {
     }
 }
 
-/// The stack of open elements (13.2.4.2). Contracts see the list that begins with the current node.
+/// The stack of open elements (13.2.4.2 #the-stack-of-open-elements). Contracts see the list that
+/// begins with the current node.
 pub type Stack = SharedStack<OpenElement>;
 
-/// A walk over the stack of open elements, from the current node up. Contracts see the list of the elements that are left.
+/// A walk over the stack of open elements, from the current node up. Contracts see the list of the
+/// elements that are left.
 pub type Elements<'a> = Walk<'a, OpenElement>;
 
-/// An entry of the list of active formatting elements: a marker, or an element with the tag that it was made for.
+/// An entry of the list of active formatting elements: a marker, or an element with the tag that it
+/// was made for.
 #[derive(Drop)]
 pub enum FormattingEntry {
     Marker,
@@ -72,10 +77,12 @@ impl Entry for FormattingEntry {
     }
 }
 
-/// The list of active formatting elements (13.2.4.3). Contracts see the list that begins with the latest entry.
+/// The list of active formatting elements (13.2.4.3 #the-list-of-active-formatting-elements).
+/// Contracts see the list that begins with the latest entry.
 pub type ActiveFormatting = SharedStack<FormattingEntry>;
 
-/// The stack of template insertion modes (13.2.4.1). Contracts see the list that begins with the current one.
+/// The stack of template insertion modes (13.2.4.1 #the-insertion-mode). Contracts see the list
+/// that begins with the current one.
 #[derive(Drop)]
 pub struct Modes {
     items: Vec<Mode>,
@@ -158,7 +165,7 @@ fn same_modes(a: &[Mode], b: &[Mode]) -> bool
     true
 }
 
-/// The open state (13.2.4).
+/// The open state (13.2.4 #parse-state).
 #[derive(Drop)]
 pub struct Open {
     pub stack: Stack,
@@ -168,10 +175,12 @@ pub struct Open {
     /// The form element pointer.
     pub form: Option<NodeId>,
     pub mode: Mode,
-    /// The original insertion mode, in the modes "text" and "in table text" alone (`open_state_is_proper` of `rule_laws`).
+    /// The original insertion mode, in the modes "text" and "in table text" alone
+    /// (`open_state_is_proper` of `rule_laws`).
     pub original: Option<Mode>,
     pub template_modes: Modes,
-    /// The pending table character tokens, in the mode "in table text" alone (`open_state_is_proper`).
+    /// The pending table character tokens, in the mode "in table text" alone
+    /// (`open_state_is_proper`).
     pub pending_text: Text,
     pub frameset_ok: bool,
     pub quirks: bool,
@@ -181,18 +190,18 @@ pub struct Open {
     pub foster: bool,
     /// The id of the next element that is made.
     pub next: NodeId,
-    /// Of a fragment (13.4) its context, under the id of the first element of the stack, for
-    /// which it stands; of a page, none.
+    /// Of a fragment (13.4 #parsing-html-fragments) its context, under the id of the first element
+    /// of the stack, for which it stands; of a page, none.
     pub context: Option<OpenElement>,
 }
 
-/// What the parse of a fragment (13.4) asks of its context, the element whose children the
-/// fragment comes to be.
+/// What the parse of a fragment (13.4 #parsing-html-fragments) asks of its context, the element
+/// whose children the fragment comes to be.
 #[derive(Drop)]
 pub struct Context {
     pub name: Name,
     /// An annotation-xml of MathML whose `encoding` is one of HTML: an HTML integration point
-    /// (13.2.6).
+    /// (13.2.6 #tree-construction).
     pub html_point: bool,
     /// It is a form, or stands under one: the form element pointer is set.
     pub form: bool,

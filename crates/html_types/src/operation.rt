@@ -44,7 +44,8 @@ pub enum Place {
     Inside(NodeId),
     /// The end of the template's contents; of another element, its end.
     Contents(NodeId),
-    /// Just before the table where it has a parent, else the end of the element above it in the stack.
+    /// Just before the table where it has a parent, else the end of the element above it in the
+    /// stack.
     Foster { table: NodeId, above: NodeId },
 }
 
@@ -98,8 +99,9 @@ pub enum Op {
     Detach {
         node: NodeId,
     },
-    /// Moves the children of an element, in order, each to the end of another element's, or of its contents where that is a template; one
-    /// that can't stand there stays where it is. What stands in a template's contents isn't among its children, and doesn't move.
+    /// Moves the children of an element, in order, each to the end of another element's, or of its
+    /// contents where that is a template; one that can't stand there stays where it is. What stands
+    /// in a template's contents isn't among its children, and doesn't move.
     MoveChildren {
         from: NodeId,
         to: NodeId,

@@ -1,4 +1,5 @@
-//! The tokenizer's states of character references (13.2.5.72 to 13.2.5.80).
+//! The tokenizer's states of character references (13.2.5.72 #character-reference-state to
+//! 13.2.5.80 #numeric-character-reference-end-state).
 
 ghost use Rattle.std.specs.Prelude.{◌≡◌, ◌↔◌, IsTrue, IfOk};
 
@@ -10,7 +11,8 @@ use crate::token::{PartialTag, Quote};
 use crate::word::Word;
 use std::alloc::Global;
 
-/// The state to which a character reference returns: text, or an attribute's value, with what that state holds.
+/// The state to which a character reference returns: text, or an attribute's value, with what that
+/// state holds.
 #[derive(Drop)]
 pub enum ReturnState {
     Data,
@@ -23,17 +25,22 @@ pub enum ReturnState {
 /// The states of character references.
 #[derive(Drop)]
 pub enum ReferenceState {
-    /// 13.2.5.72 Character reference state: behind `&`
+    /// 13.2.5.72 #character-reference-state Character reference state: behind `&`
     Ampersand(ReturnState),
-    /// 13.2.5.73 Named character reference state: what was read, which begins with `&` and begins some name
+    /// 13.2.5.73 #named-character-reference-state Named character reference state: what was read,
+    /// which begins with `&` and begins some name
     Named(ReturnState, Text),
-    /// 13.2.5.75 Numeric character reference state, 13.2.5.77 Decimal character reference start state: behind `&#`
+    /// 13.2.5.75 #numeric-character-reference-state Numeric character reference state,
+    /// 13.2.5.77 #decimal-character-reference-start-state Decimal character reference start state:
+    /// behind `&#`
     Numeric(ReturnState),
-    /// 13.2.5.76 Hexadecimal character reference start state: behind `&#x`, the `x` as it was written
+    /// 13.2.5.76 #hexadecimal-character-reference-start-state Hexadecimal character reference start
+    /// state: behind `&#x`, the `x` as it was written
     HexadecimalStart(ReturnState, char),
-    /// 13.2.5.78 Hexadecimal character reference state: the code so far, U+110000 standing for all codes beyond
+    /// 13.2.5.78 #hexadecimal-character-reference-state Hexadecimal character reference state: the
+    /// code so far, U+110000 standing for all codes beyond
     Hexadecimal(ReturnState, u32),
-    /// 13.2.5.79 Decimal character reference state: the same
+    /// 13.2.5.79 #decimal-character-reference-state Decimal character reference state: the same
     Decimal(ReturnState, u32),
 }
 

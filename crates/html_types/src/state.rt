@@ -1,5 +1,5 @@
-//! The tokenizer's states (13.2.5), in groups. A state holds only what its rows, or those of states reached from it, can
-//! still read, so equal states are equal data.
+//! The tokenizer's states (13.2.5 #tokenization), in groups. A state holds only what its rows, or
+//! those of states reached from it, can still read, so equal states are equal data.
 
 ghost use Rattle.std.specs.Prelude.{◌≡◌, ◌↔◌, IsTrue, IfOk};
 
@@ -23,67 +23,82 @@ pub enum RawText {
     ScriptDataEscaped,
 }
 
-/// The states of text. `Option<Word>` is the name of the last start tag, which an end tag must have to end the text.
+/// The states of text. `Option<Word>` is the name of the last start tag, which an end tag must have
+/// to end the text.
 #[derive(Drop)]
 pub enum TextState {
-    /// 13.2.5.1 Data state
+    /// 13.2.5.1 #data-state Data state
     Data,
-    /// 13.2.5.2 to 13.2.5.4, 13.2.5.20 RCDATA, RAWTEXT, script data and script data escaped state
+    /// 13.2.5.2 #rcdata-state to 13.2.5.4 #script-data-state, 13.2.5.20 #script-data-escaped-state
+    /// RCDATA, RAWTEXT, script data and script data escaped state
     Raw(RawText, Option<Word>),
-    /// 13.2.5.5 PLAINTEXT state
+    /// 13.2.5.5 #plaintext-state PLAINTEXT state
     Plaintext,
-    /// 13.2.5.9, 13.2.5.12, 13.2.5.15, 13.2.5.23 less-than sign state of each
+    /// 13.2.5.9 #rcdata-less-than-sign-state, 13.2.5.12 #rawtext-less-than-sign-state,
+    /// 13.2.5.15 #script-data-less-than-sign-state,
+    /// 13.2.5.23 #script-data-escaped-less-than-sign-state less-than sign state of each
     RawLessThan(RawText, Option<Word>),
-    /// 13.2.5.10, 13.2.5.13, 13.2.5.16, 13.2.5.24 end tag open state of each
+    /// 13.2.5.10 #rcdata-end-tag-open-state, 13.2.5.13 #rawtext-end-tag-open-state,
+    /// 13.2.5.16 #script-data-end-tag-open-state, 13.2.5.24 #script-data-escaped-end-tag-open-state
+    /// end tag open state of each
     RawEndTagOpen(RawText, Option<Word>),
-    /// 13.2.5.11, 13.2.5.14, 13.2.5.17, 13.2.5.25 end tag name state of each: the name as it was written so far
+    /// 13.2.5.11 #rcdata-end-tag-name-state, 13.2.5.14 #rawtext-end-tag-name-state,
+    /// 13.2.5.17 #script-data-end-tag-name-state, 13.2.5.25 #script-data-escaped-end-tag-name-state
+    /// end tag name state of each: the name as it was written so far
     RawEndTagName(RawText, Option<Word>, Text),
-    /// 13.2.5.18 Script data escape start state
+    /// 13.2.5.18 #script-data-escape-start-state Script data escape start state
     EscapeStart(Option<Word>),
-    /// 13.2.5.19 Script data escape start dash state
+    /// 13.2.5.19 #script-data-escape-start-dash-state Script data escape start dash state
     EscapeStartDash(Option<Word>),
-    /// 13.2.5.21 Script data escaped dash state
+    /// 13.2.5.21 #script-data-escaped-dash-state Script data escaped dash state
     EscapedDash(Option<Word>),
-    /// 13.2.5.22 Script data escaped dash dash state
+    /// 13.2.5.22 #script-data-escaped-dash-dash-state Script data escaped dash dash state
     EscapedDashDash(Option<Word>),
-    /// 13.2.5.26 Script data double escape start state: the name so far, in lower case
+    /// 13.2.5.26 #script-data-double-escape-start-state Script data double escape start state: the
+    /// name so far, in lower case
     DoubleEscapeStart(Option<Word>, Text),
-    /// 13.2.5.27 Script data double escaped state
+    /// 13.2.5.27 #script-data-double-escaped-state Script data double escaped state
     DoubleEscaped(Option<Word>),
-    /// 13.2.5.28 Script data double escaped dash state
+    /// 13.2.5.28 #script-data-double-escaped-dash-state Script data double escaped dash state
     DoubleEscapedDash(Option<Word>),
-    /// 13.2.5.29 Script data double escaped dash dash state
+    /// 13.2.5.29 #script-data-double-escaped-dash-dash-state Script data double escaped dash dash
+    /// state
     DoubleEscapedDashDash(Option<Word>),
-    /// 13.2.5.30 Script data double escaped less-than sign state
+    /// 13.2.5.30 #script-data-double-escaped-less-than-sign-state Script data double escaped
+    /// less-than sign state
     DoubleEscapedLessThan(Option<Word>),
-    /// 13.2.5.31 Script data double escape end state: the name so far, in lower case
+    /// 13.2.5.31 #script-data-double-escape-end-state Script data double escape end state: the name
+    /// so far, in lower case
     DoubleEscapeEnd(Option<Word>, Text),
 }
 
 /// The states of tags and their attributes.
 #[derive(Drop)]
 pub enum TagState {
-    /// 13.2.5.6 Tag open state
+    /// 13.2.5.6 #tag-open-state Tag open state
     TagOpen,
-    /// 13.2.5.7 End tag open state
+    /// 13.2.5.7 #end-tag-open-state End tag open state
     EndTagOpen,
-    /// 13.2.5.8 Tag name state
+    /// 13.2.5.8 #tag-name-state Tag name state
     TagName(PartialTag),
-    /// 13.2.5.32 Before attribute name state
+    /// 13.2.5.32 #before-attribute-name-state Before attribute name state
     BeforeAttributeName(PartialTag),
-    /// 13.2.5.33 Attribute name state: the name so far
+    /// 13.2.5.33 #attribute-name-state Attribute name state: the name so far
     AttributeName(PartialTag, Text),
-    /// 13.2.5.34 After attribute name state: the name that was read, or none where the tag has that name
+    /// 13.2.5.34 #after-attribute-name-state After attribute name state: the name that was read, or
+    /// none where the tag has that name
     AfterAttributeName(PartialTag, Option<Text>),
-    /// 13.2.5.35 Before attribute value state
+    /// 13.2.5.35 #before-attribute-value-state Before attribute value state
     BeforeAttributeValue(PartialTag, Option<Text>),
-    /// 13.2.5.36, 13.2.5.37 Attribute value (double-quoted), (single-quoted) state: none where the value is dropped
+    /// 13.2.5.36 #attribute-value-(double-quoted)-state,
+    /// 13.2.5.37 #attribute-value-(single-quoted)-state Attribute value (double-quoted),
+    /// (single-quoted) state: none where the value is dropped
     AttributeValueQuoted(PartialTag, Option<Attribute>, Quote),
-    /// 13.2.5.38 Attribute value (unquoted) state
+    /// 13.2.5.38 #attribute-value-(unquoted)-state Attribute value (unquoted) state
     AttributeValueUnquoted(PartialTag, Option<Attribute>),
-    /// 13.2.5.39 After attribute value (quoted) state
+    /// 13.2.5.39 #after-attribute-value-(quoted)-state After attribute value (quoted) state
     AfterAttributeValueQuoted(PartialTag),
-    /// 13.2.5.40 Self-closing start tag state
+    /// 13.2.5.40 #self-closing-start-tag-state Self-closing start tag state
     SelfClosingStartTag(PartialTag),
 }
 

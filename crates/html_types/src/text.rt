@@ -1,6 +1,7 @@
 //! A text, which a contract sees as the list of its characters.
 
-ghost use Rattle.std.specs.Prelude.{◌≡◌, ◌↔◌, ◌<◌, [], ◌∷◌, ◌++◌, IsTrue, IfOk, OnOk, OnErr, MatchOption, length, take, map};
+ghost use Rattle.std.specs.Prelude.{◌≡◌, ◌↔◌, ◌<◌, [], ◌∷◌, ◌++◌, IsTrue, IfOk, OnOk, OnErr};
+ghost use Rattle.std.specs.Prelude.{MatchOption, length, take, map};
 ghost use Rattle.std.specs.Str.{chars, IsCharBoundary};
 ghost use Rattle.std.specs.Char.{to_ascii_lowercase};
 ghost use Rattle.html_types.specs.Text.{same_text};
@@ -128,12 +129,13 @@ impl Text {
     }
 }
 
-/// The character at a place of a text, and the place behind it; none at the end. Nothing else knows how characters are
-/// written in bytes.
+/// The character at a place of a text, and the place behind it; none at the end. Nothing else knows
+/// how characters are written in bytes.
 pub fn char_at(text: &str, place: usize) -> Option<(char, usize)>
     requires { IsCharBoundary text.now place }
     ensures onward { MatchOption result (place ≡ length text.now) (λ r. place < r.1) }
-    ensures boundary { MatchOption result (place ≡ length text.now) (λ r. IsCharBoundary text.now r.1) }
+    ensures boundary { MatchOption result (place ≡ length text.now)
+        (λ r. IsCharBoundary text.now r.1) }
     ensures read { MatchOption result
         (place ≡ length text.now)
         (λ r. chars (take r.1 text.now) ≡ chars (take place text.now) ++ r.0 ∷ []) }

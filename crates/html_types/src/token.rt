@@ -1,6 +1,7 @@
-//! Tags and tokens (13.2.5).
+//! Tags and tokens (13.2.5 #tokenization).
 
-ghost use Rattle.std.specs.Prelude.{◌≡◌, ◌↔◌, [], ◌∷◌, ◌++◌, IsTrue, IfOk, OnOk, IfSome, IfNone, map};
+ghost use Rattle.std.specs.Prelude.{◌≡◌, ◌↔◌, [], ◌∷◌, ◌++◌, IsTrue, IfOk, OnOk, IfSome, IfNone};
+ghost use Rattle.std.specs.Prelude.{map};
 ghost use Rattle.html_types.specs.declared.token.Token.TheVariants.{Character};
 
 use crate::attributes::Attributes;
@@ -89,7 +90,7 @@ impl PartialTag {
     }
 }
 
-/// A token (13.2.5).
+/// A token (13.2.5 #tokenization).
 #[derive(Drop)]
 pub enum Token {
     StartTag(Tag),

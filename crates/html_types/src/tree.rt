@@ -1,4 +1,5 @@
-//! The nodes of a tree (DOM). A node is named by its number, its place in the list of all nodes; the Document is number 0.
+//! The nodes of a tree (DOM). A node is named by its number, its place in the list of all nodes;
+//! the Document is number 0.
 
 use crate::attributes::Attributes;
 use crate::children::Children;

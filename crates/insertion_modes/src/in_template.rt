@@ -54,7 +54,8 @@ pub fn in_template(token: &Token) -> &'static [Instr]
     }
 }
 
-// The head's elements go by its rules; else the template's mode is replaced by one that fits what comes.
+// The head's elements go by its rules; else the template's mode is replaced by one that fits what
+// comes.
 fn start(word: Word) -> &'static [Instr]
     ensures { result.now ≡ start_row Mode.InTemplate (Name.Known word) }
 {
@@ -68,7 +69,8 @@ fn start(word: Word) -> &'static [Instr]
 
 // The same for a name that isn't the head's.
 fn start_of_content(word: Word) -> &'static [Instr]
-    ensures { result.now ≡ row_for (drop 1 in_template_start) in_template_any_start (Name.Known word) }
+    ensures { result.now
+        ≡ row_for (drop 1 in_template_start) in_template_any_start (Name.Known word) }
 {
     match word {
         Caption | Colgroup | Tbody | Tfoot | Thead => &[

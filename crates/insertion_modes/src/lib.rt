@@ -1,6 +1,6 @@
-//! The rules for parsing tokens in HTML content, by insertion mode (13.2.6.4), and in foreign
-//! content (13.2.6.5 #parsing-main-inforeign): a row of instructions for a mode and a token. A
-//! file for each mode, or for those that the standard has side by side.
+//! The rules for parsing tokens in HTML content, by insertion mode (13.2.6.4 #parsing-main-inhtml),
+//! and in foreign content (13.2.6.5 #parsing-main-inforeign): a row of instructions for a mode and
+//! a token. A file for each mode, or for those that the standard has side by side.
 #![tactic(auto)]
 
 ghost use Rattle.std.specs.Prelude.{◌≡◌};

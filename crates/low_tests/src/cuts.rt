@@ -31,8 +31,8 @@ pub enum Cuts {
     Three,
 }
 
-/// Where the tokenizer begins, whether the adjusted current node isn't an HTML element, a text, and its tokens as `spelling`
-/// writes them.
+/// Where the tokenizer begins, whether the adjusted current node isn't an HTML element, a text, and
+/// its tokens as `spelling` writes them.
 #[derive(Clone, Copy)]
 pub struct Row {
     pub start: Start,
@@ -45,7 +45,8 @@ pub struct Row {
 #[derive(Clone, Copy, PartialEq, Eq)]
 enum Way {
     ByCharacter,
-    /// What the state only adds to what it holds, or drops, is taken at once in front of each character.
+    /// What the state only adds to what it holds, or drops, is taken at once in front of each
+    /// character.
     InRuns,
 }
 
@@ -153,7 +154,8 @@ impl Reader {
     }
 }
 
-// What the pieces of a text give: the tokenizer before the end of the file, and the reader behind it.
+// What the pieces of a text give: the tokenizer before the end of the file, and the reader behind
+// it.
 #[derive(Drop)]
 struct Given {
     before: Tokenizer,
@@ -221,7 +223,8 @@ fn gives_in_two(alloc: Global, table: &Table, row: &Row) -> Result<bool, NoMemor
     Ok(true)
 }
 
-// Whether the text gives the same in three pieces, the first of which is `front`, wherever the rest is cut.
+// Whether the text gives the same in three pieces, the first of which is `front`, wherever the rest
+// is cut.
 fn agrees_behind(
     alloc: Global,
     table: &Table,

@@ -23,7 +23,8 @@ fn around(alloc: Global, mark: u8) -> Result<Vec<u8>, NoMemory> {
     Ok(bytes)
 }
 
-// Whether in each front of a text, whose first mark stands there, that mark is found, or the front's end.
+// Whether in each front of a text, whose first mark stands there, that mark is found, or the
+// front's end.
 fn is_found(text: &[u8], place: usize) -> bool {
     for length in 0..text.len() {
         if first_mark(&text[..length]) != place.min(length) {

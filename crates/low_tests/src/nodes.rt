@@ -1,4 +1,5 @@
-//! Nodes that the tests make, and trees of them. What is made of a tree isn't to be worked out behind the calls: so they promise nothing.
+//! Nodes that the tests make, and trees of them. What is made of a tree isn't to be worked out
+//! behind the calls: so they promise nothing.
 
 use doc_tree::Tree;
 use html_types::{Attribute, Attributes, Kind, Name, NoMemory, Text};

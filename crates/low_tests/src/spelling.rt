@@ -6,9 +6,10 @@ use std::alloc::Global;
 /// More tokens than a row has.
 pub const MANY: usize = 100;
 
-/// Tokens as the rows write them. A start tag is `<name a="v">` or `<name a="v"/>`, an end tag the same with `</`, a comment
-/// `<!--x-->`, a doctype `<!name!>`, or `<!name?>` where its force-quirks flag is set, and the end of the file `$`. A character
-/// stands for itself, but `<` is `&lt;` and `&` is `&amp;`.
+/// Tokens as the rows write them. A start tag is `<name a="v">` or `<name a="v"/>`, an end tag the
+/// same with `</`, a comment `<!--x-->`, a doctype `<!name!>`, or `<!name?>` where its force-quirks
+/// flag is set, and the end of the file `$`. A character stands for itself, but `<` is `&lt;` and
+/// `&` is `&amp;`.
 pub fn spelling(alloc: Global, tokens: &mut Tokens) -> Result<String, NoMemory> {
     let mut spelled = String::new(alloc);
     for _ in 0..MANY {

@@ -94,7 +94,8 @@ fn takes(stack: &mut SharedStack<Letter>, letter: u8) -> Result<bool, AllocError
     }
 }
 
-// Edits at a place, each alone; what they make of the list isn't to be worked out. False where there is no such place.
+// Edits at a place, each alone; what they make of the list isn't to be worked out. False where
+// there is no such place.
 fn take_out(stack: &mut SharedStack<Letter>, place: usize) -> Result<bool, AllocError> {
     if place >= stack.len() {
         return Ok(false);

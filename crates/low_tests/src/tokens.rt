@@ -1,5 +1,5 @@
 //! Texts whose tokens are the standard's, however the texts are cut: the rows. Their tokens are
-//! written from the standard's rules (13.2.5).
+//! written from the standard's rules (13.2.5 #tokenization).
 
 use crate::cuts::{Cuts, Row, Start, gives};
 use entity_table::{Table, TableFault};
@@ -115,7 +115,8 @@ const TEXTS: [Texts; 8] = [
             ("<!DOCTYPE x PUBLIC 'a>b", "<!x?>b$"),
         ],
     },
-    // Runs of characters that a state only adds to what it holds or drops, with those among them at which one ends.
+    // Runs of characters that a state only adds to what it holds or drops, with those among them at
+    // which one ends.
     Texts {
         start: Start::Data,
         foreign: false,

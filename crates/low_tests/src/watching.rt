@@ -27,7 +27,7 @@ fn put(alloc: Global) -> Result<Change, NoMemory> {
 
 fn text(alloc: Global, text: &str) -> Result<Change, NoMemory> {
     let mut ops = Ops::new(alloc);
-    ops.push_text(alloc, Place::Inside(PARAGRAPH), text)?;
+    ops.push_text(Place::Inside(PARAGRAPH), text)?;
     Ok(Change::Did(ops))
 }
 

@@ -1,9 +1,13 @@
-//! Laws of the moments of the serial parse: how they come one behind another, and which ids are bound at them. Each stands on a function
-//! that does nothing, so that a contract names it.
+//! Laws of the moments of the serial parse: how they come one behind another, and which ids are
+//! bound at them. Each stands on a function that does nothing, so that a contract names it.
 #![tactic(auto)]
 
-ghost use Rattle.moment_laws.specs.Ways.{LeadsSame, LeadsNext, LeadsThen, BatchesGoThrough, GoesOn, ThroughLeads, ThroughSettles, NoEndingMatters, ParsesItsFront};
-ghost use Rattle.moment_laws.specs.Served.{RoomServes, FirstHasRoom, TextsHaveRoom, EndsHaveRoom, MomentsHaveRoom, RenewingHasRoom, MomentsServe, MomentsBind, HeldHaveRoom};
+ghost use Rattle.moment_laws.specs.Ways.{LeadsSame, LeadsNext, LeadsThen, BatchesGoThrough, GoesOn};
+ghost use Rattle.moment_laws.specs.Ways.{ThroughLeads, ThroughSettles, NoEndingMatters};
+ghost use Rattle.moment_laws.specs.Ways.{ParsesItsFront};
+ghost use Rattle.moment_laws.specs.Served.{RoomServes, FirstHasRoom, TextsHaveRoom, EndsHaveRoom};
+ghost use Rattle.moment_laws.specs.Served.{MomentsHaveRoom, RenewingHasRoom, MomentsServe};
+ghost use Rattle.moment_laws.specs.Served.{MomentsBind, HeldHaveRoom};
 ghost use Rattle.rule_laws.specs.Naming.{AreFresh};
 
 /// Any two moments of the serial parse of which one leads to the other.
@@ -13,7 +17,8 @@ pub fn leads_on()
     ensures then { LeadsThen }
 {}
 
-/// Moments one behind another of which none is settled before the last: what is parsed of a front of the input is such a way.
+/// Moments one behind another of which none is settled before the last: what is parsed of a front
+/// of the input is such a way.
 pub fn goes_through()
     ensures batches { BatchesGoThrough }
     ensures onward { GoesOn }
@@ -27,8 +32,9 @@ pub fn parses_its_front()
     ensures { ParsesItsFront }
 {}
 
-/// No element has an id of a realm that is to come, nor of a later one: so it is at the beginning, and so it stays behind a text, behind the
-/// end of the page and from moment to moment. A parser whose next ids are of that realm is served then, with room for the realms behind it.
+/// No element has an id of a realm that is to come, nor of a later one: so it is at the beginning,
+/// and so it stays behind a text, behind the end of the page and from moment to moment. A parser
+/// whose next ids are of that realm is served then, with room for the realms behind it.
 pub fn realms_have_room()
     ensures serves { RoomServes }
     ensures begins { FirstHasRoom }
@@ -38,8 +44,8 @@ pub fn realms_have_room()
     ensures renewed { RenewingHasRoom }
 {}
 
-/// From moment to moment what was bound stays so, and what comes to be bound is of the realm of the parser. So a parser of another realm,
-/// whose ids are bound, is served behind them as it was.
+/// From moment to moment what was bound stays so, and what comes to be bound is of the realm of the
+/// parser. So a parser of another realm, whose ids are bound, is served behind them as it was.
 pub fn moments_bind()
     ensures serves { MomentsServe AreFresh }
     ensures binds { MomentsBind }

@@ -1,6 +1,7 @@
 //! What ids stand for.
 
-ghost use Rattle.std.specs.Prelude.{◌≡◌, ◌<◌, ◌++◌, ◌∷◌, [], length, IsTrue, OnOk, OnErr, IfOk, None};
+ghost use Rattle.std.specs.Prelude.{◌≡◌, ◌<◌, ◌++◌, ◌∷◌, [], length, IsTrue, OnOk, OnErr, IfOk};
+ghost use Rattle.std.specs.Prelude.{None};
 ghost use Rattle.std.specs.Option.{ForSome};
 ghost use Rattle.std.specs.BTreeMap.{insert_entry};
 ghost use Rattle.standard.specs.Tree.{Keeps};
@@ -30,11 +31,12 @@ fn next_number(tree: &Tree) -> Result<u32, NoMemory>
     u32::try_from(tree.len()).map_err(|_| NoMemory)
 }
 
-// So many realms have a list of their own. Looking through them is then as fast as a search, however many scripts made elements.
+// So many realms have a list of their own. Looking through them is then as fast as a search,
+// however many scripts made elements.
 const MOST_LISTS: usize = 16;
 
-/// What ids stand for: ids come in order in their realm, and one that doesn't, or whose realm has no list, is among the others. A contract sees
-/// the pairs in the ids' order.
+/// What ids stand for: ids come in order in their realm, and one that doesn't, or whose realm has
+/// no list, is among the others. A contract sees the pairs in the ids' order.
 #[derive(Drop)]
 pub(crate) struct Bound {
     alloc: Global,
@@ -100,7 +102,8 @@ fn make_in_list(
     attributes: &Listed<'_>,
 ) -> Result<(), NoMemory>
     ensures bound { OnOk result (nodes.new.items ≡ nodes.old.items ++ length tree.old ∷ []) }
-    ensures made { OnOk result (tree.new ≡ element_made tree.old (seen_name name.entry) attributes.now) }
+    ensures made { OnOk result
+        (tree.new ≡ element_made tree.old (seen_name name.entry) attributes.now) }
     ensures err_bound { OnErr result (nodes.new.items ≡ nodes.old.items) }
     ensures err_made { OnErr result (tree.new ≡ tree.old) }
     ensures keeps { Keeps tree.old tree.new }
@@ -122,8 +125,12 @@ fn make_in_realm(
     attributes: &Listed<'_>,
 ) -> Result<(), NoMemory>
     requires { id.n ≡ 0 }
-    ensures bound { OnOk result ((es : _) → with_realms realms.new.items es ≡ insert_entry id_cmp (with_realms realms.old.items es) id (length tree.old)) }
-    ensures made { OnOk result (tree.new ≡ element_made tree.old (seen_name name.entry) attributes.now) }
+    ensures bound { OnOk result
+        ((es : _)
+        → with_realms realms.new.items es
+        ≡ insert_entry id_cmp (with_realms realms.old.items es) id (length tree.old)) }
+    ensures made { OnOk result
+        (tree.new ≡ element_made tree.old (seen_name name.entry) attributes.now) }
     ensures err_bound { OnErr result (realms.new.items ≡ realms.old.items) }
     ensures err_made { OnErr result (tree.new ≡ tree.old) }
     ensures keeps { Keeps tree.old tree.new }
@@ -152,8 +159,10 @@ fn make_in_map(
     attributes: &Listed<'_>,
 ) -> Result<(), NoMemory>
     requires { bound_to others.old.entries id ≡ None }
-    ensures bound { OnOk result (others.new.entries ≡ insert_entry id_cmp others.old.entries id (length tree.old)) }
-    ensures made { OnOk result (tree.new ≡ element_made tree.old (seen_name name.entry) attributes.now) }
+    ensures bound { OnOk result
+        (others.new.entries ≡ insert_entry id_cmp others.old.entries id (length tree.old)) }
+    ensures made { OnOk result
+        (tree.new ≡ element_made tree.old (seen_name name.entry) attributes.now) }
     ensures err_bound { OnErr result (others.new.entries ≡ others.old.entries) }
     ensures err_made { OnErr result (tree.new ≡ tree.old) }
     ensures keeps { Keeps tree.old tree.new }
@@ -209,7 +218,8 @@ impl Bound {
     ) -> Result<(), NoMemory>
         requires { bound_to self.old id ≡ None }
         ensures bound { OnOk result (self.new ≡ insert_entry id_cmp self.old id (length tree.old)) }
-        ensures made { OnOk result (tree.new ≡ element_made tree.old (seen_name name.entry) attributes.now) }
+        ensures made { OnOk result
+            (tree.new ≡ element_made tree.old (seen_name name.entry) attributes.now) }
         ensures err_bound { OnErr result (self.new ≡ self.old) }
         ensures err_made { OnErr result (tree.new ≡ tree.old) }
         ensures keeps { Keeps tree.old tree.new }

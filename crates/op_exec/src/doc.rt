@@ -1,6 +1,7 @@
 //! A tree and the ids of its elements.
 
-ghost use Rattle.std.specs.Prelude.{◌≡◌, ◌≢◌, ◌<◌, length, IsTrue, IsSome, OnOk, OnErr, IfOk, Some, None, true, false, if◌then◌else◌};
+ghost use Rattle.std.specs.Prelude.{◌≡◌, ◌≢◌, ◌<◌, length, IsTrue, IsSome, OnOk, OnErr, IfOk, Some};
+ghost use Rattle.std.specs.Prelude.{None, true, false, if◌then◌else◌};
 ghost use Rattle.std.specs.Option.{ForSome};
 ghost use Rattle.html_types.specs.declared.operation.Op.TheVariants as op;
 ghost use Rattle.doc_tree.specs.declared.tree.Put.TheVariants as put;
@@ -63,11 +64,14 @@ fn end_of(tree: &Tree, node: usize) -> Spot
 fn foster_spot(tree: &Tree, table: usize, above: usize) -> Spot
     requires table_here { table < length tree.now }
     requires above_here { above < length tree.now }
-    ensures parent { result.parent ≡ (foster_spot tree.now table above (parent_of tree.now table)).parent }
-    ensures before { result.before ≡ (foster_spot tree.now table above (parent_of tree.now table)).before }
+    ensures parent { result.parent
+        ≡ (foster_spot tree.now table above (parent_of tree.now table)).parent }
+    ensures before { result.before
+        ≡ (foster_spot tree.now table above (parent_of tree.now table)).before }
     ensures here { result.parent < length tree.now }
     ensures tree { IsTree tree.now }
-    ensures child { ForSome result.before (λ b. (b < length tree.now) × (parent_of tree.now b ≡ Some result.parent)) }
+    ensures child { ForSome result.before
+        (λ b. (b < length tree.now) × (parent_of tree.now b ≡ Some result.parent)) }
 {
     match tree.parent(table) {
         None => end_of(tree, above),
@@ -110,7 +114,8 @@ fn inserts_nothing(op: &SeenOp<'_>) -> bool
 impl Doc {
     ghost use Rattle.html_types.specs.Operations.{spelled_one};
     ghost use Rattle.standard.specs.Tree.{host_of};
-    ghost use Rattle.standard.specs.Act.{new_doc, act, acts, bound_to, node_of, is_bound, spot_of, text_at, IsPlaceBound, IsOpBound, AreOpsBound};
+    ghost use Rattle.standard.specs.Act.{new_doc, act, acts, bound_to, node_of, is_bound, spot_of};
+    ghost use Rattle.standard.specs.Act.{text_at, IsPlaceBound, IsOpBound, AreOpsBound};
     ghost use Rattle.act_laws.specs.Bindings.{IsOneToOne};
     ghost use Rattle.op_exec.specs.Docs.{IsDoneInPart};
 
@@ -166,7 +171,8 @@ impl Doc {
         ensures before { result.before ≡ (spot_of self.now place).before }
         ensures here { result.parent < length self.now.tree }
         ensures tree { IsTree self.now.tree }
-        ensures child { ForSome result.before (λ b. (b < length self.now.tree) × (parent_of self.now.tree b ≡ Some result.parent)) }
+        ensures child { ForSome result.before
+            (λ b. (b < length self.now.tree) × (parent_of self.now.tree b ≡ Some result.parent)) }
     {
         match place {
             Place::Page => end_of(&self.tree, 0),
@@ -188,7 +194,8 @@ impl Doc {
         attributes: &Listed<'_>,
     ) -> Result<(), NoMemory>
         requires { is_bound self.old.bound id ≡ false }
-        ensures ok { OnOk result (self.new ≡ act self.old (op.Make id (seen_name name.entry) attributes.now)) }
+        ensures ok { OnOk result
+            (self.new ≡ act self.old (op.Make id (seen_name name.entry) attributes.now)) }
         ensures err { OnErr result (self.new ≡ self.old) }
     {
         self.bound.make(id, &mut self.tree, name, attributes)
@@ -212,7 +219,8 @@ impl Doc {
 
     fn text(&mut self, place: Place, text: &str) -> Result<(), NoMemory>
         requires { IsPlaceBound (is_bound self.old.bound) place }
-        ensures ok { OnOk result (self.new ≡ acts self.old (spelled_one (op.Text place (chars text.now)))) }
+        ensures ok { OnOk result
+            (self.new ≡ acts self.old (spelled_one (op.Text place (chars text.now)))) }
         ensures err { OnErr result (self.new ≡ self.old) }
     {
         let spot = self.spot(place);
@@ -298,7 +306,8 @@ impl Doc {
         self.add_own(id, &own)
     }
 
-    /// Does the operation on the tree as it is now; where it inserts text, the insertions of its characters one by one.
+    /// Does the operation on the tree as it is now; where it inserts text, the insertions of its
+    /// characters one by one.
     // In place of a call: `op` is then taken apart where it is read, and never laid into memory.
     #[inline(always)]
     #[tactic(auto, unfolding(standard::specs::Act::acts))]
@@ -339,7 +348,8 @@ impl Doc {
         self.apply(op)
     }
 
-    /// Does the operations in order. Where memory runs out, the first of them are done, and no other.
+    /// Does the operations in order. Where memory runs out, the first of them are done, and no
+    /// other.
     pub fn apply_all(&mut self, ops: &Ops) -> Result<(), NoMemory>
         requires { AreOpsBound (is_bound self.old.bound) ops.now }
         ensures ok { OnOk result (self.new ≡ acts self.old ops.now) }
@@ -356,7 +366,8 @@ impl Doc {
 
 // What a script asks for.
 impl Doc {
-    ghost use Rattle.standard.specs.Tree.{detached, moved, lies_in, is_element_at, find_id, first_element};
+    ghost use Rattle.standard.specs.Tree.{detached, moved, lies_in, is_element_at, find_id};
+    ghost use Rattle.standard.specs.Tree.{first_element};
 
     /// The Document's element.
     pub fn root(&self) -> Option<usize>
@@ -366,7 +377,8 @@ impl Doc {
         self.tree.first_element()
     }
 
-    /// The first element of the Document, in tree order, with that `id`. An empty one finds nothing.
+    /// The first element of the Document, in tree order, with that `id`. An empty one finds
+    /// nothing.
     pub fn find_id(&self, id: &str) -> Option<usize>
         ensures found { result ≡ find_id self.now.tree (chars id.now) }
         ensures here { ForSome result (λ k. k < length self.now.tree) }
@@ -383,26 +395,36 @@ impl Doc {
         self.tree.detach(node);
     }
 
-    /// Puts the second element at the end of the first one's children, from wherever it stands; a template's are its own, not its contents'.
-    /// Impossible, and then nothing changes, exactly where the second is the first or the first stands under it. Texts that come to stand side
-    /// by side aren't joined, and what ids stand for stays.
+    /// Puts the second element at the end of the first one's children, from wherever it stands; a
+    /// template's are its own, not its contents'. Impossible, and then nothing changes, exactly
+    /// where the second is the first or the first stands under it. Texts that come to stand side by
+    /// side aren't joined, and what ids stand for stays.
     pub fn move_last(&mut self, first: usize, second: usize) -> Result<Put, NoMemory>
         requires first_element { is_element_at self.old.tree first ≡ true }
         requires second_element { is_element_at self.old.tree second ≡ true }
-        ensures answer { IfOk result (λ answer. answer ≡ (if lies_in self.old.tree first second then put.Impossible else put.Done)) }
-        ensures ok { OnOk result (self.new ≡ record self.old { tree = (if lies_in self.old.tree first second then self.old.tree else moved self.old.tree second first None) }) }
+        ensures answer { IfOk result
+            (λ answer. answer
+            ≡ (if lies_in self.old.tree first second then put.Impossible else put.Done)) }
+        ensures ok { OnOk result
+            (self.new
+            ≡ record self.old {
+              tree =
+                  (if lies_in self.old.tree first second then self.old.tree else moved self.old.tree
+                  second first None);
+            }) }
         ensures err { OnErr result (self.new ≡ self.old) }
     {
         self.tree.put_last(second, first)
     }
 }
 
-// Fragments (13.4).
+// Fragments (13.4 #parsing-html-fragments).
 impl Doc {
     ghost use Rattle.act_laws.specs.Staying.{Stays};
     ghost use Rattle.standard.specs.Tree.{new_tree};
     ghost use Rattle.standard.specs.Act.{node_of, is_bound, AreOpsBound};
-    ghost use Rattle.standard.specs.Fragment.{context_at, with_fragment, exchanged, filled, root_id};
+    ghost use Rattle.standard.specs.Fragment.{context_at, with_fragment, exchanged, filled};
+    ghost use Rattle.standard.specs.Fragment.{root_id};
 
     /// What the parse of a fragment asks of that node as its context, in a document that is in
     /// quirks mode or not. Its way up is walked.
@@ -413,7 +435,8 @@ impl Doc {
         context_of(&self.tree, node, quirks)
     }
 
-    // The node's children are taken out (a template's: its contents' children), and the root's are put there.
+    // The node's children are taken out (a template's: its contents' children), and the root's are
+    // put there.
     fn exchange(&mut self, target: usize) -> Result<(), NoMemory>
         requires root { IsTrue (is_bound self.old.bound (root_id 0)) }
         requires here { target < length self.old.tree }
@@ -429,7 +452,8 @@ impl Doc {
     // With no id bound: the fragment's nodes under ids of their own.
     fn make_fragment(&mut self, form: bool, ops: &Ops) -> Result<(), NoMemory>
         requires none { self.old.bound ≡ [] }
-        requires bound { AreOpsBound (is_bound (with_fragment self.old.tree form []).bound) ops.now }
+        requires bound { AreOpsBound (is_bound (with_fragment self.old.tree form []).bound)
+            ops.now }
         ensures ok { OnOk result (self.new ≡ with_fragment self.old.tree form ops.now) }
         ensures root { OnOk result (IsTrue (is_bound self.new.bound (root_id 0))) }
         ensures stays { Stays self.old.tree self.new.tree }
@@ -443,7 +467,8 @@ impl Doc {
     fn fill_with(&mut self, target: usize, form: bool, ops: &Ops) -> Result<(), NoMemory>
         requires none { self.old.bound ≡ [] }
         requires here { target < length self.old.tree }
-        requires bound { AreOpsBound (is_bound (with_fragment self.old.tree form []).bound) ops.now }
+        requires bound { AreOpsBound (is_bound (with_fragment self.old.tree form []).bound)
+            ops.now }
         ensures ok { OnOk result (self.new.tree ≡ filled self.old.tree target form ops.now) }
         ensures stays { Stays self.old.tree self.new.tree }
     {
@@ -457,8 +482,10 @@ impl Doc {
     /// Also where memory runs out the nodes that there were keep their numbers; some may be new.
     pub fn fill(&mut self, target: usize, form: bool, ops: &Ops) -> Result<(), NoMemory>
         requires here { target < length self.old.tree }
-        requires bound { AreOpsBound (is_bound (with_fragment self.old.tree form []).bound) ops.now }
-        ensures ok { OnOk result (self.new ≡ record self.old { tree = filled self.old.tree target form ops.now }) }
+        requires bound { AreOpsBound (is_bound (with_fragment self.old.tree form []).bound)
+            ops.now }
+        ensures ok { OnOk result
+            (self.new ≡ record self.old { tree = filled self.old.tree target form ops.now }) }
         ensures bound { self.new.bound ≡ self.old.bound }
         ensures stays { Stays self.old.tree self.new.tree }
     {
@@ -504,7 +531,8 @@ impl Doc {
     /// The script's text: the texts of its Text children, joined.
     pub fn script_text(&self, id: NodeId) -> Result<Text, NoMemory>
         requires { IsTrue (is_bound self.now.bound id) }
-        ensures { IfOk result (λ text. text ≡ script_text self.now.tree (node_of self.now.bound id)) }
+        ensures { IfOk result
+            (λ text. text ≡ script_text self.now.tree (node_of self.now.bound id)) }
     {
         self.tree.child_text(self.node(id))
     }
@@ -513,7 +541,10 @@ impl Doc {
     #[tactic(auto, using(std::proofs::lemmas::Grind::common_steps, crate::proofs::Literals::src_text))]
     pub fn script_src(&self, id: NodeId) -> Result<Option<Text>, NoMemory>
         requires { IsTrue (is_bound self.now.bound id) }
-        ensures { IfOk result (λ src. src ≡ attribute (codes "src") (attributes_of (kind_of self.now.tree (node_of self.now.bound id)))) }
+        ensures { IfOk result
+            (λ src. src
+            ≡ attribute (codes "src")
+            (attributes_of (kind_of self.now.tree (node_of self.now.bound id)))) }
     {
         match self.tree.attribute(self.node(id), "src") {
             None => Ok(None),

@@ -29,7 +29,8 @@ pub(crate) fn make_element(
     name: SeenName<'_>,
     attributes: &Listed<'_>,
 ) -> Result<(), NoMemory>
-    ensures ok { OnOk result (tree.new ≡ element_made tree.old (seen_name name.entry) attributes.now) }
+    ensures ok { OnOk result
+        (tree.new ≡ element_made tree.old (seen_name name.entry) attributes.now) }
     ensures err { OnErr result (tree.new ≡ tree.old) }
     ensures keeps { Keeps tree.old tree.new }
 {

@@ -1,6 +1,8 @@
-//! Fragments (13.4): what their parse asks of an element, and their operations in their root.
+//! Fragments (13.4 #parsing-html-fragments): what their parse asks of an element, and their
+//! operations in their root.
 
-ghost use Rattle.std.specs.Prelude.{◌≡◌, ◌<◌, [], ◌∷◌, ◌++◌, codes, length, map, nat_lt, IfOk, IsTrue, OnOk, MatchOption, Some};
+ghost use Rattle.std.specs.Prelude.{◌≡◌, ◌<◌, [], ◌∷◌, ◌++◌, codes, length, map, nat_lt, IfOk};
+ghost use Rattle.std.specs.Prelude.{IsTrue, OnOk, MatchOption, Some};
 ghost use Rattle.std.specs.Char.{to_ascii_lowercase};
 ghost use Rattle.std.specs.List.{list_all};
 ghost use Rattle.std.specs.Str.{chars};
@@ -11,7 +13,8 @@ ghost use Rattle.html_types.specs.declared.operation.Op.TheVariants as op;
 ghost use Rattle.html_types.specs.Operations.{spelled_one};
 ghost use Rattle.standard.specs.Elements.{is_word};
 ghost use Rattle.standard.specs.Foreign.{is_annotation, is_html_encoding};
-ghost use Rattle.standard.specs.Fragment.{is_form, is_annotation_point, in_form_by, context_at, roots_made, place_in_root, all_in_root};
+ghost use Rattle.standard.specs.Fragment.{is_form, is_annotation_point, in_form_by, context_at};
+ghost use Rattle.standard.specs.Fragment.{roots_made, place_in_root, all_in_root};
 ghost use Rattle.standard.specs.Tree.{attribute};
 ghost use Rattle.text_store.specs.Records.{seen_op};
 ghost use Rattle.text_store.specs.Views.{seen_kind, seen_name};
@@ -68,7 +71,8 @@ fn is_annotation(name: SeenName<'_>) -> bool
 // Whether the text is that name of ASCII characters, in any ASCII case.
 fn is_spelled(text: &str, name: &str) -> bool
     requires { IsTrue (list_all (λ b. nat_lt b 128) name.now) }
-    ensures { result ≡ same_text (map to_ascii_lowercase (chars text.now)) (map to_ascii_lowercase name.now) }
+    ensures { result
+        ≡ same_text (map to_ascii_lowercase (chars text.now)) (map to_ascii_lowercase name.now) }
 {
     text.eq_ignore_ascii_case(name)
 }
@@ -91,7 +95,7 @@ fn has_html_encoding(attributes: &Listed<'_>) -> bool
     }
 }
 
-// Whether it is an annotation-xml that is an HTML integration point (13.2.6).
+// Whether it is an annotation-xml that is an HTML integration point (13.2.6 #tree-construction).
 #[tactic(auto, unfolding(standard::specs::Foreign::is_html_annotation))]
 fn is_annotation_point(kind: &Seen<'_>) -> bool
     ensures { result ≡ is_annotation_point (seen_kind kind.now) }
@@ -147,7 +151,8 @@ fn place_in_root(place: Place) -> Place
 
 // The operation in the root of a fragment: none of a doctype.
 fn in_root(op: SeenOp<'_>) -> Option<SeenOp<'_>>
-    ensures { MatchOption result (all_in_root (spelled_one (seen_op op.entry)) ≡ []) (λ o. all_in_root (spelled_one (seen_op op.entry)) ≡ spelled_one (seen_op o)) }
+    ensures { MatchOption result (all_in_root (spelled_one (seen_op op.entry)) ≡ [])
+        (λ o. all_in_root (spelled_one (seen_op op.entry)) ≡ spelled_one (seen_op o)) }
 {
     match op {
         SeenOp::Put { node, place } => Some(SeenOp::Put {
@@ -191,7 +196,8 @@ fn push_all_in_root(all: &mut Ops, ops: &Ops) -> Result<(), NoMemory>
 
 // Makes that element of the fragment's, without attributes.
 fn push_made(alloc: Global, all: &mut Ops, n: u32, word: Word) -> Result<(), NoMemory>
-    ensures { OnOk result (all.new ≡ all.old ++ op.Make (record { realm = 0; n = n }) (Known word) [] ∷ []) }
+    ensures { OnOk result
+        (all.new ≡ all.old ++ op.Make (record { realm = 0; n = n }) (Known word) [] ∷ []) }
 {
     all.push(Op::Make {
         id: NodeId { realm: 0, n },
@@ -200,8 +206,8 @@ fn push_made(alloc: Global, all: &mut Ops, n: u32, word: Word) -> Result<(), NoM
     })
 }
 
-/// What makes a fragment's nodes under ids of their own: its root, the form element that its form element pointer names
-/// if there is one, and what is made of them in the root.
+/// What makes a fragment's nodes under ids of their own: its root, the form element that its form
+/// element pointer names if there is one, and what is made of them in the root.
 pub(crate) fn fragment_ops(alloc: Global, form: bool, ops: &Ops) -> Result<Ops, NoMemory>
     ensures { IfOk result (λ all. all ≡ roots_made form ++ all_in_root ops.now) }
 {

@@ -1,4 +1,4 @@
-//! Which scripts run (4.12.1.1, prepare the script element).
+//! Which scripts run (4.12.1.1 #script-processing-model, prepare the script element).
 
 ghost use Rattle.std.specs.Prelude.{◌≡◌, ◌↔◌, [], map, nat_lt, IsTrue, Some};
 ghost use Rattle.std.specs.List.{list_any, list_all};
@@ -40,10 +40,13 @@ const JAVASCRIPT_TYPES: [&str; 16] = [
     "text/x-javascript",
 ];
 
-// Whether the text, without ASCII white space at its ends, is the name, whatever the case of its letters.
+// Whether the text, without ASCII white space at its ends, is the name, whatever the case of its
+// letters.
 fn is_type(text: &str, name: &str) -> bool
     requires { IsTrue (list_all (λ b. nat_lt b 128) name.now) }
-    ensures { result ≡ same_text (map to_ascii_lowercase (strip (chars text.now))) (map to_ascii_lowercase name.now) }
+    ensures { result
+        ≡ same_text (map to_ascii_lowercase (strip (chars text.now)))
+        (map to_ascii_lowercase name.now) }
 {
     text.trim_ascii().eq_ignore_ascii_case(name)
 }
@@ -51,7 +54,10 @@ fn is_type(text: &str, name: &str) -> bool
 // Whether it is one of the names.
 fn is_among(text: &str, names: &[&str]) -> bool
     requires { IsTrue (list_all (λ name. list_all (λ b. nat_lt b 128) name.now) names.now) }
-    ensures { result ≡ list_any (λ name. same_text (map to_ascii_lowercase (strip (chars text.now))) (map to_ascii_lowercase name.now)) names.now }
+    ensures { result
+        ≡ list_any
+        (λ name. same_text (map to_ascii_lowercase (strip (chars text.now)))
+        (map to_ascii_lowercase name.now)) names.now }
 {
     for name in names {
         if is_type(text, name) {
@@ -76,7 +82,8 @@ ghost use Rattle.op_exec.specs.Scripts.{script_kind};
 // Whether the element has an attribute.
 fn has(tree: &Tree, node: usize, name: &str) -> bool
     requires { node < length tree.now }
-    ensures { result ≡ is_some (attribute (chars name.now) (attributes_of (kind_of tree.now node))) }
+    ensures { result
+        ≡ is_some (attribute (chars name.now) (attributes_of (kind_of tree.now node))) }
 {
     tree.attribute(node, name).is_some()
 }
@@ -85,7 +92,8 @@ fn has(tree: &Tree, node: usize, name: &str) -> bool
 #[tactic(auto, using(std::proofs::lemmas::Grind::common_steps, crate::proofs::Literals::type_text))]
 fn has_javascript_type(tree: &Tree, node: usize) -> bool
     requires { node < length tree.now }
-    ensures { result ≡ is_javascript (attribute (codes "type") (attributes_of (kind_of tree.now node))) }
+    ensures { result
+        ≡ is_javascript (attribute (codes "type") (attributes_of (kind_of tree.now node))) }
 {
     match tree.attribute(node, "type") {
         None => true,
@@ -105,7 +113,9 @@ fn may_run(tree: &Tree, node: usize) -> bool
 #[tactic(auto, using(std::proofs::lemmas::Grind::common_steps, crate::proofs::Literals::async_text, crate::proofs::Literals::defer_text))]
 fn is_later(tree: &Tree, node: usize) -> bool
     requires { node < length tree.now }
-    ensures { result ≡ (has "async" (attributes_of (kind_of tree.now node)) || has "defer" (attributes_of (kind_of tree.now node))) }
+    ensures { result
+        ≡ (has "async" (attributes_of (kind_of tree.now node))
+        || has "defer" (attributes_of (kind_of tree.now node))) }
 {
     has(tree, node, "async") || has(tree, node, "defer")
 }
@@ -121,7 +131,9 @@ fn is_empty(text: &str) -> bool
 fn runnable_kind(tree: &Tree, node: usize) -> ScriptKind
     requires { node < length tree.now }
     ensures { let attributes = attributes_of (kind_of tree.now node) in
-        result ≡ script_kind (prepared_by (attribute (codes "src") attributes) (has "async" attributes || has "defer" attributes) (script_text tree.now node)) }
+        result ≡ script_kind
+        (prepared_by (attribute (codes "src") attributes)
+        (has "async" attributes || has "defer" attributes) (script_text tree.now node)) }
 {
     match tree.attribute(node, "src") {
         None => {

@@ -7,8 +7,8 @@ use atomic_table::{Play, Seat, Split, Table, TableRule};
 use std::alloc::Global;
 use std::collections::LinkedList;
 
-/// What a seat at the count knows: whether it counts, how many it has counted, and what it found at each of its looks. No value of it
-/// is made.
+/// What a seat at the count knows: whether it counts, how many it has counted, and what it found at
+/// each of its looks. No value of it is made.
 pub struct Tally {
     pub counts: bool,
     pub put: u64,

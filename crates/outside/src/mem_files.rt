@@ -1,9 +1,12 @@
 // Files in memory, where the calls that a list names fail.
-ghost use Rattle.std.specs.Prelude.{◌≡◌, ◌↔◌, ◌<◌, ◌≤◌, ◌+◌, ◌-◌, ◌^◌, [], ◌∷◌, Some, None, false, min, length, take, drop, if◌then◌else◌, IsTrue, IsErr, IfOk, IfSome, IsSome, OnOk, OnErr, Contains};
+ghost use Rattle.std.specs.Prelude.{◌≡◌, ◌↔◌, ◌<◌, ◌≤◌, ◌+◌, ◌-◌, ◌^◌, [], ◌∷◌, Some, None, false};
+ghost use Rattle.std.specs.Prelude.{min, length, take, drop, if◌then◌else◌, IsTrue, IsErr, IfOk};
+ghost use Rattle.std.specs.Prelude.{IfSome, IsSome, OnOk, OnErr, Contains};
 ghost use Rattle.std.specs.Bool.{OnTrue, OnFalse};
 ghost use Rattle.std.specs.Str.{bytes_eq};
 ghost use Rattle.outside.specs.ByPort.{at_port};
-ghost use Rattle.outside.specs.Outside.{Rose, NeverFall, OthersStay, Begun, begins, reads, Called, KeepsOthers};
+ghost use Rattle.outside.specs.Outside.{Rose, NeverFall, OthersStay, Begun, begins, reads, Called};
+ghost use Rattle.outside.specs.Outside.{KeepsOthers};
 
 use crate::by_port::ByPort;
 use crate::{Failed, NeverFails, Outside, Port};
@@ -35,9 +38,11 @@ fn is_listed(calls: &[(Port, u64)], port: Port, number: u64) -> bool
 }
 
 impl MemFiles {
-    ghost use Rattle.outside.specs.MemFiles.{files_in, begun_in, calls_in, shown, failing, number_at, most_in};
+    ghost use Rattle.outside.specs.MemFiles.{files_in, begun_in, calls_in, shown, failing};
+    ghost use Rattle.outside.specs.MemFiles.{number_at, most_in};
 
-    /// No file, nothing begun, and the list of the calls that are to fail. A read gives as many bytes as its piece takes.
+    /// No file, nothing begun, and the list of the calls that are to fail. A read gives as many
+    /// bytes as its piece takes.
     pub fn new(alloc: Global, fail: &[(Port, u64)]) -> Result<Self, NoMemory>
         ensures files { IfOk result (λ all. (path : _) → files_in all path ≡ None) }
         ensures failing { IfOk result (λ all. failing all ≡ fail.now) }
@@ -85,7 +90,8 @@ impl MemFiles {
 
     /// Counts a call at the port, and says whether it is to fail.
     fn fails(&mut self, port: Port) -> bool
-        ensures fails { IsTrue result ↔ Contains (failing self.old) (port, number_at self.old port) }
+        ensures fails { IsTrue result
+            ↔ Contains (failing self.old) (port, number_at self.old port) }
         ensures failing { failing self.new ≡ failing self.old }
         ensures number { number_at self.new port ≡ min (number_at self.old port + 1) (2 ^ 64 - 1) }
         ensures other_numbers { OthersStay port (number_at self.old) (number_at self.new) }
@@ -113,7 +119,9 @@ impl MemFiles {
 }
 
 impl Outside for MemFiles {
-    ghost use Rattle.outside.specs.MemFiles.{files_in, left_in, begun_in, calls_in, open_in, faults_in, absences_in, shown, failing, number_at, most_in};
+    ghost use Rattle.outside.specs.MemFiles.{files_in, left_in, begun_in, calls_in, open_in};
+    ghost use Rattle.outside.specs.MemFiles.{faults_in, absences_in, shown, failing, number_at};
+    ghost use Rattle.outside.specs.MemFiles.{most_in};
 
     ghost seen = { shown };
 
@@ -126,7 +134,8 @@ impl Outside for MemFiles {
         ensures most { most_in self.new ≡ most_in self.old }
 
         ensures found { IfOk result (λ there. OnTrue there (
-            IsSome (files_in self.old path.now) × (Some (left_in self.new port) ≡ files_in self.old path.now))) }
+            IsSome (files_in self.old path.now)
+            × (Some (left_in self.new port) ≡ files_in self.old path.now))) }
         ensures absent { IfOk result (λ there. OnFalse there (files_in self.old path.now ≡ None)) }
         ensures none_left { IfOk result (λ there. OnFalse there (left_in self.new port ≡ [])) }
         ensures none_left_failed { OnErr result (left_in self.new port ≡ []) }
@@ -135,8 +144,11 @@ impl Outside for MemFiles {
             (begins path.now result ∷ []) }
         ensures opened { IfOk result (λ there. open_in self.new port ≡ there) }
         ensures not_opened { OnErr result (open_in self.new port ≡ false) }
-        ensures absences_rose { IfOk result (λ there. OnFalse there (Rose (absences_in self.old port) (absences_in self.new port))) }
-        ensures faults_rose { OnErr result (Rose (faults_in self.old port) (faults_in self.new port)) }
+        ensures absences_rose { IfOk result
+            (λ there. OnFalse there
+            (Rose (absences_in self.old port) (absences_in self.new port))) }
+        ensures faults_rose { OnErr result
+            (Rose (faults_in self.old port) (faults_in self.new port)) }
         ensures no_fault { OnOk result (faults_in self.new port ≡ faults_in self.old port) }
         ensures others { KeepsOthers port (shown self.old) (shown self.new) }
     {
@@ -160,14 +172,16 @@ impl Outside for MemFiles {
         ensures limited { IfOk result (λ n. n ≤ most_in self.old) }
         ensures count { IfOk result (λ n. n ≤ length into.old) }
         ensures moved { IfOk result (λ n. (n ≤ length (left_in self.old port))
-            × (take n into.new ≡ take n (left_in self.old port)) × (left_in self.new port ≡ drop n (left_in self.old port))) }
+            × (take n into.new ≡ take n (left_in self.old port))
+            × (left_in self.new port ≡ drop n (left_in self.old port))) }
         ensures end { IfOk result (λ n. n ≡ 0 → 0 < length into.old → left_in self.old port ≡ []) }
         ensures failed { OnErr result (left_in self.new port ≡ left_in self.old port) }
         ensures begun { begun_in self.new ≡ begun_in self.old }
         ensures calls { Called (calls_in self.old port) (calls_in self.new port)
             (reads (length into.old) result ∷ []) }
         ensures open_at { open_in self.new ≡ open_in self.old }
-        ensures faults_rose { OnErr result (Rose (faults_in self.old port) (faults_in self.new port)) }
+        ensures faults_rose { OnErr result
+            (Rose (faults_in self.old port) (faults_in self.new port)) }
         ensures absences { absences_in self.new ≡ absences_in self.old }
         ensures no_fault { OnOk result (faults_in self.new port ≡ faults_in self.old port) }
         ensures others { KeepsOthers port (shown self.old) (shown self.new) }

@@ -26,7 +26,9 @@ impl NotedPaths {
     }
 
     fn push(&mut self, alloc: Global, path: &str) -> Result<(), NoMemory>
-        ensures pushed { OnOk result (map string_bytes self.new.texts.items ≡ map string_bytes self.old.texts.items ++ path.now ∷ []) }
+        ensures pushed { OnOk result
+            (map string_bytes self.new.texts.items ≡ map string_bytes self.old.texts.items
+            ++ path.now ∷ []) }
         ensures whole { self.new.is_whole ≡ self.old.is_whole }
     {
         self.texts.push(String::from_str(alloc, path)?)?;

@@ -5,7 +5,8 @@ ghost use Rattle.core_definitions.specs.Desk.{done};
 ghost use Rattle.core_steps.specs.Fetches.{fetched_of};
 ghost use Rattle.core_steps.specs.Sides.{left_to_do};
 ghost use Rattle.parse_machine.specs.Ends.{result_of};
-ghost use Rattle.page_batch.specs.Going.{StepTaken, SamePage, Nears, Receives, GoesBy, IsGoing, IsFirst, StopsAt, TurnEnds, Settled, used_of};
+ghost use Rattle.page_batch.specs.Going.{StepTaken, SamePage, Nears, Receives, GoesBy, IsGoing};
+ghost use Rattle.page_batch.specs.Going.{IsFirst, StopsAt, TurnEnds, Settled, used_of};
 
 use crate::output::{end_number, push_lines};
 use crate::pieces::pieces_of;

@@ -1,4 +1,5 @@
-//! Many pages at once: a list of pages is read, its pages are parsed side by side on all processors, and their texts are written in order.
+//! Many pages at once: a list of pages is read, its pages are parsed side by side on all
+//! processors, and their texts are written in order.
 #![tactic(auto)]
 
 mod going;

@@ -1,5 +1,6 @@
 // The paths of a list of pages.
-ghost use Rattle.std.specs.Prelude.{◌≡◌, ◌==◌, ◌++◌, ◌∷◌, [], map, Some, None, true, false, Err, IfOk, OnOk};
+ghost use Rattle.std.specs.Prelude.{◌≡◌, ◌==◌, ◌++◌, ◌∷◌, [], map, Some, None, true, false, Err};
+ghost use Rattle.std.specs.Prelude.{IfOk, OnOk};
 ghost use Rattle.std.specs.List.{before_first, after_first};
 ghost use Rattle.std.specs.String.{string_bytes};
 ghost use Rattle.page_batch.specs.Lists.{lines_of, has_empty, paths_in};

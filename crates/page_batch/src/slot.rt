@@ -6,7 +6,8 @@ ghost use Rattle.page_turns.specs.Given.{got};
 ghost use Rattle.page_turns.specs.Scripts.{Met};
 ghost use Rattle.parse_machine.specs.Ends.{result_of};
 ghost use Rattle.page_batch.specs.Going.{AreOf, IsGoing, StopsAt};
-ghost use Rattle.page_batch.specs.Slots.{IsStage, GoesOn, NextOf, AwaitsNew, HasPart, used_in, awaited_in};
+ghost use Rattle.page_batch.specs.Slots.{IsStage, GoesOn, NextOf, AwaitsNew, HasPart, used_in};
+ghost use Rattle.page_batch.specs.Slots.{awaited_in};
 ghost use Rattle.page_batch.specs.Reading.{given_in};
 
 use crate::going::{Going, Part, Stop, begin, let_go, part_of, run_on};

@@ -1,10 +1,12 @@
 // A list is run window by window, so that memory doesn't grow with the list.
-ghost use Rattle.std.specs.Prelude.{◌≡◌, ◌<◌, ◌≤◌, [], map, length, IfOk, OnOk, OnErr, IsErrOf, IsTrue, false};
+ghost use Rattle.std.specs.Prelude.{◌≡◌, ◌<◌, ◌≤◌, [], map, length, IfOk, OnOk, OnErr, IsErrOf};
+ghost use Rattle.std.specs.Prelude.{IsTrue, false};
 ghost use Rattle.page_batch.specs.declared.windows.TheConstants.{MOST_BYTES};
 ghost use Rattle.std.specs.List.{AllByRecursion};
 ghost use Rattle.std.specs.String.{string_bytes};
 ghost use Rattle.outside.specs.Outside.{Rose};
-ghost use Rattle.page_batch.specs.Windows.{files_in, IsNew, ReadsFront, ReadsInPart, WritesAll, WritesInPart, EndsWindow, CountsFaults};
+ghost use Rattle.page_batch.specs.Windows.{files_in, IsNew, ReadsFront, ReadsInPart, WritesAll};
+ghost use Rattle.page_batch.specs.Windows.{WritesInPart, EndsWindow, CountsFaults};
 ghost use Rattle.page_batch.specs.Batches.{GivesAll, GivesInPart};
 
 use crate::going::let_go;

@@ -16,7 +16,8 @@ fn push_between(
     index: u32,
     behind: &str,
 ) -> Result<(), NoMemory>
-    ensures { OnOk result (page.new ≡ page.old ++ (chars before.now ++ decimal index ++ chars behind.now)) }
+    ensures { OnOk result
+        (page.new ≡ page.old ++ (chars before.now ++ decimal index ++ chars behind.now)) }
 {
     let digits = format!(in alloc; "{index}")?;
     page.push_str(before)?;

@@ -60,8 +60,8 @@ fn make_scripts(alloc: Global) -> Result<Vec<MadeScript>, NoMemory>
     Ok(scripts)
 }
 
-/// The page of `count` items that `number` chooses, and the scripts that they may name. Equal arguments give equal pages. Time and memory are
-/// linear in `count`.
+/// The page of `count` items that `number` chooses, and the scripts that they may name. Equal
+/// arguments give equal pages. Time and memory are linear in `count`.
 pub fn make(alloc: Global, number: u32, count: u32) -> Result<Made, NoMemory>
     requires in_31_bits { number < 2 ^ 31 }
     requires at_most_50000 { count ≤ 50000 }

@@ -1,6 +1,7 @@
 //! What is kept of the pieces that were sent.
 
-ghost use Rattle.std.specs.Prelude.{◌≡◌, ◌-◌, ◌<◌, [], ◌∷◌, ◌++◌, false, not, nat_lt, drop, IfOk, OnOk, OnErr, IsTrue, MatchOption};
+ghost use Rattle.std.specs.Prelude.{◌≡◌, ◌-◌, ◌<◌, [], ◌∷◌, ◌++◌, false, not, nat_lt, drop, IfOk};
+ghost use Rattle.std.specs.Prelude.{OnOk, OnErr, IsTrue, MatchOption};
 ghost use Rattle.std.specs.Str.{chars, encode_utf8_all, IsCharBoundary};
 ghost use Rattle.core_definitions.specs.Settling.{is_empty as has_none};
 ghost use Rattle.page_pieces.specs.Keeping as keeping;
@@ -11,7 +12,8 @@ use html_types::NoMemory;
 use std::alloc::Global;
 use std::marker::Model;
 
-/// The piece in hand, those that were sent in this epoch and aren't taken, those to be sent, and the counts of requests and replies.
+/// The piece in hand, those that were sent in this epoch and aren't taken, those to be sent, and
+/// the counts of requests and replies.
 #[derive(Drop)]
 pub struct Ledger {
     ahead: usize,
@@ -29,7 +31,16 @@ impl Model for Ledger {
 
     ghost Value = { Kept };
 
-    ghost view = { λ l. record { ahead = l.ahead; left = l.left; asked = l.asked; to_send = l.to_send; sent = l.sent; taken = l.taken; dropped = l.dropped } };
+    ghost view = { λ l.
+        record {
+          ahead = l.ahead;
+          left = l.left;
+          asked = l.asked;
+          to_send = l.to_send;
+          sent = l.sent;
+          taken = l.taken;
+          dropped = l.dropped;
+        } };
 
     // Each reply is to a request, and was taken before it was dropped.
     ghost invariant = { λ l. (l.taken ≤ l.sent) × (l.dropped ≤ l.taken) };
@@ -69,7 +80,8 @@ impl Ledger {
 
     /// Adds a piece that was never sent.
     pub fn add(&mut self, piece: Piece) -> Result<(), NoMemory>
-        ensures ok { OnOk result (self.new ≡ record self.old { to_send = self.old.to_send ++ piece ∷ [] }) }
+        ensures ok { OnOk result
+            (self.new ≡ record self.old { to_send = self.old.to_send ++ piece ∷ [] }) }
         ensures err { OnErr result (self.new ≡ self.old) }
     {
         self.to_send.push(piece)
@@ -118,13 +130,14 @@ impl Ledger {
 
     /// The first of the pieces that were sent in this epoch and aren't taken.
     pub fn asked(&self) -> Option<&Piece>
-        ensures { MatchOption result (self.now.asked ≡ []) (λ p. self.now.asked ≡ p.now ∷ drop 1 self.now.asked) }
+        ensures { MatchOption result (self.now.asked ≡ [])
+            (λ p. self.now.asked ≡ p.now ∷ drop 1 self.now.asked) }
     {
         self.asked.first()
     }
 
-    /// A reply was taken. It is of this epoch, and its piece is in hand now; or an epoch that has ended had sent the request, and the
-    /// reply is dropped.
+    /// A reply was taken. It is of this epoch, and its piece is in hand now; or an epoch that has
+    /// ended had sent the request, and the reply is dropped.
     pub fn took(&mut self) -> bool
         requires { 0 < keeping.outstanding self.old }
         ensures took { self.new ≡ keeping.took self.old }
@@ -152,13 +165,17 @@ impl Ledger {
     /// So many bytes more of the piece in hand are executed.
     pub fn used(&mut self, bytes: usize)
         requires { IsCharBoundary (encode_utf8_all self.old.left.text) bytes }
-        ensures { self.new ≡ record self.old { left = record self.old.left { text = chars (drop bytes (encode_utf8_all self.old.left.text)) } } }
+        ensures { self.new
+            ≡ record self.old {
+              left = record self.old.left
+                  { text = chars (drop bytes (encode_utf8_all self.old.left.text)) };
+            } }
     {
         self.left.skip(bytes);
     }
 
-    /// The epoch has ended: what isn't executed of the pieces that were sent is to be sent again, in front of all others. Where there is no
-    /// memory, the ledger stays as it was.
+    /// The epoch has ended: what isn't executed of the pieces that were sent is to be sent again,
+    /// in front of all others. Where there is no memory, the ledger stays as it was.
     pub fn rewind(&mut self, alloc: Global) -> Result<(), NoMemory>
         ensures ok { OnOk result (self.new ≡ rewound self.old) }
         ensures err { OnErr result (self.new ≡ self.old) }

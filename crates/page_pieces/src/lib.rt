@@ -1,5 +1,5 @@
-//! Pieces of the page's text, which is held once, and what the document's side of the core keeps of them: the piece in hand, those that
-//! were sent and not taken, and those that are to be sent.
+//! Pieces of the page's text, which is held once, and what the document's side of the core keeps of
+//! them: the piece in hand, those that were sent and not taken, and those that are to be sent.
 #![tactic(auto)]
 
 pub mod ledger;

@@ -1,6 +1,7 @@
 //! Pieces of the page.
 
-ghost use Rattle.std.specs.Prelude.{◌≡◌, ◌↔◌, ◌&&◌, ◌+◌, ◌≤◌, [], ◌∷◌, ◌++◌, is_none, length, drop, IfOk, OnOk, OnErr, IsTrue, MatchOption};
+ghost use Rattle.std.specs.Prelude.{◌≡◌, ◌↔◌, ◌&&◌, ◌+◌, ◌≤◌, [], ◌∷◌, ◌++◌, is_none, length, drop};
+ghost use Rattle.std.specs.Prelude.{IfOk, OnOk, OnErr, IsTrue, MatchOption};
 ghost use Rattle.std.specs.Str.{chars, encode_utf8_all, IsCharBoundary};
 ghost use Rattle.std.specs.VecDeque.{deque_len, deque_capacity};
 ghost use Rattle.core_definitions.specs.Desk.{blank as no_text, sent_again};
@@ -85,7 +86,8 @@ impl Piece {
     /// So many of its text's first bytes are left out.
     pub fn skip(&mut self, bytes: usize)
         requires { IsCharBoundary (encode_utf8_all self.old.text) bytes }
-        ensures { self.new ≡ record self.old { text = chars (drop bytes (encode_utf8_all self.old.text)) } }
+        ensures { self.new
+            ≡ record self.old { text = chars (drop bytes (encode_utf8_all self.old.text)) } }
     {
         self.text.skip(bytes);
     }
@@ -157,13 +159,14 @@ impl Pieces {
 
     /// Takes the first piece.
     pub fn pop(&mut self) -> Option<Piece>
-        ensures { MatchOption result ((self.old ≡ []) × (self.new ≡ [])) (λ p. self.old ≡ p ∷ self.new) }
+        ensures { MatchOption result ((self.old ≡ []) × (self.new ≡ []))
+            (λ p. self.old ≡ p ∷ self.new) }
     {
         self.list.pop_front()
     }
 
-    /// Moves pieces that were sent in front of these, but for those of which nothing is left. Where there is no memory, all
-    /// stay where they are.
+    /// Moves pieces that were sent in front of these, but for those of which nothing is left. Where
+    /// there is no memory, all stay where they are.
     pub fn put_again(&mut self, sent: &mut Pieces) -> Result<(), NoMemory>
         ensures again { OnOk result (self.new ≡ sent_again sent.old ++ self.old) }
         ensures none { OnOk result (sent.new ≡ []) }
@@ -176,7 +179,8 @@ impl Pieces {
     }
 }
 
-// Moves pieces in front of others, which have room for them, but for those of which nothing is left.
+// Moves pieces in front of others, which have room for them, but for those of which nothing is
+// left.
 fn move_again(sent: &mut VecDeque<Piece>, others: &mut VecDeque<Piece>)
     requires { deque_len others.old + deque_len sent.old ≤ deque_capacity others.old }
     ensures again { others.new.items ≡ sent_again sent.old.items ++ others.old.items }

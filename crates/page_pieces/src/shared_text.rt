@@ -1,6 +1,7 @@
 //! A part of a text that is shared.
 
-ghost use Rattle.std.specs.Prelude.{◌≡◌, ◌↔◌, [], length, take, drop, IfOk, OnOk, OnErr, IsTrue, string_bytes};
+ghost use Rattle.std.specs.Prelude.{◌≡◌, ◌↔◌, [], length, take, drop, IfOk, OnOk, OnErr, IsTrue};
+ghost use Rattle.std.specs.Prelude.{string_bytes};
 ghost use Rattle.std.specs.Str.{chars, encode_utf8_all, IsCharBoundary};
 
 use html_types::NoMemory;
@@ -8,7 +9,8 @@ use std::alloc::Global;
 use std::marker::Model;
 use std::sync::Arc;
 
-/// A text that is held once, from a beginning to an end: a contract sees the characters between them.
+/// A text that is held once, from a beginning to an end: a contract sees the characters between
+/// them.
 #[derive(Drop)]
 pub struct SharedText {
     whole: Arc<String, Global>,
@@ -25,9 +27,12 @@ impl Model for SharedText {
 
     ghost Value = { List ℕ };
 
-    ghost view = { λ t. chars (take (t.end - t.begin) (drop t.begin (string_bytes (arc_value t.whole)))) };
+    ghost view = { λ t. chars
+        (take (t.end - t.begin) (drop t.begin (string_bytes (arc_value t.whole)))) };
 
-    ghost invariant = { λ t. ((t.begin ≤ t.end) × IsCharBoundary (string_bytes (arc_value t.whole)) t.begin × IsCharBoundary (string_bytes (arc_value t.whole)) t.end)
+    ghost invariant = { λ t.
+        ((t.begin ≤ t.end) × IsCharBoundary (string_bytes (arc_value t.whole)) t.begin
+        × IsCharBoundary (string_bytes (arc_value t.whole)) t.end)
         × (IsTrue t.ascii → IsAscii (string_bytes (arc_value t.whole))) };
 }
 

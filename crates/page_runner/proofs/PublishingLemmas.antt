@@ -1,32 +1,48 @@
 -- What a publisher is told goes over the lane in turn, and it takes all of it.
-use Rattle.std.proofs.Common.{◌≡◌, ◌≢◌, Bool, true, false, true≢false, List, [], ◌∷◌, ◌++◌, fold, refl, sym, ap, subst, ◌∙◌, Result, Ok, Err, OnOk}
+use Rattle.std.proofs.Common.{◌≡◌, ◌≢◌, Bool, true, false, true≢false, List, [], ◌∷◌, ◌++◌, refl, sym, ap, subst, ◌∙◌, append_assoc, append-nil, Result, Ok, Err, OnOk, IsTrue}
 use Rattle.std.proofs.lemmas.List.Sums.{fold-append}
-use Rattle.std.proofs.lemmas.List.Elements.{All-nil}
 use mathlib.Core.List.{IsPrefix}
-use Rattle.standard.specs.Act.{Doc, new_doc}
-use Rattle.doc_changes.specs.declared.change.Change.{Change}
-use Rattle.doc_changes.specs.Changes.{changed}
+use Rattle.standard.specs.Act.{Doc}
 use Rattle.tree_watch.specs.declared.watcher.Seen.{Seen}
-use Rattle.page_turns.specs.Watched.{IsLast, AreLast}
+use Rattle.page_turns.specs.Watched.{Grown, ungrown, AreLast}
 use Rattle.page_runner.specs.declared.publisher.ToPublisher.{ToPublisher}
 use Rattle.page_runner.specs.declared.publisher.ToPublisher.TheVariants.{Did, End}
-use Rattle.page_runner.specs.Publishing.{Shows, shows, shows_with, shows_behind, AreDid}
+use Rattle.page_runner.specs.Publishing.{Shows, ShowsFront, shows, shows_with, shows_behind, AreDid}
 
 -- ---- what is to be shown
 
--- nothing was told
-pub shows_first : (doc : Doc) (shown : List Doc) (words : List ToPublisher) → doc ≡ new_doc → shown ≡ [] → words ≡ [] → shows doc shown ≡ shows_behind words
-shows_first doc shown words is none first = ap (λ d. shows d shown) is ∙ (ap (λ l. shows new_doc l) none ∙ ap shows_behind (sym first))
-
 -- one word more was told
 pub shows_more : (old : Shows) (words words' : List ToPublisher) (w : ToPublisher) → old ≡ shows_behind words → words' ≡ words ++ w ∷ [] → shows_with old w ≡ shows_behind words'
-shows_more old words words' w before is = ap (λ s. shows_with s w) before ∙ sym (ap shows_behind is ∙ fold-append shows_with (shows new_doc []) words (w ∷ []))
+shows_more old words words' w before is = ap (λ s. shows_with s w) before ∙ sym (ap shows_behind is ∙ fold-append shows_with (shows ungrown []) words (w ∷ []))
 
-pub shows_now : (doc doc' : Doc) (shown shown' : List Doc) → doc ≡ doc' → shown ≡ shown' → shows doc shown ≡ shows doc' shown'
+pub shows_now : (doc doc' : Grown) (shown shown' : List Doc) → doc ≡ doc' → shown ≡ shown' → shows doc shown ≡ shows doc' shown'
 shows_now doc doc' shown shown' same alike = ap (λ d. shows d shown) same ∙ ap (λ l. shows doc' l) alike
 
+-- nothing was taken
+pub front_first : (doc : Grown) (shown : List Doc) (words : List ToPublisher) (all : Bool) → doc ≡ ungrown → shown ≡ [] → words ≡ [] → ShowsFront words all (shows doc shown)
+front_first doc shown words all is none first = record { front = []; rest = []; is = first; passed = shows_now _ _ _ _ is none; whole = λ _. refl }
+
+-- unless memory ran out all is shown
+pub front_whole : (words : List ToPublisher) (all : Bool) (now : Shows) → ShowsFront words all now → IsTrue all → now ≡ shows_behind words
+front_whole words all now f holds = f.passed ∙ ap shows_behind (sym (f.is ∙ (ap (λ ws. f.front ++ ws) (f.whole holds) ∙ append-nil f.front)))
+
+-- one word more was taken, and shown, or from here on nothing is
+pub front_more : (words words' : List ToPublisher) (w : ToPublisher) (before all : Bool) (old now : Shows) → ShowsFront words before old → words' ≡ words ++ w ∷ [] → (IsTrue all → IsTrue before)
+    → (IsTrue all → now ≡ shows_with old w) → (all ≡ false → now ≡ old) → ShowsFront words' all now
+front_more words words' w before true old now f is was more kept =
+    let passed = more refl ∙ shows_more old words words' w (front_whole words before old f (was refl)) is in
+    record { front = words'; rest = []; is = sym (append-nil words'); passed = passed; whole = λ _. refl }
+front_more words words' w before false old now f is was more kept =
+    record {
+      front = f.front;
+      rest = f.rest ++ w ∷ [];
+      is = is ∙ (ap (λ ws. ws ++ w ∷ []) f.is ∙ append_assoc f.front f.rest (w ∷ []));
+      passed = kept refl ∙ f.passed;
+      whole = λ e. absurd (true≢false (sym e));
+    }
+
 -- where it was shown here, and memory didn't run out
-pub shows_told : {T E : Type 0} (r : Result T E) (old : Shows) (doc doc' : Doc) (shown shown' : List Doc) (w : ToPublisher) → old ≡ shows doc shown → OnOk r (doc' ≡ (shows_with (shows doc shown) w).doc)
+pub shows_told : {T E : Type 0} (r : Result T E) (old : Shows) (doc doc' : Grown) (shown shown' : List Doc) (w : ToPublisher) → old ≡ shows doc shown → OnOk r (doc' ≡ (shows_with (shows doc shown) w).doc)
     → OnOk r (shown' ≡ (shows_with (shows doc shown) w).shown) → OnOk r (shows doc' shown' ≡ shows_with old w)
 shows_told (Ok x) old doc doc' shown shown' w is now then = shows_now _ _ _ _ now then ∙ ap (λ s. shows_with s w) (sym is)
 shows_told (Err e) old doc doc' shown shown' w is now then = tt
@@ -38,23 +54,6 @@ told_doc (Err e) now then told = tt
 pub told_shown : {T E : Type 0} (r : Result T E) (now then : Shows) → OnOk r (now ≡ then) → OnOk r (now.shown ≡ then.shown)
 told_shown (Ok x) now then told = ap (λ (s : Shows). s.shown) told
 told_shown (Err e) now then told = tt
-
-abbrev changes-in : List ToPublisher → List Change
-changes-in [] = []
-changes-in (Did changes ∷ words) = changes.items ++ changes-in words
-changes-in (End ∷ words) = changes-in words
-
-leads-to : (s : Shows) (words : List ToPublisher) → fold changed s.doc (changes-in words) ≡ (fold shows_with s words).doc
-leads-to s [] = refl
-leads-to s (Did changes ∷ words) = fold-append changed s.doc changes.items (changes-in words) ∙ leads-to (shows_with s (Did changes)) words
-leads-to s (End ∷ words) = leads-to s words
-
--- nothing was seen with the mark
-pub none_behind : (words : List ToPublisher) (seen : List Seen) → seen ≡ [] → AreLast (shows_behind words).doc seen
-none_behind words seen none =
-    let d = (shows_behind words).doc in
-    let changes = changes-in words in
-    subst (AreLast d) (sym none) (record { changes = changes; leads = leads-to (shows new_doc []) words; each = All-nil (IsLast changes d) })
 
 pub last_behind : (words : List ToPublisher) (now : Shows) (seen : List Seen) → now ≡ shows_behind words → AreLast now.doc seen → AreLast (shows_behind words).doc seen
 last_behind words now seen is last = subst (λ (s : Shows). AreLast s.doc seen) is last

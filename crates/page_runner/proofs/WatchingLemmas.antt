@@ -1,43 +1,50 @@
 -- The board of a run, and what its watchers saw last.
-use Rattle.std.proofs.Common.{◌≡◌, ◌≢◌, ℕ, ◌==◌, Bool, true, false, true≢false, arith, List, [], ◌∷◌, ◌++◌, length, map, drop, fold, Option, Some, None, IfSome, Result, Ok, Err, OnOk, OnErr, IsTrue, refl, sym, ap, subst, ◌∙◌, append_assoc, append-nil, if◌then◌else◌}
+use Rattle.std.proofs.Common.{◌≡◌, ◌≢◌, ◌≤◌, ℕ, ◌+◌, ◌==◌, Bool, true, false, true≢false, arith, List, [], ◌∷◌, ◌++◌, length, map, drop, fold, Option, Some, None, IfSome, Result, Ok, Err, OnOk, OnErr, IsTrue, refl, sym, ap, subst, ◌∙◌, append_assoc, append-nil, add_assoc, zero-add, if◌then◌else◌}
 use Rattle.std.specs.List.{All}
+use Rattle.std.proofs.Math.Nat.{add-zero}
 use Rattle.std.proofs.lemmas.Bool.Decides.{nat_tests}
 use Rattle.std.proofs.lemmas.List.Elements.{All-nil, All-pop, All-push, All-weaker}
-use Rattle.standard.specs.Act.{Doc, new_doc}
+use Rattle.standard.specs.Act.{Doc}
 use Rattle.standard.specs.Outer.{document_text}
 use Rattle.core_steps.specs.Sides.{Shown}
 use Rattle.doc_changes.specs.declared.change.Change.{Change}
-use Rattle.doc_changes.specs.Changes.{changed, after}
+use Rattle.doc_changes.specs.Changes.{changed, weight, counted}
 use Rattle.tree_watch.specs.declared.shown.Stand.{Stand}
 use Rattle.tree_watch.specs.declared.shown.Note.{Note}
 use Rattle.tree_watch.specs.declared.shown.Note.TheVariants.{Did, Last}
 use Rattle.tree_watch.specs.declared.watcher.Seen.{Seen}
 use Rattle.tree_watch.specs.Boards.{BoardView, Begins, begun, HasPublished, HasNotPublished, HasCompared, WatcherView, IsNew}
-use Rattle.tree_watch.specs.Counting.{IsAfter}
 use Rattle.tree_watch.specs.Notes.{noted, start}
 use Rattle.tree_watch.specs.Rule.{Log, latest}
 use Rattle.tree_watch.specs.Seeing.{IsSeen}
-use Rattle.tree_watch.proofs.Counting.{after-notes, is-after}
-use Rattle.page_turns.specs.Watched.{shown_with, IsLast, AreLast}
+use Rattle.tree_watch.proofs.Counting.{counted-push}
+use Rattle.page_turns.specs.Watched.{Grown, ungrown, grown_by, shown_with, Follows, SeesLast, AreLast}
+use Rattle.page_turns.proofs.WatchLemmas.{counted-append}
 use Rattle.atomic_table.specs.Seated.{TableId}
 use Rattle.page_runner.specs.declared.watchers.Post.{Post}
 use Rattle.page_runner.specs.Partings.{AreOfBoard}
 use Rattle.page_runner.specs.Watching.{table_at, doc_on, shown_on, doc_of, shown_of, IsShowing, IsAtWork, HasShown, HasKept, IsShownFrom, IsLeftFrom, IsWatching, AreAtPosts}
 
+abbrev grown : Doc → ℕ → Grown
+grown doc count = record { doc = doc; count = count }
+
 none_there : {A : Type 0} (xs : List A) → length xs ≡ 0 → xs ≡ []
 none_there [] is = refl
 none_there (x ∷ xs) is = absurd (cc is)
 
-texts_of : (changes : List Change) (doc doc' : Doc) (seen : List Seen) → doc' ≡ doc → All (IsLast changes doc) seen → All (λ (s : Seen). s.text ≡ document_text doc'.tree) seen
-texts_of changes doc doc' seen same each =
-    All-weaker _ _ (λ (s : Seen) (is : IsLast changes doc s). is.text ∙ ap (λ (d : Doc). document_text d.tree) (sym same)) seen each
+texts_of : (g : Grown) (doc : Doc) (seen : List Seen) → g.doc ≡ doc → AreLast g seen → All (λ (s : Seen). s.text ≡ document_text doc.tree) seen
+texts_of g doc seen same each = All-weaker _ _ (λ (s : Seen) (is : SeesLast g s). is.text ∙ ap (λ (d : Doc). document_text d.tree) same) seen each
 
 -- Where all saw the mark, the texts are the document's.
-pub seen_last : (watches : Bool) (s : Shown) (doc doc' : Doc) (count count' : ℕ) (seen : List Seen) → doc' ≡ s.desk.own.side.doc → (IsTrue watches → doc ≡ s.desk.own.side.doc)
-    → (watches ≡ false → count ≡ 0) → count' ≡ count → length seen ≡ count' → AreLast doc seen → All (λ (x : Seen). x.text ≡ document_text doc'.tree) seen
-seen_last true s doc doc' count count' seen here told unwatched same all last = texts_of last.changes doc doc' seen (here ∙ sym (told refl)) last.each
-seen_last false s doc doc' count count' seen here told unwatched same all last =
-    subst (λ (l : List Seen). All (λ (x : Seen). x.text ≡ document_text doc'.tree) l) (sym (none_there seen (all ∙ (same ∙ unwatched refl)))) (All-nil _)
+pub seen_last : (watches : Bool) (s : Shown) (g : Grown) (shown : List Doc) (doc : Doc) (count count' : ℕ) (seen : List Seen) → doc ≡ s.desk.own.side.doc → (IsTrue watches → Follows s g shown)
+    → (watches ≡ false → count ≡ 0) → count' ≡ count → length seen ≡ count' → AreLast g seen → All (λ (x : Seen). x.text ≡ document_text doc.tree) seen
+seen_last true s g shown doc count count' seen here told unwatched same all last = texts_of g doc seen ((told refl).doc_is ∙ sym here) last
+seen_last false s g shown doc count count' seen here told unwatched same all last =
+    subst (λ (l : List Seen). All (λ (x : Seen). x.text ≡ document_text doc.tree) l) (sym (none_there seen (all ∙ (same ∙ unwatched refl)))) (All-nil _)
+
+-- what was seen where nobody watches
+pub none_watched : (seen : List Seen) → length seen ≤ 0 → seen ≡ []
+none_watched seen few = none_there seen (omega (arith, few))
 
 -- ---- the changes
 
@@ -53,6 +60,10 @@ pub some_told : (b : Bool) (n : ℕ) (changes : List Change) → b ≡ (n == 0) 
 some_told b n [] is len fails none = absurd (true≢false (sym (is ∙ ap (λ (k : ℕ). k == 0) len) ∙ fails))
 some_told b n (c ∷ cs) is len fails none = absurd (cc none)
 
+-- and then nothing grew
+pub grown_none : (g : Grown) (changes : List Change) → changes ≡ [] → g ≡ grown_by g changes
+grown_none g changes none = subst (λ (cs : List Change). g ≡ grown_by g cs) (sym none) (ap (grown g.doc) (sym (add-zero g.count)))
+
 -- ---- the board
 
 -- a board that was just made
@@ -61,12 +72,10 @@ shows_first b is = record {
   going = ap (λ (x : BoardView). x.over) is;
   first = ([], ap (λ (x : BoardView). x.published) is);
   stands = ap (λ (x : BoardView). x.stand) is ∙ sym (ap (λ (x : BoardView). latest x.published) is);
-  changes = [];
-  counts = record { doc = ap (λ (x : BoardView). x.stand.doc) is; count = ap (λ (x : BoardView). x.stand.changes) is };
 }
 
-pub doc_first : (b : BoardView) → Begins b → doc_on b ≡ new_doc
-doc_first b is = ap (λ (x : BoardView). x.stand.doc) is
+pub doc_first : (b : BoardView) → Begins b → doc_on b ≡ ungrown
+doc_first b is = ap doc_on is
 
 pub shown_first : (b : BoardView) → Begins b → shown_on b ≡ []
 shown_first b is = ap shown_on is
@@ -75,6 +84,15 @@ noted-doc : (s : Stand) (cs : List Change) → (fold noted s (map Did cs)).doc �
 noted-doc s [] = refl
 noted-doc s (c ∷ cs) = noted-doc (noted s (Did c)) cs
 
+counted-one : (c : Change) (cs : List Change) → counted (c ∷ cs) ≡ weight c + counted cs
+counted-one c cs = counted-append (c ∷ []) cs ∙ ap (λ n. n + counted cs) (counted-push [] c ∙ zero-add (weight c))
+
+noted-count : (s : Stand) (cs : List Change) → (fold noted s (map Did cs)).changes ≡ s.changes + counted cs
+noted-count s [] = sym (add-zero s.changes)
+noted-count s (c ∷ cs) =
+    let more : (fold noted (noted s (Did c)) (map Did cs)).changes ≡ (s.changes + weight c) + counted cs = noted-count (noted s (Did c)) cs in
+    more ∙ (add_assoc s.changes (weight c) (counted cs) ∙ ap (λ n. s.changes + n) (sym (counted-one c cs)))
+
 latest-last : (log : Log) (d s : Stand) → fold (λ (a b : Stand). b) d (log ++ s ∷ []) ≡ s
 latest-last [] d s = refl
 latest-last (x ∷ log) d s = latest-last log x s
@@ -82,6 +100,9 @@ latest-last (x ∷ log) d s = latest-last log x s
 docs-last : (rest : Log) (s : Stand) → map (λ (x : Stand). x.doc) (rest ++ s ∷ []) ≡ map (λ (x : Stand). x.doc) rest ++ s.doc ∷ []
 docs-last [] s = refl
 docs-last (x ∷ xs) s = ap (λ (ds : List Doc). x.doc ∷ ds) (docs-last xs s)
+
+grown-is : (g h : Grown) → g.doc ≡ h.doc → g.count ≡ h.count → g ≡ h
+grown-is g h doc count = ap (λ (d : Doc). grown d g.count) doc ∙ ap (grown h.doc) count
 
 module _ (old : BoardView) (changes : List Change) (new : BoardView) (showing : IsShowing old) (noted_all : old.pending ≡ []) (shown : HasShown old changes new) where
   stand-is : new.stand ≡ fold noted old.stand (map Did changes)
@@ -92,28 +113,32 @@ module _ (old : BoardView) (changes : List Change) (new : BoardView) (showing : 
     going = shown.over;
     first = (showing.first.0 ++ new.stand ∷ [], shown.published ∙ ap (λ (l : Log). l ++ new.stand ∷ []) showing.first.1);
     stands = sym (ap latest shown.published ∙ latest-last old.published start new.stand);
-    changes = showing.changes ++ changes;
-    counts = subst (IsAfter (showing.changes ++ changes)) (sym stand-is) (after-notes showing.changes changes old.stand showing.counts);
   }
 
-  pub doc_shown : doc_on new ≡ fold changed (doc_on old) changes
-  doc_shown = ap (λ (s : Stand). s.doc) stand-is ∙ noted-doc old.stand changes
+  doc-shown : new.stand.doc ≡ fold changed old.stand.doc changes
+  doc-shown = ap (λ (s : Stand). s.doc) stand-is ∙ noted-doc old.stand changes
 
-  shown-more : shown_on new ≡ shown_on old ++ doc_on new ∷ []
+  count-shown : new.stand.changes ≡ old.stand.changes + counted changes
+  count-shown = ap (λ (s : Stand). s.changes) stand-is ∙ noted-count old.stand changes
+
+  pub doc_shown : doc_on new ≡ grown_by (doc_on old) changes
+  doc_shown = grown-is (doc_on new) (grown_by (doc_on old) changes) doc-shown count-shown
+
+  shown-more : shown_on new ≡ shown_on old ++ new.stand.doc ∷ []
   shown-more =
       let rest = showing.first.0 in
       let now : new.published ≡ begun ∷ (rest ++ new.stand ∷ []) = shown.published ∙ ap (λ (l : Log). l ++ new.stand ∷ []) showing.first.1 in
       ap (λ (l : Log). map (λ (x : Stand). x.doc) (drop 1 l)) now
       ∙ (docs-last rest new.stand ∙ ap (λ (l : Log). map (λ (x : Stand). x.doc) (drop 1 l) ++ new.stand.doc ∷ []) (sym showing.first.1))
 
-  pub shown_then : (c : Change) (cs : List Change) → changes ≡ c ∷ cs → shown_on new ≡ shown_with changes (shown_on old) (fold changed (doc_on old) changes)
+  pub shown_then : (c : Change) (cs : List Change) → changes ≡ c ∷ cs → shown_on new ≡ shown_with changes (shown_on old) (fold changed old.stand.doc changes)
   shown_then c cs are =
-      shown-more ∙ (ap (λ (d : Doc). shown_on old ++ d ∷ []) doc_shown ∙ sym (ap (λ (l : List Change). shown_with l (shown_on old) (fold changed (doc_on old) changes)) are))
+      shown-more ∙ (ap (λ (d : Doc). shown_on old ++ d ∷ []) doc-shown ∙ sym (ap (λ (l : List Change). shown_with l (shown_on old) (fold changed old.stand.doc changes)) are))
 
-  pub shown_some : changes ≢ [] → shown_on new ≡ shown_with changes (shown_on old) (fold changed (doc_on old) changes)
+  pub shown_some : changes ≢ [] → shown_on new ≡ shown_with changes (shown_on old) (fold changed old.stand.doc changes)
   shown_some some = by changes refl
     where
-      by : (cs : List Change) → changes ≡ cs → shown_on new ≡ shown_with changes (shown_on old) (fold changed (doc_on old) changes)
+      by : (cs : List Change) → changes ≡ cs → shown_on new ≡ shown_with changes (shown_on old) (fold changed old.stand.doc changes)
       by [] are = absurd (some are)
       by (c ∷ cs) are = shown_then c cs are
 
@@ -145,7 +170,7 @@ kept_if (Err e) old mid new stand published over table still = record { over = o
 
 -- ---- the mark
 
-module _ (old new : BoardView) (showing : IsShowing old) (noted_all : old.pending ≡ []) (published : HasPublished true old new) where
+module _ (old new : BoardView) (noted_all : old.pending ≡ []) (published : HasPublished true old new) where
   marked-stand : new.stand ≡ record old.stand { last = true }
   marked-stand = published.stand ∙ ap (λ (notes : List Note). fold noted old.stand (notes ++ Last ∷ [])) noted_all
 
@@ -155,23 +180,15 @@ module _ (old new : BoardView) (showing : IsShowing old) (noted_all : old.pendin
   pub marked_last : new.stand.last ≡ true
   marked_last = ap (λ (s : Stand). s.last) marked-stand
 
-  is-last : (s : Seen) → IsSeen s new.stand → IsLast showing.changes (doc_on old) s
+  is-last : (s : Seen) → IsSeen s new.stand → SeesLast (doc_on old) s
   is-last s seen = record {
     text = seen.text ∙ ap (λ (x : Stand). document_text x.doc.tree) marked-stand;
-    after_first =
-        ap (after showing.changes) (seen.changes ∙ ap (λ (x : Stand). x.changes) marked-stand)
-        ∙ (ap (λ (l : List Change). after l old.stand.changes) (sym (append-nil showing.changes)) ∙ is-after showing.changes [] old.stand showing.counts);
-    counts = seen.changes ∙ (ap (λ (x : Stand). x.changes) marked-stand ∙ showing.counts.count);
+    counts = seen.changes ∙ ap (λ (x : Stand). x.changes) marked-stand;
     marked = seen.last ∙ marked_last;
   }
 
   pub are_last : (seen : List Seen) → All (λ (s : Seen). IsSeen s new.stand) seen → AreLast (doc_on old) seen
-  are_last seen all = record { changes = showing.changes; leads = sym showing.counts.doc; each = All-weaker _ _ is-last seen all }
-
--- nothing was seen with the mark
-pub none_last : (b : BoardView) (seen : List Seen) → IsShowing b → seen ≡ [] → AreLast (doc_on b) seen
-none_last b seen showing none =
-    subst (AreLast (doc_on b)) (sym none) (record { changes = showing.changes; leads = sym showing.counts.doc; each = All-nil (IsLast showing.changes (doc_on b)) })
+  are_last seen all = All-weaker _ _ is-last seen all
 
 -- ---- the board of a run and those who watch it
 
@@ -191,18 +208,11 @@ going_there board taken failed posts watching is = by taken (subst (λ (o : Opti
     by None work = tt
     by (Some b) work = work.showing.going
 
--- nothing was seen with the mark
-pub none_left : (board : Option BoardView) (failed : Bool) (posts : List Post) (seen : List Seen) → IsWatching board failed posts → seen ≡ [] → AreLast (doc_of board) seen
-none_left None failed posts seen watching none = subst (AreLast new_doc) (sym none) (record { changes = []; leads = refl; each = All-nil (IsLast [] new_doc) })
-none_left (Some b) failed posts seen watching none = none_last b seen watching.showing none
-
 kept-showing : (old new : BoardView) → IsShowing old → HasKept old new → IsShowing new
 kept-showing old new showing kept = record {
   going = kept.over;
   first = (showing.first.0, kept.published ∙ showing.first.1);
   stands = kept.stand ∙ (showing.stands ∙ ap latest (sym kept.published));
-  changes = showing.changes;
-  counts = subst (IsAfter showing.changes) (sym kept.stand) showing.counts;
 }
 
 -- what became of the board where it was to be shown on
@@ -239,23 +249,23 @@ module _ (board taken now dest : Option BoardView) (failed failed' : Bool) (chan
       by true lost = kept-work board refl watching (left-here (left lost)) lost
       by false going = shown-work (shown going) going
 
-  pub doc_after : IsShownFrom taken failed changes now → doc_of dest ≡ fold changed (doc_of board) changes
+  pub doc_after : IsShownFrom taken failed changes now → doc_of dest ≡ grown_by (doc_of board) changes
   doc_after shown =
       let work = taken-work shown in
       ap doc_of (put ∙ shown.here)
       ∙ (doc_shown shown.old changes shown.new work.showing (work.noted_all shown.going) shown.shown
-      ∙ ap (λ (o : Option BoardView). fold changed (doc_of o) changes) (sym shown.there ∙ same))
+      ∙ ap (λ (o : Option BoardView). grown_by (doc_of o) changes) (sym shown.there ∙ same))
 
-  pub shown_after : changes ≢ [] → IsShownFrom taken failed changes now → shown_of dest ≡ shown_with changes (shown_of board) (fold changed (doc_of board) changes)
+  pub shown_after : changes ≢ [] → IsShownFrom taken failed changes now → shown_of dest ≡ shown_with changes (shown_of board) (fold changed (doc_of board).doc changes)
   shown_after some shown =
       let work = taken-work shown in
       ap shown_of (put ∙ shown.here)
       ∙ (shown_some shown.old changes shown.new work.showing (work.noted_all shown.going) shown.shown some
-      ∙ ap (λ (o : Option BoardView). shown_with changes (shown_of o) (fold changed (doc_of o) changes)) (sym shown.there ∙ same))
+      ∙ ap (λ (o : Option BoardView). shown_with changes (shown_of o) (fold changed (doc_of o).doc changes)) (sym shown.there ∙ same))
 
   doc-left : (o : Option BoardView) → IsLeftFrom o now → doc_of now ≡ doc_of o
   doc-left None left = ap doc_of left
-  doc-left (Some old) (new, here, kept) = ap doc_of here ∙ ap (λ (s : Stand). s.doc) kept.stand
+  doc-left (Some old) (new, here, kept) = ap doc_of here ∙ ap (λ (s : Stand). grown s.doc s.changes) kept.stand
 
   shown-left : (o : Option BoardView) → IsLeftFrom o now → shown_of now ≡ shown_of o
   shown-left None left = ap shown_of left

@@ -233,6 +233,19 @@ is_finished (status.Limit which) = true
 is_finished status.ReadFault = true
 is_finished _ = false
 
+-- What a run of a page leaves that was begun: the answer, how far it read, and a sink that is
+-- finished where the parse came to an end.
+pub record RunsPage (es : Table) (how : Manner) (path : List ℕ) (folder : Folder) (before after : Seen) (sink sink' : ℕ) (taken taken' : Option (List ℕ)) (finished : Bool) (result : Status) : Type 0 where
+  pub answer : PageAnswers es how path folder before after sink sink' taken taken' result
+  pub reads : ReadsPage path folder.dir [] before after
+  pub clean : IsTrue (is_finished result) → IsTrue finished
+
+-- The same where memory may run out before the page is begun.
+pub record MayRunPage (es : Table) (how : Manner) (path : List ℕ) (folder : Folder) (before after : Seen) (sink sink' : ℕ) (taken taken' : Option (List ℕ)) (finished : Bool) (result : Status) : Type 0 where
+  pub answer : PageAnswers es how path folder before after sink sink' taken taken' result
+  pub reads : MayReadPage path folder.dir before after
+  pub clean : IsTrue (is_finished result) → IsTrue finished
+
 -- No file is read further than one byte past its limit: by what a port has left, of the file that was begun last; and where the calls are told,
 -- each file that was begun. No list of pages is read.
 pub record StopsAtEach (asked : PageAsked) (before after : Seen) : Type 0 where

@@ -1,5 +1,5 @@
 -- What comes of the command `batch`: the pages of a list are parsed, and each one's path, output and status are written in the list's order.
-use Rattle.std.specs.Prelude.{◌≡◌, ◌≤◌, ◌⊎◌, ℕ, List, [], ◌∷◌, Option, Some, None, IfSome}
+use Rattle.std.specs.Prelude.{◌≡◌, ◌≤◌, ◌⊎◌, ℕ, Bool, List, [], ◌∷◌, Option, Some, None, IfSome, IsTrue}
 use Rattle.std.specs.List.{AllByRecursion}
 use Rattle.outside.specs.Outside.{Rose, Begun, Seen}
 use Rattle.outside.specs.declared.traits.Port.TheVariants.{Entities, Page, Script, List as list_port}
@@ -21,7 +21,7 @@ use Rattle.page_runner.specs.Status.{exit_of}
 use Rattle.page_turns.specs.declared.page.TheConstants.{PAGE_LIMIT}
 use Rattle.page_turns.specs.declared.scripts.TheConstants.{SCRIPT_LIMIT}
 use Rattle.page_turns.specs.Scripts.{ReadScriptsTo, NamesOnce}
-use Rattle.page_runner.specs.Answers.{Answer, Gives, status_with, table_of, BeginsPages}
+use Rattle.page_runner.specs.Answers.{Answer, Gives, status_with, table_of, is_finished, BeginsPages}
 
 -- ---- the list
 
@@ -91,6 +91,13 @@ pub record ReadsPaths (dir : List ℕ) (paths : List (List ℕ)) (before after :
   pub scripts : ReadScriptsTo SCRIPT_LIMIT dir before after
   pub scripts_within : EachWithin SCRIPT_LIMIT Script before after
   pub names : NamesOnce dir (before.begun Script) (after.begun Script)
+
+-- What a run of the pages leaves: the answer, how far it read, and a sink that is finished where
+-- all were run.
+pub record RunsPaths (es : Table) (dir : List ℕ) (paths : List (List ℕ)) (before after : Seen) (sink sink' : ℕ) (taken taken' : Option (List ℕ)) (finished : Bool) (result : Status) : Type 0 where
+  pub answer : ListAnswers es dir paths before after sink sink' taken taken' result
+  pub reads : ReadsPaths dir paths before after
+  pub clean : IsTrue (is_finished result) → IsTrue finished
 
 -- with the table: the list, and the answer to it
 pub record ListedAnswers (es : Table) (path dir : List ℕ) (before after : Seen) (sink sink' : ℕ) (taken taken' : Option (List ℕ)) (result : Status) : Type 0 where

@@ -2,17 +2,16 @@
 use Rattle.std.specs.Prelude.{◌≡◌, ◌≢◌, ℕ, Bool, false, length, List, [], ◌∷◌, ◌++◌, map, drop, fold, Option, Some, None, All, IfSome, IsTrue}
 use Rattle.atomic_table.specs.Seated.{TableId}
 use Rattle.outside.specs.Outside.{Seen as Outside}
-use Rattle.standard.specs.Act.{Doc, new_doc}
+use Rattle.standard.specs.Act.{Doc}
 use Rattle.doc_changes.specs.declared.change.Change.{Change}
 use Rattle.core_steps.specs.Sides.{Shown}
 use Rattle.tree_watch.specs.declared.shown.Stand.{Stand}
 use Rattle.tree_watch.specs.declared.shown.Note.TheVariants.{Did}
 use Rattle.tree_watch.specs.declared.watcher.Seen.{Seen}
 use Rattle.tree_watch.specs.Boards.{BoardView, begun}
-use Rattle.tree_watch.specs.Counting.{IsAfter}
 use Rattle.tree_watch.specs.Notes.{noted}
 use Rattle.tree_watch.specs.Rule.{Log, latest}
-use Rattle.page_turns.specs.Watched.{WereLast, WasTold}
+use Rattle.page_turns.specs.Watched.{Grown, ungrown, RunMade, WereLast, WasTold}
 use Rattle.page_runner.specs.declared.status.Status.{Status}
 use Rattle.page_runner.specs.declared.status.Status.TheVariants as status
 use Rattle.page_runner.specs.declared.watchers.Post.{Post}
@@ -36,15 +35,15 @@ pub record Watched : Type 0 where
   pub board : Option BoardView
   pub count : ℕ
 
-abbrev pub doc_on : BoardView → Doc
-doc_on b = b.stand.doc
+abbrev pub doc_on : BoardView → Grown
+doc_on b = record { doc = b.stand.doc; count = b.stand.changes }
 
 -- behind the empty one
 abbrev pub shown_on : BoardView → List Doc
 shown_on b = map (λ (s : Stand). s.doc) (drop 1 b.published)
 
-abbrev pub doc_of : Option BoardView → Doc
-doc_of None = new_doc
+abbrev pub doc_of : Option BoardView → Grown
+doc_of None = ungrown
 doc_of (Some b) = doc_on b
 
 abbrev pub shown_of : Option BoardView → List Doc
@@ -55,9 +54,6 @@ pub record IsShowing (b : BoardView) : Type 0 where
   pub going : b.over ≡ false
   pub first : (rest : Log) × (b.published ≡ begun ∷ rest)
   pub stands : b.stand ≡ latest b.published
-  -- the document after these changes, as many as it counts
-  pub changes : List Change
-  pub counts : IsAfter changes b.stand
 
 -- All that was noted is shown, unless memory ran out, and the watchers are the board's own.
 pub record IsAtWork (failed : Bool) (posts : List Post) (b : BoardView) : Type 0 where
@@ -98,13 +94,15 @@ IsLeftFrom (Some old) now = (new : BoardView) × (now ≡ Some new) × HasKept o
 
 -- ---- what is reported of it
 
--- What the watchers saw last, with the mark, is a document that the run passed through: the one after the journal's events, or after those before the
--- last, which was refused; where the parse came to an end, it is the document. All saw it, or memory ran out.
+-- What the watchers saw last, with the mark, is a document that the run passed through, and as its number that of the changes which the run made up to
+-- there, each of them once: it is the document after the journal's events, or after those before the last, which was refused; where the parse came to
+-- an end, it is the document, and the changes are all. All saw it, or memory ran out.
 pub record IsWatched (s : Shown) (outcome : Status) (count : ℕ) (seen : List Seen) : Type 0 where
   pub doc : Doc
-  pub were_last : WereLast s doc seen
-  pub told : WasTold s doc
-  pub ended : IsTrue (is_answered outcome) → doc ≡ s.desk.own.side.doc
+  pub changes : List Change
+  pub were_last : WereLast s changes doc seen
+  pub told : WasTold s changes doc
+  pub ended : IsTrue (is_answered outcome) → RunMade s changes × (doc ≡ s.desk.own.side.doc)
   pub all : outcome ≢ status.NoMemory → length seen ≡ count
 
 -- memory ran out before anything was done

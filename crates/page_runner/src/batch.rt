@@ -7,7 +7,8 @@ ghost use Rattle.page_turns.specs.Calls.{EachWithin};
 ghost use Rattle.page_turns.specs.Given.{ReadTo};
 ghost use Rattle.page_batch.specs.declared.list.TheConstants.{LIST_LIMIT};
 ghost use Rattle.page_runner.specs.Answers.{is_finished, Gives, StopsAtLimits, BeginsOnce};
-ghost use Rattle.page_runner.specs.Batches.{ReadsList, ReadsNoList, answer_unlisted, ListAnswers, ReadsPaths, ListedAnswers, ReadsListed, BatchAnswers};
+ghost use Rattle.page_runner.specs.Batches.{ReadsList, ReadsNoList, answer_unlisted, RunsPaths};
+ghost use Rattle.page_runner.specs.Batches.{ListedAnswers, ReadsListed, BatchAnswers};
 
 use crate::command::{end_at_fault, end_without, read_entities, status_for};
 use crate::status::Status;
@@ -86,12 +87,10 @@ fn paths_in_force<R: Threads + Sync, E: InForce + Send, F: Outside, K: Sink>(
     out: &mut K,
 ) -> Status
     requires { table.now ≡ E.entities }
-    ensures answer { ListAnswers table.now (string_bytes words.now.dir) (map string_bytes paths.now)
+    ensures { RunsPaths table.now (string_bytes words.now.dir) (map string_bytes paths.now)
         (F.seen files.old) (F.seen files.new)
-        (K.faults out.old) (K.faults out.new) (K.taken out.old) (K.taken out.new) result }
-    ensures reads { ReadsPaths (string_bytes words.now.dir) (map string_bytes paths.now)
-        (F.seen files.old) (F.seen files.new) }
-    ensures clean { IsTrue (is_finished result) → IsTrue (K.clean out.new) }
+        (K.faults out.old) (K.faults out.new) (K.taken out.old) (K.taken out.new)
+        (K.clean out.new) result }
 {
     match run_list::<R, E, F, K>(rt, alloc, table, words.dir.as_str(), paths, files, out) {
         Err(failure) => status_for(failure),
@@ -109,12 +108,10 @@ fn run_paths<R: Threads + Sync, F: Outside, K: Sink>(
     files: &mut F,
     out: &mut K,
 ) -> Status
-    ensures answer { ListAnswers table.now (string_bytes words.now.dir) (map string_bytes paths.now)
+    ensures { RunsPaths table.now (string_bytes words.now.dir) (map string_bytes paths.now)
         (F.seen files.old) (F.seen files.new)
-        (K.faults out.old) (K.faults out.new) (K.taken out.old) (K.taken out.new) result }
-    ensures reads { ReadsPaths (string_bytes words.now.dir) (map string_bytes paths.now)
-        (F.seen files.old) (F.seen files.new) }
-    ensures clean { IsTrue (is_finished result) → IsTrue (K.clean out.new) }
+        (K.faults out.old) (K.faults out.new) (K.taken out.old) (K.taken out.new)
+        (K.clean out.new) result }
 {
     paths_in_force::<R, Brand, F, K>(rt, alloc, table, words, paths, files, out)
 }

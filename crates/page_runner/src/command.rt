@@ -1,5 +1,6 @@
 // A run, from the words to the status.
-ghost use Rattle.std.specs.Prelude.{◌≡◌, ◌≤◌, ◌<◌, ◌++◌, ℕ, List, [], ◌∷◌, length, All, map, Some, None, false, Err, IfOk, IfErr, OnOk, OnErr, IsErrOf, IsTrue};
+ghost use Rattle.std.specs.Prelude.{◌≡◌, ◌≤◌, ◌<◌, ◌++◌, ℕ, List, [], ◌∷◌, length, All, map, Some};
+ghost use Rattle.std.specs.Prelude.{None, false, Err, IfOk, IfErr, OnOk, OnErr, IsErrOf, IsTrue};
 ghost use Rattle.std.specs.String.{string_bytes};
 ghost use Rattle.standard.specs.Outer.{document_text};
 ghost use Rattle.page_turns.specs.Watched.{watch_text};
@@ -13,7 +14,11 @@ ghost use Rattle.parse_machine.specs.Ends.{result_of};
 ghost use Rattle.page_runner.specs.Shown.{status_of};
 ghost use Rattle.page_runner.specs.Making.{MakesTo};
 ghost use Rattle.page_runner.specs.Batches.{BatchesTo};
-ghost use Rattle.page_runner.specs.Answers.{status_for, table_of, is_finished, folder_by, HelpersBack, HelpersBackOf, Gives, PageAnswers, MayReadPage, ReadsTable, ReadsNone, answer_without, Answers, RunsTo, StopsAtLimits, BeginsOnce, CompletesRun, Exactly, AbsenceRose, FaultRose};
+ghost use Rattle.page_runner.specs.Answers.{status_for, table_of, is_finished, folder_by};
+ghost use Rattle.page_runner.specs.Answers.{HelpersBack, HelpersBackOf, Gives, MayRunPage};
+ghost use Rattle.page_runner.specs.Answers.{ReadsTable, ReadsNone, answer_without, Answers, RunsTo};
+ghost use Rattle.page_runner.specs.Answers.{StopsAtLimits, BeginsOnce, CompletesRun, Exactly};
+ghost use Rattle.page_runner.specs.Answers.{AbsenceRose, FaultRose};
 
 use crate::batch::run_batch;
 use crate::eye::ClosedEye;
@@ -161,8 +166,10 @@ pub(crate) fn end_page<K: Sink>(
 ) -> Status
     requires { All (λ s. s.text ≡ document_text doc.now.tree) seen.now }
     ensures gives { Gives (Rose (K.faults out.old) (K.faults out.new))
-        (K.taken out.old) (K.taken out.new)
-        (status_of outcome, result_in (manner dump (length seen.now)) (result_of outcome) doc.now.tree)
+        (K.taken out.old) (K.taken out.new) (
+          status_of outcome,
+          result_in (manner dump (length seen.now)) (result_of outcome) doc.now.tree,
+        )
         result }
     ensures clean { IsTrue (is_finished result) → IsTrue (K.clean out.new) }
 {
@@ -174,7 +181,8 @@ pub(crate) fn end_page<K: Sink>(
 
 // A fault before the page was begun. The sink is finished then too.
 pub(crate) fn end_at_fault<K: Sink>(out: &mut K) -> Status
-    ensures gives { Gives (Rose (K.faults out.old) (K.faults out.new)) (K.taken out.old) (K.taken out.new) (Status.ReadFault, []) result }
+    ensures gives { Gives (Rose (K.faults out.old) (K.faults out.new)) (K.taken out.old)
+        (K.taken out.new) (Status.ReadFault, []) result }
     ensures clean { IsTrue (is_finished result) → IsTrue (K.clean out.new) }
 {
     match out.finish() {
@@ -185,7 +193,8 @@ pub(crate) fn end_at_fault<K: Sink>(out: &mut K) -> Status
 
 // There is no table, so the page isn't begun.
 pub(crate) fn end_without<K: Sink>(out: &mut K, unread: Unread) -> Status
-    ensures gives { Gives (Rose (K.faults out.old) (K.faults out.new)) (K.taken out.old) (K.taken out.new) (answer_without unread) result }
+    ensures gives { Gives (Rose (K.faults out.old) (K.faults out.new)) (K.taken out.old)
+        (K.taken out.new) (answer_without unread) result }
     ensures clean { IsTrue (is_finished result) → IsTrue (K.clean out.new) }
 {
     match unread {
@@ -218,16 +227,15 @@ fn by_table<
     requires piece { (0 < job.now.piece) × (job.now.piece ≤ 65536) }
     requires ahead { (0 < job.now.ahead) × (job.now.ahead ≤ 64) }
     requires watch { watch ≤ 8 }
-    ensures answer { PageAnswers job.now.table.now
+    ensures runs { MayRunPage job.now.table.now
         (manner job.now.dump watch) (string_bytes job.now.page)
         (folder_by (string_bytes job.now.dir) job.now.preload
         (map F.seen helpers.old.items) (map F.seen helpers.new.items))
         (F.seen files.old) (F.seen files.new)
-        (K.faults out.old) (K.faults out.new) (K.taken out.old) (K.taken out.new) result }
-    ensures reads { MayReadPage (string_bytes job.now.page) (string_bytes job.now.dir)
-        (F.seen files.old) (F.seen files.new) }
-    ensures clean { IsTrue (is_finished result) → IsTrue (K.clean out.new) }
-    ensures helpers { HelpersBack job.now.preload (map F.seen helpers.old.items) (map F.seen helpers.new.items) }
+        (K.faults out.old) (K.faults out.new) (K.taken out.old) (K.taken out.new)
+        (K.clean out.new) result }
+    ensures helpers { HelpersBack job.now.preload (map F.seen helpers.old.items)
+        (map F.seen helpers.new.items) }
 {
     let Ok(eye) = Arc::new(alloc, ClosedEye) else {
         return Status::NoMemory;
@@ -260,16 +268,15 @@ fn run_page<
     requires piece { (0 < words.piece) × (words.piece ≤ 65536) }
     requires ahead { (0 < words.ahead) × (words.ahead ≤ 64) }
     requires watch { words.watch ≤ 8 }
-    ensures answer { PageAnswers table.now
+    ensures runs { MayRunPage table.now
         (manner words.dump words.watch) (string_bytes words.page)
         (folder_by (string_bytes words.dir) words.preload
         (map F.seen helpers.old.items) (map F.seen helpers.new.items))
         (F.seen files.old) (F.seen files.new)
-        (K.faults out.old) (K.faults out.new) (K.taken out.old) (K.taken out.new) result }
-    ensures reads { MayReadPage (string_bytes words.page) (string_bytes words.dir)
-        (F.seen files.old) (F.seen files.new) }
-    ensures clean { IsTrue (is_finished result) → IsTrue (K.clean out.new) }
-    ensures helpers { HelpersBack words.preload (map F.seen helpers.old.items) (map F.seen helpers.new.items) }
+        (K.faults out.old) (K.faults out.new) (K.taken out.old) (K.taken out.new)
+        (K.clean out.new) result }
+    ensures helpers { HelpersBack words.preload (map F.seen helpers.old.items)
+        (map F.seen helpers.new.items) }
 {
     let job = Job {
         page: words.page,
@@ -300,11 +307,15 @@ pub(crate) fn read_entities<F: Outside>(
     files: &mut F,
     path: &str,
 ) -> Result<Table, Unread>
-    ensures table { IfOk result (λ table. ReadsTable path.now (F.seen files.old) (F.seen files.new) table) }
-    ensures none { IfErr result (λ unread. ReadsNone path.now (F.seen files.old) (F.seen files.new) unread) }
-    ensures no_further { ReadTo ENTITIES_LIMIT Port.Entities path.now (F.seen files.old) (F.seen files.new) }
+    ensures table { IfOk result
+        (λ table. ReadsTable path.now (F.seen files.old) (F.seen files.new) table) }
+    ensures none { IfErr result
+        (λ unread. ReadsNone path.now (F.seen files.old) (F.seen files.new) unread) }
+    ensures no_further { ReadTo ENTITIES_LIMIT Port.Entities path.now (F.seen files.old)
+        (F.seen files.new) }
     ensures within { EachWithin ENTITIES_LIMIT Port.Entities (F.seen files.old) (F.seen files.new) }
-    ensures begun { Begun ((F.seen files.old).begun Port.Entities) ((F.seen files.new).begun Port.Entities) (path.now ∷ []) }
+    ensures begun { Begun ((F.seen files.old).begun Port.Entities)
+        ((F.seen files.new).begun Port.Entities) (path.now ∷ []) }
     ensures others { KeepsOthers Port.Entities (F.seen files.old) (F.seen files.new) }
 {
     let bytes = match read_whole(alloc, files, Port::Entities, path, ENTITIES_LIMIT) {
@@ -338,13 +349,17 @@ fn run_files<
     requires piece { (0 < words.piece) × (words.piece ≤ 65536) }
     requires ahead { (0 < words.ahead) × (words.ahead ≤ 64) }
     requires watch { words.watch ≤ 8 }
-    ensures answer { Answers (shown words) (map F.seen helpers.old.items) (map F.seen helpers.new.items)
+    ensures answer { Answers (shown words) (map F.seen helpers.old.items)
+        (map F.seen helpers.new.items)
         (F.seen files.old) (F.seen files.new)
         (K.faults out.old) (K.faults out.new) (K.taken out.old) (K.taken out.new) result }
-    ensures no_further { StopsAtLimits (Some (for_page (shown words))) (F.seen files.old) (F.seen files.new) }
-    ensures begins { BeginsOnce (Some (for_page (shown words))) (F.seen files.old) (F.seen files.new) }
+    ensures no_further { StopsAtLimits (Some (for_page (shown words))) (F.seen files.old)
+        (F.seen files.new) }
+    ensures begins { BeginsOnce (Some (for_page (shown words))) (F.seen files.old)
+        (F.seen files.new) }
     ensures clean { IsTrue (is_finished result) → IsTrue (K.clean out.new) }
-    ensures helpers { HelpersBack words.preload (map F.seen helpers.old.items) (map F.seen helpers.new.items) }
+    ensures helpers { HelpersBack words.preload (map F.seen helpers.old.items)
+        (map F.seen helpers.new.items) }
 {
     match read_entities(alloc, files, words.entities.as_str()) {
         Err(unread) => end_without(out, unread),
@@ -367,18 +382,23 @@ fn run_words<
     gate: &Arc<G, Global>,
     helpers: &mut Vec<F>,
 ) -> Status
-    ensures answer { RunsTo (asked (map string_bytes words.now)) (map F.seen helpers.old.items) (map F.seen helpers.new.items)
+    ensures answer { RunsTo (asked (map string_bytes words.now)) (map F.seen helpers.old.items)
+        (map F.seen helpers.new.items)
         (F.seen files.old) (F.seen files.new)
         (K.faults out.old) (K.faults out.new) (K.taken out.old) (K.taken out.new) result }
-    ensures no_further { StopsAtLimits (asked (map string_bytes words.now)) (F.seen files.old) (F.seen files.new) }
-    ensures begins { BeginsOnce (asked (map string_bytes words.now)) (F.seen files.old) (F.seen files.new) }
-    ensures makes { MakesTo (asked (map string_bytes words.now)) (F.seen files.old) (F.seen files.new)
+    ensures no_further { StopsAtLimits (asked (map string_bytes words.now)) (F.seen files.old)
+        (F.seen files.new) }
+    ensures begins { BeginsOnce (asked (map string_bytes words.now)) (F.seen files.old)
+        (F.seen files.new) }
+    ensures makes { MakesTo (asked (map string_bytes words.now)) (F.seen files.old)
+        (F.seen files.new)
         (K.faults out.old) (K.faults out.new) (K.taken out.old) (K.taken out.new) result }
     ensures batches { BatchesTo (asked (map string_bytes words.now))
         (F.seen files.old) (F.seen files.new)
         (K.faults out.old) (K.faults out.new) (K.taken out.old) (K.taken out.new) result }
     ensures clean { IsTrue (is_finished result) → IsTrue (K.clean out.new) }
-    ensures helpers { HelpersBackOf (asked (map string_bytes words.now)) (map F.seen helpers.old.items) (map F.seen helpers.new.items) }
+    ensures helpers { HelpersBackOf (asked (map string_bytes words.now))
+        (map F.seen helpers.old.items) (map F.seen helpers.new.items) }
 {
     match read_words(alloc, words) {
         Err(Refused::Usage) => Status::Usage,
@@ -389,10 +409,11 @@ fn run_words<
     }
 }
 
-/// Runs the command that the words give, of which the program's name is the first: the entities file is read, and then
-/// the page is begun, parsed and written, its scripts with it; or the pages of a list are; or a page is made, parsed, and what that comes to in
-/// numbers written. The sink is finished where the parse came to an end. Of the helpers the first so many as the words say fetch scripts before
-/// they are awaited.
+/// Runs the command that the words give, of which the program's name is the first: the entities
+/// file is read, and then the page is begun, parsed and written, its scripts with it; or the pages
+/// of a list are; or a page is made, parsed, and what that comes to in numbers written. The sink is
+/// finished where the parse came to an end. Of the helpers the first so many as the words say fetch
+/// scripts before they are awaited.
 pub fn run<
     R: Threads + Wait + Copy + Send + Sync + 'static,
     F: Outside + Drop + Send + 'static,
@@ -407,8 +428,10 @@ pub fn run<
     gate: &Arc<G, Global>,
     helpers: &mut Vec<F>,
 ) -> Status
-    // The status and the bytes that the sink took are the answer to what the run met, and the text is that of the serial parse.
-    ensures answer { RunsTo (asked (map string_bytes words.now)) (map F.seen helpers.old.items) (map F.seen helpers.new.items)
+    // The status and the bytes that the sink took are the answer to what the run met, and the text
+    // is that of the serial parse.
+    ensures answer { RunsTo (asked (map string_bytes words.now)) (map F.seen helpers.old.items)
+        (map F.seen helpers.new.items)
         (F.seen files.old) (F.seen files.new)
         (K.faults out.old) (K.faults out.new) (K.taken out.old) (K.taken out.new) result }
 
@@ -418,19 +441,26 @@ pub fn run<
         (K.faults out.old) (K.faults out.new) (K.taken out.old) (K.taken out.new) result }
 
     // The same of a page that is made from a number.
-    ensures makes { MakesTo (asked (map string_bytes words.now)) (F.seen files.old) (F.seen files.new)
+    ensures makes { MakesTo (asked (map string_bytes words.now)) (F.seen files.old)
+        (F.seen files.new)
         (K.faults out.old) (K.faults out.new) (K.taken out.old) (K.taken out.new) result }
     ensures clean { IsTrue (is_finished result) → IsTrue (K.clean out.new) }
-    ensures no_further { StopsAtLimits (asked (map string_bytes words.now)) (F.seen files.old) (F.seen files.new) }
+    ensures no_further { StopsAtLimits (asked (map string_bytes words.now)) (F.seen files.old)
+        (F.seen files.new) }
 
-    // Where the outside tells what was begun: entities, page and each script once at most, and nothing else ever.
-    ensures begins { BeginsOnce (asked (map string_bytes words.now)) (F.seen files.old) (F.seen files.new) }
+    // Where the outside tells what was begun: entities, page and each script once at most, and
+    // nothing else ever.
+    ensures begins { BeginsOnce (asked (map string_bytes words.now)) (F.seen files.old)
+        (F.seen files.new) }
 
     // Each helper is back in its place, and those that weren't to be used are as they were.
-    ensures helpers { HelpersBackOf (asked (map string_bytes words.now)) (map F.seen helpers.old.items) (map F.seen helpers.new.items) }
+    ensures helpers { HelpersBackOf (asked (map string_bytes words.now))
+        (map F.seen helpers.old.items) (map F.seen helpers.new.items) }
 
-    // Where nothing stands in its way, all is written, or memory runs out: what it would be with no helper.
-    ensures complete { CompletesRun (asked (map string_bytes words.now)) (map F.seen helpers.old.items) (map F.seen helpers.new.items)
+    // Where nothing stands in its way, all is written, or memory runs out: what it would be with no
+    // helper.
+    ensures complete { CompletesRun (asked (map string_bytes words.now))
+        (map F.seen helpers.old.items) (map F.seen helpers.new.items)
         (F.seen files.old) (F.seen files.new)
         (K.faults out.old) (K.faults out.new) (K.taken out.old) (K.taken out.new) result }
 

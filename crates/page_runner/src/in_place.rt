@@ -6,7 +6,7 @@ ghost use Rattle.page_runner.specs.Reports.{HasSide, has_run_out, IsCutByReads, 
 ghost use Rattle.page_turns.specs.Cuts.{IsCut};
 ghost use Rattle.page_turns.specs.Scripts.{folder_with};
 ghost use Rattle.page_runner.specs.OnTwo.{IsLookingAhead, IsFetchingAwaited};
-ghost use Rattle.page_runner.specs.Answers.{is_finished, IsBegun, PageAnswers, ReadsPage};
+ghost use Rattle.page_runner.specs.Answers.{is_finished, IsBegun, PageAnswers, ReadsPage, RunsPage};
 
 use crate::report::{Report, Run};
 use crate::running::{begin_page, begin_run, run_with};
@@ -19,7 +19,8 @@ use speculation::InForce;
 use std::alloc::Global;
 use std::marker::Brand;
 
-// Runs the page that was begun. Where memory doesn't suffice for what it begins with, there is no document's side to report.
+// Runs the page that was begun. Where memory doesn't suffice for what it begins with, there is no
+// document's side to report.
 fn run_begun<E: InForce, F: Outside, K: Sink>(
     alloc: Global,
     job: &Job<'_>,
@@ -31,19 +32,24 @@ fn run_begun<E: InForce, F: Outside, K: Sink>(
     requires piece { 0 < job.now.piece }
     requires some { 0 < job.now.ahead }
     requires few { job.now.ahead ≤ 64 }
-    ensures answer { PageAnswers job.now.table.now (manner job.now.dump 0) (string_bytes job.now.page) (folder_with (string_bytes job.now.dir) [])
-        (F.seen files.old) (F.seen files.new) (K.faults out.old) (K.faults out.new) (K.taken out.old) (K.taken out.new) result.outcome }
-    ensures reads { ReadsPage (string_bytes job.now.page) (string_bytes job.now.dir) [] (F.seen files.old) (F.seen files.new) }
-    ensures clean { IsTrue (is_finished result.outcome) → IsTrue (K.clean out.new) }
-    ensures reports { IfSome result.side (λ side. Reports job.now.table.now job.now.ahead (manner job.now.dump 0) (string_bytes job.now.page) (folder_with (string_bytes job.now.dir) [])
-        (F.seen files.old) (F.seen files.new) (K.taken out.old) (K.taken out.new) side result.outcome) }
+    ensures runs { RunsPage job.now.table.now (manner job.now.dump 0) (string_bytes job.now.page)
+        (folder_with (string_bytes job.now.dir) [])
+        (F.seen files.old) (F.seen files.new)
+        (K.faults out.old) (K.faults out.new) (K.taken out.old) (K.taken out.new)
+        (K.clean out.new) result.outcome }
+    ensures reports { IfSome result.side
+        (λ side. Reports job.now.table.now job.now.ahead (manner job.now.dump 0)
+        (string_bytes job.now.page) (folder_with (string_bytes job.now.dir) [])
+        (F.seen files.old) (F.seen files.new) (K.taken out.old) (K.taken out.new) side
+        result.outcome) }
     ensures side { IsSome result.side ⊎ ((result.outcome ≡ Status.NoMemory)
         × (F.seen files.new ≡ F.seen files.old) × (K.taken out.new ≡ K.taken out.old)) }
     ensures cut { IfSome result.side (λ side. IsCut job.now.piece (has_run_out result.outcome)
         (F.seen files.old) (F.seen files.new) side.journal.pieces) }
     ensures looks_ahead { IfSome result.side (λ side. IsLookingAhead job.now.table.now job.now.ahead
         side.journal) }
-    ensures fetches { IfSome result.side (λ side. IsFetchingAwaited job.now.table.now job.now.ahead []
+    ensures fetches { IfSome result.side
+        (λ side. IsFetchingAwaited job.now.table.now job.now.ahead []
         side.journal) }
 {
     let (mut room, mut side) = match begin_run(alloc, job) {
@@ -75,8 +81,9 @@ fn run_begun<E: InForce, F: Outside, K: Sink>(
     }
 }
 
-/// Begins the page, parses it and writes what comes of it, all on the calling thread: the document's side and the parser's side take turns.
-/// The page is read ahead of the parse, as long as fewer requests are under way than may be. The sink is finished where the parse came to an
+/// Begins the page, parses it and writes what comes of it, all on the calling thread: the
+/// document's side and the parser's side take turns. The page is read ahead of the parse, as long
+/// as fewer requests are under way than may be. The sink is finished where the parse came to an
 /// end.
 pub fn page_in_place<F: Outside, K: Sink>(
     alloc: Global,
@@ -86,12 +93,18 @@ pub fn page_in_place<F: Outside, K: Sink>(
 ) -> Report<Brand>
     requires piece { (0 < job.now.piece) × (job.now.piece ≤ 65536) }
     requires ahead { (0 < job.now.ahead) × (job.now.ahead ≤ 64) }
-    ensures answer { PageAnswers job.now.table.now (manner job.now.dump 0) (string_bytes job.now.page) (folder_with (string_bytes job.now.dir) [])
-        (F.seen files.old) (F.seen files.new) (K.faults out.old) (K.faults out.new) (K.taken out.old) (K.taken out.new) result.outcome }
-    ensures reads { ReadsPage (string_bytes job.now.page) (string_bytes job.now.dir) (string_bytes job.now.page ∷ []) (F.seen files.old) (F.seen files.new) }
+    ensures answer { PageAnswers job.now.table.now (manner job.now.dump 0)
+        (string_bytes job.now.page) (folder_with (string_bytes job.now.dir) [])
+        (F.seen files.old) (F.seen files.new) (K.faults out.old) (K.faults out.new)
+        (K.taken out.old) (K.taken out.new) result.outcome }
+    ensures reads { ReadsPage (string_bytes job.now.page) (string_bytes job.now.dir)
+        (string_bytes job.now.page ∷ []) (F.seen files.old) (F.seen files.new) }
     ensures clean { IsTrue (is_finished result.outcome) → IsTrue (K.clean out.new) }
-    ensures reports { IfSome result.side (λ side. Reports job.now.table.now job.now.ahead (manner job.now.dump 0) (string_bytes job.now.page) (folder_with (string_bytes job.now.dir) [])
-        (F.seen files.old) (F.seen files.new) (K.taken out.old) (K.taken out.new) side result.outcome) }
+    ensures reports { IfSome result.side
+        (λ side. Reports job.now.table.now job.now.ahead (manner job.now.dump 0)
+        (string_bytes job.now.page) (folder_with (string_bytes job.now.dir) [])
+        (F.seen files.old) (F.seen files.new) (K.taken out.old) (K.taken out.new) side
+        result.outcome) }
     ensures side { HasSide (string_bytes job.now.page) (F.seen files.old) (F.seen files.new)
         (K.taken out.old) (K.taken out.new) result.outcome result.side }
     // How the page was cut: a piece for each read.
@@ -101,8 +114,11 @@ pub fn page_in_place<F: Outside, K: Sink>(
     // it is awaited.
     ensures looks_ahead { IfSome result.side (λ side. IsLookingAhead job.now.table.now job.now.ahead
         side.journal) }
-    ensures fetches { IfSome result.side (λ side. IsFetchingAwaited job.now.table.now job.now.ahead []
+    ensures fetches { IfSome result.side
+        (λ side. IsFetchingAwaited job.now.table.now job.now.ahead []
         side.journal) }
+    // Nobody watches.
+    ensures unseen { result.seen.items ≡ [] }
 {
     match begin_page(files, out, job) {
         Some(outcome) => Report::bare(alloc, outcome),

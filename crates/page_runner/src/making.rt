@@ -1,12 +1,15 @@
-// The command `make`: a page is made from a number, parsed, and what that comes to in numbers is written.
-ghost use Rattle.std.specs.Prelude.{◌≡◌, ◌<◌, ◌≤◌, ◌^◌, ◌++◌, [], codes, IfOk, OnOk, OnErr, IsErrOf, IsTrue};
+// The command `make`: a page is made from a number, parsed, and what that comes to in numbers is
+// written.
+ghost use Rattle.std.specs.Prelude.{◌≡◌, ◌<◌, ◌≤◌, ◌^◌, ◌++◌, [], codes, IfOk, OnOk, OnErr};
+ghost use Rattle.std.specs.Prelude.{IsErrOf, IsTrue};
 ghost use Rattle.std.specs.String.{string_bytes};
 ghost use Rattle.std.specs.Prelude.{encode_utf8_all};
 ghost use Rattle.outside.specs.Outside.{Rose};
 ghost use Rattle.page_turns.specs.Taken.{Took, TookFront};
 ghost use Rattle.page_maker.specs.Made.{made_page, made_scripts};
 ghost use Rattle.page_runner.specs.Answers.{is_finished, Gives};
-ghost use Rattle.page_runner.specs.Making.{tally_text, Adds, AreFilesOf, IsRefusal, IsRunOf, Makes, Tells};
+ghost use Rattle.page_runner.specs.Making.{tally_text, Adds, AreFilesOf, IsRefusal, IsRunOf, Makes};
+ghost use Rattle.page_runner.specs.Making.{Tells};
 
 use crate::command::status_for;
 use crate::nowhere::Nowhere;
@@ -38,7 +41,9 @@ pub(crate) enum MadeRun {
 
 // Adds the file of a script.
 fn add_script(alloc: Global, files: &mut NeverFails, script: &MadeScript) -> Result<(), NoMemory>
-    ensures { OnOk result (Adds (codes "scripts/" ++ encode_utf8_all script.now.name) (encode_utf8_all script.now.text) files.old files.new) }
+    ensures { OnOk result
+        (Adds (codes "scripts/" ++ encode_utf8_all script.now.name)
+        (encode_utf8_all script.now.text) files.old files.new) }
 {
     let name = script.name.as_str();
     let path = format!(in alloc; "scripts/{name}")?;
@@ -88,7 +93,8 @@ fn write_tally<K: Sink>(alloc: Global, out: &mut K, tally: Tally) -> Result<(), 
 
 // The same, and the status of the run.
 fn end_finished<K: Sink>(alloc: Global, out: &mut K, tally: Tally) -> Status
-    ensures gives { Gives (Rose (K.faults out.old) (K.faults out.new)) (K.taken out.old) (K.taken out.new) (Status.Done, tally_text tally) result }
+    ensures gives { Gives (Rose (K.faults out.old) (K.faults out.new)) (K.taken out.old)
+        (K.taken out.new) (Status.Done, tally_text tally) result }
     ensures clean { IsTrue (is_finished result) → IsTrue (K.clean out.new) }
 {
     match write_tally(alloc, out, tally) {
@@ -100,7 +106,8 @@ fn end_finished<K: Sink>(alloc: Global, out: &mut K, tally: Tally) -> Status
 // Nothing is written where the parse was refused, but the sink is finished.
 fn end_refused<K: Sink>(out: &mut K, outcome: Status) -> Status
     requires { IsRefusal outcome }
-    ensures gives { Gives (Rose (K.faults out.old) (K.faults out.new)) (K.taken out.old) (K.taken out.new) (outcome, []) result }
+    ensures gives { Gives (Rose (K.faults out.old) (K.faults out.new)) (K.taken out.old)
+        (K.taken out.new) (outcome, []) result }
     ensures clean { IsTrue (is_finished result) → IsTrue (K.clean out.new) }
 {
     match out.finish() {
@@ -112,7 +119,8 @@ fn end_refused<K: Sink>(out: &mut K, outcome: Status) -> Status
 // Writes what the made page came to.
 fn end_make<K: Sink>(alloc: Global, out: &mut K, words: MakeWords, run: MadeRun) -> Status
     requires { IsRunOf words run }
-    ensures makes { Makes words (Rose (K.faults out.old) (K.faults out.new)) (K.taken out.old) (K.taken out.new) result }
+    ensures makes { Makes words (Rose (K.faults out.old) (K.faults out.new)) (K.taken out.old)
+        (K.taken out.new) result }
     ensures clean { IsTrue (is_finished result) → IsTrue (K.clean out.new) }
 {
     match run {
@@ -207,8 +215,9 @@ fn make_and_parse<
     parse_made::<R, Brand, G>(rt, alloc, &table, &mut files, gate, words)
 }
 
-/// Makes the page that the words ask for, parses it, and writes what that comes to in numbers. It is parsed from files in memory, in pieces of
-/// 4,096 bytes and at most 8 pieces ahead. The sink is finished where the parse came to an end.
+/// Makes the page that the words ask for, parses it, and writes what that comes to in numbers. It
+/// is parsed from files in memory, in pieces of 4,096 bytes and at most 8 pieces ahead. The sink is
+/// finished where the parse came to an end.
 pub(crate) fn run_make<
     R: Threads + Wait + Copy + Send + Sync + 'static,
     K: Sink,
@@ -216,7 +225,8 @@ pub(crate) fn run_make<
 >(rt: &R, alloc: Global, out: &mut K, gate: &Arc<G, Global>, words: MakeWords) -> Status
     requires number { words.number < 2 ^ 31 }
     requires count { words.count ≤ 50000 }
-    ensures makes { Makes words (Rose (K.faults out.old) (K.faults out.new)) (K.taken out.old) (K.taken out.new) result }
+    ensures makes { Makes words (Rose (K.faults out.old) (K.faults out.new)) (K.taken out.old)
+        (K.taken out.new) result }
     ensures clean { IsTrue (is_finished result) → IsTrue (K.clean out.new) }
 {
     match make_and_parse(rt, alloc, gate, words) {

@@ -1,5 +1,6 @@
 // A page is run with the parser's side in a thread of its own.
-ghost use Rattle.std.specs.Prelude.{◌≡◌, ◌<◌, ◌≤◌, ◌⊎◌, [], ◌∷◌, ◌++◌, length, map, Some, None, false, IfOk, IfSome, IsSome, IsTrue};
+ghost use Rattle.std.specs.Prelude.{◌≡◌, ◌<◌, ◌≤◌, ◌⊎◌, [], ◌∷◌, ◌++◌, length, map, Some, None};
+ghost use Rattle.std.specs.Prelude.{false, IfOk, IfSome, IsSome, IsTrue};
 ghost use Rattle.std.specs.String.{string_bytes};
 ghost use Rattle.parser_thread.specs.declared.messages.ToParser.TheVariants as message;
 ghost use Rattle.parser_thread.specs.Answers.{said};
@@ -8,12 +9,14 @@ ghost use Rattle.core_steps.specs.Sides.{first_shown};
 ghost use Rattle.page_runner.specs.Manner.{manner};
 ghost use Rattle.page_runner.specs.Reports.{HasSide, has_run_out, IsCutByReads, Reports};
 ghost use Rattle.page_turns.specs.Cuts.{IsCut};
-ghost use Rattle.standard.specs.Act.{new_doc};
+ghost use Rattle.page_turns.specs.Watched.{ungrown};
 ghost use Rattle.page_runner.specs.Watching.{IsWatched};
 ghost use Rattle.page_turns.specs.Scripts.{AreDistinct};
 ghost use Rattle.preload.specs.Teams.{HelpedEach, names_through, given_through};
-ghost use Rattle.page_runner.specs.Answers.{is_finished, folder_by, IsBegun, PageAnswers, ReadsPage};
-ghost use Rattle.page_runner.specs.OnTwo.{IfBoth, InOrder, IsAnswered, IsJournaled, DropsFailed, IsLookingAhead, IsFetchingAwaited};
+ghost use Rattle.page_runner.specs.Answers.{is_finished, folder_by, IsBegun, PageAnswers};
+ghost use Rattle.page_runner.specs.Answers.{ReadsPage, RunsPage};
+ghost use Rattle.page_runner.specs.OnTwo.{IfBoth, InOrder, IsAnswered, IsJournaled, DropsFailed};
+ghost use Rattle.page_runner.specs.OnTwo.{IsLookingAhead, IsFetchingAwaited};
 
 use crate::report::Report;
 use crate::running::{begin_page, begin_run, let_go, run_with};
@@ -49,9 +52,15 @@ impl<'a, R, E: InForce, G> Model for OverLanes<'a, R, E, G> {
 
     ghost Value = { Exchange };
 
-    ghost view = { λ o. record { asks = asks_in o.running.ask.put; messages = map (said E.InForce) o.running.replies.taken; under_way = o.under_way } };
+    ghost view = { λ o.
+        record {
+          asks = asks_in o.running.ask.put;
+          messages = map (said E.InForce) o.running.replies.taken;
+          under_way = o.under_way;
+        } };
 
-    ghost invariant = { λ o. IsRunning E.InForce o.running × (o.running.ask.put ≡ map message.Ask (asks_in o.running.ask.put)) };
+    ghost invariant = { λ o. IsRunning E.InForce o.running
+        × (o.running.ask.put ≡ map message.Ask (asks_in o.running.ask.put)) };
 }
 
 impl<'a, R: Wait, E: InForce, G: Gate + Drop> Counterpart<E> for OverLanes<'a, R, E, G> {
@@ -123,6 +132,7 @@ pub(crate) fn without_memory<E: InForce>(alloc: Global) -> Report<E>
     ensures side { result.side ≡ None }
     ensures ends { result.ends ≡ None }
     ensures helped { result.helped.items ≡ [] }
+    ensures seen { result.seen.items ≡ [] }
 {
     Report::bare(alloc, Status::NoMemory)
 }
@@ -133,13 +143,14 @@ fn without_fetchers<E: InForce>(alloc: Global, ends: Lanes<E>) -> Report<E>
     ensures side { result.side ≡ None }
     ensures ends { result.ends ≡ None }
     ensures helped { result.helped.items ≡ [] }
+    ensures seen { result.seen.items ≡ [] }
 {
     let _ends = ends;
     without_memory(alloc)
 }
 
-// What a run on two threads begins with, all memory that the lanes and the parser's side need: room for a read of the page, a document's side, and
-// the parser's side at work.
+// What a run on two threads begins with, all memory that the lanes and the parser's side need: room
+// for a read of the page, a document's side, and the parser's side at work.
 fn begin_on_two<
     R: Threads + Wait + Copy + Send + Sync + 'static,
     E: InForce + Send + 'static,
@@ -192,34 +203,46 @@ pub(crate) fn run_on_two<
     requires piece { 0 < job.now.piece }
     requires some { 0 < job.now.ahead }
     requires few { job.now.ahead ≤ 64 }
-    requires watch { (W.doc watch.old ≡ new_doc) × (W.shown watch.old ≡ []) }
+    requires watch { (W.doc watch.old ≡ ungrown) × (W.shown watch.old ≡ []) }
     requires unwatched { W.watches watch.old ≡ false → W.count watch.old ≡ 0 }
-    ensures answer { PageAnswers job.now.table.now (manner job.now.dump (W.count watch.old)) (string_bytes job.now.page)
-        (folder_by (string_bytes job.now.dir) job.now.preload (map F.seen helpers.old.items) (map F.seen helpers.new.items))
-        (F.seen files.old) (F.seen files.new) (K.faults out.old) (K.faults out.new) (K.taken out.old) (K.taken out.new) result.outcome }
-    ensures reads { ReadsPage (string_bytes job.now.page) (string_bytes job.now.dir) [] (F.seen files.old) (F.seen files.new) }
-    ensures clean { IsTrue (is_finished result.outcome) → IsTrue (K.clean out.new) }
-    ensures reports { IfSome result.side (λ side. Reports job.now.table.now job.now.ahead (manner job.now.dump (W.count watch.old)) (string_bytes job.now.page)
-        (folder_by (string_bytes job.now.dir) job.now.preload (map F.seen helpers.old.items) (map F.seen helpers.new.items))
-        (F.seen files.old) (F.seen files.new) (K.taken out.old) (K.taken out.new) side result.outcome) }
+    ensures runs { RunsPage job.now.table.now (manner job.now.dump (W.count watch.old))
+        (string_bytes job.now.page)
+        (folder_by (string_bytes job.now.dir) job.now.preload
+        (map F.seen helpers.old.items) (map F.seen helpers.new.items))
+        (F.seen files.old) (F.seen files.new)
+        (K.faults out.old) (K.faults out.new) (K.taken out.old) (K.taken out.new)
+        (K.clean out.new) result.outcome }
+    ensures reports { IfSome result.side
+        (λ side. Reports job.now.table.now job.now.ahead (manner job.now.dump (W.count watch.old))
+        (string_bytes job.now.page)
+        (folder_by (string_bytes job.now.dir) job.now.preload (map F.seen helpers.old.items)
+        (map F.seen helpers.new.items))
+        (F.seen files.old) (F.seen files.new) (K.taken out.old) (K.taken out.new) side
+        result.outcome) }
     ensures side { IsSome result.side ⊎ ((result.outcome ≡ Status.NoMemory)
         × (F.seen files.new ≡ F.seen files.old) × (K.taken out.new ≡ K.taken out.old)) }
     ensures cut { IfSome result.side (λ side. IsCut job.now.piece (has_run_out result.outcome)
         (F.seen files.old) (F.seen files.new) side.journal.pieces) }
     ensures in_order { IfSome result.ends (λ ends. InOrder E.InForce ends) }
     ensures answered { IfSome result.ends (λ ends. IsAnswered E.InForce ends) }
-    ensures journaled { IfBoth result.side result.ends (λ side ends. IsJournaled E.InForce job.now.table.now job.now.ahead side.journal result.outcome ends) }
-    ensures dropped { IfBoth result.side result.ends (λ side ends. DropsFailed E.InForce job.now.table.now job.now.ahead side.journal ends) }
+    ensures journaled { IfBoth result.side result.ends
+        (λ side ends. IsJournaled E.InForce job.now.table.now job.now.ahead side.journal
+        result.outcome ends) }
+    ensures dropped { IfBoth result.side result.ends
+        (λ side ends. DropsFailed E.InForce job.now.table.now job.now.ahead side.journal ends) }
     ensures looks_ahead { IfSome result.side (λ side. IsLookingAhead job.now.table.now job.now.ahead
         side.journal) }
     ensures fetches { IfSome result.side (λ side. IsFetchingAwaited job.now.table.now job.now.ahead
         (given_through result.helped.items) side.journal) }
     ensures ends { IfSome result.side (λ _. IsSome result.ends) }
-    ensures helped { HelpedEach (string_bytes job.now.dir) result.helped.items (map F.seen helpers.old.items) (map F.seen helpers.new.items) }
+    ensures helped { HelpedEach (string_bytes job.now.dir) result.helped.items
+        (map F.seen helpers.old.items) (map F.seen helpers.new.items) }
     ensures used { length result.helped.items ≤ job.now.preload }
     ensures once { AreDistinct (names_through result.helped.items) }
     ensures watched { IsTrue (W.watches watch.old) → IfSome result.side (λ side. IsWatched side
         result.outcome (W.count watch.old) result.seen.items) }
+    ensures few { length result.seen.items ≤ W.count watch.old }
+    ensures unbegun { result.side ≡ None → result.seen.items ≡ [] }
 {
     let Ok((mut room, mut side, running)) = begin_on_two::<R, E, G>(rt, alloc, job, gate) else {
         return without_memory(alloc);
@@ -243,10 +266,12 @@ pub(crate) fn run_on_two<
     }
 }
 
-/// Begins the page, parses it and writes what comes of it, with the parser's side in a thread of its own, which begins before the page's first
-/// read. Where no thread can be made it is in the calling thread, over the same lanes, and nothing else differs. The parser's side is told to
-/// stop in every case before it is joined. The first so many helpers as the job says fetch scripts, each in a thread of its own, before they are
-/// awaited; where no thread can be made a helper isn't used. The sink is finished where the parse came to an end.
+/// Begins the page, parses it and writes what comes of it, with the parser's side in a thread of
+/// its own, which begins before the page's first read. Where no thread can be made it is in the
+/// calling thread, over the same lanes, and nothing else differs. The parser's side is told to stop
+/// in every case before it is joined. The first so many helpers as the job says fetch scripts, each
+/// in a thread of its own, before they are awaited; where no thread can be made a helper isn't
+/// used. The sink is finished where the parse came to an end.
 pub fn page_on_two<
     R: Threads + Wait + Copy + Send + Sync + 'static,
     E: InForce + Send + 'static,
@@ -266,15 +291,24 @@ pub fn page_on_two<
     requires piece { (0 < job.now.piece) × (job.now.piece ≤ 65536) }
     requires ahead { (0 < job.now.ahead) × (job.now.ahead ≤ 64) }
 
-    // What was written is the serial parse's text, as of `page_in_place`; the journal replays to this very document, these lines and this outcome.
-    ensures answer { PageAnswers job.now.table.now (manner job.now.dump 0) (string_bytes job.now.page)
-        (folder_by (string_bytes job.now.dir) job.now.preload (map F.seen helpers.old.items) (map F.seen helpers.new.items))
-        (F.seen files.old) (F.seen files.new) (K.faults out.old) (K.faults out.new) (K.taken out.old) (K.taken out.new) result.outcome }
-    ensures reads { ReadsPage (string_bytes job.now.page) (string_bytes job.now.dir) (string_bytes job.now.page ∷ []) (F.seen files.old) (F.seen files.new) }
+    // What was written is the serial parse's text, as of `page_in_place`; the journal replays to
+    // this very document, these lines and this outcome.
+    ensures answer { PageAnswers job.now.table.now (manner job.now.dump 0)
+        (string_bytes job.now.page)
+        (folder_by (string_bytes job.now.dir) job.now.preload (map F.seen helpers.old.items)
+        (map F.seen helpers.new.items))
+        (F.seen files.old) (F.seen files.new) (K.faults out.old) (K.faults out.new)
+        (K.taken out.old) (K.taken out.new) result.outcome }
+    ensures reads { ReadsPage (string_bytes job.now.page) (string_bytes job.now.dir)
+        (string_bytes job.now.page ∷ []) (F.seen files.old) (F.seen files.new) }
     ensures clean { IsTrue (is_finished result.outcome) → IsTrue (K.clean out.new) }
-    ensures reports { IfSome result.side (λ side. Reports job.now.table.now job.now.ahead (manner job.now.dump 0) (string_bytes job.now.page)
-        (folder_by (string_bytes job.now.dir) job.now.preload (map F.seen helpers.old.items) (map F.seen helpers.new.items))
-        (F.seen files.old) (F.seen files.new) (K.taken out.old) (K.taken out.new) side result.outcome) }
+    ensures reports { IfSome result.side
+        (λ side. Reports job.now.table.now job.now.ahead (manner job.now.dump 0)
+        (string_bytes job.now.page)
+        (folder_by (string_bytes job.now.dir) job.now.preload (map F.seen helpers.old.items)
+        (map F.seen helpers.new.items))
+        (F.seen files.old) (F.seen files.new) (K.taken out.old) (K.taken out.new) side
+        result.outcome) }
     ensures side { HasSide (string_bytes job.now.page) (F.seen files.old) (F.seen files.new)
         (K.taken out.old) (K.taken out.new) result.outcome result.side }
     // How the page was cut: a piece for each read.
@@ -284,19 +318,26 @@ pub fn page_on_two<
     // What went through both lanes.
     ensures in_order { IfSome result.ends (λ ends. InOrder E.InForce ends) }
     ensures answered { IfSome result.ends (λ ends. IsAnswered E.InForce ends) }
-    ensures journaled { IfBoth result.side result.ends (λ side ends. IsJournaled E.InForce job.now.table.now job.now.ahead side.journal result.outcome ends) }
-    ensures dropped { IfBoth result.side result.ends (λ side ends. DropsFailed E.InForce job.now.table.now job.now.ahead side.journal ends) }
+    ensures journaled { IfBoth result.side result.ends
+        (λ side ends. IsJournaled E.InForce job.now.table.now job.now.ahead side.journal
+        result.outcome ends) }
+    ensures dropped { IfBoth result.side result.ends
+        (λ side ends. DropsFailed E.InForce job.now.table.now job.now.ahead side.journal ends) }
     ensures looks_ahead { IfSome result.side (λ side. IsLookingAhead job.now.table.now job.now.ahead
         side.journal) }
     ensures fetches { IfSome result.side (λ side. IsFetchingAwaited job.now.table.now job.now.ahead
         (given_through result.helped.items) side.journal) }
     ensures ends { IfSome result.side (λ _. IsSome result.ends) }
 
-    // Each helper is back in its place. Those that were used fetched each name that they were asked for, once and in order, and no name was asked
-    // of two.
-    ensures helped { HelpedEach (string_bytes job.now.dir) result.helped.items (map F.seen helpers.old.items) (map F.seen helpers.new.items) }
+    // Each helper is back in its place. Those that were used fetched each name that they were asked
+    // for, once and in order, and no name was asked of two.
+    ensures helped { HelpedEach (string_bytes job.now.dir) result.helped.items
+        (map F.seen helpers.old.items) (map F.seen helpers.new.items) }
     ensures used { length result.helped.items ≤ job.now.preload }
     ensures once { AreDistinct (names_through result.helped.items) }
+
+    // Nobody watches.
+    ensures unseen { result.seen.items ≡ [] }
 {
     match begin_page(files, out, job) {
         Some(outcome) => Report::bare(alloc, outcome),

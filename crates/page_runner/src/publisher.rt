@@ -1,10 +1,11 @@
 // One who publishes what the document does, in a thread of its own, and the lane to it.
-ghost use Rattle.std.specs.Prelude.{◌≡◌, ℕ, ◌<◌, ◌^◌, [], length, true, IfOk, IsTrue, OnOk, OnErr};
-ghost use Rattle.standard.specs.Act.{new_doc};
-ghost use Rattle.page_turns.specs.Watched.{AreLast};
+ghost use Rattle.std.specs.Prelude.{◌≡◌, ℕ, ◌<◌, ◌≤◌, ◌^◌, [], length, true, false, IfOk, IsTrue};
+ghost use Rattle.std.specs.Prelude.{OnOk, OnErr};
+ghost use Rattle.page_turns.specs.Watched.{ungrown, AreLast};
 ghost use Rattle.page_runner.specs.declared.publisher.ToPublisher.TheVariants as word;
 ghost use Rattle.page_runner.specs.Watching.{doc_of};
-ghost use Rattle.page_runner.specs.Publishing.{AreDid, HasFollowed, IsPublished, IsSeated, shows, shows_with, shows_behind, shows_of};
+ghost use Rattle.page_runner.specs.Publishing.{AreDid, HasFollowed, IsPublished, IsSeated, shows};
+ghost use Rattle.page_runner.specs.Publishing.{shows_with, shows_behind, shows_of};
 
 use crate::eye::Eye;
 use crate::watching::{Watching, none_seen};
@@ -75,7 +76,7 @@ pub(crate) fn fit_out<Y: Eye + Drop>(
     Ok(Outfit { put, take, eye })
 }
 
-// Shows the document once more. False where memory runs out, or ran out before.
+// Shows the document once more. False where memory runs out, or ran out before: nothing is shown.
 fn show_more<W: Watch>(watch: &mut W, all: bool, changes: Vec<Change>) -> bool
     requires { IsTrue (W.watches watch.old) }
     ensures watches { W.watches watch.new ≡ W.watches watch.old }
@@ -83,14 +84,20 @@ fn show_more<W: Watch>(watch: &mut W, all: bool, changes: Vec<Change>) -> bool
     ensures all { IsTrue result → IsTrue all }
     ensures shows { IsTrue result → shows (W.doc watch.new) (W.shown watch.new)
         ≡ shows_with (shows (W.doc watch.old) (W.shown watch.old)) (word.Did changes) }
+    ensures kept { result ≡ false → shows (W.doc watch.new) (W.shown watch.new)
+        ≡ shows (W.doc watch.old) (W.shown watch.old) }
 {
-    let Ok(()) = watch.did(changes) else {
+    if !all {
         return false;
-    };
-    all
+    }
+    match watch.did(changes) {
+        Ok(()) => true,
+        Err(NoMemory) => false,
+    }
 }
 
-// Shows what the document did, in turn, until the parse is over. False where memory ran out.
+// Shows what the document did, in turn, until the parse is over. False where memory ran out: from
+// there on nothing is shown.
 fn follow<R: Wait, W: Watch>(
     rt: &R,
     told: Take<ToPublisher>,
@@ -98,7 +105,7 @@ fn follow<R: Wait, W: Watch>(
 ) -> (TakeEnd<ToPublisher>, bool)
     requires first { told.taken ≡ [] }
     requires watches { IsTrue (W.watches watch.old) }
-    requires begins { (W.doc watch.old ≡ new_doc) × (W.shown watch.old ≡ []) }
+    requires begins { (W.doc watch.old ≡ ungrown) × (W.shown watch.old ≡ []) }
     ensures lane { result.0.lane ≡ told.lane }
     ensures count { W.count watch.new ≡ W.count watch.old }
     ensures followed { HasFollowed result.0.taken result.1
@@ -121,6 +128,7 @@ fn follow<R: Wait, W: Watch>(
 fn finish<R: Threads + Wait>(alloc: Global, watching: Watching<'_, R>) -> (Vec<Seen>, bool)
     ensures seen { AreLast (doc_of watching.entry.board) result.0.items }
     ensures count { IsTrue result.1 → length result.0.items ≡ watching.entry.count }
+    ensures few { length result.0.items ≤ watching.entry.count }
 {
     let mut watching = watching;
     let ended = watching.end(alloc);
@@ -198,7 +206,7 @@ impl<'a, R: Threads + Wait + Copy + Send + Sync + 'static> Publisher<'a, R> {
         requires taken { outfit.take.taken ≡ [] }
         requires lane { outfit.take.lane ≡ outfit.put.lane }
         ensures count { result.count ≡ count }
-        ensures doc { result.shows.doc ≡ new_doc }
+        ensures doc { result.shows.doc ≡ ungrown }
         ensures shown { result.shows.shown ≡ [] }
     {
         let Outfit {
@@ -237,6 +245,7 @@ fn call_back<R: Threads + Wait>(
     requires did { AreDid put.put }
     ensures seen { AreLast (shows_behind put.put).doc result.0.items }
     ensures count { IsTrue result.1 → length result.0.items ≡ child.promise.count.value }
+    ensures few { length result.0.items ≤ child.promise.count.value }
 {
     let mut put = put;
     put.put(rt, ToPublisher::End);
@@ -263,6 +272,7 @@ fn tell<R: Threads + Wait>(
             Ok(())
         }
         Seat::Here(watching) => watching.did(changes),
+        // Nobody is left who could be shown it, and a run tells nothing more behind its end.
         Seat::Ended => Err(NoMemory),
     }
 }
@@ -277,6 +287,7 @@ fn end_seat<R: Threads + Wait>(
     requires { IsSeated count seat }
     ensures seen { AreLast (shows_of seat.entry).doc result.0.items }
     ensures count { IsTrue result.1 → length result.0.items ≡ count }
+    ensures few { length result.0.items ≤ count }
 {
     match seat {
         Seat::There(put, child) => call_back(rt, put, child),

@@ -22,15 +22,18 @@ pub(crate) struct Run {
 pub struct Report<E: InForce> {
     /// How the run ended.
     pub outcome: Status,
-    /// The document's side as it ended, with the document and the journal: none where the page wasn't begun, or memory ran out before anything
-    /// of it was read. Where memory ran out later, or writing failed, the journal has the events before that.
+    /// The document's side as it ended, with the document and the journal: none where the page
+    /// wasn't begun, or memory ran out before anything of it was read. Where memory ran out later,
+    /// or writing failed, the journal has the events before that.
     pub side: Option<DocSide>,
-    /// What went through both lanes between the document's side and the parser's side: none where there were no lanes.
+    /// What went through both lanes between the document's side and the parser's side: none where
+    /// there were no lanes.
     pub ends: Option<Lanes<E>>,
-    /// Of each helper that might be used, in their order, what went through its lanes: none where no memory for its thread was to be had. There
-    /// are none where the page wasn't begun.
+    /// Of each helper that might be used, in their order, what went through its lanes: none where
+    /// no memory for its thread was to be had. There are none where the page wasn't begun.
     pub helped: Vec<Option<HelperLanes>>,
-    /// What the watchers saw last, in their order.
+    /// What the watchers saw last, in their order: there are none where nobody watched, or the page
+    /// wasn't begun.
     pub seen: Vec<Seen>,
 }
 
@@ -41,6 +44,7 @@ impl<E: InForce> Report<E> {
         ensures side { result.side ≡ None }
         ensures ends { result.ends ≡ None }
         ensures helped { result.helped.items ≡ [] }
+        ensures seen { result.seen.items ≡ [] }
     {
         Report {
             outcome,
@@ -51,7 +55,8 @@ impl<E: InForce> Report<E> {
         }
     }
 
-    /// What the run came to in numbers, where the page was begun. After want of memory they tell nothing. The tree is walked.
+    /// What the run came to in numbers, where the page was begun. After want of memory they tell
+    /// nothing. The tree is walked.
     pub fn tally(&self) -> Option<Tally>
         ensures none { self.now.side ≡ None → result ≡ None }
         ensures some { IfSome self.now.side (λ side. side.spent ≡ false

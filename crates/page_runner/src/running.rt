@@ -1,7 +1,7 @@
 // A page that was begun is run, with whatever counterpart, and whoever fetches its scripts early.
-ghost use Rattle.std.specs.Prelude.{◌≡◌, ◌≢◌, ◌<◌, ◌≤◌, ℕ, [], length, All, false, IfOk, IfSome, IfNone, IsTrue};
+ghost use Rattle.std.specs.Prelude.{◌≡◌, ◌≢◌, ◌<◌, ◌≤◌, ℕ, [], length, All, false, IfOk, IfSome};
+ghost use Rattle.std.specs.Prelude.{IfNone, IsTrue};
 ghost use Rattle.outside.specs.Outside.{Rose};
-ghost use Rattle.standard.specs.Act.{new_doc};
 ghost use Rattle.standard.specs.Outer.{document_text};
 ghost use Rattle.parse_machine.specs.Ends.{result_of};
 ghost use Rattle.page_runner.specs.Shown.{status_of};
@@ -10,12 +10,13 @@ ghost use Rattle.core_steps.specs.Sides.{first_shown};
 ghost use Rattle.run_laws.specs.Along.{takes_in};
 ghost use Rattle.page_turns.specs.Along.{Goes};
 ghost use Rattle.page_turns.specs.Turns.{no_load};
+ghost use Rattle.page_turns.specs.Watched.{ungrown};
 ghost use Rattle.page_turns.specs.Cuts.{IsCut};
 ghost use Rattle.page_turns.specs.Scripts.{folder_with};
 ghost use Rattle.page_runner.specs.Manner.{manner, result_in};
 ghost use Rattle.page_runner.specs.Reports.{has_run_out, Reports};
 ghost use Rattle.page_runner.specs.OnTwo.{AreRepliesAt};
-ghost use Rattle.page_runner.specs.Answers.{is_finished, Gives, IsBegun, PageAnswers, ReadsPage};
+ghost use Rattle.page_runner.specs.Answers.{is_finished, Gives, IsBegun, RunsPage};
 ghost use Rattle.page_runner.specs.Beginning.{BeginsOr};
 ghost use Rattle.page_runner.specs.Watching.{IsWatched};
 
@@ -96,23 +97,27 @@ pub(crate) fn run_with<
     requires begun { IsBegun (string_bytes job.now.page) (F.seen files.old) }
     requires some { 0 < job.now.ahead }
     requires few { job.now.ahead ≤ 64 }
-    requires watch { (W.doc watch.old ≡ new_doc) × (W.shown watch.old ≡ []) }
+    requires watch { (W.doc watch.old ≡ ungrown) × (W.shown watch.old ≡ []) }
     requires unwatched { W.watches watch.old ≡ false → W.count watch.old ≡ 0 }
-    ensures answer { PageAnswers job.now.table.now (manner job.now.dump (W.count watch.old)) (string_bytes job.now.page)
-        (folder_with (string_bytes job.now.dir) (P.given early.new))
-        (F.seen files.old) (F.seen files.new) (K.faults out.old) (K.faults out.new) (K.taken out.old) (K.taken out.new) result.0 }
-    ensures reads { ReadsPage (string_bytes job.now.page) (string_bytes job.now.dir) [] (F.seen files.old) (F.seen files.new) }
-    ensures clean { IsTrue (is_finished result.0) → IsTrue (K.clean out.new) }
-    ensures reports { Reports job.now.table.now job.now.ahead (manner job.now.dump (W.count watch.old)) (string_bytes job.now.page)
+    ensures runs { RunsPage job.now.table.now (manner job.now.dump (W.count watch.old))
+        (string_bytes job.now.page) (folder_with (string_bytes job.now.dir) (P.given early.new))
+        (F.seen files.old) (F.seen files.new)
+        (K.faults out.old) (K.faults out.new) (K.taken out.old) (K.taken out.new)
+        (K.clean out.new) result.0 }
+    ensures reports { Reports job.now.table.now job.now.ahead
+        (manner job.now.dump (W.count watch.old)) (string_bytes job.now.page)
         (folder_with (string_bytes job.now.dir) (P.given early.new))
         (F.seen files.old) (F.seen files.new) (K.taken out.old) (K.taken out.new) doc.new result.0 }
-    ensures cut { IsCut (length room.old) (has_run_out result.0) (F.seen files.old) (F.seen files.new)
+    ensures cut { IsCut (length room.old) (has_run_out result.0) (F.seen files.old)
+        (F.seen files.new)
         doc.new.journal.pieces }
     ensures goes { Goes (P.given early.new) (L.put lanes.new) doc.new }
     ensures crew { P.crew early.new ≡ P.crew early.old }
-    ensures messages { IfSome (L.taken lanes.new) (λ messages. AreRepliesAt result.0 (takes_in doc.new.journal.events) messages) }
+    ensures messages { IfSome (L.taken lanes.new)
+        (λ messages. AreRepliesAt result.0 (takes_in doc.new.journal.events) messages) }
     ensures watched { IsTrue (W.watches watch.old)
         → IsWatched doc.new result.0 (W.count watch.old) result.1.items }
+    ensures few { length result.1.items ≤ W.count watch.old }
 {
     match parse_page::<E, L, P, F, K, W>(alloc, job, files, out, doc, lanes, early, room, watch) {
         Err(failure) => {

@@ -1,11 +1,13 @@
 // A page is run while others watch its tree grow.
-ghost use Rattle.std.specs.Prelude.{◌≡◌, ◌<◌, ◌≤◌, ◌^◌, ◌⊎◌, length, map, IfSome, IsSome, IsTrue};
+ghost use Rattle.std.specs.Prelude.{◌≡◌, ◌<◌, ◌≤◌, ◌^◌, ◌⊎◌, [], length, map, None, IfSome, IsSome};
+ghost use Rattle.std.specs.Prelude.{IsTrue};
 ghost use Rattle.std.specs.String.{string_bytes};
 ghost use Rattle.page_turns.specs.Scripts.{AreDistinct};
 ghost use Rattle.preload.specs.Teams.{HelpedEach, names_through, given_through};
 ghost use Rattle.page_runner.specs.Manner.{manner};
 ghost use Rattle.page_runner.specs.Reports.{HasSide, IsCutByReads, Reports};
-ghost use Rattle.page_runner.specs.OnTwo.{IfBoth, InOrder, IsAnswered, IsJournaled, DropsFailed, IsLookingAhead, IsFetchingAwaited};
+ghost use Rattle.page_runner.specs.OnTwo.{IfBoth, InOrder, IsAnswered, IsJournaled, DropsFailed};
+ghost use Rattle.page_runner.specs.OnTwo.{IsLookingAhead, IsFetchingAwaited};
 ghost use Rattle.page_runner.specs.Answers.{is_finished, folder_by, PageAnswers, MayReadPage};
 ghost use Rattle.page_runner.specs.Watching.{IsWatched, IsLeftAlone};
 
@@ -53,38 +55,54 @@ pub fn page_watched<
     requires watchers { watchers < 2 ^ 32 }
 
     // As of `page_on_two`, with the lines of the watchers.
-    ensures answer { PageAnswers job.now.table.now (manner job.now.dump watchers) (string_bytes job.now.page)
-        (folder_by (string_bytes job.now.dir) job.now.preload (map F.seen helpers.old.items) (map F.seen helpers.new.items))
-        (F.seen files.old) (F.seen files.new) (K.faults out.old) (K.faults out.new) (K.taken out.old) (K.taken out.new) result.outcome }
-    ensures reads { MayReadPage (string_bytes job.now.page) (string_bytes job.now.dir) (F.seen files.old) (F.seen files.new) }
+    ensures answer { PageAnswers job.now.table.now (manner job.now.dump watchers)
+        (string_bytes job.now.page)
+        (folder_by (string_bytes job.now.dir) job.now.preload (map F.seen helpers.old.items)
+        (map F.seen helpers.new.items))
+        (F.seen files.old) (F.seen files.new) (K.faults out.old) (K.faults out.new)
+        (K.taken out.old) (K.taken out.new) result.outcome }
+    ensures reads { MayReadPage (string_bytes job.now.page) (string_bytes job.now.dir)
+        (F.seen files.old) (F.seen files.new) }
     ensures clean { IsTrue (is_finished result.outcome) → IsTrue (K.clean out.new) }
-    ensures reports { IfSome result.side (λ side. Reports job.now.table.now job.now.ahead (manner job.now.dump watchers) (string_bytes job.now.page)
-        (folder_by (string_bytes job.now.dir) job.now.preload (map F.seen helpers.old.items) (map F.seen helpers.new.items))
-        (F.seen files.old) (F.seen files.new) (K.taken out.old) (K.taken out.new) side result.outcome) }
+    ensures reports { IfSome result.side
+        (λ side. Reports job.now.table.now job.now.ahead (manner job.now.dump watchers)
+        (string_bytes job.now.page)
+        (folder_by (string_bytes job.now.dir) job.now.preload (map F.seen helpers.old.items)
+        (map F.seen helpers.new.items))
+        (F.seen files.old) (F.seen files.new) (K.taken out.old) (K.taken out.new) side
+        result.outcome) }
     // Where memory ran out before the page was begun, nothing was begun.
     ensures side { HasSide (string_bytes job.now.page) (F.seen files.old) (F.seen files.new)
         (K.taken out.old) (K.taken out.new) result.outcome result.side
-        ⊎ IsLeftAlone (F.seen files.old) (F.seen files.new) (K.taken out.old) (K.taken out.new) result.outcome }
+        ⊎ IsLeftAlone (F.seen files.old) (F.seen files.new) (K.taken out.old) (K.taken out.new)
+        result.outcome }
     ensures cut { IfSome result.side (λ side. IsCutByReads job.now.piece (string_bytes job.now.page)
         (F.seen files.old) (F.seen files.new) result.outcome side.journal.pieces) }
     ensures in_order { IfSome result.ends (λ ends. InOrder E.InForce ends) }
     ensures answered { IfSome result.ends (λ ends. IsAnswered E.InForce ends) }
-    ensures journaled { IfBoth result.side result.ends (λ side ends. IsJournaled E.InForce job.now.table.now job.now.ahead side.journal result.outcome ends) }
-    ensures dropped { IfBoth result.side result.ends (λ side ends. DropsFailed E.InForce job.now.table.now job.now.ahead side.journal ends) }
+    ensures journaled { IfBoth result.side result.ends
+        (λ side ends. IsJournaled E.InForce job.now.table.now job.now.ahead side.journal
+        result.outcome ends) }
+    ensures dropped { IfBoth result.side result.ends
+        (λ side ends. DropsFailed E.InForce job.now.table.now job.now.ahead side.journal ends) }
     ensures looks_ahead { IfSome result.side (λ side. IsLookingAhead job.now.table.now job.now.ahead
         side.journal) }
     ensures fetches { IfSome result.side (λ side. IsFetchingAwaited job.now.table.now job.now.ahead
         (given_through result.helped.items) side.journal) }
     ensures ends { IfSome result.side (λ _. IsSome result.ends) }
-    ensures helped { HelpedEach (string_bytes job.now.dir) result.helped.items (map F.seen helpers.old.items) (map F.seen helpers.new.items) }
+    ensures helped { HelpedEach (string_bytes job.now.dir) result.helped.items
+        (map F.seen helpers.old.items) (map F.seen helpers.new.items) }
     ensures used { length result.helped.items ≤ job.now.preload }
     ensures once { AreDistinct (names_through result.helped.items) }
 
-    // What the watchers saw last, with the mark, is a document that the run passed through, the one
-    // after the first of the run's changes, as many as it counts; where the parse came to an end it
-    // is the document. All saw it, or the outcome is want of memory.
+    // What the watchers saw last, with the mark, is a document that the run passed through, and its
+    // number is that of the changes which the run made up to there, each of them once; where the
+    // parse came to an end it is the document. All saw it, or the outcome is want of memory.
     ensures watched { 0 < watchers → IfSome result.side (λ side. IsWatched side result.outcome
         watchers result.seen.items) }
+    // No more than watched, and none of a page that wasn't begun.
+    ensures few { length result.seen.items ≤ watchers }
+    ensures unbegun { result.side ≡ None → result.seen.items ≡ [] }
 {
     if watchers == 0 {
         return page_on_two::<R, E, F, K, G>(rt, alloc, job, files, out, gate, helpers);

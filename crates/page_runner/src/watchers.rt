@@ -49,7 +49,7 @@ pub(crate) enum Post {
 
 // What a watcher's thread owns beside the watcher.
 #[derive(Drop)]
-struct Outfit<Y> {
+struct Gear<Y> {
     eye: Arc<Y, Global>,
     // 1 where no thread could be made.
     refused: Arc<AtomicU64, Global>,
@@ -105,17 +105,17 @@ fn stand<R: Wait + Copy, Y: Eye + Drop>(
     Parting::Done(watcher, seen)
 }
 
-fn outfit_of<Y: Eye + Drop>(
+fn gear_of<Y: Eye + Drop>(
     alloc: Global,
     eye: &Arc<Y, Global>,
-) -> Result<(Outfit<Y>, Arc<AtomicU64, Global>), AllocError> {
+) -> Result<(Gear<Y>, Arc<AtomicU64, Global>), AllocError> {
     let refused = Arc::new(alloc, AtomicU64::new(0))?;
     let told = Arc::try_clone(&refused)?;
-    let outfit = Outfit {
+    let gear = Gear {
         eye: Arc::try_clone(eye)?,
         refused: told,
     };
-    Ok((outfit, refused))
+    Ok((gear, refused))
 }
 
 // The post of a closure that was called here.
@@ -135,17 +135,17 @@ pub(crate) fn post_one<
 >(rt: &R, alloc: Global, number: u64, watcher: Watcher, eye: &Arc<Y, Global>) -> Post
     ensures { table_at result ≡ watcher.table }
 {
-    let Ok((outfit, refused)) = outfit_of(alloc, eye) else {
+    let Ok((gear, refused)) = gear_of(alloc, eye) else {
         return Post::Here(watcher);
     };
     let promise = OfWatcher {
         watcher: Snapshot::of(&watcher),
     };
     let their_rt = *rt;
-    let Outfit {
+    let Gear {
         eye: their_eye,
         refused: told,
-    } = outfit;
+    } = gear;
     match thread::spawn_with(
         rt,
         promise,
@@ -168,7 +168,8 @@ pub(crate) fn post_all<
 >(rt: &R, alloc: Global, watchers: Vec<Watcher>, posts: &mut Vec<Post>, eye: &Arc<Y, Global>)
     requires none { (table : TableId) → AreAtPosts table posts.old.items }
     requires room { vec_len posts.old + vec_len watchers ≤ vec_capacity posts.old }
-    ensures { (table : TableId) → AreOfBoard table watchers.items → AreAtPosts table posts.new.items }
+    ensures { (table : TableId) → AreOfBoard table watchers.items
+        → AreAtPosts table posts.new.items }
 {
     let mut number = 0u64;
     for watcher in watchers {

@@ -1,13 +1,14 @@
 // The board on which the document is shown while it grows, and those who watch it.
-ghost use Rattle.std.specs.Prelude.{◌≡◌, ◌<◌, ◌^◌, ◌++◌, [], map, All, length, true, false, IfOk, IfSome, IsTrue, OnOk, OnErr};
-ghost use Rattle.standard.specs.Act.{new_doc};
+ghost use Rattle.std.specs.Prelude.{◌≡◌, ◌<◌, ◌≤◌, ◌^◌, ◌++◌, [], map, All, length, true, false};
+ghost use Rattle.std.specs.Prelude.{IfOk, IfSome, IsTrue, OnOk, OnErr};
 ghost use Rattle.tree_watch.specs.declared.shown.Note.TheVariants as note;
 ghost use Rattle.tree_watch.specs.declared.shown.Stand.{Stand};
 ghost use Rattle.tree_watch.specs.Rule.{latest};
 ghost use Rattle.tree_watch.specs.Boards.{Begins, HasPublished};
 ghost use Rattle.tree_watch.specs.Seeing.{IsSeen};
-ghost use Rattle.page_turns.specs.Watched.{AreLast};
-ghost use Rattle.page_runner.specs.Watching.{HasShown, HasKept, IsShownFrom, IsLeftFrom, IsShowing, IsWatching, AreAtPosts, doc_on, doc_of, shown_of};
+ghost use Rattle.page_turns.specs.Watched.{ungrown, AreLast};
+ghost use Rattle.page_runner.specs.Watching.{HasShown, HasKept, IsShownFrom, IsLeftFrom, IsShowing};
+ghost use Rattle.page_runner.specs.Watching.{IsWatching, AreAtPosts, doc_on, doc_of, shown_of};
 
 use crate::eye::Eye;
 use crate::watchers::{Post, join_all, leave, post_all};
@@ -142,8 +143,8 @@ fn add_last(seen: &mut Vec<Seen>, last: Option<Seen>, all: bool) -> bool
     }
 }
 
-// Waits for each watcher: what they saw last. Those that found no place look here. False where one
-// ended without the mark.
+// Waits for each watcher: what they saw last, or nothing where that isn't as many as watched. Those
+// that found no place look here. False where one ended without the mark.
 fn call_in<R: Threads + Wait>(
     rt: &R,
     alloc: Global,
@@ -156,6 +157,7 @@ fn call_in<R: Threads + Wait>(
     requires marked { board.old.stand.last ≡ true }
     ensures seen { All (λ s. IsSeen s board.old.stand) result.0.items }
     ensures count { IsTrue result.1 → length result.0.items ≡ count }
+    ensures few { length result.0.items ≤ count }
 {
     let mut seen = Vec::new(alloc);
     let mut all = true;
@@ -167,8 +169,9 @@ fn call_in<R: Threads + Wait>(
         let last = look_now(alloc, board);
         all = add_last(&mut seen, last, all);
     }
-    if seen.len() != count {
-        return (seen, false);
+    let whole = seen.len() == count;
+    if !whole {
+        return (none_seen(alloc), false);
     }
     (seen, all)
 }
@@ -180,12 +183,13 @@ pub(crate) fn none_seen(alloc: Global) -> Vec<Seen>
     Vec::new(alloc)
 }
 
-// Shows the document once more, with the mark, unless memory ran out before. False where it isn't
+// Shows the document once more, with the mark, unless memory ran out before. False where nothing is
 // shown.
 fn mark<R: Wait>(rt: &R, board: Board, failed: bool) -> (Board, bool)
     requires { board.over ≡ false }
     ensures table { result.0.table ≡ board.table }
     ensures marked { IsTrue result.1 → (failed ≡ false) × HasPublished true board result.0 }
+    ensures kept { result.1 ≡ false → result.0.published ≡ board.published }
 {
     if failed {
         return (board, false);
@@ -211,6 +215,7 @@ fn end_on<R: Threads + Wait>(
     requires posts { AreAtPosts board.table posts.items }
     ensures seen { AreLast (doc_on board) result.0.items }
     ensures count { IsTrue result.1 → length result.0.items ≡ count }
+    ensures few { length result.0.items ≤ count }
 {
     let (board, marked) = mark(rt, board, failed);
     if !marked {
@@ -250,7 +255,7 @@ fn try_to_post<
 >(rt: &R, alloc: Global, count: usize, eye: &Arc<Y, Global>) -> (Option<Board>, Vec<Post>)
     requires { (0 < count) × (count < 2 ^ 32) }
     ensures watching { IsWatching result.0 false result.1.items }
-    ensures doc { doc_of result.0 ≡ new_doc }
+    ensures doc { doc_of result.0 ≡ ungrown }
     ensures shown { shown_of result.0 ≡ [] }
 {
     match post_watchers(rt, alloc, count, eye) {
@@ -270,7 +275,7 @@ impl<'a, R: Threads + Wait + Copy + Send + Sync + 'static> Watching<'a, R> {
     ) -> Watching<'a, R>
         requires { (0 < count) × (count < 2 ^ 32) }
         ensures count { result.count ≡ count }
-        ensures doc { doc_of result.board ≡ new_doc }
+        ensures doc { doc_of result.board ≡ ungrown }
         ensures shown { shown_of result.board ≡ [] }
     {
         let (board, posts) = try_to_post(rt, alloc, count, eye);

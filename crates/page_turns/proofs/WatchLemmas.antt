@@ -1,6 +1,10 @@
 -- What those who watch were shown, from event to event.
-use Rattle.std.proofs.Common.{◌≡◌, ℕ, Bool, true, false, List, [], ◌∷◌, ◌++◌, Option, None, Result, Ok, Err, OnOk, OnErr, IsTrue, refl, sym, ap, subst, ◌∙◌, inl, inr, append_assoc, append-nil, fold, if◌then◌else◌}
+use Rattle.std.proofs.Common.{◌≡◌, ℕ, ◌+◌, Bool, true, false, List, [], ◌∷◌, ◌++◌, Option, None, Result, Ok, Err, OnOk, OnErr, IsTrue, refl, sym, ap, subst, ◌∙◌, inl, inr, append_assoc, append-nil, fold, if◌then◌else◌, ◌≤◌, length, arith}
+use Rattle.std.proofs.lemmas.Grind.{flat_map-append}
+use Rattle.std.proofs.lemmas.List.{length-append}
+use Rattle.std.proofs.lemmas.List.Sums.{fold-append}
 use Rattle.std.specs.Prelude.{nat_lt}
+use Rattle.serial.specs.declared.script.Line.{Line}
 use Rattle.serial.specs.Scripts.{Fetched}
 use Rattle.standard.specs.Act.{Doc, new_doc}
 use Rattle.standard.specs.Entities.{Entities}
@@ -10,15 +14,19 @@ use Rattle.core_definitions.specs.Batches.{Piece, Batch}
 use Rattle.core_definitions.specs.Desk.{Desk, pieces_with, stale, drops, with_batches, answer_called_for, takes}
 use Rattle.core_steps.specs.Sides.{Shown, first_shown, journaled, with_fetch, IsReplayed}
 use Rattle.doc_changes.specs.declared.change.Change.{Change}
-use Rattle.doc_changes.specs.Changes.{changed}
-use Rattle.doc_changes.specs.Logs.{LogView, Logs}
-use Rattle.page_turns.specs.Along.{Stays, MayDo, Hands}
+use Rattle.doc_changes.specs.Changes.{changed, single, singles, after, counted}
+use Rattle.doc_changes.specs.Logs.{LogView, with_more}
+use Rattle.core_steps.specs.Changing.{DoMakes, LogsDo}
+use Rattle.page_turns.specs.Along.{Stays, Did, MayDo, Hands}
 use Rattle.outside.specs.Outside.{Seen as Outside}
+use Rattle.tree_watch.specs.declared.shown.Stand.{Stand}
 use Rattle.tree_watch.specs.declared.watcher.Seen.{Seen}
-use Rattle.std.proofs.lemmas.List.Elements.{All-nil}
+use Rattle.tree_watch.proofs.Counting.{is-after}
+use Rattle.std.specs.List.{All}
+use Rattle.std.proofs.lemmas.List.Elements.{All-nil, All-weaker}
 use Rattle.page_turns.specs.Scripts.{Folder, Met}
 use Rattle.page_turns.specs.Turns.{Brings, from_file, came_early, said_nothing, RunsOn, RunsInPart, part_written, StaysRead}
-use Rattle.page_turns.specs.Watched.{shown_with, GoesOn, Passed, AllPassed, WasTold, of_all, of_earlier, Follows, IsLast, AreLast}
+use Rattle.page_turns.specs.Watched.{Grown, ungrown, grown_by, shown_with, GoesOn, Passed, AllPassed, AreOthers, Rests, RunMade, at_first, by_others, by_do, WasTold, of_all, of_earlier, HasTold, Follows, SeesLast, AreLast, IsLast}
 use Rattle.page_turns.proofs.PageTakenLemmas.{front_of_all}
 
 -- ---- the run goes on
@@ -67,17 +75,40 @@ fetch_on name f old new is = subst (GoesOn old) (sym is) (record {
   events = (Arrive name ∷ [], refl);
 })
 
+-- ---- it rests
+
+-- these events and no others were made
+rests_by : (old new : Shown) (more : List Event) → GoesOn old new → AreOthers more → new.journal.events ≡ old.journal.events ++ more → new.desk.own.side.doc ≡ old.desk.own.side.doc → Rests old new
+rests_by old new more on others is doc = record { goes_on = record on { events = (more, is) }; others = others; doc = doc }
+
+-- none was made
+rests_still : (old new : Shown) → GoesOn old new → new.journal.events ≡ old.journal.events → new.desk.own.side.doc ≡ old.desk.own.side.doc → Rests old new
+rests_still old new on is doc = rests_by old new [] on tt (is ∙ sym (append-nil old.journal.events)) doc
+
+pub stands_rests : (s : Shown) → Rests s s
+stands_rests s = rests_still s s (stands_on s) refl refl
+
+pub stays_rests : (old new : Shown) → Stays old new → Rests old new
+stays_rests old new stays = rests_still old new (stays_on old new stays) (ap (λ (z : Shown). z.journal.events) stays) (ap (λ (z : Shown). z.desk.own.side.doc) stays)
+
+pub journaled_rests : (v : Event) (d : Desk) (old new : Shown) → AreOthers (v ∷ []) → new ≡ journaled v d old → d.own.side.doc ≡ old.desk.own.side.doc → Rests old new
+journaled_rests v d old new others is doc =
+    rests_by old new (v ∷ []) (journaled_on v d old new is) others (ap (λ (z : Shown). z.journal.events) is) (ap (λ (z : Shown). z.desk.own.side.doc) is ∙ doc)
+
+pub hands_rests : (old new : Shown) → old.journal.ending ≡ None → Hands old new → Rests old new
+hands_rests old new none hands =
+    rests_still old new (hands_on old new none hands) (ap (λ (z : Shown). z.journal.events) hands.others) (ap (λ (d : Desk). d.own.side.doc) hands.desk)
+
+fetch_rests : (name : List ℕ) (f : Fetched) (old new : Shown) → new ≡ with_fetch name f old → Rests old new
+fetch_rests name f old new is =
+    rests_by old new (Arrive name ∷ []) (fetch_on name f old new is) tt (ap (λ (z : Shown). z.journal.events) is) (ap (λ (z : Shown). z.desk.own.side.doc) is)
+
 -- a script that is awaited was brought, or another came early
 module _ (o : Folder) (before after : Outside) (given : Met) (n n' : ℕ) (old new : Shown) where
-  pub brought_on : Brings o before after given n n' old new → GoesOn old new
-  brought_on (from_file arr same le) = fetch_on arr.name arr.fetch old new arr.arrived
-  brought_on (came_early name f one unmet still is less) = fetch_on name f old new is
-  brought_on (said_nothing still same is less) = subst (GoesOn old) (sym is) (stands_on old)
-
-  pub doc_brought : Brings o before after given n n' old new → new.desk.own.side.doc ≡ old.desk.own.side.doc
-  doc_brought (from_file arr same le) = ap (λ (z : Shown). z.desk.own.side.doc) arr.arrived
-  doc_brought (came_early name f one unmet still is less) = ap (λ (z : Shown). z.desk.own.side.doc) is
-  doc_brought (said_nothing still same is less) = ap (λ (z : Shown). z.desk.own.side.doc) is
+  pub brought_rests : Brings o before after given n n' old new → Rests old new
+  brought_rests (from_file arr same le) = fetch_rests arr.name arr.fetch old new arr.arrived
+  brought_rests (came_early name f one unmet still is less) = fetch_rests name f old new is
+  brought_rests (said_nothing still same is less) = subst (Rests old) (sym is) (stands_rests old)
 
 pub then_on : (a b c : Shown) → GoesOn a b → GoesOn b c → GoesOn a c
 then_on a b c first next = record {
@@ -104,77 +135,157 @@ passed_last : (s : Shown) (ds : List Doc) (d : Doc) → AllPassed s ds → Passe
 passed_last s [] d all one = (one, tt)
 passed_last s (x ∷ xs) d all one = (all.0, passed_last s xs d all.1 one)
 
+-- ---- the changes that it made
+
+pub counted-append : (a b : List Change) → counted (a ++ b) ≡ counted a + counted b
+counted-append a b = ap length (flat_map-append single a b) ∙ length-append (singles a) (singles b)
+
+pub made_leads : (s : Shown) (changes : List Change) → RunMade s changes → fold changed new_doc changes ≡ s.desk.own.side.doc
+made_leads s _ (at_first es ahead) = refl
+made_leads s changes (by_others old new cs before rests) = made_leads old cs before ∙ sym rests.doc
+made_leads s _ (by_do old new cs more before replayed did makes) =
+    fold-append changed new_doc cs more ∙ (ap (λ (d : Doc). fold changed d more) (made_leads old cs before) ∙ makes.leads)
+
 -- before any event
-pub follows_first : (es : Entities) (ahead : ℕ) (s : Shown) (doc : Doc) (shown : List Doc) → s ≡ first_shown es ahead → doc ≡ new_doc → shown ≡ [] → Follows s doc shown
-follows_first es ahead s doc shown first empty none = record {
-  doc_is = empty ∙ sym (ap (λ (z : Shown). z.desk.own.side.doc) first);
+pub follows_first : (es : Entities) (ahead : ℕ) (s : Shown) (g : Grown) (shown : List Doc) → s ≡ first_shown es ahead → g ≡ ungrown → shown ≡ [] → Follows s g shown
+follows_first es ahead s g shown first empty none = record {
+  changes = [];
+  run = subst (λ (z : Shown). RunMade z []) (sym first) (at_first es ahead);
+  count = ap (λ (z : Grown). z.count) empty;
+  doc_is = ap (λ (z : Grown). z.doc) empty ∙ sym (ap (λ (z : Shown). z.desk.own.side.doc) first);
   passed = subst (AllPassed s) (sym none) tt;
 }
 
 -- the document stays, and what was shown
-pub follows_on : (old new : Shown) (doc : Doc) (shown : List Doc) → GoesOn old new → new.desk.own.side.doc ≡ old.desk.own.side.doc → Follows old doc shown → Follows new doc shown
-follows_on old new doc shown on same follows = record { doc_is = follows.doc_is ∙ sym same; passed = all_passed_on old new shown on follows.passed }
+pub follows_on : (old new : Shown) (g : Grown) (shown : List Doc) → Rests old new → Follows old g shown → Follows new g shown
+follows_on old new g shown rests follows = record {
+  changes = follows.changes;
+  run = by_others old new follows.changes follows.run rests;
+  count = follows.count;
+  doc_is = follows.doc_is ∙ sym rests.doc;
+  passed = all_passed_on old new shown rests.goes_on follows.passed;
+}
 
 -- the same after other events but Do
-pub passed_as : (b : Bool) (old new : Shown) (doc : Doc) (shown : List Doc) → GoesOn old new → (IsTrue b → Follows old doc shown) → IsTrue b → AllPassed new shown
-passed_as b old new doc shown on follows is = all_passed_on old new shown on (follows is).passed
+pub passed_as : (b : Bool) (old new : Shown) (g : Grown) (shown : List Doc) → GoesOn old new → (IsTrue b → Follows old g shown) → IsTrue b → AllPassed new shown
+passed_as b old new g shown on follows is = all_passed_on old new shown on (follows is).passed
+
+-- all was told
+pub told_all : (s : Shown) (g : Grown) (shown : List Doc) → Follows s g shown → HasTold s g
+told_all s g shown follows = record { changes = follows.changes; count = follows.count; told = of_all follows.run follows.doc_is }
 
 -- the document is still the one to which all led that was told
-pub told_same : (old new : Shown) (doc : Doc) (shown : List Doc) → new.desk.own.side.doc ≡ old.desk.own.side.doc → Follows old doc shown → WasTold new doc
-told_same old new doc shown same follows = of_all (follows.doc_is ∙ sym same)
+pub told_same : (old new : Shown) (g : Grown) (shown : List Doc) → Rests old new → Follows old g shown → HasTold new g
+told_same old new g shown rests follows = told_all new g shown (follows_on old new g shown rests follows)
 
 -- what a Do did wasn't told
-pub told_before : (old new : Shown) (doc : Doc) (shown : List Doc) → IsReplayed old → MayDo old new → Follows old doc shown → WasTold new doc
-told_before old new doc shown replayed (inl stays) follows = told_same old new doc shown (ap (λ (z : Shown). z.desk.own.side.doc) stays) follows
-told_before old new doc shown replayed (inr did) follows =
-    of_earlier old replayed (event_on Do new.desk old new did.others) (ap (λ (z : Shown). z.journal.events) did.others) follows.doc_is
+pub told_before : (old new : Shown) (g : Grown) (shown : List Doc) → IsReplayed old → MayDo old new → Follows old g shown → HasTold new g
+told_before old new g shown replayed (inl stays) follows = told_same old new g shown (stays_rests old new stays) follows
+told_before old new g shown replayed (inr did) follows = record {
+  changes = follows.changes;
+  count = follows.count;
+  told = of_earlier old replayed (event_on Do new.desk old new did.others) (ap (λ (z : Shown). z.journal.events) did.others) follows.run follows.doc_is;
+}
 
 -- at the end
-pub told_at : {T E : Type 0} (r : Result T E) (s : Shown) (doc : Doc) → OnOk r (doc ≡ s.desk.own.side.doc) → OnErr r (WasTold s doc) → WasTold s doc
-told_at (Ok x) s doc same told = of_all same
-told_at (Err e) s doc same told = told
+pub told_at : {T E : Type 0} (r : Result T E) (s : Shown) (g : Grown) (shown : List Doc) → OnOk r (Follows s g shown) → OnErr r (HasTold s g) → HasTold s g
+told_at (Ok x) s g shown follows told = told_all s g shown follows
+told_at (Err e) s g shown follows told = told
 
 -- what was told led to a document of the run
-pub told_passed : (s : Shown) (doc : Doc) → IsReplayed s → WasTold s doc → Passed s doc
-told_passed s doc replayed (of_all same) = subst (Passed s) (sym same) (passed_here s replayed)
-told_passed s doc replayed (of_earlier earlier was on events is) = subst (Passed s) (sym is) (passed_on earlier s earlier.desk.own.side.doc on (passed_here earlier was))
+was-passed : (s : Shown) (changes : List Change) (doc : Doc) → IsReplayed s → WasTold s changes doc → Passed s doc
+was-passed s changes doc replayed (of_all run same) = subst (Passed s) (sym same) (passed_here s replayed)
+was-passed s changes doc replayed (of_earlier earlier was on events run is) =
+    subst (Passed s) (sym is) (passed_on earlier s earlier.desk.own.side.doc on (passed_here earlier was))
+
+pub told_passed : (s : Shown) (g : Grown) → IsReplayed s → HasTold s g → Passed s g.doc
+told_passed s g replayed has = was-passed s has.changes g.doc replayed has.told
+
+pub told_leads : (s : Shown) (changes : List Change) (doc : Doc) → WasTold s changes doc → fold changed new_doc changes ≡ doc
+told_leads s changes doc (of_all run same) = made_leads s changes run ∙ sym same
+told_leads s changes doc (of_earlier earlier was on events run is) = made_leads earlier changes run ∙ sym is
 
 -- a log that is kept
 pub log_on : (b : Bool) (log : LogView) → log ≡ record { on = b; list = [] } → b ≡ true → log ≡ record { on = true; list = [] }
 log_on b log is on = subst (λ (x : Bool). log ≡ record { on = x; list = [] }) on is
 
--- a Do of which all was told
-pub did_follow : (old new : Shown) (log log' : LogView) (changes : List Change) (doc doc' : Doc) (shown shown' : List Doc) → log ≡ record { on = true; list = [] }
-    → Logs log old.desk.own.side.doc log' new.desk.own.side.doc → changes ≡ log'.list → GoesOn old new → IsReplayed new
-    → doc' ≡ fold changed doc changes → shown' ≡ shown_with changes shown (fold changed doc changes) → Follows old doc shown → Follows new doc' shown'
-did_follow old new log log' changes doc doc' shown shown' log_is logs changes_is on replayed doc_is shown_is follows = record {
-  doc_is = doc_is ∙ leads;
-  passed = subst (AllPassed new) (sym shown_is) (by changes);
+-- a Do whose lines were written
+abbrev with_given : Shown → List Line → Bool → Shown
+with_given s lines spent = record s { given = lines; spent = spent }
+
+pub ran_did : (t t' : Option (List ℕ)) (old new : Shown) → RunsOn t t' old new → Did old new
+ran_did t t' old new ran = record {
+  does = ran.does;
+  others =
+      let s : Shown = journaled Do new.desk old in
+      let lines : new.given ≡ new.desk.own.side.lines = ap (λ (z : Shown). z.given) ran.others in
+      let spent : new.spent ≡ old.spent = ap (λ (z : Shown). z.spent) ran.others in
+      ran.others ∙ sym (ap (λ (ls : List Line). with_given s ls new.spent) lines ∙ ap (λ (b : Bool). with_given s new.desk.own.side.lines b) spent);
 }
+
+-- of which all was told
+module _ (old new : Shown) (log log' : LogView) (changes : List Change) (log_is : log ≡ record { on = true; list = [] })
+    (logs : LogsDo old.entities old.journal.fetches old.desk new.desk log log') (changes_is : changes ≡ log'.list) where
+  does-make : DoMakes old.entities old.journal.fetches old.desk new.desk changes
+  does-make =
+      let all : changes ≡ logs.more = changes_is ∙ (ap (λ (l : LogView). l.list) logs.adds ∙ ap (λ (l : LogView). (with_more logs.more l).list) log_is) in
+      subst (DoMakes old.entities old.journal.fetches old.desk new.desk) (sym all) logs.made
+
+  pub did_follow : (g g' : Grown) (shown shown' : List Doc) → Did old new → IsReplayed old → IsReplayed new → g' ≡ grown_by g changes →
+      shown' ≡ shown_with changes shown (fold changed g.doc changes) → Follows old g shown → Follows new g' shown'
+  did_follow g g' shown shown' did was replayed grown shown_is follows = record {
+    changes = follows.changes ++ changes;
+    run = by_do old new follows.changes changes follows.run was did does-make;
+    count =
+        ap (λ (z : Grown). z.count) grown
+        ∙ (ap (λ n. n + counted changes) follows.count ∙ sym (counted-append follows.changes changes));
+    doc_is = ap (λ (z : Grown). z.doc) grown ∙ leads;
+    passed = subst (AllPassed new) (sym shown_is) (by changes);
+  }
+    where
+      leads : fold changed g.doc changes ≡ new.desk.own.side.doc
+      leads = ap (λ (d : Doc). fold changed d changes) follows.doc_is ∙ does-make.leads
+
+      before : AllPassed new shown
+      before = all_passed_on old new shown (event_on Do new.desk old new did.others) follows.passed
+
+      now : Passed new (fold changed g.doc changes)
+      now = subst (Passed new) (sym leads) (passed_here new replayed)
+
+      by : (cs : List Change) → AllPassed new (shown_with cs shown (fold changed g.doc changes))
+      by [] = before
+      by (c ∷ cs) = passed_last new shown (fold changed g.doc changes) before now
+
+-- ---- what was seen last
+
+-- the document after all changes is the one to which they lead
+after-all : (changes : List Change) (n : ℕ) (doc : Doc) → n ≡ counted changes → fold changed new_doc changes ≡ doc → after changes n ≡ doc
+after-all changes n doc count leads =
+    let s : Stand = record { doc = doc; changes = n; opened = true; last = true } in
+    ap (λ (l : List Change). after l n) (sym (append-nil changes)) ∙ is-after changes [] s (record { doc = sym leads; count = count })
+
+-- what was told is what was seen
+pub saw_last : (s : Shown) (g : Grown) (has : HasTold s g) (seen : List Seen) → AreLast g seen → All (IsLast has.changes g.doc) seen
+saw_last s g has seen each = All-weaker _ _ one seen each
   where
-    is_on : log.on ≡ true
-    is_on = ap (λ (l : LogView). l.on) log_is
-
-    leads : fold changed doc changes ≡ new.desk.own.side.doc
-    leads =
-        let gains = logs.gains is_on in
-        let all : changes ≡ gains.more = changes_is ∙ (gains.list ∙ ap (λ (l : LogView). l.list ++ gains.more) log_is) in
-        ap (λ (cs : List Change). fold changed doc cs) all ∙ (ap (λ (d : Doc). fold changed d gains.more) follows.doc_is ∙ gains.leads)
-
-    before : AllPassed new shown
-    before = all_passed_on old new shown on follows.passed
-
-    now : Passed new (fold changed doc changes)
-    now = subst (Passed new) (sym leads) (passed_here new replayed)
-
-    by : (cs : List Change) → AllPassed new (shown_with cs shown (fold changed doc changes))
-    by [] = before
-    by (c ∷ cs) = passed_last new shown (fold changed doc changes) before now
+    one : (x : Seen) → SeesLast g x → IsLast has.changes g.doc x
+    one x sees =
+        let counts : x.changes ≡ counted has.changes = sees.counts ∙ has.count in
+        record {
+          text = sees.text;
+          after_first = after-all has.changes x.changes g.doc counts (told_leads s has.changes g.doc has.told);
+          counts = counts;
+          marked = sees.marked;
+        }
 
 -- ---- nobody watches
 
-pub none_seen : (seen : List Seen) → seen ≡ [] → AreLast new_doc seen
-none_seen seen none = subst (AreLast new_doc) (sym none) (record { changes = []; leads = refl; each = All-nil (IsLast [] new_doc) })
+-- none are no more than so many
+pub few_none : {A : Type 0} (xs : List A) (n : ℕ) → xs ≡ [] → length xs ≤ n
+few_none xs n none = let least : 0 ≤ n = omega arith in subst (λ l. length l ≤ n) (sym none) least
+
+pub none_seen : (g : Grown) (seen : List Seen) → seen ≡ [] → AreLast g seen
+none_seen g seen none = subst (AreLast g) (sym none) (All-nil (SeesLast g))
 
 -- ---- a Take leaves the document
 

@@ -1,5 +1,6 @@
 // The parser's side, as the document's side has it.
-ghost use Rattle.std.specs.Prelude.{◌≡◌, ◌≤◌, ◌<◌, Bool, List, Option, Some, suc, nat_lt, IfOk, OnOk, OnErr};
+ghost use Rattle.std.specs.Prelude.{◌≡◌, ◌≤◌, ◌<◌, Bool, List, Option, Some, suc, nat_lt, IfOk};
+ghost use Rattle.std.specs.Prelude.{OnOk, OnErr};
 ghost use Rattle.speculation.specs.Asking.{Asked, Told};
 ghost use Rattle.page_turns.specs.Messages.{Adds, TellsOn};
 ghost use Rattle.page_turns.specs.Turns.{Load, under_way, Asks, Answers};
@@ -8,7 +9,8 @@ use entity_table::Table;
 use html_types::NoMemory;
 use speculation::{InForce, Reply, Request};
 
-/// The parser's side, in this thread or in one of its own: requests go to it, and it gives a reply to each, in order.
+/// The parser's side, in this thread or in one of its own: requests go to it, and it gives a reply
+/// to each, in order.
 pub trait Counterpart<E: InForce> {
     /// What is under way.
     ghost load: { Self → Load };
@@ -20,7 +22,8 @@ pub trait Counterpart<E: InForce> {
     ghost taken: { Self → Option (List (Option Told)) };
 
     /// Whether what was taken is known to be the replies to the first requests that were put, in
-    /// order, where both are told. It stays so, and what is told is told on, until a call is refused.
+    /// order, where both are told. It stays so, and what is told is told on, until a call is
+    /// refused.
     ghost ordered: { Self → Bool };
 
     /// Whether fewer than so many are under way.
@@ -37,7 +40,8 @@ pub trait Counterpart<E: InForce> {
         ensures tells { OnOk result (TellsOn E.entities (put self.old) (put self.new)
             (taken self.old) (taken self.new) (ordered self.old) (ordered self.new)) };
 
-    /// Where the parser's side is in this thread, it makes one event: says whether there was one to make.
+    /// Where the parser's side is in this thread, it makes one event: says whether there was one to
+    /// make.
     fn answer(&mut self, table: &Table) -> Result<bool, NoMemory>
         requires { table.now ≡ E.entities }
         ensures load { IfOk result (λ some. Answers some (load self.old) (load self.new)) }
@@ -49,7 +53,8 @@ pub trait Counterpart<E: InForce> {
     /// Takes the reply that is given next.
     fn take(&mut self) -> Result<Reply<E>, NoMemory>
         requires { 0 < (load self.old).replies }
-        ensures load { OnOk result (load self.old ≡ record (load self.new) { replies = suc (load self.new).replies }) }
+        ensures load { OnOk result
+            (load self.old ≡ record (load self.new) { replies = suc (load self.new).replies }) }
         ensures put { put self.new ≡ put self.old }
         ensures taken { IfOk result (λ reply. Adds (taken self.old) (taken self.new)
             (Some reply.said)) }

@@ -12,7 +12,8 @@ use std::alloc::Global;
 // The most bytes of one read.
 const PIECE: usize = 4096;
 
-/// Begins a file and reads it, no further than one byte past the limit: of a longer one its bytes are those up to there.
+/// Begins a file and reads it, no further than one byte past the limit: of a longer one its bytes
+/// are those up to there.
 pub fn read_whole<F: Outside>(
     alloc: Global,
     files: &mut F,
@@ -21,8 +22,11 @@ pub fn read_whole<F: Outside>(
     limit: usize,
 ) -> Result<Fetch, NoMemory>
     requires { limit < 2 ^ 32 }
-    ensures given { IfOk result (λ fetch. MayGive limit port path.now (F.seen files.old) (F.seen files.new) (given_of fetch)) }
-    ensures begun { Begun ((F.seen files.old).begun port) ((F.seen files.new).begun port) (path.now ∷ []) }
+    ensures given { IfOk result
+        (λ fetch. MayGive limit port path.now (F.seen files.old) (F.seen files.new)
+        (given_of fetch)) }
+    ensures begun { Begun ((F.seen files.old).begun port) ((F.seen files.new).begun port)
+        (path.now ∷ []) }
     ensures no_further { ReadTo limit port path.now (F.seen files.old) (F.seen files.new) }
     ensures within { EachWithin limit port (F.seen files.old) (F.seen files.new) }
     ensures others { KeepsOthers port (F.seen files.old) (F.seen files.new) }

@@ -12,9 +12,10 @@ use std::collections::VecDeque;
 use std::marker::Model;
 use std::snapshot::Snapshot;
 
-/// The parser's side in the calling thread: the requests that it hasn't picked and the replies that weren't taken, in order. A contract sees how
-/// many they are, and, as long as memory lasts, which requests were put and which replies were taken, and that these are the replies to the first
-/// of those, each once, in order, by this one parser's side.
+/// The parser's side in the calling thread: the requests that it hasn't picked and the replies that
+/// weren't taken, in order. A contract sees how many they are, and, as long as memory lasts, which
+/// requests were put and which replies were taken, and that these are the replies to the first of
+/// those, each once, in order, by this one parser's side.
 #[derive(Drop)]
 pub struct InPlace<E: InForce> {
     work: WorkSide,
@@ -32,7 +33,8 @@ pub struct InPlace<E: InForce> {
 impl<E: InForce> Model for InPlace<E> {
     ghost use Rattle.std.specs.Prelude.{◌≡◌, ◌++◌, false, not, length, map};
     ghost use Rattle.page_turns.specs.Turns.{in_hand};
-    ghost use Rattle.page_turns.specs.InPlaces.{Place, asked_in, taken_in, replies_in, told_of, IsAnswering};
+    ghost use Rattle.page_turns.specs.InPlaces.{Place, asked_in, taken_in, replies_in, told_of};
+    ghost use Rattle.page_turns.specs.InPlaces.{IsAnswering};
 
     ghost Value = { Place };
 

@@ -1,5 +1,6 @@
-//! A page is parsed from its files to the lines of its scripts: its pieces are read, the document's side and the parser's side of the core take
-//! turns over them, the scripts that are awaited are fetched, and the lines are written.
+//! A page is parsed from its files to the lines of its scripts: its pieces are read, the document's
+//! side and the parser's side of the core take turns over them, the scripts that are awaited are
+//! fetched, and the lines are written.
 #![tactic(auto)]
 
 mod counterpart;

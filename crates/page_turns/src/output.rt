@@ -1,7 +1,9 @@
 // The lines that a run writes.
-ghost use Rattle.std.specs.Prelude.{◌≡◌, ◌≤◌, ◌++◌, codes, IfOk, OnOk, OnErr, IsErrOf, flat_map, string_bytes};
+ghost use Rattle.std.specs.Prelude.{◌≡◌, ◌≤◌, ◌++◌, codes, IfOk, OnOk, OnErr, IsErrOf, flat_map};
+ghost use Rattle.std.specs.Prelude.{string_bytes};
 ghost use Rattle.std.specs.Str.{chars};
-ghost use Rattle.serial.specs.Output.{line_text, tree_text, tree_lines, refusal_text, result_with, json_string};
+ghost use Rattle.serial.specs.Output.{line_text, tree_text, tree_lines, refusal_text, result_with};
+ghost use Rattle.serial.specs.Output.{json_string};
 ghost use Rattle.outside.specs.Outside.{Rose};
 ghost use Rattle.page_turns.specs.Taken.{Took, TookFront};
 ghost use Rattle.parse_machine.specs.Ends.{result_of};
@@ -19,7 +21,8 @@ use std::alloc::Global;
 
 /// The line that begins so and ends with a text as a JSON string.
 pub fn json_line(start: String, text: &str) -> Result<Vec<u8>, NoMemory>
-    ensures { IfOk result (λ line. line.items ≡ string_bytes start ++ json_string (chars text.now) ++ codes "\n") }
+    ensures { IfOk result
+        (λ line. line.items ≡ string_bytes start ++ json_string (chars text.now) ++ codes "\n") }
 {
     let mut line = with_json(start.into_bytes(), text)?;
     line.push(b'\n')?;
@@ -40,7 +43,8 @@ pub fn line_text(alloc: Global, line: &Line) -> Result<Vec<u8>, NoMemory>
 
 fn write_line<K: Sink>(alloc: Global, out: &mut K, line: &Line) -> Result<(), Failure>
     ensures took { OnOk result (Took (K.taken out.old) (K.taken out.new) (line_text line.now)) }
-    ensures front { OnErr result (TookFront (K.taken out.old) (K.taken out.new) (line_text line.now)) }
+    ensures front { OnErr result
+        (TookFront (K.taken out.old) (K.taken out.new) (line_text line.now)) }
     ensures write { IsErrOf result Failure.Write → Rose (K.faults out.old) (K.faults out.new) }
     ensures faults { K.faults out.old ≤ K.faults out.new }
 {
@@ -55,8 +59,10 @@ pub(crate) fn write_lines<K: Sink>(
     out: &mut K,
     lines: &[Line],
 ) -> Result<(), Failure>
-    ensures took { OnOk result (Took (K.taken out.old) (K.taken out.new) (flat_map line_text lines.now)) }
-    ensures front { OnErr result (TookFront (K.taken out.old) (K.taken out.new) (flat_map line_text lines.now)) }
+    ensures took { OnOk result
+        (Took (K.taken out.old) (K.taken out.new) (flat_map line_text lines.now)) }
+    ensures front { OnErr result
+        (TookFront (K.taken out.old) (K.taken out.new) (flat_map line_text lines.now)) }
     ensures write { IsErrOf result Failure.Write → Rose (K.faults out.old) (K.faults out.new) }
     ensures faults { K.faults out.old ≤ K.faults out.new }
 {
@@ -97,9 +103,11 @@ fn refusal(why: Why) -> &'static str
     }
 }
 
-/// What is written of a page's outcome behind the lines of its scripts, with the tree's text or its dump.
+/// What is written of a page's outcome behind the lines of its scripts, with the tree's text or its
+/// dump.
 pub fn show_outcome(alloc: Global, doc: &Doc, outcome: End, dump: bool) -> Result<Vec<u8>, NoMemory>
-    ensures { IfOk result (λ bytes. bytes.items ≡ result_with dump (result_of outcome) doc.now.tree) }
+    ensures { IfOk result
+        (λ bytes. bytes.items ≡ result_with dump (result_of outcome) doc.now.tree) }
 {
     match outcome {
         End::Finished => show_lines(alloc, doc, dump),

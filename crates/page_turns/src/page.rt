@@ -1,5 +1,7 @@
-// A page is parsed: its document's side takes turns with the parser's side, which is in this thread or in one of its own.
-ghost use Rattle.std.specs.Prelude.{◌≡◌, ◌<◌, ◌≤◌, [], length, suc, nat_lt, ◌&&◌, is_none, false, true, IfOk, IfSome, IfNone, OnOk, OnErr, IsErrOf, IsTrue};
+// A page is parsed: its document's side takes turns with the parser's side, which is in this thread
+// or in one of its own.
+ghost use Rattle.std.specs.Prelude.{◌≡◌, ◌<◌, ◌≤◌, [], length, suc, nat_lt, ◌&&◌, is_none, false};
+ghost use Rattle.std.specs.Prelude.{true, IfOk, IfSome, IfNone, OnOk, OnErr, IsErrOf, IsTrue};
 ghost use Rattle.std.specs.String.{string_bytes};
 ghost use Rattle.outside.specs.Outside.{Rose, KeepsOthers};
 ghost use Rattle.core_definitions.specs.declared.event.Event.TheVariants as event;
@@ -10,14 +12,14 @@ ghost use Rattle.page_turns.specs.declared.page.Failure.TheVariants as failures;
 ghost use Rattle.parse_machine.specs.Ends.{result_of};
 ghost use Rattle.page_turns.specs.Pages.{IsUnread};
 ghost use Rattle.page_turns.specs.Cuts.{IsCut};
-ghost use Rattle.doc_changes.specs.Logs.{Logs};
+ghost use Rattle.core_steps.specs.Changing.{LogsDo};
 ghost use Rattle.page_turns.specs.Along.{Stays, MayDo, Goes};
 ghost use Rattle.page_turns.specs.Scripts.{folder_with, Met};
 ghost use Rattle.page_turns.specs.Early.{FailsToBring};
 ghost use Rattle.page_turns.specs.Messages.{TakesOne, TakesLast, TakenSoFar, MayTakeMore, TellsOn};
-ghost use Rattle.standard.specs.Act.{new_doc};
-ghost use Rattle.page_turns.specs.Watched.{WasTold, AllPassed, Follows};
-ghost use Rattle.page_turns.specs.Turns.{no_load, under_way, StaysRead, RunsOn, RunsInPart, Arrives, Brings, BeginsTheAwaited, GivesUp, RunsOut};
+ghost use Rattle.page_turns.specs.Watched.{ungrown, HasTold, AllPassed, Follows};
+ghost use Rattle.page_turns.specs.Turns.{no_load, under_way, StaysRead, RunsOn, RunsInPart};
+ghost use Rattle.page_turns.specs.Turns.{Arrives, Brings, BeginsTheAwaited, GivesUp, RunsOut};
 
 use crate::counterpart::Counterpart;
 use crate::job::Job;
@@ -80,10 +82,12 @@ fn outcome_of(doc: &DocSide) -> Option<End>
     }
 }
 
-// Whether the page is read on, where nothing of it is to be sent: credit is left, and its ending wasn't read.
+// Whether the page is read on, where nothing of it is to be sent: credit is left, and its ending
+// wasn't read.
 fn may_read<E: InForce, L: Counterpart<E>>(doc: &DocSide, lanes: &L, ahead: usize) -> bool
     requires { under_way (L.load lanes.now) ≤ 64 }
-    ensures may { result ≡ (nat_lt (under_way (L.load lanes.now)) ahead && is_none doc.now.journal.ending) }
+    ensures may { result
+        ≡ (nat_lt (under_way (L.load lanes.now)) ahead && is_none doc.now.journal.ending) }
     ensures replayed { IsReplayed doc.now }
 {
     let open = doc.journal().ending().is_none();
@@ -101,7 +105,8 @@ fn hear<E: InForce, P: Prefetch<E>>(early: &mut P, reply: &Reply<E>, doc: &DocSi
     }
 }
 
-// Takes the reply that is given next. The scripts of one that isn't dropped may be fetched from then on.
+// Takes the reply that is given next. The scripts of one that isn't dropped may be fetched from
+// then on.
 fn take_reply<E: InForce, L: Counterpart<E>, P: Prefetch<E>>(
     doc: &mut DocSide,
     lanes: &mut L,
@@ -110,8 +115,11 @@ fn take_reply<E: InForce, L: Counterpart<E>, P: Prefetch<E>>(
     requires entities { doc.old.entities ≡ E.entities }
     requires wanted { IsTrue (wants_reply doc.old.desk) }
     requires stands { 0 < (L.load lanes.old).replies }
-    ensures took { OnOk result (doc.new ≡ journaled event.Take (takes doc.old.entities doc.old.desk) doc.old) }
-    ensures load { OnOk result (L.load lanes.old ≡ record (L.load lanes.new) { replies = suc (L.load lanes.new).replies }) }
+    ensures took { OnOk result
+        (doc.new ≡ journaled event.Take (takes doc.old.entities doc.old.desk) doc.old) }
+    ensures load { OnOk result
+        (L.load lanes.old
+        ≡ record (L.load lanes.new) { replies = suc (L.load lanes.new).replies }) }
     ensures stays { OnErr result (Stays doc.old doc.new) }
     ensures put { L.put lanes.new ≡ L.put lanes.old }
     ensures reply { OnOk result (TakesOne (L.taken lanes.old) (L.taken lanes.new)) }
@@ -142,8 +150,8 @@ fn do_and_write<K: Sink>(
     ensures did { MayDo doc.old doc.new }
     ensures write { IsErrOf result Failure.Write → Rose (K.faults out.old) (K.faults out.new) }
     ensures faults { K.faults out.old ≤ K.faults out.new }
-    ensures logged { OnOk result (Logs log.old doc.old.desk.own.side.doc
-        log.new doc.new.desk.own.side.doc) }
+    ensures logged { OnOk result (LogsDo doc.old.entities doc.old.journal.fetches
+        doc.old.desk doc.new.desk log.old log.new) }
 {
     doc.act(log)?;
     let lines = doc.take_lines()?;
@@ -167,8 +175,8 @@ fn run_on<K: Sink, W: Watch>(
     ensures write { IsErrOf result Failure.Write → Rose (K.faults out.old) (K.faults out.new) }
     ensures faults { K.faults out.old ≤ K.faults out.new }
     ensures watches { W.watches watch.new ≡ W.watches watch.old }
-    ensures watched { IsTrue (W.watches watch.old) → OnOk result
-        (Follows doc.old (W.doc watch.old) (W.shown watch.old)
+    ensures watched { IsTrue (W.watches watch.old) → OnOk result (IsReplayed doc.old
+        → Follows doc.old (W.doc watch.old) (W.shown watch.old)
         → Follows doc.new (W.doc watch.new) (W.shown watch.new)) }
     ensures untold { OnErr result (W.doc watch.new ≡ W.doc watch.old) }
     ensures unshown { OnErr result (W.shown watch.new ≡ W.shown watch.old) }
@@ -202,7 +210,10 @@ fn fetch_named<F: Outside>(
     name: Text,
 ) -> Result<(), NoMemory>
     requires awaits { standing_of doc.old.desk ≡ awaiting name }
-    ensures arrives { OnOk result ((given : Met) → Arrives (folder_with dir.now given) (F.seen files.old) (F.seen files.new) doc.old doc.new) }
+    ensures arrives { OnOk result
+        ((given : Met)
+        → Arrives (folder_with dir.now given) (F.seen files.old) (F.seen files.new) doc.old
+        doc.new) }
     ensures stays { OnErr result (Stays doc.old doc.new) }
     ensures begins { BeginsTheAwaited dir.now (F.seen files.old) (F.seen files.new) doc.old.desk }
     ensures others { KeepsOthers Port.Script (F.seen files.old) (F.seen files.new) }
@@ -211,8 +222,8 @@ fn fetch_named<F: Outside>(
     doc.arrive(name, fetch)
 }
 
-// Goes on where a script is awaited: takes an answer of the one who was asked for it, where one is to come, and what comes early has arrived;
-// or else fetches it from its file.
+// Goes on where a script is awaited: takes an answer of the one who was asked for it, where one is
+// to come, and what comes early has arrived; or else fetches it from its file.
 fn fetch_awaited<E: InForce, F: Outside, P: Prefetch<E>>(
     alloc: Global,
     dir: &str,
@@ -222,9 +233,11 @@ fn fetch_awaited<E: InForce, F: Outside, P: Prefetch<E>>(
 ) -> Result<(), NoMemory>
     requires awaits { (name : _) × (standing_of doc.old.desk ≡ awaiting name) }
     requires arrived { doc.old.desk.arrived ≡ names_of doc.old.journal.fetches }
-    ensures brings { OnOk result (Brings (folder_with dir.now (P.given early.new)) (F.seen files.old) (F.seen files.new)
+    ensures brings { OnOk result
+        (Brings (folder_with dir.now (P.given early.new)) (F.seen files.old) (F.seen files.new)
         (P.given early.old) (P.to_come early.old) (P.to_come early.new) doc.old doc.new) }
-    ensures fails { OnErr result (FailsToBring doc.old.journal.fetches (P.given early.old) (P.given early.new)
+    ensures fails { OnErr result
+        (FailsToBring doc.old.journal.fetches (P.given early.old) (P.given early.new)
         (F.seen files.old) (F.seen files.new)) }
     ensures crew { P.crew early.new ≡ P.crew early.old }
     ensures stays { OnErr result (Stays doc.old doc.new) }
@@ -239,8 +252,8 @@ fn fetch_awaited<E: InForce, F: Outside, P: Prefetch<E>>(
     }
 }
 
-// Takes turns until the parse is over: Send and reading on come first, then the events of the parser's side, then Take, then Do, and where
-// nothing else can be done a script is brought.
+// Takes turns until the parse is over: Send and reading on come first, then the events of the
+// parser's side, then Take, then Do, and where nothing else can be done a script is brought.
 pub(crate) fn take_turns<
     E: InForce,
     L: Counterpart<E>,
@@ -270,20 +283,26 @@ pub(crate) fn take_turns<
     requires reader { IsUnread reader.old }
     requires some { 0 < job.now.ahead }
     requires few { job.now.ahead ≤ 64 }
-    requires watch { (W.doc watch.old ≡ new_doc) × (W.shown watch.old ≡ []) }
-    ensures ok { IfOk result (λ o. RunsOut job.now.table.now job.now.ahead (folder_with (string_bytes job.now.dir) (P.given early.new))
+    requires watch { (W.doc watch.old ≡ ungrown) × (W.shown watch.old ≡ []) }
+    ensures ok { IfOk result
+        (λ o. RunsOut job.now.table.now job.now.ahead
+        (folder_with (string_bytes job.now.dir) (P.given early.new))
         (F.seen files.old) (F.seen files.new) (K.taken out.old) (K.taken out.new) doc.new o) }
-    ensures err { OnErr result (GivesUp job.now.table.now job.now.ahead (folder_with (string_bytes job.now.dir) (P.given early.new))
+    ensures err { OnErr result
+        (GivesUp job.now.table.now job.now.ahead
+        (folder_with (string_bytes job.now.dir) (P.given early.new))
         (F.seen files.old) (F.seen files.new) (K.taken out.old) (K.taken out.new) doc.new) }
     ensures cut { OnOk result (IsCut (length room.old) false (F.seen files.old) (F.seen files.new)
         doc.new.journal.pieces) }
-    ensures cut_short { OnErr result (IsCut (length room.old) true (F.seen files.old) (F.seen files.new)
+    ensures cut_short { OnErr result
+        (IsCut (length room.old) true (F.seen files.old) (F.seen files.new)
         doc.new.journal.pieces) }
     ensures write_cut { IsErrOf result Failure.Write → IsCut (length room.old) false
         (F.seen files.old) (F.seen files.new) doc.new.journal.pieces }
     ensures goes { Goes (P.given early.new) (L.put lanes.new) doc.new }
     ensures taken { OnOk result (TakenSoFar (L.taken lanes.new) doc.new.journal.events) }
-    ensures write_taken { IsErrOf result Failure.Write → TakenSoFar (L.taken lanes.new) doc.new.journal.events }
+    ensures write_taken { IsErrOf result Failure.Write
+        → TakenSoFar (L.taken lanes.new) doc.new.journal.events }
     ensures more_taken { MayTakeMore (L.taken lanes.new) doc.new.journal.events }
     ensures tells { OnOk result (TellsOn E.entities (L.put lanes.old) (L.put lanes.new)
         (L.taken lanes.old) (L.taken lanes.new) (L.ordered lanes.old) (L.ordered lanes.new)) }
@@ -291,9 +310,9 @@ pub(crate) fn take_turns<
     ensures write { IsErrOf result Failure.Write → Rose (K.faults out.old) (K.faults out.new) }
     ensures faults { K.faults out.old ≤ K.faults out.new }
     ensures watched { IsTrue (W.watches watch.old)
-        → OnOk result (W.doc watch.new ≡ doc.new.desk.own.side.doc) }
+        → OnOk result (Follows doc.new (W.doc watch.new) (W.shown watch.new)) }
     ensures passed { IsTrue (W.watches watch.old) → AllPassed doc.new (W.shown watch.new) }
-    ensures told { IsTrue (W.watches watch.old) → OnErr result (WasTold doc.new (W.doc watch.new)) }
+    ensures told { IsTrue (W.watches watch.old) → OnErr result (HasTold doc.new (W.doc watch.new)) }
     ensures count { W.count watch.new ≡ W.count watch.old }
 {
     'turns: loop {

@@ -1,5 +1,6 @@
 // The page is read piece by piece.
-ghost use Rattle.std.specs.Prelude.{◌≡◌, ◌<◌, ◌≤◌, ◌∷◌, [], ℕ, List, length, take, None, Ok, IfOk, IfErr, OnOk, OnErr};
+ghost use Rattle.std.specs.Prelude.{◌≡◌, ◌<◌, ◌≤◌, ◌∷◌, [], ℕ, List, length, take, None, Ok, IfOk};
+ghost use Rattle.std.specs.Prelude.{IfErr, OnOk, OnErr};
 ghost use Rattle.outside.specs.Outside.{reads, KeepsOthers};
 ghost use Rattle.utf8_pieces.specs.Decoder.{HasRead};
 ghost use Rattle.page_turns.specs.declared.page.TheConstants.{PAGE_LIMIT};
@@ -25,15 +26,19 @@ pub(crate) struct PageReader {
     pub left: usize,
 }
 
-// Reads the next piece of the page, and says how many bytes it has. Where none comes, the page ends so.
+// Reads the next piece of the page, and says how many bytes it has. Where none comes, the page ends
+// so.
 fn read_piece<F: Outside>(
     files: &mut F,
     decoder: &Decoder,
     room: &mut [u8],
 ) -> Result<usize, Ending>
     ensures count { IfOk result (λ n. (0 < n) × (n ≤ length room.old)) }
-    ensures taken { IfOk result (λ n. AreTaken ((F.seen files.old).left Port.Page) ((F.seen files.new).left Port.Page) (take n room.new)) }
-    ensures ending { IfErr result (λ ending. 0 < length room.old → (read : List ℕ) → HasRead PAGE_LIMIT decoder.now read
+    ensures taken { IfOk result
+        (λ n. AreTaken ((F.seen files.old).left Port.Page) ((F.seen files.new).left Port.Page)
+        (take n room.new)) }
+    ensures ending { IfErr result
+        (λ ending. 0 < length room.old → (read : List ℕ) → HasRead PAGE_LIMIT decoder.now read
         → ClosesAt (F.seen files.old) (F.seen files.new) read ending) }
     ensures no_fault { OnOk result (NoFault Port.Page (F.seen files.old) (F.seen files.new)) }
     ensures call { IfOk result (λ n. CallsAt Port.Page (F.seen files.old) (F.seen files.new)
@@ -60,7 +65,8 @@ impl PageReader {
         }
     }
 
-    /// Reads the next piece of the page, of at most as many bytes as there is room, and hands in its text, and the page's ending where that shows.
+    /// Reads the next piece of the page, of at most as many bytes as there is room, and hands in
+    /// its text, and the page's ending where that shows.
     pub fn read_on<F: Outside>(
         &mut self,
         alloc: Global,
@@ -71,8 +77,10 @@ impl PageReader {
         requires room { 0 < length room.old }
         requires reading { IsReading self.old doc.old.journal.pieces }
         requires no_ending { doc.old.journal.ending ≡ None }
-        ensures ok { OnOk result (ReadsPiece (F.seen files.old) (F.seen files.new) self.old self.new doc.old doc.new) }
-        ensures err { OnErr result (ReadsInPart (F.seen files.old) (F.seen files.new) self.old doc.old doc.new) }
+        ensures ok { OnOk result
+            (ReadsPiece (F.seen files.old) (F.seen files.new) self.old self.new doc.old doc.new) }
+        ensures err { OnErr result
+            (ReadsInPart (F.seen files.old) (F.seen files.new) self.old doc.old doc.new) }
         ensures cut { OnOk result (CutsOn (length room.old) (F.seen files.old) (F.seen files.new)
             self.old self.new doc.old doc.new) }
         ensures cut_short { OnErr result (CutsShort (length room.old) (F.seen files.old)

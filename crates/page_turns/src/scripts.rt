@@ -23,8 +23,12 @@ pub fn fetch_script<F: Outside>(
     name: &str,
 ) -> Result<Fetch, NoMemory>
     requires { is_lawful (chars name.now) ≡ true }
-    ensures given { IfOk result (λ fetch. MayGive SCRIPT_LIMIT Port.Script (path_of dir.now (chars name.now)) (F.seen files.old) (F.seen files.new) (given_of fetch)) }
-    ensures begun { OnOk result (Begun ((F.seen files.old).begun Port.Script) ((F.seen files.new).begun Port.Script) (path_of dir.now (chars name.now) ∷ [])) }
+    ensures given { IfOk result
+        (λ fetch. MayGive SCRIPT_LIMIT Port.Script (path_of dir.now (chars name.now))
+        (F.seen files.old) (F.seen files.new) (given_of fetch)) }
+    ensures begun { OnOk result
+        (Begun ((F.seen files.old).begun Port.Script) ((F.seen files.new).begun Port.Script)
+        (path_of dir.now (chars name.now) ∷ [])) }
     ensures begins { BeginsFile dir.now (chars name.now) (F.seen files.old) (F.seen files.new) }
     ensures others { KeepsOthers Port.Script (F.seen files.old) (F.seen files.new) }
 {

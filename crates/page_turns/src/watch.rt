@@ -1,8 +1,10 @@
 // Who watches the document while it grows.
-ghost use Rattle.std.specs.Prelude.{◌≡◌, ℕ, List, Bool, [], fold, length, false, IsTrue, OnOk, OnErr};
-ghost use Rattle.standard.specs.Act.{Doc, new_doc};
+ghost use Rattle.std.specs.Prelude.{◌≡◌, ◌≤◌, ℕ, List, Bool, [], fold, length, false, IsTrue, OnOk};
+ghost use Rattle.std.specs.Prelude.{OnErr};
+ghost use Rattle.standard.specs.Act.{Doc};
 ghost use Rattle.doc_changes.specs.Changes.{changed};
-ghost use Rattle.page_turns.specs.Watched.{shown_with, AreLast, PassedStand};
+ghost use Rattle.page_turns.specs.Watched.{Grown, ungrown, grown_by, shown_with, AreLast};
+ghost use Rattle.page_turns.specs.Watched.{PassedStand};
 
 use doc_changes::Change;
 use html_types::NoMemory;
@@ -17,8 +19,9 @@ pub trait Watch {
     /// How many watch.
     ghost count: { Self → ℕ };
 
-    /// The document to which the changes lead that it was told, and that it showed.
-    ghost doc: { Self → Doc };
+    /// The document to which the changes lead that it was told, and that it showed, and as how many
+    /// they count.
+    ghost doc: { Self → Grown };
 
     /// The documents that it showed, in turn.
     ghost shown: { Self → List Doc };
@@ -33,16 +36,18 @@ pub trait Watch {
         ensures watches { watches self.new ≡ watches self.old }
         ensures count { count self.new ≡ count self.old }
         ensures doc { IsTrue (watches self.old)
-            → OnOk result (doc self.new ≡ fold changed (doc self.old) changes.items) }
-        ensures shown { IsTrue (watches self.old) → OnOk result (shown self.new
-            ≡ shown_with changes.items (shown self.old) (fold changed (doc self.old) changes.items)) }
+            → OnOk result (doc self.new ≡ grown_by (doc self.old) changes.items) }
+        ensures shown { IsTrue (watches self.old) → OnOk result (shown self.new ≡ shown_with
+            changes.items (shown self.old) (fold changed (doc self.old).doc changes.items)) }
         ensures err { OnErr result (doc self.new ≡ doc self.old) }
         ensures err_shown { OnErr result (shown self.new ≡ shown self.old) };
 
-    /// The parse is over: shows the document once more, with the mark behind which nothing is shown,
-    /// and waits for all who watch. What they saw last; false where one ended without the mark.
+    /// The parse is over: shows the document once more, with the mark behind which nothing is
+    /// shown, and waits for all who watch. What they saw last: that document's text, and as how
+    /// many its changes count; false where one ended without the mark.
     fn end(&mut self, alloc: Global) -> (Vec<Seen>, bool)
         ensures seen { AreLast (doc self.old) result.0.items }
+        ensures few { length result.0.items ≤ count self.old }
         ensures count { IsTrue result.1 → length result.0.items ≡ count self.old };
 }
 
@@ -55,7 +60,7 @@ impl Watch for Unwatched {
 
     ghost count = { λ _. 0 };
 
-    ghost doc = { λ _. new_doc };
+    ghost doc = { λ _. ungrown };
 
     ghost shown = { λ _. [] };
 
@@ -72,8 +77,8 @@ impl Watch for Unwatched {
     }
 }
 
-/// A law: a document that a run passed through, which those who watch are shown, is that of a moment
-/// that the serial parse passes through. No operation that was thrown away is in it.
+/// A law: a document that a run passed through, which those who watch are shown, is that of a
+/// moment that the serial parse passes through. No operation that was thrown away is in it.
 pub fn passed_stand()
     ensures { PassedStand }
 {}

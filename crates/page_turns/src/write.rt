@@ -5,8 +5,8 @@ ghost use Rattle.page_turns.specs.Taken.{Took, TookFront};
 
 use outside::{Failed, Sink};
 
-/// Writes all the bytes, or a front of them where the sink fails. One that takes nothing of a piece that isn't empty
-/// has failed.
+/// Writes all the bytes, or a front of them where the sink fails. One that takes nothing of a piece
+/// that isn't empty has failed.
 pub fn write_all<K: Sink>(out: &mut K, bytes: &[u8]) -> Result<(), Failed>
     ensures ok { OnOk result (Took (K.taken out.old) (K.taken out.new) bytes.now) }
     ensures err { OnErr result (TookFront (K.taken out.old) (K.taken out.new) bytes.now) }

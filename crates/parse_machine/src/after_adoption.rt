@@ -1,4 +1,4 @@
-//! What comes behind the adoption agency algorithm in "in body" (13.2.6.4.7).
+//! What comes behind the adoption agency algorithm in "in body" (13.2.6.4.7 #parsing-main-inbody).
 
 ghost use Rattle.std.specs.Prelude.{◌≡◌, IfOk, true, false};
 ghost use Rattle.standard.specs.Instructions.{on, run};
@@ -20,7 +20,9 @@ fn go_on(
     token: &Token,
     ops: &mut Ops,
 ) -> Result<Next, NoMemory>
-    ensures { IfOk result (λ next. answer builder.new ops.new next ≡ answer_of (run token.now (on builder.old ops.old) (row_after then false))) }
+    ensures { IfOk result
+        (λ next. answer builder.new ops.new next
+        ≡ answer_of (run token.now (on builder.old ops.old) (row_after then false))) }
 {
     match then {
         Then::Nothing => builder.answer_row(alloc, &[], token, ops),
@@ -42,7 +44,9 @@ fn go_on_as_other(
     token: &Token,
     ops: &mut Ops,
 ) -> Result<Next, NoMemory>
-    ensures { IfOk result (λ next. answer builder.new ops.new next ≡ answer_of (run token.now (on builder.old ops.old) (row_after then true))) }
+    ensures { IfOk result
+        (λ next. answer builder.new ops.new next
+        ≡ answer_of (run token.now (on builder.old ops.old) (row_after then true))) }
 {
     match then {
         Then::Nothing => builder.answer_row(alloc, &[AnyOtherEnd], token, ops),
@@ -67,8 +71,9 @@ fn go_on_as_other(
     }
 }
 
-/// The rest of a row behind the adoption agency algorithm, whose answer is given: adds the operations that it asks for, and
-/// says what is asked of the caller. Where it answers NoMemory, the builder and the operations only keep their type.
+/// The rest of a row behind the adoption agency algorithm, whose answer is given: adds the
+/// operations that it asks for, and says what is asked of the caller. Where it answers NoMemory,
+/// the builder and the operations only keep their type.
 pub fn after_adopt(
     alloc: Global,
     builder: &mut Builder,
@@ -77,7 +82,9 @@ pub fn after_adopt(
     token: &Token,
     ops: &mut Ops,
 ) -> Result<Next, NoMemory>
-    ensures { IfOk result (λ next. answer builder.new ops.new next ≡ answer_of (run token.now (on builder.old ops.old) (row_after then (is_other adopted)))) }
+    ensures { IfOk result
+        (λ next. answer builder.new ops.new next
+        ≡ answer_of (run token.now (on builder.old ops.old) (row_after then (is_other adopted)))) }
 {
     match adopted {
         Adopted::Done => go_on(alloc, builder, then, token, ops),

@@ -1,4 +1,4 @@
-//! Fragments (13.4): a text parsed as the children of an element.
+//! Fragments (13.4 #parsing-html-fragments): a text parsed as the children of an element.
 
 ghost use Rattle.std.specs.Prelude.{◌≡◌, IfOk};
 ghost use Rattle.std.specs.Str.{chars};
@@ -34,11 +34,11 @@ pub(crate) fn reading_in(name: &Name) -> TokState
     }
 }
 
-/// What a text comes to as the children of an element (13.4), its context: the operations that
-/// make the nodes, under a root, or none at a push that would open element 513. The root's id is
-/// the first of realm 0; where the context is in a form the second is that of a form element,
-/// which stands nowhere. `op_exec` makes both. It needs no page and no document, and runs no
-/// script.
+/// What a text comes to as the children of an element (13.4 #parsing-html-fragments), its context:
+/// the operations that make the nodes, under a root, or none at a push that would open element 513.
+/// The root's id is the first of realm 0; where the context is in a form the second is that of a
+/// form element, which stands nowhere. `op_exec` makes both. It needs no page and no document, and
+/// runs no script.
 #[tactic(auto, unfolding(standard::specs::Fragment::fragment))]
 pub fn parse_fragment(
     alloc: Global,

@@ -1,5 +1,6 @@
-//! The parser: tokenizer and builder together, from text to operations (13.2.5, 13.2.6). No tree is read, so the next state and
-//! the stop depend on the state and the text alone.
+//! The parser: tokenizer and builder together, from text to operations (13.2.5 #tokenization,
+//! 13.2.6 #tree-construction). No tree is read, so the next state and the stop depend on the state
+//! and the text alone.
 #![tactic(auto)]
 
 mod after_adoption;

@@ -1,9 +1,11 @@
 //! The machine: its state, and what a caller asks of it. Tokens are processed in `process.rt`; what
 //! is taken of a text at once stands in `text_runs.rt`.
 
-ghost use Rattle.std.specs.Prelude.{◌≡◌, ◌↔◌, ◌==◌, ◌≢◌, ◌&&◌, ◌<◌, length, drop, if◌then◌else◌, IfOk, IfSome, IsTrue};
+ghost use Rattle.std.specs.Prelude.{◌≡◌, ◌↔◌, ◌==◌, ◌≢◌, ◌&&◌, ◌<◌, length, drop, if◌then◌else◌};
+ghost use Rattle.std.specs.Prelude.{IfOk, IfSome, IsTrue};
 ghost use Rattle.std.specs.Str.{chars, IsCharBoundary};
-ghost use Rattle.standard.specs.Parser.{new_parser, took, after_ops, take_character, finish as finished, parse, AreSame, after_all};
+ghost use Rattle.standard.specs.Parser.{new_parser, took, after_ops, take_character};
+ghost use Rattle.standard.specs.Parser.{finish as finished, parse, AreSame, after_all};
 ghost use Rattle.parse_machine.specs.Runs.{Takes};
 ghost use Rattle.core_definitions.specs.Batches.{end_batch, result_at};
 ghost use Rattle.standard.specs.Through.{after_those, read_through, whole};
@@ -24,7 +26,8 @@ use std::marker::Model;
 use text_store::Ops;
 use tokenizer::Tokenizer;
 
-/// A parser: contracts see the tokenizer's state, whether the last character was a CR, and the open state.
+/// A parser: contracts see the tokenizer's state, whether the last character was a CR, and the open
+/// state.
 #[derive(Drop)]
 pub struct Machine {
     pub(crate) tokenizer: Tokenizer,
@@ -94,9 +97,9 @@ impl Machine {
         }
     }
 
-    /// The parser at the beginning of a fragment with that context (13.4). Its elements are of
-    /// that realm. The caller makes its root, an html element, under the realm's first id and,
-    /// where the context is in a form, a form element under its second.
+    /// The parser at the beginning of a fragment with that context (13.4 #parsing-html-fragments).
+    /// Its elements are of that realm. The caller makes its root, an html element, under the
+    /// realm's first id and, where the context is in a form, a form element under its second.
     #[tactic(auto, unfolding(standard::specs::Fragment::fragment_parser))]
     pub fn fragment(alloc: Global, context: Context, realm: u32) -> Result<Machine, NoMemory>
         ensures { IfOk result (λ m. m ≡ fragment_parser context realm) }
@@ -127,7 +130,9 @@ impl Machine {
         c: char,
         ops: &mut Ops,
     ) -> Result<Stop, NoMemory>
-        ensures { IfOk result (λ stop. after_ops ops.old (take_character table.now self.old c) ≡ took ops.new self.new stop) }
+        ensures { IfOk result
+            (λ stop. after_ops ops.old (take_character table.now self.old c)
+            ≡ took ops.new self.new stop) }
     {
         if skips(self.after_cr, c) {
             self.after_cr = false;
@@ -163,7 +168,9 @@ impl Machine {
         requires { IsCharBoundary text.now from }
         ensures boundary { IfOk result (λ o. IfSome o (λ ran. IsCharBoundary text.now ran.used)) }
         ensures onward { IfOk result (λ o. IfSome o (λ ran. from < ran.used)) }
-        ensures parsed { IfOk result (λ o. IfSome o (λ ran. Takes table.now text.now from ran self.old ops.old self.new ops.new)) }
+        ensures parsed { IfOk result
+            (λ o. IfSome o
+            (λ ran. Takes table.now text.now from ran self.old ops.old self.new ops.new)) }
         ensures end { IfOk result (λ o. o ≡ None → from ≡ length text.now) }
         ensures none { IfOk result (λ o. o ≡ None → self.new ≡ self.old) }
         ensures none_added { IfOk result (λ o. o ≡ None → ops.new ≡ ops.old) }
@@ -180,7 +187,8 @@ impl Machine {
         }
     }
 
-    // Takes references, and then a tag or else one character, and says what it took; none at the end of the text.
+    // Takes references, and then a tag or else one character, and says what it took; none at the
+    // end of the text.
     fn take_next(
         &mut self,
         alloc: Global,
@@ -192,7 +200,9 @@ impl Machine {
         requires { IsCharBoundary text.now from }
         ensures boundary { IfOk result (λ o. IfSome o (λ ran. IsCharBoundary text.now ran.used)) }
         ensures onward { IfOk result (λ o. IfSome o (λ ran. from < ran.used)) }
-        ensures parsed { IfOk result (λ o. IfSome o (λ ran. Takes table.now text.now from ran self.old ops.old self.new ops.new)) }
+        ensures parsed { IfOk result
+            (λ o. IfSome o
+            (λ ran. Takes table.now text.now from ran self.old ops.old self.new ops.new)) }
         ensures end { IfOk result (λ o. o ≡ None → from ≡ length text.now) }
         ensures none { IfOk result (λ o. o ≡ None → self.new ≡ self.old) }
         ensures none_added { IfOk result (λ o. o ≡ None → ops.new ≡ ops.old) }
@@ -201,8 +211,9 @@ impl Machine {
         self.take_one(alloc, table, text, start, ops)
     }
 
-    /// Takes the characters of a text, up to the first stop, with the named character references of `table`. Operations are added at the end of `ops`.
-    /// Where it answers want of memory, the machine and the operations only keep their types.
+    /// Takes the characters of a text, up to the first stop, with the named character references of
+    /// `table`. Operations are added at the end of `ops`. Where it answers want of memory, the
+    /// machine and the operations only keep their types.
     pub fn run(
         &mut self,
         alloc: Global,
@@ -211,13 +222,16 @@ impl Machine {
         ops: &mut Ops,
     ) -> Result<Ran, NoMemory>
         ensures boundary { IfOk result (λ ran. IsCharBoundary text.now ran.used) }
-        // The operations, the next state, the characters used and the stop are those of the parse of the text.
-        ensures parsed { IfOk result (λ ran. RanAs (parse table.now self.old (chars text.now)) ops.old self.new ops.new ran text.now) }
+        // The operations, the next state, the characters used and the stop are those of the parse
+        // of the text.
+        ensures parsed { IfOk result
+            (λ ran. RanAs (parse table.now self.old (chars text.now)) ops.old self.new ops.new ran
+            text.now) }
     {
         let mut used = 0;
         'pieces: loop {
             // In one place, so that it comes to stand in line.
-            let read = self.take_run(alloc, text, used, ops)?;
+            let read = self.take_run(text, used, ops)?;
             let Some(ran) = self.take_next(alloc, table, text, read, ops)? else {
                 return Ok(Ran {
                     stop: Stop::InputEnd,
@@ -240,8 +254,10 @@ impl Machine {
         ops: &mut Ops,
     ) -> Result<Ran, NoMemory>
         ensures boundary { IfOk result (λ ran. IsCharBoundary text.now ran.used) }
-        ensures onward { IfOk result (λ ran. ran.stop ≢ Stop.InputEnd → length (drop ran.used text.now) < length text.now) }
-        ensures through { IfOk result (λ ran. after_those ops.old (read_through table.now self.old (chars text.now))
+        ensures onward { IfOk result
+            (λ ran. ran.stop ≢ Stop.InputEnd → length (drop ran.used text.now) < length text.now) }
+        ensures through { IfOk result
+            (λ ran. after_those ops.old (read_through table.now self.old (chars text.now))
             ≡ from_stop table.now self.new ops.new (chars (drop ran.used text.now)) ran.stop) }
     {
         let ran = self.run(alloc, table, text, ops)?;
@@ -260,7 +276,9 @@ impl Machine {
         ops: &mut Ops,
     ) -> Result<bool, NoMemory>
         // The operations and the state are those of the text that is read through.
-        ensures { IfOk result (λ goes_on. after_those ops.old (read_through table.now self.old (chars text.now)) ≡ came_to self.new ops.new goes_on) }
+        ensures { IfOk result
+            (λ goes_on. after_those ops.old (read_through table.now self.old (chars text.now))
+            ≡ came_to self.new ops.new goes_on) }
     {
         let mut rest = text;
         'texts: loop {
@@ -298,7 +316,9 @@ impl Machine {
 
     // Takes the end of the input.
     fn end_input(&mut self, alloc: Global, table: &Table, ops: &mut Ops) -> Result<Finish, NoMemory>
-        ensures { IfOk result (λ finish. after_all ops.old (finished table.now self.old) ≡ record { ops = ops.new; parser = self.new; finish = finish }) }
+        ensures { IfOk result
+            (λ finish. after_all ops.old (finished table.now self.old)
+            ≡ record { ops = ops.new; parser = self.new; finish = finish }) }
     {
         match end_and_build(alloc, table, &mut self.tokenizer, &mut self.builder, ops) {
             Ok(finish) => Ok(finish),
@@ -309,9 +329,10 @@ impl Machine {
         }
     }
 
-    /// Takes the page's ending, with the named character references of `table`. At the end of the file the last tokens are processed, and
-    /// operations are added at the end of `ops`. Any other ending refuses the page, and the machine and the operations stay as they are.
-    /// Where it answers want of memory, the machine and the operations only keep their types.
+    /// Takes the page's ending, with the named character references of `table`. At the end of the
+    /// file the last tokens are processed, and operations are added at the end of `ops`. Any other
+    /// ending refuses the page, and the machine and the operations stay as they are. Where it
+    /// answers want of memory, the machine and the operations only keep their types.
     pub fn finish(
         &mut self,
         alloc: Global,
@@ -320,7 +341,8 @@ impl Machine {
         ops: &mut Ops,
     ) -> Result<End, NoMemory>
         // The operations, the next state and the answer are those of the ending.
-        ensures { IfOk result (λ end. EndsAs (end_batch table.now self.old ending) ops.old self.new ops.new end) }
+        ensures { IfOk result
+            (λ end. EndsAs (end_batch table.now self.old ending) ops.old self.new ops.new end) }
     {
         match ending {
             Ending::End => {
@@ -376,7 +398,9 @@ impl Machine {
 
     /// The elements that are made from now on have the ids of that realm, from its first on.
     pub fn renew(&mut self, realm: u32)
-        ensures { self.new ≡ record self.old { open_state = record self.old.open_state { next = record { realm = realm; n = 0 } } } }
+        ensures { self.new
+            ≡ record self.old
+            { open_state = record self.old.open_state { next = record { realm = realm; n = 0 } } } }
     {
         self.builder.renew(realm);
     }

@@ -66,8 +66,10 @@ fn process(
     token: &Token,
     ops: &mut Ops,
 ) -> Result<Went, NoMemory>
-    ensures built { IfOk result (λ went. (cr : Bool) → WentTo cr tokenizer.new builder.new ops.new went
-        ≡ after_ops ops.old (build tokenizer.old.state cr (token.now ∷ tokenizer.old.tokens) builder.old)) }
+    ensures built { IfOk result
+        (λ went. (cr : Bool) → WentTo cr tokenizer.new builder.new ops.new went
+        ≡ after_ops ops.old
+        (build tokenizer.old.state cr (token.now ∷ tokenizer.old.tokens) builder.old)) }
     ensures waiting { tokenizer.new.tokens ≡ tokenizer.old.tokens }
     ensures some { IfOk result (λ went. went ≢ Went.AllUsed) }
 {
@@ -89,9 +91,11 @@ fn process_first(
     builder: &mut Builder,
     ops: &mut Ops,
 ) -> Result<Went, NoMemory>
-    ensures built { IfOk result (λ went. (cr : Bool) → WentTo cr tokenizer.new builder.new ops.new went
+    ensures built { IfOk result
+        (λ went. (cr : Bool) → WentTo cr tokenizer.new builder.new ops.new went
         ≡ after_ops ops.old (build tokenizer.old.state cr tokenizer.old.tokens builder.old)) }
-    ensures fewer { IfOk result (λ went. went ≡ Went.On → length tokenizer.new.tokens < length tokenizer.old.tokens) }
+    ensures fewer { IfOk result
+        (λ went. went ≡ Went.On → length tokenizer.new.tokens < length tokenizer.old.tokens) }
     ensures none { IfOk result (λ went. went ≡ Went.AllUsed → tokenizer.new.tokens ≡ []) }
 {
     match tokenizer.pop() {
@@ -107,7 +111,9 @@ fn build_waiting(
     builder: &mut Builder,
     ops: &mut Ops,
 ) -> Result<Stop, NoMemory>
-    ensures built { IfOk result (λ stop. (cr : Bool) → Builds cr tokenizer.old builder.old ops.old tokenizer.new builder.new ops.new stop) }
+    ensures built { IfOk result
+        (λ stop. (cr : Bool)
+        → Builds cr tokenizer.old builder.old ops.old tokenizer.new builder.new ops.new stop) }
     ensures none_waits { IfOk result (λ _. tokenizer.new.tokens ≡ []) }
 {
     'tokens: loop {
@@ -137,7 +143,8 @@ fn process_last(
     token: &Token,
     ops: &mut Ops,
 ) -> Result<Ended, NoMemory>
-    ensures { IfOk result (λ ended. (cr : Bool) (m : Reached) → EndedTo cr m builder.new ops.new ended
+    ensures { IfOk result
+        (λ ended. (cr : Bool) (m : Reached) → EndedTo cr m builder.new ops.new ended
         ≡ after_all ops.old (build_end m.state cr (token.now ∷ m.tokens) builder.old)) }
 {
     match construct(alloc, builder, token, ops)? {
@@ -154,9 +161,11 @@ fn process_first_of_last(
     builder: &mut Builder,
     ops: &mut Ops,
 ) -> Result<Ended, NoMemory>
-    ensures built { IfOk result (λ ended. (cr : Bool) → EndedTo cr tokenizer.new builder.new ops.new ended
+    ensures built { IfOk result
+        (λ ended. (cr : Bool) → EndedTo cr tokenizer.new builder.new ops.new ended
         ≡ after_all ops.old (build_end tokenizer.old.state cr tokenizer.old.tokens builder.old)) }
-    ensures fewer { IfOk result (λ ended. ended ≡ Ended.On → length tokenizer.new.tokens < length tokenizer.old.tokens) }
+    ensures fewer { IfOk result
+        (λ ended. ended ≡ Ended.On → length tokenizer.new.tokens < length tokenizer.old.tokens) }
 {
     match tokenizer.pop() {
         None => Ok(Ended::At(Finish::Finished)),
@@ -171,7 +180,10 @@ fn build_last(
     builder: &mut Builder,
     ops: &mut Ops,
 ) -> Result<Finish, NoMemory>
-    ensures built { IfOk result (λ finish. (cr : Bool) → BuildsLast cr tokenizer.old builder.old ops.old tokenizer.new builder.new ops.new finish) }
+    ensures built { IfOk result
+        (λ finish. (cr : Bool)
+        → BuildsLast cr tokenizer.old builder.old ops.old tokenizer.new builder.new ops.new
+        finish) }
     ensures none_waits { IfOk result (λ _. tokenizer.new.tokens ≡ []) }
 {
     'tokens: loop {
@@ -187,7 +199,10 @@ fn build_last(
 
 // The token of a character that the tokenizer emits as it is, and then stays in its state.
 fn plain_token(tokenizer: &Tokenizer, c: char) -> Option<Token>
-    ensures { IfSome result (λ t. (es : Entities) (foreign : Bool) → read es foreign tokenizer.now.state c ≡ record { tokens = t ∷ []; state = tokenizer.now.state }) }
+    ensures { IfSome result
+        (λ t. (es : Entities) (foreign : Bool)
+        → read es foreign tokenizer.now.state c
+        ≡ record { tokens = t ∷ []; state = tokenizer.now.state }) }
 {
     if is_plain(tokenizer.state(), class_of(c)) {
         Some(Token::Character(c))
@@ -206,7 +221,10 @@ pub(crate) fn process_alone(
     ops: &mut Ops,
 ) -> Result<Stop, NoMemory>
     requires { tokenizer.old.tokens ≡ [] }
-    ensures built { IfOk result (λ stop. (cr : Bool) → Builds cr (record { tokens = token.now ∷ []; state = tokenizer.old.state }) builder.old ops.old tokenizer.new builder.new ops.new stop) }
+    ensures built { IfOk result
+        (λ stop. (cr : Bool)
+        → Builds cr (record { tokens = token.now ∷ []; state = tokenizer.old.state }) builder.old
+        ops.old tokenizer.new builder.new ops.new stop) }
     ensures none_waits { IfOk result (λ _. tokenizer.new.tokens ≡ []) }
 {
     match process(alloc, tokenizer, builder, token, ops)? {
@@ -226,7 +244,10 @@ pub(crate) fn read_and_build(
     ops: &mut Ops,
 ) -> Result<Stop, NoMemory>
     requires { tokenizer.old.tokens ≡ [] }
-    ensures built { IfOk result (λ stop. (cr : Bool) → Builds cr (read table.now (is_foreign builder.old) tokenizer.old.state c) builder.old ops.old tokenizer.new builder.new ops.new stop) }
+    ensures built { IfOk result
+        (λ stop. (cr : Bool)
+        → Builds cr (read table.now (is_foreign builder.old) tokenizer.old.state c) builder.old
+        ops.old tokenizer.new builder.new ops.new stop) }
     ensures none_waits { IfOk result (λ _. tokenizer.new.tokens ≡ []) }
 {
     match plain_token(tokenizer, c) {
@@ -247,7 +268,10 @@ pub(crate) fn end_and_build(
     ops: &mut Ops,
 ) -> Result<Finish, NoMemory>
     requires { tokenizer.old.tokens ≡ [] }
-    ensures built { IfOk result (λ finish. (cr : Bool) → BuildsLast cr (read_end table.now (is_foreign builder.old) tokenizer.old.state) builder.old ops.old tokenizer.new builder.new ops.new finish) }
+    ensures built { IfOk result
+        (λ finish. (cr : Bool)
+        → BuildsLast cr (read_end table.now (is_foreign builder.old) tokenizer.old.state)
+        builder.old ops.old tokenizer.new builder.new ops.new finish) }
     ensures none_waits { IfOk result (λ _. tokenizer.new.tokens ≡ []) }
 {
     tokenizer.finish(alloc, table, builder.is_foreign())?;

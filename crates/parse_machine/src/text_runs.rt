@@ -1,7 +1,8 @@
 //! What is taken of a text at once, and not character by character: runs of characters, references,
 //! tags, and the end of raw text.
 
-ghost use Rattle.std.specs.Prelude.{◌≡◌, ◌==◌, ◌<◌, ◌≤◌, ◌+◌, ◌++◌, [], ◌∷◌, List, length, take, IfOk, IfSome, IsTrue};
+ghost use Rattle.std.specs.Prelude.{◌≡◌, ◌==◌, ◌<◌, ◌≤◌, ◌+◌, ◌++◌, [], ◌∷◌, List, length, take};
+ghost use Rattle.std.specs.Prelude.{IfOk, IfSome, IsTrue};
 ghost use Rattle.std.specs.Str.{chars, IsCharBoundary};
 ghost use Rattle.html_types.specs.declared.operation.Op.{Op};
 ghost use Rattle.standard.specs.Entities.{Entities};
@@ -11,7 +12,9 @@ ghost use Rattle.standard.specs.Instructions.{here, texts};
 ghost use Rattle.std.specs.List.{list_any};
 ghost use Rattle.entity_table.specs.View.{characters_in};
 ghost use Rattle.tokenizer.specs.Reference.{found_characters, open_characters};
-ghost use Rattle.parse_machine.specs.Runs.{ArePlain, reads_runs as state_reads_runs, reads_raw as state_reads_raw, Ahead, Inserts, ReadsTags, Takes, TakesRuns, TakesRun};
+ghost use Rattle.parse_machine.specs.Runs.{ArePlain, reads_runs as state_reads_runs};
+ghost use Rattle.parse_machine.specs.Runs.{reads_raw as state_reads_raw, Ahead, Inserts, ReadsTags};
+ghost use Rattle.parse_machine.specs.Runs.{Takes, TakesRuns, TakesRun};
 
 use crate::machine::{Machine, Ran};
 use crate::process::process_alone;
@@ -56,7 +59,8 @@ fn plain_run(text: &str, from: usize) -> &str
     requires { IsCharBoundary text.now from }
     ensures plain { ArePlain (chars result.now) }
     ensures boundary { IsCharBoundary text.now (from + length result.now) }
-    ensures front { chars (take (from + length result.now) text.now) ≡ chars (take from text.now) ++ chars result.now }
+    ensures front { chars (take (from + length result.now) text.now) ≡ chars (take from text.now)
+        ++ chars result.now }
 {
     let rest = &text[from..];
     &rest[..first_mark(rest.as_bytes())]
@@ -79,7 +83,8 @@ fn some_nul(found: Option<Characters>) -> bool
 }
 
 impl Machine {
-    // Whether characters other than NUL, CR, `&` and `<` are inserted as they are. Where the answer is no, they may be all the same.
+    // Whether characters other than NUL, CR, `&` and `<` are inserted as they are. Where the answer
+    // is no, they may be all the same.
     fn takes_runs(&self) -> bool
         ensures { IsTrue result → TakesRuns self.now }
     {
@@ -87,11 +92,14 @@ impl Machine {
     }
 
     // Inserts such characters.
-    fn insert_run(&mut self, alloc: Global, run: &str, ops: &mut Ops) -> Result<(), NoMemory>
-        ensures inserted { IfOk result (λ _. ops.new ≡ ops.old ++ texts (here self.old.open_state) (chars run.now)) }
-        ensures done { IfOk result (λ _. self.new ≡ record self.old { open_state = behind_text (chars run.now) self.old.open_state }) }
+    fn insert_run(&mut self, run: &str, ops: &mut Ops) -> Result<(), NoMemory>
+        ensures inserted { IfOk result
+            (λ _. ops.new ≡ ops.old ++ texts (here self.old.open_state) (chars run.now)) }
+        ensures done { IfOk result
+            (λ _. self.new
+            ≡ record self.old { open_state = behind_text (chars run.now) self.old.open_state }) }
     {
-        self.builder.insert_body_text(alloc, run, ops)
+        self.builder.insert_body_text(run, ops)
     }
 
     // Inserts what a reference stands for, as it is.
@@ -102,8 +110,13 @@ impl Machine {
         characters: Characters,
         ops: &mut Ops,
     ) -> Result<(), NoMemory>
-        ensures inserted { IfOk result (λ _. ops.new ≡ ops.old ++ texts (here self.old.open_state) (characters_in characters)) }
-        ensures done { IfOk result (λ _. self.new ≡ record self.old { open_state = behind_text (characters_in characters) self.old.open_state }) }
+        ensures inserted { IfOk result
+            (λ _. ops.new ≡ ops.old
+            ++ texts (here self.old.open_state) (characters_in characters)) }
+        ensures done { IfOk result
+            (λ _. self.new
+            ≡ record self.old
+            { open_state = behind_text (characters_in characters) self.old.open_state }) }
     {
         self.builder.insert_body_one(alloc, characters.first, ops)?;
         match characters.second {
@@ -112,12 +125,14 @@ impl Machine {
         }
     }
 
-    // Takes the characters from a place on that the tokenizer only adds to what it holds, or drops, and gives the place behind them.
+    // Takes the characters from a place on that the tokenizer only adds to what it holds, or drops,
+    // and gives the place behind them.
     fn append_run(&mut self, text: &str, from: usize) -> Result<usize, NoMemory>
         requires { IsCharBoundary text.now from }
         ensures onward { IfOk result (λ end. from ≤ end) }
         ensures boundary { IfOk result (λ end. IsCharBoundary text.now end) }
-        ensures parsed { IfOk result (λ end. (ops : List Op) → TakesRun text.now from end self.old ops self.new ops) }
+        ensures parsed { IfOk result
+            (λ end. (ops : List Op) → TakesRun text.now from end self.old ops self.new ops) }
     {
         if self.after_cr {
             return Ok(from);
@@ -125,11 +140,10 @@ impl Machine {
         self.tokenizer.append(text, from)
     }
 
-    // Takes the characters from a place on that are inserted as they are, or that the tokenizer only adds to what it holds, and gives the place
-    // behind them.
+    // Takes the characters from a place on that are inserted as they are, or that the tokenizer
+    // only adds to what it holds, and gives the place behind them.
     pub(crate) fn take_run(
         &mut self,
-        alloc: Global,
         text: &str,
         from: usize,
         ops: &mut Ops,
@@ -137,7 +151,8 @@ impl Machine {
         requires { IsCharBoundary text.now from }
         ensures onward { IfOk result (λ end. from ≤ end) }
         ensures boundary { IfOk result (λ end. IsCharBoundary text.now end) }
-        ensures parsed { IfOk result (λ end. TakesRun text.now from end self.old ops.old self.new ops.new) }
+        ensures parsed { IfOk result
+            (λ end. TakesRun text.now from end self.old ops.old self.new ops.new) }
     {
         if !self.takes_runs() {
             return self.append_run(text, from);
@@ -146,11 +161,12 @@ impl Machine {
         if run.is_empty() {
             return Ok(from);
         }
-        self.insert_run(alloc, run, ops)?;
+        self.insert_run(run, ops)?;
         Ok(from + run.len())
     }
 
-    // Whether the parser is in the data state, where a tag that stands whole in the text may be read at once.
+    // Whether the parser is in the data state, where a tag that stands whole in the text may be
+    // read at once.
     fn reads_tags(&self) -> bool
         ensures { IsTrue result → ReadsTags self.now }
     {
@@ -160,7 +176,10 @@ impl Machine {
     // Processes a token that the tokenizer makes of some characters, and stays in its state.
     #[inline(always)]
     fn take_token(&mut self, alloc: Global, token: &Token, ops: &mut Ops) -> Result<Stop, NoMemory>
-        ensures { IfOk result (λ stop. after_ops ops.old (build self.old.tokenizer self.old.after_cr (token.now ∷ []) self.old.open_state) ≡ took ops.new self.new stop) }
+        ensures { IfOk result
+            (λ stop. after_ops ops.old
+            (build self.old.tokenizer self.old.after_cr (token.now ∷ []) self.old.open_state)
+            ≡ took ops.new self.new stop) }
     {
         match process_alone(alloc, &mut self.tokenizer, &mut self.builder, token, ops) {
             Ok(stop) => Ok(stop),
@@ -182,7 +201,10 @@ impl Machine {
         requires { IsCharBoundary text.now from }
         ensures boundary { IfOk result (λ o. IfSome o (λ ran. IsCharBoundary text.now ran.used)) }
         ensures onward { IfOk result (λ o. IfSome o (λ ran. from < ran.used)) }
-        ensures parsed { IfOk result (λ o. IfSome o (λ ran. (es : Entities) → Takes es text.now from ran self.old ops.old self.new ops.new)) }
+        ensures parsed { IfOk result
+            (λ o. IfSome o
+            (λ ran. (es : Entities)
+            → Takes es text.now from ran self.old ops.old self.new ops.new)) }
         ensures none { IfOk result (λ o. o ≡ None → self.new ≡ self.old) }
         ensures none_added { IfOk result (λ o. o ≡ None → ops.new ≡ ops.old) }
     {
@@ -203,7 +225,6 @@ impl Machine {
     // Takes a `<` in such a text that begins nothing, with the character behind it.
     fn take_raw_less(
         &mut self,
-        alloc: Global,
         text: &str,
         from: usize,
         ops: &mut Ops,
@@ -211,7 +232,10 @@ impl Machine {
         requires { IsCharBoundary text.now from }
         ensures boundary { IfOk result (λ o. IfSome o (λ ran. IsCharBoundary text.now ran.used)) }
         ensures onward { IfOk result (λ o. IfSome o (λ ran. from < ran.used)) }
-        ensures parsed { IfOk result (λ o. IfSome o (λ ran. (es : Entities) → Takes es text.now from ran self.old ops.old self.new ops.new)) }
+        ensures parsed { IfOk result
+            (λ o. IfSome o
+            (λ ran. (es : Entities)
+            → Takes es text.now from ran self.old ops.old self.new ops.new)) }
         ensures none { IfOk result (λ o. o ≡ None → self.new ≡ self.old) }
         ensures none_added { IfOk result (λ o. o ≡ None → ops.new ≡ ops.old) }
     {
@@ -221,7 +245,7 @@ impl Machine {
         let Some(used) = raw_less(text, from) else {
             return Ok(None);
         };
-        self.insert_run(alloc, &text[from..used], ops)?;
+        self.insert_run(&text[from..used], ops)?;
         Ok(Some(Ran {
             stop: Stop::InputEnd,
             used,
@@ -240,17 +264,21 @@ impl Machine {
         requires { IsCharBoundary text.now from }
         ensures boundary { IfOk result (λ o. IfSome o (λ ran. IsCharBoundary text.now ran.used)) }
         ensures onward { IfOk result (λ o. IfSome o (λ ran. from < ran.used)) }
-        ensures parsed { IfOk result (λ o. IfSome o (λ ran. (es : Entities) → Takes es text.now from ran self.old ops.old self.new ops.new)) }
+        ensures parsed { IfOk result
+            (λ o. IfSome o
+            (λ ran. (es : Entities)
+            → Takes es text.now from ran self.old ops.old self.new ops.new)) }
         ensures none { IfOk result (λ o. o ≡ None → self.new ≡ self.old) }
         ensures none_added { IfOk result (λ o. o ≡ None → ops.new ≡ ops.old) }
     {
         match self.take_raw_end(alloc, text, from, ops)? {
             Some(ran) => Ok(Some(ran)),
-            None => self.take_raw_less(alloc, text, from, ops),
+            None => self.take_raw_less(text, from, ops),
         }
     }
 
-    // Takes the tag or the reference that begins at a place with a character, where it is read at once.
+    // Takes the tag or the reference that begins at a place with a character, where it is read at
+    // once.
     pub(crate) fn take_tag(
         &mut self,
         alloc: Global,
@@ -263,7 +291,9 @@ impl Machine {
         requires { IsCharBoundary text.now from }
         ensures boundary { IfOk result (λ o. IfSome o (λ ran. IsCharBoundary text.now ran.used)) }
         ensures onward { IfOk result (λ o. IfSome o (λ ran. from < ran.used)) }
-        ensures parsed { IfOk result (λ o. IfSome o (λ ran. Takes table.now text.now from ran self.old ops.old self.new ops.new)) }
+        ensures parsed { IfOk result
+            (λ o. IfSome o
+            (λ ran. Takes table.now text.now from ran self.old ops.old self.new ops.new)) }
         ensures none { IfOk result (λ o. o ≡ None → self.new ≡ self.old) }
         ensures none_added { IfOk result (λ o. o ≡ None → ops.new ≡ ops.old) }
     {
@@ -291,19 +321,25 @@ impl Machine {
         reference: OpenReference<'_>,
         ops: &mut Ops,
     ) -> Result<(), NoMemory>
-        ensures inserted { IfOk result (λ _. ops.new ≡ ops.old ++ texts (here self.old.open_state) (open_characters reference.entry)) }
-        ensures done { IfOk result (λ _. self.new ≡ record self.old { open_state = behind_text (open_characters reference.entry) self.old.open_state }) }
+        ensures inserted { IfOk result
+            (λ _. ops.new ≡ ops.old
+            ++ texts (here self.old.open_state) (open_characters reference.entry)) }
+        ensures done { IfOk result
+            (λ _. self.new
+            ≡ record self.old
+            { open_state = behind_text (open_characters reference.entry) self.old.open_state }) }
     {
         match reference.characters {
-            None => self.insert_run(alloc, reference.rest, ops),
+            None => self.insert_run(reference.rest, ops),
             Some(characters) => {
                 self.insert_characters(alloc, characters, ops)?;
-                self.insert_run(alloc, reference.rest, ops)
+                self.insert_run(reference.rest, ops)
             }
         }
     }
 
-    // Takes the named reference that begins at a place, up to a character with which no name goes on, and gives that place.
+    // Takes the named reference that begins at a place, up to a character with which no name goes
+    // on, and gives that place.
     #[inline(never)]
     fn take_open_reference(
         &mut self,
@@ -319,7 +355,9 @@ impl Machine {
         ensures boundary { IfOk result (λ o. IfSome o (λ end. IsCharBoundary text.now end)) }
         ensures onward { IfOk result (λ o. IfSome o (λ end. from < end)) }
         ensures within { IfOk result (λ o. IfSome o (λ end. end < length text.now)) }
-        ensures parsed { IfOk result (λ o. IfSome o (λ end. Inserts table.now text.now from end self.old ops.old self.new ops.new)) }
+        ensures parsed { IfOk result
+            (λ o. IfSome o
+            (λ end. Inserts table.now text.now from end self.old ops.old self.new ops.new)) }
         ensures none { IfOk result (λ o. o ≡ None → self.new ≡ self.old) }
         ensures none_added { IfOk result (λ o. o ≡ None → ops.new ≡ ops.old) }
     {
@@ -333,7 +371,8 @@ impl Machine {
         Ok(Some(reference.end))
     }
 
-    // Takes the named reference that begins at a place, where it is looked up at once and inserted as it is, and gives the place behind it.
+    // Takes the named reference that begins at a place, where it is looked up at once and inserted
+    // as it is, and gives the place behind it.
     fn take_reference(
         &mut self,
         alloc: Global,
@@ -346,7 +385,9 @@ impl Machine {
         ensures boundary { IfOk result (λ o. IfSome o (λ end. IsCharBoundary text.now end)) }
         ensures onward { IfOk result (λ o. IfSome o (λ end. from < end)) }
         ensures within { IfOk result (λ o. IfSome o (λ end. end < length text.now)) }
-        ensures parsed { IfOk result (λ o. IfSome o (λ end. Inserts table.now text.now from end self.old ops.old self.new ops.new)) }
+        ensures parsed { IfOk result
+            (λ o. IfSome o
+            (λ end. Inserts table.now text.now from end self.old ops.old self.new ops.new)) }
         ensures none { IfOk result (λ o. o ≡ None → self.new ≡ self.old) }
         ensures none_added { IfOk result (λ o. o ≡ None → ops.new ≡ ops.old) }
     {
@@ -367,7 +408,8 @@ impl Machine {
         Ok(Some(reference.end))
     }
 
-    // Takes all such references from a place on, each with some character behind it, and gives the place behind the last.
+    // Takes all such references from a place on, each with some character behind it, and gives the
+    // place behind the last.
     pub(crate) fn take_references(
         &mut self,
         alloc: Global,
@@ -379,7 +421,8 @@ impl Machine {
         requires { IsCharBoundary text.now from }
         ensures boundary { IfOk result (λ end. IsCharBoundary text.now end) }
         ensures onward { IfOk result (λ end. from ≤ end) }
-        ensures ahead { IfOk result (λ end. Ahead table.now text.now from end self.old ops.old self.new ops.new) }
+        ensures ahead { IfOk result
+            (λ end. Ahead table.now text.now from end self.old ops.old self.new ops.new) }
     {
         let mut end = from;
         while let Some(behind) = self.take_reference(alloc, table, text, end, ops)? {

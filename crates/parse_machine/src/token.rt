@@ -1,9 +1,11 @@
-//! A token, by the rules of the mode and of those that it is then to go by (13.2.6).
+//! A token, by the rules of the mode and of those that it is then to go by
+//! (13.2.6 #tree-construction).
 
 ghost use Rattle.std.specs.Prelude.{◌≡◌, ◌==◌, ◌&&◌, false, IfOk};
 ghost use Rattle.html_types.specs.declared.instruction.Mode.TheVariants as mode;
 ghost use Rattle.html_types.specs.declared.token.Token.TheVariants as token;
-ghost use Rattle.standard.specs.Rules.{rules_for, answer, adopting, by_rules, process, rounds, is_line_feed as is_line_feed_in, construct as constructed};
+ghost use Rattle.standard.specs.Rules.{rules_for, answer, adopting, by_rules, process, rounds};
+ghost use Rattle.standard.specs.Rules.{is_line_feed as is_line_feed_in, construct as constructed};
 ghost use Rattle.parse_machine.specs.Rounds.{rounded, round_of};
 
 use crate::after_adoption::after_adopt;
@@ -23,7 +25,8 @@ fn is_line_feed(token: &Token) -> bool
     matches!(token, Token::Character('\n'))
 }
 
-// The adoption agency algorithm (13.2.6.4.7), and the rest of the row that asked for it.
+// The adoption agency algorithm (13.2.6.4.7 #parsing-main-inbody), and the rest of the row that
+// asked for it.
 #[tactic(auto, unfolding(standard::specs::Rules::adopting))]
 #[inline(never)]
 fn by_adoption(
@@ -34,7 +37,8 @@ fn by_adoption(
     token: &Token,
     ops: &mut Ops,
 ) -> Result<Next, NoMemory>
-    ensures { IfOk result (λ n. answer builder.new ops.new n ≡ adopting name then token.now builder.old ops.old) }
+    ensures { IfOk result
+        (λ n. answer builder.new ops.new n ≡ adopting name then token.now builder.old ops.old) }
 {
     let adopted = adopt(alloc, builder, name, ops)?;
     after_adopt(alloc, builder, then, adopted, token, ops)
@@ -49,7 +53,8 @@ fn by_rules(
     token: &Token,
     ops: &mut Ops,
 ) -> Result<Next, NoMemory>
-    ensures { IfOk result (λ n. answer builder.new ops.new n ≡ by_rules mode token.now builder.old ops.old) }
+    ensures { IfOk result
+        (λ n. answer builder.new ops.new n ≡ by_rules mode token.now builder.old ops.old) }
 {
     match builder.answer_row(alloc, row(mode, token), token, ops)? {
         Next::Adopt { name, then } => by_adoption(alloc, builder, name, then, token, ops),
@@ -72,7 +77,8 @@ fn one_round(
     token: &Token,
     ops: &mut Ops,
 ) -> Result<Round, NoMemory>
-    ensures { IfOk result (λ round. rounded builder.new ops.new round ≡ round_of mode token.now builder.old ops.old) }
+    ensures { IfOk result
+        (λ round. rounded builder.new ops.new round ≡ round_of mode token.now builder.old ops.old) }
 {
     match by_rules(alloc, builder, mode, token, ops)? {
         Next::Reprocess => Ok(Round::Once(builder.rules_for(token))),
@@ -91,7 +97,8 @@ fn by_all_rules(
     token: &Token,
     ops: &mut Ops,
 ) -> Result<Next, NoMemory>
-    ensures { IfOk result (λ n. answer builder.new ops.new n ≡ process rounds first token.now builder.old ops.old) }
+    ensures { IfOk result
+        (λ n. answer builder.new ops.new n ≡ process rounds first token.now builder.old ops.old) }
 {
     let mut round = Round::Once(first);
     let mut left = ROUNDS;
@@ -118,7 +125,9 @@ fn by_body_row(
     ops: &mut Ops,
 ) -> Result<Next, NoMemory>
     requires { (c == 0) ≡ false }
-    ensures { IfOk result (λ n. answer builder.new ops.new n ≡ process rounds mode.InBody (token.Character c) builder.old ops.old) }
+    ensures { IfOk result
+        (λ n. answer builder.new ops.new n
+        ≡ process rounds mode.InBody (token.Character c) builder.old ops.old) }
 {
     let next = builder.insert_body_character(alloc, c, ops)?;
     Ok(next)
@@ -131,7 +140,9 @@ fn by_own_rules(
     token: &Token,
     ops: &mut Ops,
 ) -> Result<Next, NoMemory>
-    ensures { IfOk result (λ n. answer builder.new ops.new n ≡ process rounds (rules_for token.now builder.old) token.now builder.old ops.old) }
+    ensures { IfOk result
+        (λ n. answer builder.new ops.new n
+        ≡ process rounds (rules_for token.now builder.old) token.now builder.old ops.old) }
 {
     match (builder.rules_for(token), token) {
         (Mode::InBody, Token::Character(c)) if *c != '\0' => by_body_row(alloc, builder, *c, ops),
@@ -155,7 +166,8 @@ pub fn construct(
     token: &Token,
     ops: &mut Ops,
 ) -> Result<Next, NoMemory>
-    ensures { IfOk result (λ n. answer builder.new ops.new n ≡ constructed token.now builder.old ops.old) }
+    ensures { IfOk result
+        (λ n. answer builder.new ops.new n ≡ constructed token.now builder.old ops.old) }
 {
     let skip = builder.take_skip();
     let next = if is_left_out(skip, token) {

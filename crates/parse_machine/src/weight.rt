@@ -29,7 +29,8 @@ fn is_short_attribute(attribute: &Option<Attribute>) -> bool {
     }
 }
 
-// A copy shares the attributes, but where one of the two goes on they are copied, and a comparison reads them.
+// A copy shares the attributes, but where one of the two goes on they are copied, and a comparison
+// reads them.
 fn is_light_tag(tag: &PartialTag) -> bool {
     is_short(&tag.name)
         && tag.attributes.as_slice().len() <= FEW_ATTRIBUTES

@@ -1,5 +1,6 @@
-//! The parser's side in a thread of its own: it takes requests from one lane and puts its replies into another, in order. Where no thread
-//! starts, the same steps run over the same lanes in the calling thread.
+//! The parser's side in a thread of its own: it takes requests from one lane and puts its replies
+//! into another, in order. Where no thread starts, the same steps run over the same lanes in the
+//! calling thread.
 #![tactic(auto)]
 
 mod messages;

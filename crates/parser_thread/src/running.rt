@@ -26,8 +26,8 @@ pub struct Lanes<E: InForce> {
     pub answers: Met<FromParser<E>>,
 }
 
-/// The parser's side at work in its thread, and the document's ends of both lanes. Where no thread could be made it works in this thread, after
-/// each request. It isn't let go: `finish` ends it.
+/// The parser's side at work in its thread, and the document's ends of both lanes. Where no thread
+/// could be made it works in this thread, after each request. It isn't let go: `finish` ends it.
 pub struct ParserThread<E: InForce, G> {
     pub ask: Put<ToParser>,
     pub replies: Take<FromParser<E>>,
@@ -57,8 +57,12 @@ pub(crate) fn begin<E: InForce, G: Gate + Drop>(
     requires table { table.now ≡ E.entities }
     requires ahead { ahead ≤ 64 }
     ensures table { IfOk result (λ b. (b.table ≡ E.entities) × (b.outfit.table ≡ E.entities)) }
-    ensures asked { IfOk result (λ b. (b.ask.put ≡ []) × (b.outfit.lanes.asked.taken ≡ []) × (b.outfit.lanes.asked.lane ≡ b.ask.lane)) }
-    ensures answers { IfOk result (λ b. (b.replies.taken ≡ []) × (b.outfit.lanes.answers.put ≡ []) × (b.outfit.lanes.answers.lane ≡ b.replies.lane)) }
+    ensures asked { IfOk result
+        (λ b. (b.ask.put ≡ []) × (b.outfit.lanes.asked.taken ≡ [])
+        × (b.outfit.lanes.asked.lane ≡ b.ask.lane)) }
+    ensures answers { IfOk result
+        (λ b. (b.replies.taken ≡ []) × (b.outfit.lanes.answers.put ≡ [])
+        × (b.outfit.lanes.answers.lane ≡ b.replies.lane)) }
     ensures room { IfOk result (λ b. (b.ask.room ≡ ahead + 1) × (b.replies.room ≡ ahead + 1)) }
 {
     let (ask, asked) = lane(alloc, ahead + 1)?;
@@ -84,8 +88,9 @@ pub(crate) fn begin<E: InForce, G: Gate + Drop>(
     })
 }
 
-/// Starts the parser's side, with the named character references of `table`, which are those in force. `ahead` is how many requests are at most
-/// sent whose replies weren't taken. Each lane holds one more: so many replies, or so many requests and the word to stop. All memory that it
+/// Starts the parser's side, with the named character references of `table`, which are those in
+/// force. `ahead` is how many requests are at most sent whose replies weren't taken. Each lane
+/// holds one more: so many replies, or so many requests and the word to stop. All memory that it
 /// needs itself is taken here.
 pub fn start<
     R: Threads + Wait + Copy + Send + Sync + 'static,
@@ -177,7 +182,8 @@ impl<E: InForce, G: Gate + Drop> ParserThread<E, G> {
         self.seat.step(rt, self.alloc, &self.table, &*self.gate);
     }
 
-    /// Takes what is given next, waiting until it is there. It comes for each request sent, up to want of memory.
+    /// Takes what is given next, waiting until it is there. It comes for each request sent, up to
+    /// want of memory.
     pub fn take<R: Wait>(&mut self, rt: &R) -> FromParser<E>
         requires { IsRunning E.InForce self.old }
         ensures running { IsRunning E.InForce self.new }
@@ -189,13 +195,15 @@ impl<E: InForce, G: Gate + Drop> ParserThread<E, G> {
         self.replies.take(rt)
     }
 
-    /// Tells the parser's side to stop, waits until it has, and gives back what went through both lanes.
+    /// Tells the parser's side to stop, waits until it has, and gives back what went through both
+    /// lanes.
     pub fn finish<R: Threads + Wait>(self, rt: &R) -> Lanes<E>
         requires { IsRunning E.InForce self }
         // What was sent, and then the word to stop.
         ensures asked { result.asked.put ≡ self.ask.put ++ message.Stop ∷ [] }
         ensures taken { result.answers.taken ≡ self.replies.taken }
-        // The requests taken are the first of those sent, and the replies taken the first of those given.
+        // The requests taken are the first of those sent, and the replies taken the first of those
+        // given.
         ensures asked_in_order { IsPrefix result.asked.taken result.asked.put }
         ensures answers_in_order { IsPrefix result.answers.taken result.answers.put }
         // Each request taken is answered once, in order, the last perhaps by want of memory.

@@ -103,7 +103,8 @@ fn seat_here<E: InForce>(parting: Parting<E>, was: Snapshot<ParserLanes<E>>) -> 
     }
 }
 
-/// Starts the thread. Where none can be made the parser's side stays in this one, over the same lanes.
+/// Starts the thread. Where none can be made the parser's side stays in this one, over the same
+/// lanes.
 pub(crate) fn take_seat<
     R: Threads + Wait + Copy + Send + Sync + 'static,
     E: InForce + Send + 'static,

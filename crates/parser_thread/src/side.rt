@@ -57,10 +57,12 @@ impl<E: InForce> ParserSide<E> {
     // Takes one message, and answers it. False where it was the last.
     fn serve<R: Wait, G: Gate>(&mut self, rt: &R, alloc: Global, table: &Table, gate: &G) -> bool
         requires table { table.now ≡ E.entities }
-        requires serving { Serving E.InForce self.old.worker self.old.asked.taken self.old.answers.put }
+        requires serving { Serving E.InForce self.old.worker self.old.asked.taken
+            self.old.answers.put }
         ensures asked { self.new.asked.lane ≡ self.old.asked.lane }
         ensures answers { self.new.answers.lane ≡ self.old.answers.lane }
-        ensures goes_on { IsTrue result → Serving E.InForce self.new.worker self.new.asked.taken self.new.answers.put }
+        ensures goes_on { IsTrue result
+            → Serving E.InForce self.new.worker self.new.asked.taken self.new.answers.put }
         ensures last { result ≡ false → Worked E.InForce self.new.asked.taken self.new.answers.put }
     {
         match self.asked.take(rt) {
@@ -120,8 +122,10 @@ impl<E: InForce> ParserSide<E> {
 
     // Takes and puts no more.
     fn end(self) -> Ends<E>
-        ensures asked { (result.asked.lane ≡ self.asked.lane) × (result.asked.taken ≡ self.asked.taken) }
-        ensures answers { (result.answers.lane ≡ self.answers.lane) × (result.answers.put ≡ self.answers.put) }
+        ensures asked { (result.asked.lane ≡ self.asked.lane)
+            × (result.asked.taken ≡ self.asked.taken) }
+        ensures answers { (result.answers.lane ≡ self.answers.lane)
+            × (result.answers.put ≡ self.answers.put) }
     {
         let ParserSide {
             worker: _worker,
@@ -154,9 +158,11 @@ pub(crate) fn answer_all<R: Wait, E: InForce, G: Gate>(
     ParserSide::new(asked, answers).finish(rt, alloc, table, gate)
 }
 
-/// What the parser's thread does, from the beginning of a page on: it takes requests until it is told to stop, and answers each once, in order,
-/// with the named character references of `table`, which are those in force. The gate is told the number of each reply once it is given. Where
-/// memory runs out over a request it says so in place of the reply, and ends. Its ends of the lanes come back in every case.
+/// What the parser's thread does, from the beginning of a page on: it takes requests until it is
+/// told to stop, and answers each once, in order, with the named character references of `table`,
+/// which are those in force. The gate is told the number of each reply once it is given. Where
+/// memory runs out over a request it says so in place of the reply, and ends. Its ends of the lanes
+/// come back in every case.
 pub fn work<R: Threads + Wait + Sync, E: InForce, G: Gate + Sync>(
     rt: &R,
     alloc: Global,
@@ -169,8 +175,8 @@ pub fn work<R: Threads + Wait + Sync, E: InForce, G: Gate + Sync>(
     requires first { (asked.taken ≡ []) × (answers.put ≡ []) }
     ensures asked { result.asked.lane ≡ asked.lane }
     ensures answers { result.answers.lane ≡ answers.lane }
-    // Each request taken is answered once, in order, the last perhaps by want of memory; and it ended at the word to stop, or said that memory ran
-    // out.
+    // Each request taken is answered once, in order, the last perhaps by want of memory; and it
+    // ended at the word to stop, or said that memory ran out.
     ensures worked { Worked E.InForce result.asked.taken result.answers.put }
 {
     answer_all(rt, alloc, table, asked, answers, gate)

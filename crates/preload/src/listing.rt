@@ -1,6 +1,7 @@
 //! The scripts that a reply makes known.
 
-ghost use Rattle.std.specs.Prelude.{◌≡◌, ◌||◌, [], ◌∷◌, map, flat_map, is_some, codes, true, IfOk, IfSome, IfNone, OnOk};
+ghost use Rattle.std.specs.Prelude.{◌≡◌, ◌||◌, [], ◌∷◌, map, flat_map, is_some, codes, true, IfOk};
+ghost use Rattle.std.specs.Prelude.{IfSome, IfNone, OnOk};
 ghost use Rattle.std.specs.Str.{chars};
 ghost use Rattle.text_store.specs.Records.{seen_op};
 ghost use Rattle.serial.specs.Scripts.{is_lawful};
@@ -54,7 +55,8 @@ fn is_later(attributes: &Listed<'_>) -> bool
 // The `src` of a script with these attributes, where it would be fetched.
 #[tactic(auto, using(std::proofs::lemmas::Grind::common_steps, op_exec::proofs::Literals::src_text, crate::proofs::Naming::wanted_still, crate::proofs::Naming::wanted_later, crate::proofs::Naming::wanted_none, crate::proofs::Naming::wanted_lawful, crate::proofs::Naming::wanted_unlawful))]
 fn wanted_src<'a>(attributes: &Listed<'a>) -> Option<&'a str>
-    ensures some { IfSome result (λ src. wanted_by (prepared_with attributes.now []) ≡ chars src.now ∷
+    ensures some { IfSome result
+        (λ src. wanted_by (prepared_with attributes.now []) ≡ chars src.now ∷
         []) }
     ensures lawful { IfSome result (λ src. is_lawful (chars src.now) ≡ true) }
     ensures none { IfNone result (wanted_by (prepared_with attributes.now []) ≡ []) }
@@ -111,7 +113,8 @@ fn add_script(
 
 // Adds the name of the script that the operation makes.
 fn add_op(alloc: Global, names: &mut Vec<ScriptName>, op: SeenOp<'_>) -> Result<(), NoMemory>
-    ensures { OnOk result (names.new.items ≡ firsts names.old.items (wanted_in (seen_op op.entry))) }
+    ensures { OnOk result
+        (names.new.items ≡ firsts names.old.items (wanted_in (seen_op op.entry))) }
 {
     match op {
         SeenOp::Make {

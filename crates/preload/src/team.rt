@@ -1,7 +1,8 @@
 //! The helpers of a run: each with its thread while it goes on, and all of them back in their
 //! places.
 
-ghost use Rattle.std.specs.Prelude.{◌≡◌, ◌<◌, ◌≤◌, ◌+◌, [], ◌++◌, map, length, false, Some, None, slice_get, IfOk, IfSome, IfNone, OnErr, IsTrue, vec_len};
+ghost use Rattle.std.specs.Prelude.{◌≡◌, ◌<◌, ◌≤◌, ◌+◌, [], ◌++◌, map, length, false, Some, None};
+ghost use Rattle.std.specs.Prelude.{slice_get, IfOk, IfSome, IfNone, OnErr, IsTrue, vec_len};
 ghost use Rattle.std.specs.Str.{chars};
 ghost use Rattle.std.specs.String.{string_bytes};
 ghost use Rattle.std.specs.Vec.{vec_capacity};
@@ -9,7 +10,12 @@ ghost use Rattle.core_steps.specs.Journals.{found};
 ghost use Rattle.page_turns.specs.Scripts.{AreDistinct, IsGiven, GivesMore, MayHelp, AnyOf};
 ghost use Rattle.page_turns.specs.Early.{TakesNext};
 ghost use Rattle.preload.specs.Names.{is_listed};
-ghost use Rattle.preload.specs.Teams.{Placed, CameBackEach, CameAs, IsAsked, IsMember, AreMembers, helper_of, IsIn, AreIn, names_to, names_in, given_of, given_to, given_in, to_come_of, to_come_to, to_come_in, AsksMore, SameHelper, SameMember, SameMembers, IsPlace, HasPlace, IsUnasked, AreUnasked, HasRoom, CameBack, GaveOwn, HelpedEach, names_through, given_through, helps_first};
+ghost use Rattle.preload.specs.Teams.{Placed, CameBackEach, CameAs, IsAsked, IsMember, AreMembers};
+ghost use Rattle.preload.specs.Teams.{helper_of, IsIn, AreIn, names_to, names_in, given_of};
+ghost use Rattle.preload.specs.Teams.{given_to, given_in, to_come_of, to_come_to, to_come_in};
+ghost use Rattle.preload.specs.Teams.{AsksMore, SameHelper, SameMember, SameMembers, IsPlace};
+ghost use Rattle.preload.specs.Teams.{HasPlace, IsUnasked, AreUnasked, HasRoom, CameBack, GaveOwn};
+ghost use Rattle.preload.specs.Teams.{HelpedEach, names_through, given_through, helps_first};
 
 use crate::helper::{Helper, HelperLanes, start};
 use crate::listing::names;
@@ -402,7 +408,8 @@ impl<'a, R, F: Outside + Drop> Model for Fetchers<'a, R, F> {
     ghost use Rattle.std.specs.String.{string_bytes};
     ghost use Rattle.std.specs.Vec.{vec_capacity};
     ghost use Rattle.page_turns.specs.Scripts.{AreDistinct};
-    ghost use Rattle.preload.specs.Teams.{Team, AreMembers, AreIn, helper_of, names_in, given_in, to_come_in};
+    ghost use Rattle.preload.specs.Teams.{Team, AreMembers, AreIn, helper_of, names_in, given_in};
+    ghost use Rattle.preload.specs.Teams.{to_come_in};
 
     ghost Value = { Team F };
 

@@ -1,4 +1,5 @@
--- The parser of a fragment (13.4): its context stays, no script's end tag stops it, and what it asks for names ids that are bound.
+-- The parser of a fragment (13.4 #parsing-html-fragments): its context stays, no script's end tag
+-- stops it, and what it asks for names ids that are bound.
 use Rattle.std.specs.Prelude.{◌≡◌, ℕ, Bool, true, false, is_some, List, [], Some}
 use Rattle.html_types.specs.declared.instruction.Next.{Next}
 use Rattle.html_types.specs.declared.instruction.Next.TheVariants as next

@@ -101,7 +101,8 @@ fn append<'a>(alloc: Global, text: &'a str) -> Result<Option<(Statement, &'a str
     }
 }
 
-/// The statement that sets what stands in an element, where the text begins with one, and the text behind it.
+/// The statement that sets what stands in an element, where the text begins with one, and the text
+/// behind it.
 fn set_inner<'a>(alloc: Global, text: &'a str) -> Result<Option<(Statement, &'a str)>, NoMemory>
     ensures { IfOk result (λ found. option_map parted found ≡ set_inner (chars text.now)) }
 {
@@ -120,7 +121,8 @@ fn set_inner<'a>(alloc: Global, text: &'a str) -> Result<Option<(Statement, &'a 
     }
 }
 
-/// The value of the string that stands between two words at the front of the text, and the text behind them.
+/// The value of the string that stands between two words at the front of the text, and the text
+/// behind them.
 fn string_between<'a>(
     alloc: Global,
     text: &'a str,

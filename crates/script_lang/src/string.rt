@@ -1,6 +1,7 @@
 //! The strings of a script, which are JSON strings.
 
-ghost use Rattle.std.specs.Prelude.{◌≡◌, ◌+◌, ◌∷◌, option_map, option_and_then, IfOk, IfSome, false};
+ghost use Rattle.std.specs.Prelude.{◌≡◌, ◌+◌, ◌∷◌, option_map, option_and_then, IfOk, IfSome};
+ghost use Rattle.std.specs.Prelude.{false};
 ghost use Rattle.std.specs.Str.{chars, IsCharBoundary, IsUtf8};
 ghost use Rattle.serde_json.specs.Find.{as_str};
 ghost use Rattle.serde_json.specs.Read.{read};
@@ -29,15 +30,16 @@ fn string_end(text: &str) -> Option<usize>
     None
 }
 
-/// Whether the byte ends a string, or the part of it that means itself: a quote, a backslash or a control character.
+/// Whether the byte ends a string, or the part of it that means itself: a quote, a backslash or a
+/// control character.
 fn is_special(byte: u8) -> bool
     ensures { result ≡ is_special byte }
 {
     byte == b'"' || byte == b'\\' || byte < b' '
 }
 
-/// The place of the quote that ends a string in which no backslash and no control character stands: all before it is the
-/// string's value. `text` begins behind the quote that begins it.
+/// The place of the quote that ends a string in which no backslash and no control character stands:
+/// all before it is the string's value. `text` begins behind the quote that begins it.
 fn plain_end(text: &str) -> Option<usize>
     ensures found { IfSome result (λ end. IsPlainTo text.now end) }
     ensures boundary { IfSome result (λ end. IsCharBoundary text.now end) }
@@ -66,7 +68,8 @@ fn json_value(alloc: Global, quoted: &str) -> Result<Option<Text>, NoMemory>
     }
 }
 
-/// The value of the string with which the text begins, read as JSON; `inside` is the text behind its first quote.
+/// The value of the string with which the text begins, read as JSON; `inside` is the text behind
+/// its first quote.
 fn escaped_value<'a>(
     alloc: Global,
     text: &'a str,
@@ -87,7 +90,8 @@ fn escaped_value<'a>(
     }
 }
 
-/// The value of the string with which the text begins, and the text behind that string; none where it begins with none.
+/// The value of the string with which the text begins, and the text behind that string; none where
+/// it begins with none.
 pub(crate) fn string_value<'a>(
     alloc: Global,
     text: &'a str,

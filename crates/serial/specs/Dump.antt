@@ -1,5 +1,5 @@
--- The dump of a tree, in bytes: a line for each node under the Document, in tree order (DOM 1.1),
--- and a last line.
+-- The dump of a tree, in bytes: a line for each node under the Document, in tree order
+-- (DOM 1.1 #trees), and a last line.
 use Rattle.std.specs.Prelude.{ℕ, ◌+◌, List, [], ◌++◌, flat_map, length, decimal, encode_utf8_all, codes, option_to_list}
 use Rattle.json.specs.Print.{quoted}
 use Rattle.html_types.specs.Names.{name_text, space_of}

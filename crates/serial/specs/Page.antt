@@ -1,6 +1,7 @@
--- The text and the ending of a page's bytes (13.2.3 The input byte stream). The encoding is UTF-8, as the Encoding
--- standard's "UTF-8 decode" reads it: one byte order mark at the front is dropped. In place of U+FFFD, bytes that aren't
--- UTF-8 end the page. So does the limit, and a read that failed.
+-- The text and the ending of a page's bytes (13.2.3 #the-input-byte-stream The input byte stream).
+-- The encoding is UTF-8, as the Encoding standard's "UTF-8 decode" reads it: one byte order mark at
+-- the front is dropped. In place of U+FFFD, bytes that aren't UTF-8 end the page. So does the
+-- limit, and a read that failed.
 use Rattle.std.specs.Prelude.{ℕ, ◌+◌, List, [], ◌∷◌, ◌==◌, Bool, is_none, length, take, drop, nat_lt, if◌then◌else◌, Option, Some, None, unwrap_or}
 use Rattle.std.specs.Str.{chars}
 use Rattle.std.specs.Str.Lossy.{utf8_valid_len, utf8_error_len}

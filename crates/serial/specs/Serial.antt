@@ -1,5 +1,6 @@
--- The serial parse of a page: its characters one by one (13.2.3, 13.2.5), and its scripts where their end tags are met
--- (13.2.6.4.8, the document.write() steps).
+-- The serial parse of a page: its characters one by one (13.2.3 #the-input-byte-stream,
+-- 13.2.5 #tokenization), and its scripts where their end tags are met
+-- (13.2.6.4.8 #parsing-main-incdata, the document.write() steps).
 use Rattle.std.specs.Prelude.{◌≡◌, ℕ, zero, suc, ◌+◌, ◌-◌, nat_le, Bool, true, false, List, [], ◌∷◌, ◌++◌, length, take, drop, Option, Some, None, option_and_then}
 use Rattle.html_types.specs.declared.operation.NodeId.{NodeId}
 use Rattle.html_types.specs.declared.ending.Ending.{Ending}

@@ -15,11 +15,12 @@ pub enum Statement {
     WriteLine(Text),
     /// `document.getElementById("V").remove();`
     Remove(Text),
-    /// `document.getElementById("V").append(document.getElementById("W"));`: the second element comes last among the first one's children.
+    /// `document.getElementById("V").append(document.getElementById("W"));`: the second element
+    /// comes last among the first one's children.
     Append(Text, Text),
     /// `document.getElementById("V").innerHTML = "W";`: the element's children (a template's: its
     /// contents' children) are taken out, and those of the fragment of W with it as context
-    /// (13.4) put there. None of the fragment's scripts is ever executed.
+    /// (13.4 #parsing-html-fragments) put there. None of the fragment's scripts is ever executed.
     SetInner(Text, Text),
     /// `console.log(document.getElementById("V").outerHTML);`
     LogById(Text),

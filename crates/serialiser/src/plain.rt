@@ -23,12 +23,15 @@ fn plain_len(bytes: &[u8]) -> usize
     bytes.len()
 }
 
-/// The characters of a text from a place on, up to the first that may be written otherwise in a text or in an attribute's value.
+/// The characters of a text from a place on, up to the first that may be written otherwise in a
+/// text or in an attribute's value.
 pub(crate) fn plain_run(text: &str, from: usize) -> &str
     requires { IsCharBoundary text.now from }
-    ensures plain { (in_value : Bool) → flat_map (escaped_for in_value) (chars result.now) ≡ chars result.now }
+    ensures plain { (in_value : Bool)
+        → flat_map (escaped_for in_value) (chars result.now) ≡ chars result.now }
     ensures boundary { IsCharBoundary text.now (from + length result.now) }
-    ensures front { chars (take (from + length result.now) text.now) ≡ chars (take from text.now) ++ chars result.now }
+    ensures front { chars (take (from + length result.now) text.now) ≡ chars (take from text.now)
+        ++ chars result.now }
 {
     let rest = &text[from..];
     &rest[..plain_len(rest.as_bytes())]

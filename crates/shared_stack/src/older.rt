@@ -1,6 +1,7 @@
 //! The older entries of a list, which its copies share, in two blocks.
 
-ghost use Rattle.std.specs.Prelude.{◌≡◌, ◌+◌, ◌^◌, ◌<◌, ◌≤◌, [], ◌∷◌, ◌++◌, length, reverse, take, drop, slice_index_or, IfOk, OnOk, MatchOption};
+ghost use Rattle.std.specs.Prelude.{◌≡◌, ◌+◌, ◌^◌, ◌<◌, ◌≤◌, [], ◌∷◌, ◌++◌, length, reverse, take};
+ghost use Rattle.std.specs.Prelude.{drop, slice_index_or, IfOk, OnOk, MatchOption};
 
 use crate::block::{Block, own_part};
 use crate::entry::Entry;

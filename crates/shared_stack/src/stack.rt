@@ -1,6 +1,8 @@
 //! A list seen from its end, whose copies share its older entries.
 
-ghost use Rattle.std.specs.Prelude.{◌≡◌, ◌↔◌, ◌<◌, ◌≤◌, [], ◌∷◌, ◌++◌, length, reverse, drop, insert, remove, slice_set, slice_index_or, IsTrue, IfOk, OnOk, OnErr, MatchOption};
+ghost use Rattle.std.specs.Prelude.{◌≡◌, ◌↔◌, ◌<◌, ◌≤◌, [], ◌∷◌, ◌++◌, length, reverse, drop};
+ghost use Rattle.std.specs.Prelude.{insert, remove, slice_set, slice_index_or, IsTrue, IfOk, OnOk};
+ghost use Rattle.std.specs.Prelude.{OnErr, MatchOption};
 
 use crate::block::copies;
 use crate::entry::Entry;

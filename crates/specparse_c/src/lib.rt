@@ -5,8 +5,12 @@
 
 ghost use Rattle.std.specs.Prelude.{◌≡◌, ◌≢◌, ◌∷◌, [], Contains};
 ghost use Rattle.specparse_c.specs.Rooms.{no_sizes, Keeps, KeepsBytes, KeepsRun};
-ghost use Rattle.specparse_c.specs.Runs.{PrintsAll, PrintsBad, PrintsLimit, LacksPrintRoom, AreNoWords};
-ghost use Rattle.specparse_c.specs.Calls.{HasPage, HasText, HasFragment, LacksRoom, LacksTextRoom, LacksFragmentRoom, NoEntities, IsBadUtf8, IsLimit, IsNoText, IsDeep, IsNoContext, HasEntities, LacksEntitiesRoom};
+ghost use Rattle.specparse_c.specs.Runs.{PrintsAll, PrintsBad, PrintsLimit, LacksPrintRoom};
+ghost use Rattle.specparse_c.specs.Runs.{AreNoWords};
+ghost use Rattle.specparse_c.specs.Calls.{HasPage, HasText, HasFragment, LacksRoom, LacksTextRoom};
+ghost use Rattle.specparse_c.specs.Calls.{LacksFragmentRoom, NoEntities, IsBadUtf8, IsLimit};
+ghost use Rattle.specparse_c.specs.Calls.{IsNoText, IsDeep, IsNoContext, HasEntities};
+ghost use Rattle.specparse_c.specs.Calls.{LacksEntitiesRoom};
 
 mod failure;
 mod results;
@@ -68,7 +72,7 @@ pub extern "C" fn sp_parse(
     rooms::give(tree, nodes, attributes, text, sizes)
 }
 
-/// The text of a page's tree (13.3), parsed without its scripts.
+/// The text of a page's tree (13.3 #serialising-html-fragments), parsed without its scripts.
 #[unsafe(no_mangle)]
 pub extern "C" fn sp_html(
     alloc: Global,
@@ -90,10 +94,10 @@ pub extern "C" fn sp_html(
     rooms::give_text(written, text, needed)
 }
 
-/// Parses a text as the children of an element, its context (13.4): `name` and `space` are the
-/// element's (0 HTML, 1 MathML, 2 SVG), and `flags` is the sum of 1 where it is an annotation-xml
-/// that is an HTML integration point, 2 where it is a form or stands in one, and 4 where its
-/// document is in quirks mode. The fragment's nodes are the children of `sizes.root`.
+/// Parses a text as the children of an element, its context (13.4 #parsing-html-fragments): `name`
+/// and `space` are the element's (0 HTML, 1 MathML, 2 SVG), and `flags` is the sum of 1 where it is
+/// an annotation-xml that is an HTML integration point, 2 where it is a form or stands in one, and
+/// 4 where its document is in quirks mode. The fragment's nodes are the children of `sizes.root`.
 #[unsafe(no_mangle)]
 pub extern "C" fn sp_fragment(
     alloc: Global,

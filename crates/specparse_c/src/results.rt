@@ -3,7 +3,11 @@
 ghost use Rattle.std.specs.Prelude.{◌≡◌, ◌==◌, ◌%◌, ◌/◌, Some, None, IfOk, IfErr, MatchOption};
 ghost use Rattle.std.specs.Str.{chars, IsUtf8};
 ghost use Rattle.specparse_c.specs.Entities.{begins_json, entities_in, ArePrepared};
-ghost use Rattle.specparse_c.specs.Calls.{space_at, name_in, IsName, IsNameAt, IsNoName, IsContext, IsPage, HasDoc, HasTree, IsPageTree, IsPageText, IsFragmentTree, FailsAtTable, FailsAtContext, FailsAtText, FailsAtParse, FailsAtDeep, FailsAtPage, FailsAtFragment};
+ghost use Rattle.specparse_c.specs.Calls.{space_at, name_in, IsName, IsNameAt, IsNoName, IsContext};
+ghost use Rattle.specparse_c.specs.Calls.{IsPage, HasDoc, HasTree, IsPageTree, IsPageText};
+ghost use Rattle.specparse_c.specs.Calls.{IsFragmentTree, FailsAtTable, FailsAtContext};
+ghost use Rattle.specparse_c.specs.Calls.{FailsAtText, FailsAtParse, FailsAtDeep, FailsAtPage};
+ghost use Rattle.specparse_c.specs.Calls.{FailsAtFragment};
 
 use crate::failure::Failure;
 use entity_table::{Table, TableFault};

@@ -1,7 +1,8 @@
 //! The caller's room.
 
 ghost use Rattle.std.specs.Prelude.{◌≡◌, ◌≤◌, ◌++◌, length, drop};
-ghost use Rattle.specparse_c.specs.Rooms.{sizes_of, no_sizes, lacks, Gives, GivesTree, GivesText, GivesPrepared, GivesBytes, GivesPrinted, GivesRun};
+ghost use Rattle.specparse_c.specs.Rooms.{sizes_of, no_sizes, lacks, Gives, GivesTree, GivesText};
+ghost use Rattle.specparse_c.specs.Rooms.{GivesPrepared, GivesBytes, GivesPrinted, GivesRun};
 ghost use Rattle.specparse_c.specs.Statuses.{status_told};
 
 use crate::failure::Failure;

@@ -1,8 +1,11 @@
 //! A page that is run with its scripts, in memory.
 
-ghost use Rattle.std.specs.Prelude.{◌≡◌, ◌==◌, ◌+◌, ◌<◌, ◌≤◌, length, IfOk, IfErr, OnOk, MatchOption};
+ghost use Rattle.std.specs.Prelude.{◌≡◌, ◌==◌, ◌+◌, ◌<◌, ◌≤◌, length, IfOk, IfErr, OnOk};
+ghost use Rattle.std.specs.Prelude.{MatchOption};
 ghost use Rattle.memory_runner.specs.Runs.{scripts_in};
-ghost use Rattle.specparse_c.specs.Runs.{part_of, IsPart, IsNamed, with_script, scripts_given, HasRan, FailsAtScript, FailsAtScripts, FailsAtFlags, FailsAtRun};
+ghost use Rattle.specparse_c.specs.Runs.{part_of, IsPart, IsNamed, with_script, scripts_given};
+ghost use Rattle.specparse_c.specs.Runs.{HasRan, FailsAtScript, FailsAtScripts, FailsAtFlags};
+ghost use Rattle.specparse_c.specs.Runs.{FailsAtRun};
 
 use crate::failure::Failure;
 use crate::results::{table_of, text_in};

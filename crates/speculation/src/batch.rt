@@ -1,6 +1,7 @@
 //! Batches: texts that were parsed, and whose operations aren't executed yet.
 
-ghost use Rattle.std.specs.Prelude.{◌≡◌, ◌<◌, [], ◌∷◌, ◌++◌, length, slice_get, Some, OnOk, OnErr, MatchOption};
+ghost use Rattle.std.specs.Prelude.{◌≡◌, ◌<◌, [], ◌∷◌, ◌++◌, length, slice_get, Some, OnOk, OnErr};
+ghost use Rattle.std.specs.Prelude.{MatchOption};
 ghost use Rattle.core_definitions.specs.Settling.{is_empty as has_none};
 ghost use Rattle.speculation.specs.Halting.{halt_of};
 
@@ -23,8 +24,8 @@ pub enum Halt {
     Over(End),
 }
 
-/// A text that was parsed: the parser's state before it and behind it, its operations, and why it ends. The page's ending goes with an empty
-/// text.
+/// A text that was parsed: the parser's state before it and behind it, its operations, and why it
+/// ends. The page's ending goes with an empty text.
 #[derive(Drop)]
 pub struct Batch {
     // A batch begins where the one before it ends, so that no machine is held for it.
@@ -41,7 +42,14 @@ impl Model for Batch {
 
     ghost Value = { rules.Batch };
 
-    ghost view = { λ b. record { start = b.start.value; text = b.text; ops = b.ops; after = b.after; halt = halt_of b.halt } };
+    ghost view = { λ b.
+        record {
+          start = b.start.value;
+          text = b.text;
+          ops = b.ops;
+          after = b.after;
+          halt = halt_of b.halt;
+        } };
 }
 
 impl Batch {
@@ -157,7 +165,8 @@ impl Batches {
 
     /// Takes the first batch.
     pub fn pop(&mut self) -> Option<Batch>
-        ensures { MatchOption result ((self.old ≡ []) × (self.new ≡ [])) (λ b. self.old ≡ b ∷ self.new) }
+        ensures { MatchOption result ((self.old ≡ []) × (self.new ≡ []))
+            (λ b. self.old ≡ b ∷ self.new) }
     {
         self.list.pop_front()
     }

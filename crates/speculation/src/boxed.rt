@@ -7,7 +7,8 @@ use parse_machine::Machine;
 use std::alloc::Global;
 use std::marker::Model;
 
-/// A machine in a place of its own, so that only its address is moved: a contract sees the machine's state.
+/// A machine in a place of its own, so that only its address is moved: a contract sees the
+/// machine's state.
 #[derive(Drop)]
 pub struct BoxedMachine {
     pub(crate) machine: Box<Machine>,

@@ -9,7 +9,8 @@ use std::alloc::Global;
 use std::marker::Model;
 use std::snapshot::Snapshot;
 
-/// A state of the parser. It holds a machine only where copying one was cheap: a contract sees the state in any case.
+/// A state of the parser. It holds a machine only where copying one was cheap: a contract sees the
+/// state in any case.
 #[derive(Drop)]
 pub struct Checkpoint {
     held: Option<BoxedMachine>,
@@ -57,7 +58,8 @@ impl Checkpoint {
         }
     }
 
-    /// Whether a machine is held that is in the same state, the next id included. False tells nothing.
+    /// Whether a machine is held that is in the same state, the next id included. False tells
+    /// nothing.
     pub fn is(&self, machine: &Machine) -> bool
         ensures { IsTrue result → self.now ≡ machine.now }
     {

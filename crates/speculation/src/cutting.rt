@@ -1,6 +1,7 @@
 //! How a piece is cut into batches.
 
-ghost use Rattle.std.specs.Prelude.{◌≡◌, ◌↔◌, ◌++◌, Some, None, length, drop, if◌then◌else◌, IfOk, OnOk, IsTrue};
+ghost use Rattle.std.specs.Prelude.{◌≡◌, ◌↔◌, ◌++◌, Some, None, length, drop, if◌then◌else◌, IfOk};
+ghost use Rattle.std.specs.Prelude.{OnOk, IsTrue};
 ghost use Rattle.html_types.specs.declared.instruction.Stop.TheVariants as stop;
 ghost use Rattle.standard.specs.Parser.{parse};
 ghost use Rattle.core_definitions.specs.Batches.{at, cut, end_batch, answer};
@@ -16,7 +17,8 @@ use std::alloc::Global;
 use std::snapshot::Snapshot;
 use text_store::Ops;
 
-// The batch up to the first stop in a text, which is taken off the text. Room is made for so many operations at once.
+// The batch up to the first stop in a text, which is taken off the text. Room is made for so many
+// operations at once.
 fn next_batch(
     alloc: Global,
     table: &Table,
@@ -26,7 +28,8 @@ fn next_batch(
 ) -> Result<Batch, NoMemory>
     ensures batch { IfOk result (λ b. b ≡ first_batch table.now machine.old text.old) }
     ensures machine { OnOk result (machine.new ≡ (parse table.now machine.old text.old).parser) }
-    ensures rest { OnOk result (text.new ≡ drop (parse table.now machine.old text.old).used text.old) }
+    ensures rest { OnOk result
+        (text.new ≡ drop (parse table.now machine.old text.old).used text.old) }
 {
     let start = Snapshot::of(machine);
     let mut ops = Ops::with_capacity(alloc, room)?;
@@ -50,7 +53,8 @@ fn is_deep(batch: &Batch) -> bool
     batch.halt() == Halt::At(Stop::Deep)
 }
 
-// Cuts a text behind each end tag of a script and at a refusal, and says whether the parser goes on behind it.
+// Cuts a text behind each end tag of a script and at a refusal, and says whether the parser goes on
+// behind it.
 fn cut_text(
     alloc: Global,
     table: &Table,
@@ -58,8 +62,11 @@ fn cut_text(
     text: SharedText,
     batches: &mut Batches,
 ) -> Result<bool, NoMemory>
-    ensures batches { OnOk result (batches.new ≡ batches.old ++ (cut (length text) table.now machine.old text).batches) }
-    ensures machine { IfOk result (λ goes_on. (cut (length text) table.now machine.old text).parser ≡ (if goes_on then Some machine.new else None)) }
+    ensures batches { OnOk result
+        (batches.new ≡ batches.old ++ (cut (length text) table.now machine.old text).batches) }
+    ensures machine { IfOk result
+        (λ goes_on. (cut (length text) table.now machine.old text).parser
+        ≡ (if goes_on then Some machine.new else None)) }
 {
     let mut rest = text;
     'cuts: while !rest.is_empty() {
@@ -105,8 +112,11 @@ pub(crate) fn parse_piece(
     piece: &Piece,
     batches: &mut Batches,
 ) -> Result<bool, NoMemory>
-    ensures batches { OnOk result (batches.new ≡ batches.old ++ (answer table.now (Some machine.old) piece.now).batches) }
-    ensures machine { IfOk result (λ goes_on. (answer table.now (Some machine.old) piece.now).parser ≡ (if goes_on then Some machine.new else None)) }
+    ensures batches { OnOk result
+        (batches.new ≡ batches.old ++ (answer table.now (Some machine.old) piece.now).batches) }
+    ensures machine { IfOk result
+        (λ goes_on. (answer table.now (Some machine.old) piece.now).parser
+        ≡ (if goes_on then Some machine.new else None)) }
 {
     let text = piece.text().copy()?;
     if !cut_text(alloc, table, machine, text, batches)? {

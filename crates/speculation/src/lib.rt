@@ -1,5 +1,5 @@
-//! The parser's side of the core: it parses pieces of the page ahead of the document, and answers with batches. What is kept of its work is
-//! decided here too.
+//! The parser's side of the core: it parses pieces of the page ahead of the document, and answers
+//! with batches. What is kept of its work is decided here too.
 #![tactic(auto)]
 
 pub mod batch;

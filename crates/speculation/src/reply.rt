@@ -10,8 +10,9 @@ use page_pieces::Piece;
 use parse_machine::Machine;
 use std::marker::{Model, PhantomData};
 
-/// What a reply says, whoever made it: the core's reply, and of which piece and from which state its batches were made. The state is none where
-/// the parser's side had none any more, behind a refusal.
+/// What a reply says, whoever made it: the core's reply, and of which piece and from which state
+/// its batches were made. The state is none where the parser's side had none any more, behind a
+/// refusal.
 #[derive(Drop)]
 pub struct Said {
     pub(crate) epoch: u64,
@@ -28,7 +29,13 @@ impl Model for Said {
 
     ghost Value = { Told };
 
-    ghost view = { λ s. record { reply = record { epoch = s.epoch; number = s.number; batches = s.batches }; start = s.start; piece = s.piece; from = s.from } };
+    ghost view = { λ s.
+        record {
+          reply = record { epoch = s.epoch; number = s.number; batches = s.batches };
+          start = s.start;
+          piece = s.piece;
+          from = s.from;
+        } };
 
     // Its piece ends within the limit of a page.
     ghost invariant = { λ s. s.from + length s.piece.text ≤ page_limit };
@@ -49,7 +56,8 @@ impl Said {
         self.number
     }
 
-    /// How many characters of the page stand before its piece, which ends within the limit of a page.
+    /// How many characters of the page stand before its piece, which ends within the limit of a
+    /// page.
     pub fn from(&self) -> u64
         ensures value { result ≡ self.now.from }
         ensures within { result + length self.now.piece.text ≤ page_limit }
@@ -97,8 +105,8 @@ impl Said {
     }
 }
 
-/// A reply. Its type keeps that operations, states and stops are those of the parse of its own piece from its own start, with the entities in
-/// force.
+/// A reply. Its type keeps that operations, states and stops are those of the parse of its own
+/// piece from its own start, with the entities in force.
 #[derive(Drop)]
 pub struct Reply<E: InForce> {
     pub said: Said,

@@ -7,8 +7,9 @@ use crate::boxed::BoxedMachine;
 use page_pieces::Piece;
 use std::marker::Model;
 
-/// A piece of the page that is to be parsed, from the state that the request carries, or else from where the one before it ended. A contract
-/// sees the core's request, and how many characters of the page stand before the piece; the piece ends within the limit of a page.
+/// A piece of the page that is to be parsed, from the state that the request carries, or else from
+/// where the one before it ended. A contract sees the core's request, and how many characters of
+/// the page stand before the piece; the piece ends within the limit of a page.
 #[derive(Drop)]
 pub struct Request {
     pub(crate) epoch: u64,
@@ -24,13 +25,18 @@ impl Model for Request {
 
     ghost Value = { Asked };
 
-    ghost view = { λ r. record { request = record { epoch = r.epoch; number = r.number; start = r.start; piece = r.piece }; from = r.from } };
+    ghost view = { λ r.
+        record {
+          request = record { epoch = r.epoch; number = r.number; start = r.start; piece = r.piece };
+          from = r.from;
+        } };
 
     ghost invariant = { λ r. r.from + length r.piece.text ≤ page_limit };
 }
 
 impl Request {
-    /// A request under an epoch and a number, of a piece before which so many characters of the page stand.
+    /// A request under an epoch and a number, of a piece before which so many characters of the
+    /// page stand.
     pub fn new(
         epoch: u64,
         number: u64,
@@ -39,7 +45,8 @@ impl Request {
         from: u64,
     ) -> Request
         requires { from + length piece.text ≤ page_limit }
-        ensures request { result.request ≡ record { epoch = epoch; number = number; start = start; piece = piece } }
+        ensures request { result.request
+            ≡ record { epoch = epoch; number = number; start = start; piece = piece } }
         ensures from { result.from ≡ from }
     {
         Request {

@@ -18,7 +18,8 @@ use parse_machine::Machine;
 use std::alloc::Global;
 use std::marker::{Model, PhantomData};
 
-/// The parser's side: a contract sees the state in which its last answer ended, none behind a refusal and behind the page's ending.
+/// The parser's side: a contract sees the state in which its last answer ended, none behind a
+/// refusal and behind the page's ending.
 #[derive(Drop)]
 pub struct Worker {
     // Nothing was answered yet.
@@ -46,7 +47,8 @@ pub(crate) struct Parse {
     machine: Option<BoxedMachine>,
 }
 
-// Parses a piece from where a machine stands. Gives that state, and says whether the machine goes on behind the piece.
+// Parses a piece from where a machine stands. Gives that state, and says whether the machine goes
+// on behind the piece.
 fn parse_on(
     alloc: Global,
     table: &Table,
@@ -55,8 +57,11 @@ fn parse_on(
     batches: &mut Batches,
 ) -> Result<(Checkpoint, bool), NoMemory>
     ensures start { IfOk result (λ r. r.0 ≡ machine.old) }
-    ensures batches { OnOk result (batches.new ≡ batches.old ++ (answer table.now (Some machine.old) piece.now).batches) }
-    ensures machine { IfOk result (λ r. (answer table.now (Some machine.old) piece.now).parser ≡ (if r.1 then Some machine.new else None)) }
+    ensures batches { OnOk result
+        (batches.new ≡ batches.old ++ (answer table.now (Some machine.old) piece.now).batches) }
+    ensures machine { IfOk result
+        (λ r. (answer table.now (Some machine.old) piece.now).parser
+        ≡ (if r.1 then Some machine.new else None)) }
 {
     machine.share(alloc)?;
     let start = Checkpoint::of(alloc, machine)?;
@@ -64,7 +69,8 @@ fn parse_on(
     Ok((start, goes_on))
 }
 
-// Parses a piece, where there is a state to parse it from. The first batch has room for so many operations.
+// Parses a piece, where there is a state to parse it from. The first batch has room for so many
+// operations.
 fn parse_from(
     alloc: Global,
     table: &Table,
@@ -145,8 +151,8 @@ impl Worker {
         }
     }
 
-    /// The answer to a request, with the named character references of `table`, which are those in force. Where it answers want of memory, the
-    /// worker only keeps its type.
+    /// The answer to a request, with the named character references of `table`, which are those in
+    /// force. Where it answers want of memory, the worker only keeps its type.
     pub fn answer<E: InForce>(
         &mut self,
         alloc: Global,
@@ -154,14 +160,17 @@ impl Worker {
         request: Request,
     ) -> Result<Reply<E>, NoMemory>
         requires { table.now ≡ E.entities }
-        // Its epoch and number are the request's, and its batches are those of the whole piece, from the state that the request carries, or
-        // else from where the last answer ended.
-        ensures reply { IfOk result (λ r. r.said.reply ≡ reply_to request.request (answer_to E.entities self.old request.request).batches) }
+        // Its epoch and number are the request's, and its batches are those of the whole piece,
+        // from the state that the request carries, or else from where the last answer ended.
+        ensures reply { IfOk result
+            (λ r. r.said.reply
+            ≡ reply_to request.request (answer_to E.entities self.old request.request).batches) }
         ensures start { IfOk result (λ r. r.said.start ≡ started request.request.start self.old) }
         ensures piece { IfOk result (λ r. r.said.piece ≡ request.request.piece) }
         ensures from { IfOk result (λ r. r.said.from ≡ request.from) }
         // The worker stands where the answer ends.
-        ensures machine { OnOk result (self.new ≡ (answer_to E.entities self.old request.request).parser) }
+        ensures machine { OnOk result
+            (self.new ≡ (answer_to E.entities self.old request.request).parser) }
     {
         let Request {
             epoch,

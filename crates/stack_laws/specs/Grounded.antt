@@ -39,7 +39,7 @@ is_vital w = has_word (Html ∷ Template ∷ []) w
 abbrev pub is_guard : Word → Bool
 is_guard w = has_word (Html ∷ Template ∷ Head ∷ Frameset ∷ Td ∷ Th ∷ Select ∷ []) w
 
--- the formatting elements (13.2.4.2)
+-- the formatting elements (13.2.4.2 #the-stack-of-open-elements)
 abbrev pub is_formatting : Word → Bool
 is_formatting w = has_word (A ∷ B ∷ Big ∷ Code ∷ Em ∷ Font ∷ I ∷ Nobr ∷ S ∷ Small ∷ Strike ∷ Strong ∷ Tt ∷ U ∷ []) w
 

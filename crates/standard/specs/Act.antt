@@ -43,7 +43,7 @@ pub record Doc : Type 0 where
 abbrev pub new_doc : Doc
 new_doc = record { tree = new_tree; bound = [] }
 
--- ---- places (13.2.6.1, the appropriate place for inserting a node)
+-- ---- places (13.2.6.1 #creating-and-inserting-nodes, the appropriate place for inserting a node)
 
 -- among the children of a node, just before one of them or at their end
 pub record Spot : Type 0 where
@@ -72,7 +72,8 @@ spot_of d (Foster table above) = foster_spot d.tree (node_of d.bound table) (nod
 
 -- ---- operations
 
--- a new element, which stands nowhere and has the next number; a template is made with its contents (4.12.3, the template element)
+-- a new element, which stands nowhere and has the next number; a template is made with its contents
+-- (4.12.3 #the-template-element, the template element)
 abbrev pub element_made : Nodes → Name → List Attribute → Nodes
 element_made t name attributes =
     if is_word Template name then with_template t (kind.Element name attributes) else t ++ lone (kind.Element name attributes) ∷ []

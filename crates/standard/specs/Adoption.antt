@@ -1,6 +1,8 @@
--- The adoption agency algorithm (13.2.6.4.7): step 2 is `is_plain`, step 4 `turns` (the outer loop counter is the number of turns that are
--- left), steps 4.3 to 4.8 `turn_at` and `turn_with`, the inner loop (4.13) `climb`, steps 4.14 to 4.19 `rebuilt`. The stack is taken apart by
--- ids and put together again: below the furthest block, it, the elements between it and the formatting element, and from that one on.
+-- The adoption agency algorithm (13.2.6.4.7 #parsing-main-inbody): step 2 is `is_plain`, step 4
+-- `turns` (the outer loop counter is the number of turns that are left), steps 4.3 to 4.8 `turn_at`
+-- and `turn_with`, the inner loop (4.13) `climb`, steps 4.14 to 4.19 `rebuilt`. The stack is taken
+-- apart by ids and put together again: below the furthest block, it, the elements between it and
+-- the formatting element, and from that one on.
 use Rattle.std.specs.Prelude.{ℕ, ◌-◌, ◌==◌, Bool, true, false, not, ◌&&◌, if◌then◌else◌, List, [], ◌∷◌, ◌++◌, Option, Some, None}
 use Rattle.std.proofs.Common.{zero, suc}
 use Rattle.html_types.specs.Operations.{later}

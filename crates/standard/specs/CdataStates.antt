@@ -1,4 +1,5 @@
--- The states of CDATA sections (13.2.5.69 to 13.2.5.71).
+-- The states of CDATA sections (13.2.5.69 #cdata-section-state to
+-- 13.2.5.71 #cdata-section-end-state).
 use Rattle.std.specs.Prelude.{ℕ, [], ◌∷◌}
 use Rattle.html_types.specs.declared.token.Token.TheVariants.{Character}
 use Rattle.html_types.specs.declared.mark_state.CdataState.{CdataState}

@@ -1,4 +1,4 @@
--- The classes of characters that the rows of the tokenizer (13.2.5) tell apart.
+-- The classes of characters that the rows of the tokenizer (13.2.5 #tokenization) tell apart.
 use Rattle.std.specs.Prelude.{ℕ, Bool, List, if◌then◌else◌, ◌==◌, ◌||◌, ◌&&◌, nat_le}
 use Rattle.std.specs.List.{position_or_len}
 use Rattle.std.specs.Char.{is_ascii_alphabetic, to_ascii_lowercase}

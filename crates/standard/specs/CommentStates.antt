@@ -1,4 +1,4 @@
--- The states of comments (13.2.5.43 to 13.2.5.52).
+-- The states of comments (13.2.5.43 #comment-start-state to 13.2.5.52 #comment-end-bang-state).
 use Rattle.std.specs.Prelude.{ℕ, List, [], ◌∷◌, ◌++◌}
 use Rattle.html_types.specs.declared.token.Token.TheVariants as token
 use Rattle.html_types.specs.declared.mark_state.CommentState.{CommentState}

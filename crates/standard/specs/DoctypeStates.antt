@@ -1,4 +1,5 @@
--- The states of doctypes (13.2.5.53 to 13.2.5.68). Public and system identifiers are read and dropped.
+-- The states of doctypes (13.2.5.53 #doctype-state to 13.2.5.68 #bogus-doctype-state). Public and
+-- system identifiers are read and dropped.
 use Rattle.std.specs.Prelude.{ℕ, Bool, true, false, List, [], ◌∷◌, ◌++◌, ◌||◌, if◌then◌else◌, codes}
 use Rattle.html_types.specs.Text.{same_text}
 use Rattle.html_types.specs.declared.token.Token.TheVariants as token

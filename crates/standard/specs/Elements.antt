@@ -38,15 +38,16 @@ is_svg names (Other Html t) = false
 is_svg names (Other MathMl t) = false
 is_svg names (Other Svg t) = is_text_of names t
 
--- the MathML text integration points (13.2.6)
+-- the MathML text integration points (13.2.6 #tree-construction)
 abbrev pub text_points : List (List ℕ)
 text_points = codes "mi" ∷ codes "mo" ∷ codes "mn" ∷ codes "ms" ∷ codes "mtext" ∷ []
 
--- the elements of SVG that are HTML integration points (13.2.6)
+-- the elements of SVG that are HTML integration points (13.2.6 #tree-construction)
 abbrev pub html_points : List (List ℕ)
 html_points = codes "foreignObject" ∷ codes "desc" ∷ codes "title" ∷ []
 
--- the foreign elements that are special, and at which scopes stop (13.2.4.2)
+-- the foreign elements that are special, and at which scopes stop
+-- (13.2.4.2 #the-stack-of-open-elements)
 unfoldable pub is_foreign_stop : Space → List ℕ → Bool
 is_foreign_stop Html t = false
 is_foreign_stop MathMl t = is_text_of text_points t || same_text t (codes "annotation-xml")

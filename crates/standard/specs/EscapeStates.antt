@@ -1,5 +1,7 @@
--- The states of script data behind `<!--` (13.2.5.18 to 13.2.5.31), where a script element may have another in it. The escaped
--- state itself, and those in which its end tag is sought, stand among the states of text.
+-- The states of script data behind `<!--` (13.2.5.18 #script-data-escape-start-state to
+-- 13.2.5.31 #script-data-double-escape-end-state), where a script element may have another in it.
+-- The escaped state itself, and those in which its end tag is sought, stand among the states of
+-- text.
 use Rattle.std.specs.Prelude.{ℕ, List, [], ◌∷◌, ◌++◌, Option, if◌then◌else◌, codes}
 use Rattle.html_types.specs.Text.{same_text}
 use Rattle.html_types.specs.declared.word.Word.{Word}

@@ -1,4 +1,5 @@
--- Foreign content: which tokens go by its rules (13.2.6, the tree construction dispatcher), and its elements (13.2.6.1).
+-- Foreign content: which tokens go by its rules (13.2.6 #tree-construction, the tree construction
+-- dispatcher), and its elements (13.2.6.1 #creating-and-inserting-nodes).
 use Rattle.std.specs.Prelude.{ℕ, Bool, true, false, not, ◌&&◌, ◌||◌, List, [], ◌∷◌, map, codes, Option, Some, None, unwrap_or}
 use Rattle.std.specs.List.{list_any}
 use Rattle.std.specs.Char.{to_ascii_lowercase}
@@ -58,7 +59,8 @@ is_html_or_point e = is_html e.name || is_text_point e || is_html_point e
 
 -- ---- the dispatcher
 
--- the adjusted current node (13.2.4.2): in a fragment the context stands for the first element of the stack
+-- the adjusted current node (13.2.4.2 #the-stack-of-open-elements): in a fragment the context
+-- stands for the first element of the stack
 abbrev pub adjusted_of : Option OpenElement → List OpenElement → Option OpenElement
 adjusted_of context [] = None
 adjusted_of None (e ∷ es) = Some e
@@ -101,12 +103,13 @@ goes_by_mode t e =
     is_html e.name || (is_text_point e && is_for_text_point t) || (is_annotation e.name && is_svg_start t)
     || (is_html_point e && is_for_html_point t) || is_end_of_file t
 
--- with that adjusted current node the token goes by the rules of foreign content (13.2.6)
+-- with that adjusted current node the token goes by the rules of foreign content
+-- (13.2.6 #tree-construction)
 unfoldable pub goes_foreign : Token → Option OpenElement → Bool
 goes_foreign t None = false
 goes_foreign t (Some e) = not (goes_by_mode t e)
 
--- ---- the start tags at which foreign content is left (13.2.6.5)
+-- ---- the start tags at which foreign content is left (13.2.6.5 #parsing-main-inforeign)
 
 abbrev pub breaking_words : List Word
 breaking_words =
@@ -119,7 +122,8 @@ is_font_attribute a = same_text a.name (codes "color") || same_text a.name (code
 unfoldable pub breaks_out : Tag → Bool
 breaks_out tag = is_among breaking_words tag.name || (is_word word.Font tag.name && list_any is_font_attribute tag.attributes)
 
--- ---- a tag as the namespace has it (13.2.6.1, 13.2.6.5)
+-- ---- a tag as the namespace has it (13.2.6.1 #creating-and-inserting-nodes,
+-- 13.2.6.5 #parsing-main-inforeign)
 
 abbrev pub respelled_or_own : List (List ℕ) → List ℕ → List ℕ
 respelled_or_own names lower = unwrap_or (respelled names lower) lower

@@ -1,9 +1,10 @@
--- The names of SVG and MathML that have capital letters (13.2.6.1, 13.2.6.5): a page's names come in lower case, and are respelled.
+-- The names of SVG and MathML that have capital letters (13.2.6.1 #creating-and-inserting-nodes,
+-- 13.2.6.5 #parsing-main-inforeign): a page's names come in lower case, and are respelled.
 use Rattle.std.specs.Prelude.{ℕ, Bool, List, [], ◌∷◌, map, if◌then◌else◌, codes, Option, Some, None}
 use Rattle.std.specs.Char.{to_ascii_lowercase}
 use Rattle.html_types.specs.Text.{same_text}
 
--- elements of SVG (13.2.6.5)
+-- elements of SVG (13.2.6.5 #parsing-main-inforeign)
 unfoldable pub svg_names : List (List ℕ)
 svg_names =
     codes "altGlyph" ∷ codes "altGlyphDef" ∷ codes "altGlyphItem" ∷ codes "animateColor" ∷ codes "animateMotion" ∷
@@ -14,7 +15,7 @@ svg_names =
     codes "fePointLight" ∷ codes "feSpecularLighting" ∷ codes "feSpotLight" ∷ codes "feTile" ∷ codes "feTurbulence" ∷
     codes "foreignObject" ∷ codes "glyphRef" ∷ codes "linearGradient" ∷ codes "radialGradient" ∷ codes "textPath" ∷ []
 
--- attributes of SVG ("adjust SVG attributes", 13.2.6.1)
+-- attributes of SVG ("adjust SVG attributes", 13.2.6.1 #creating-and-inserting-nodes)
 unfoldable pub svg_attributes : List (List ℕ)
 svg_attributes =
     codes "attributeName" ∷ codes "attributeType" ∷ codes "baseFrequency" ∷ codes "baseProfile" ∷ codes "calcMode" ∷ codes "clipPathUnits" ∷
@@ -29,7 +30,7 @@ svg_attributes =
     codes "targetX" ∷ codes "targetY" ∷ codes "textLength" ∷ codes "viewBox" ∷ codes "viewTarget" ∷ codes "xChannelSelector" ∷
     codes "yChannelSelector" ∷ codes "zoomAndPan" ∷ []
 
--- attributes of MathML ("adjust MathML attributes", 13.2.6.1)
+-- attributes of MathML ("adjust MathML attributes", 13.2.6.1 #creating-and-inserting-nodes)
 unfoldable pub math_attributes : List (List ℕ)
 math_attributes = codes "definitionURL" ∷ []
 

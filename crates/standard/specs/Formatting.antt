@@ -1,4 +1,5 @@
--- The list of active formatting elements (13.2.4.3), the latest first.
+-- The list of active formatting elements (13.2.4.3 #the-list-of-active-formatting-elements), the
+-- latest first.
 use Rattle.std.specs.Prelude.{ℕ, ◌+◌, ◌==◌, nat_le, Bool, true, false, ◌&&◌, ◌||◌, cond, if◌then◌else◌, List, [], ◌∷◌, ◌++◌, Option, Some, None}
 use Rattle.html_types.specs.Text.{same_text}
 use Rattle.html_types.specs.Names.{same_name}

@@ -1,4 +1,5 @@
--- Fragments (13.4): what a text comes to as the children of an element, its context.
+-- Fragments (13.4 #parsing-html-fragments): what a text comes to as the children of an element, its
+-- context.
 use Rattle.std.specs.Prelude.{ℕ, zero, suc, Bool, true, false, ◌||◌, if◌then◌else◌, List, [], ◌∷◌, ◌++◌, length, Option, Some, None, unwrap_or}
 use Rattle.std.specs.Option.{option_map}
 use Rattle.html_types.specs.declared.word.Word.TheVariants as word

@@ -1,4 +1,6 @@
--- The sets of names that the rules of tree construction speak of, and where "has an element in scope" stops (13.2.4.2, 13.2.6.3).
+-- The sets of names that the rules of tree construction speak of, and where "has an element in
+-- scope" stops (13.2.4.2 #the-stack-of-open-elements,
+-- 13.2.6.3 #closing-elements-that-have-implied-end-tags).
 use Rattle.std.specs.Prelude.{Bool, not, List, [], ◌∷◌}
 use Rattle.html_types.specs.declared.word.Word.{Word}
 use Rattle.html_types.specs.declared.word.Word.TheVariants.{Address, Applet, Area, Article, Aside, Base, Basefont, Bgsound, Blockquote, Body, Br, Button, Caption, Center, Col, Colgroup, Dd, Details, Dir, Div, Dl, Dt, Embed, Fieldset, Figcaption, Figure, Footer, Form, Frame, Frameset, H1, H2, H3, H4, H5, H6, Head, Header, Hgroup, Hr, Html, Iframe, Img, Input, Keygen, Li, Link, Listing, Main, Marquee, Menu, Meta, Nav, Noembed, Noframes, Noscript, Object, Ol, Optgroup, Option, P, Param, Plaintext, Pre, Rb, Rp, Rt, Rtc, Script, Search, Section, Select, Source, Style, Summary, Table, Tbody, Td, Template, Textarea, Tfoot, Th, Thead, Title, Tr, Track, Ul, Wbr, Xmp}

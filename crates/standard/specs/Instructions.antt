@@ -1,4 +1,6 @@
--- What each instruction of a row does to the open state (13.2.4), and which operations it asks for (13.2.6.1 to 13.2.6.3).
+-- What each instruction of a row does to the open state (13.2.4 #parse-state), and which operations
+-- it asks for (13.2.6.1 #creating-and-inserting-nodes to
+-- 13.2.6.3 #closing-elements-that-have-implied-end-tags).
 use Rattle.std.specs.Prelude.{ℕ, Bool, true, false, not, ◌&&◌, ◌||◌, nat_lt, if◌then◌else◌, List, [], ◌∷◌, ◌++◌, Option, Some, None, is_some, length, map, reverse, codes}
 use Rattle.std.specs.Char.{to_ascii_lowercase}
 use Rattle.html_types.specs.Text.{same_text}
@@ -131,7 +133,7 @@ pushed tag b = record b { stack = opened b.next tag ∷ b.stack; next = later 1 
 abbrev pub insert_at : Place → Tag → Open → List Op → Config
 insert_at p tag b o = if room b then on (pushed tag b) (made p tag b o) else config b o (Leave next.Deep)
 
--- the appropriate place for inserting a node (13.2.6.1)
+-- the appropriate place for inserting a node (13.2.6.1 #creating-and-inserting-nodes)
 abbrev pub here : Open → Place
 here b = place b.foster b.stack
 
@@ -174,7 +176,7 @@ for_tag f (StartTag tag) b o = f tag b o
 for_tag f (EndTag tag) b o = f tag b o
 for_tag f _ b o = on b o
 
--- ---- the list of active formatting elements (13.2.4.3)
+-- ---- the list of active formatting elements (13.2.4.3 #the-list-of-active-formatting-elements)
 
 -- the current node becomes an entry, with the tag
 abbrev pub list_current : Tag → List OpenElement → List FormattingEntry → List FormattingEntry
@@ -187,7 +189,8 @@ enlist tag b o = on (record b { formats = list_current tag b.stack b.formats }) 
 abbrev pub take_off : NodeId → Open → List Op → Config
 take_off i b o = on (record b { stack = without_open (Some i) b.stack; formats = without_entry i b.formats }) o
 
--- ---- reconstruct the active formatting elements (13.2.4.3)
+-- ---- reconstruct the active formatting elements
+-- (13.2.4.3 #the-list-of-active-formatting-elements)
 
 -- an entry that was lost from the stack is opened again, and stands last in the list
 abbrev pub reopen : Tag → Open → List Op → Config
@@ -235,7 +238,7 @@ abbrev pub detach_second : Option OpenElement → Open → List Op → Config
 detach_second None b o = on b o
 detach_second (Some e) b o = on b (o ++ op.Detach e.id ∷ [])
 
--- ---- the pending table character tokens (13.2.6.4.10)
+-- ---- the pending table character tokens (13.2.6.4.10 #parsing-main-intabletext)
 
 abbrev pub append_pending : Token → Open → List Op → Config
 append_pending (Character c) b o = on (record b { pending_text = b.pending_text ++ c ∷ [] }) o
@@ -249,7 +252,8 @@ all_space (c ∷ cs) = is_space c && all_space cs
 abbrev pub texts : Place → List ℕ → List Op
 texts p cs = map (λ c. op.Text p (c ∷ [])) cs
 
--- a character by the rules of "in body" (13.2.6.4.7), behind the reconstruction
+-- a character by the rules of "in body" (13.2.6.4.7 #parsing-main-inbody), behind the
+-- reconstruction
 abbrev pub body_text : ℕ → Config → Config
 body_text c r =
     elim r.flow as (λ _. Config) [
@@ -287,8 +291,8 @@ push_head None b o = on b o
 push_head (Some i) b o =
     if room b then on (record b { stack = record { id = i; name = Known word.Head; html_point = false } ∷ b.stack }) o else config b o (Leave next.Deep)
 
--- the end tag `form` (13.2.6.4.7) where no template is open: the form element pointer's element, in scope, is taken off the
--- stack wherever it stands
+-- the end tag `form` (13.2.6.4.7 #parsing-main-inbody) where no template is open: the form element
+-- pointer's element, in scope, is taken off the stack wherever it stands
 abbrev pub form_closed : (Name → Bool) → Option NodeId → List OpenElement → List OpenElement
 form_closed nobody None es = es
 form_closed nobody (Some i) es = if open_in_scope scope.Default i es then without_open (Some i) (implied nobody es) else es
@@ -317,7 +321,7 @@ abbrev pub stop_at_script : List OpenElement → Open → List Op → Config
 stop_at_script [] b o = config b o (Leave next.Done)
 stop_at_script (e ∷ es) b o = config (record b { stack = es }) o (Leave (next_at_script b.context e.id))
 
--- ---- foreign content is left (13.2.6.5)
+-- ---- foreign content is left (13.2.6.5 #parsing-main-inforeign)
 
 -- popped while the current node is neither an HTML element nor an integration point
 abbrev pub pop_foreign : List OpenElement → List OpenElement
@@ -342,7 +346,7 @@ end_foreign_with (Some es) b o = on (record b { stack = es }) o
 abbrev pub end_foreign : Tag → Open → List Op → Config
 end_foreign tag b o = end_foreign_with (foreign_end (name_text tag.name) b.stack b.stack) b o
 
--- ---- the adoption agency algorithm (13.2.6.4.7) is asked for
+-- ---- the adoption agency algorithm (13.2.6.4.7 #parsing-main-inbody) is asked for
 
 abbrev pub adopt_name : Name → Open → List Op → Config
 adopt_name (Known w) b o = config b o (Leave (next.Adopt w Nothing))

@@ -1,4 +1,5 @@
--- The states of what begins with `<!`, and of bogus comments (13.2.5.41, 13.2.5.42). The flag says that there is an adjusted current node
+-- The states of what begins with `<!`, and of bogus comments (13.2.5.41 #bogus-comment-state,
+-- 13.2.5.42 #markup-declaration-open-state). The flag says that there is an adjusted current node
 -- that isn't an HTML element.
 use Rattle.std.specs.Prelude.{ℕ, Bool, List, [], ◌∷◌, ◌++◌, ◌||◌, ◌&&◌, if◌then◌else◌, codes}
 use Rattle.html_types.specs.Text.{same_text}

@@ -1,4 +1,5 @@
--- The text of a tree (13.3 Serializing HTML fragments), by recursion on the tree.
+-- The text of a tree (13.3 #serialising-html-fragments Serializing HTML fragments), by recursion on
+-- the tree.
 use Rattle.std.specs.Prelude.{ℕ, ◌==◌, Bool, false, if◌then◌else◌, List, [], ◌∷◌, ◌++◌, map, flat_map, length, codes, Some, None}
 use Rattle.std.specs.List.{concat}
 use Rattle.html_types.specs.Names.{name_text}

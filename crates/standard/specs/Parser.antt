@@ -105,7 +105,7 @@ build s cr (t ∷ ts) b =
 abbrev pub built : Parser → Bool → Reached → Took
 built p cr r = build r.state cr r.tokens p.open_state
 
--- a CR is an LF, and an LF that follows it is skipped (13.2.3.5)
+-- a CR is an LF, and an LF that follows it is skipped (13.2.3.5 #preprocessing-the-input-stream)
 unfoldable pub take_character : Entities → Parser → ℕ → Took
 take_character es p c = elim (p.after_cr && (c == 10)) [
   | true ↦ took [] (record p { after_cr = false }) stop.InputEnd
@@ -133,7 +133,8 @@ build_end_on s cr b rest next.Finished = finished (parser s cr b) finale.Finishe
 build_end_on s cr b rest next.Deep = finished (parser s cr b) finale.Deep
 build_end_on s cr b rest _ = rest
 
--- the last tokens in order, up to the one at which parsing stops (13.2.7); the end-of-file token, which is the last, is one
+-- the last tokens in order, up to the one at which parsing stops (13.2.7 #the-end); the end-of-file
+-- token, which is the last, is one
 unfoldable pub build_end : TokState → Bool → List Token → Open → Finished
 build_end s cr [] b = finished (parser s cr b) finale.Finished
 build_end s cr (t ∷ ts) b =

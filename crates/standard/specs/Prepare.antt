@@ -1,4 +1,5 @@
--- Whether a script runs when its end tag is met (4.12.1.1, prepare the script element), on the tree as it is then.
+-- Whether a script runs when its end tag is met (4.12.1.1 #script-processing-model, prepare the
+-- script element), on the tree as it is then.
 use Rattle.std.specs.Prelude.{ℕ, Bool, true, false, not, ◌&&◌, ◌||◌, if◌then◌else◌, ◌-◌, is_some, List, [], ◌∷◌, length, map, take, drop, codes, Option, Some, None}
 use Rattle.std.specs.Char.{is_ascii_whitespace, to_ascii_lowercase}
 use Rattle.std.specs.List.{list_any, prefix_len, suffix_len}

@@ -1,4 +1,5 @@
--- The states of character references (13.2.5.72 to 13.2.5.80).
+-- The states of character references (13.2.5.72 #character-reference-state to
+-- 13.2.5.80 #numeric-character-reference-end-state).
 use Rattle.std.specs.Prelude.{ℕ, ◌+◌, ◌*◌, ◌==◌, nat_le, min, Bool, true, false, not, ◌&&◌, ◌||◌, if◌then◌else◌, List, [], ◌∷◌, ◌++◌, map, length, drop, Option, Some, None}
 use Rattle.std.specs.Char.{digit_value, is_digit}
 use Rattle.html_types.specs.declared.attributes.Attribute.{Attribute}

@@ -1,4 +1,4 @@
--- Reset the insertion mode appropriately (13.2.4.1).
+-- Reset the insertion mode appropriately (13.2.4.1 #the-insertion-mode).
 use Rattle.std.specs.Prelude.{◌||◌, if◌then◌else◌, unwrap_or, List, [], ◌∷◌, Option, Some, None}
 use Rattle.html_types.specs.declared.word.Word.TheVariants as word
 use Rattle.html_types.specs.declared.instruction.Group.TheVariants as group

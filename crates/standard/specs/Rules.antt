@@ -1,4 +1,5 @@
--- Tree construction (13.2.6): the row of a mode for a token, and what processing a token comes to.
+-- Tree construction (13.2.6 #tree-construction): the row of a mode for a token, and what processing
+-- a token comes to.
 use Rattle.std.specs.Prelude.{ℕ, Bool, false, ◌==◌, ◌&&◌, if◌then◌else◌, List, [], ◌∷◌}
 use Rattle.std.proofs.Common.{zero, suc}
 use Rattle.html_types.specs.declared.word.Word.{Word}
@@ -183,7 +184,8 @@ answer_of c = answer c.open_state c.ops (next_of c.flow)
 unfoldable pub by_mode : Mode → Token → Open → List Op → Answer
 by_mode m t b o = answer_of (run t (on b o) (row m t))
 
--- the adoption agency algorithm (13.2.6.4.7), and the rest of the row that asked for it
+-- the adoption agency algorithm (13.2.6.4.7 #parsing-main-inbody), and the rest of the row that
+-- asked for it
 unfoldable pub adopting : Word → Then → Token → Open → List Op → Answer
 adopting w h t b o =
     let a : Adopted = adopt w b o in
@@ -200,7 +202,7 @@ by_rules m t b o =
     let a : Answer = by_mode m t b o in
     with_adoption t a.open_state a.ops a.next
 
--- the tree construction dispatcher (13.2.6): the rules that a token goes by
+-- the tree construction dispatcher (13.2.6 #tree-construction): the rules that a token goes by
 abbrev pub rules_for : Token → Open → Mode
 rules_for t b = if goes_foreign t (adjusted b) then InForeign else b.mode
 

@@ -1,5 +1,6 @@
--- The rows of tree construction in "in body" (13.2.6.4.7), "text" (13.2.6.4.8), "after body" (13.2.6.4.19) and "after after
--- body" (13.2.6.4.22): what is done at each token.
+-- The rows of tree construction in "in body" (13.2.6.4.7 #parsing-main-inbody), "text"
+-- (13.2.6.4.8 #parsing-main-incdata), "after body" (13.2.6.4.19 #parsing-main-afterbody) and "after
+-- after body" (13.2.6.4.22 #the-after-after-body-insertion-mode): what is done at each token.
 use Rattle.std.specs.Prelude.{Bool, true, false, List, [], ◌∷◌}
 use Rattle.html_types.specs.declared.word.Word.{Word}
 use Rattle.html_types.specs.declared.word.Word.TheVariants.{A, Address, Applet, Area, Article, Aside, B, Base, Basefont, Bgsound, Big, Blockquote, Body, Br, Button, Caption, Center, Code, Col, Colgroup, Dd, Details, Dialog, Dir, Div, Dl, Dt, Em, Embed, Fieldset, Figcaption, Figure, Font, Footer, Form, Frame, Frameset, H1, H2, H3, H4, H5, H6, Head, Header, Hgroup, Hr, Html, I, Iframe, Image, Img, Input, Keygen, Li, Link, Listing, Main, Marquee, Math, Menu, Meta, Nav, Nobr, Noembed, Noframes, Noscript, Object, Ol, Optgroup, Option, P, Param, Plaintext, Pre, Rb, Rp, Rt, Rtc, Ruby, S, Script, Search, Section, Select, Small, Source, Strike, Strong, Style, Summary, Svg, Table, Tbody, Td, Template, Textarea, Tfoot, Th, Thead, Title, Tr, Track, Tt, U, Ul, Wbr, Xmp}

@@ -1,4 +1,6 @@
--- The rows of tree construction from "initial" to "after head" (13.2.6.4.1 to 13.2.6.4.6): what is done at each token.
+-- The rows of tree construction from "initial" to "after head"
+-- (13.2.6.4.1 #the-initial-insertion-mode to 13.2.6.4.6 #the-after-head-insertion-mode): what is
+-- done at each token.
 use Rattle.std.specs.Prelude.{List, [], ◌∷◌}
 use Rattle.html_types.specs.declared.word.Word.{Word}
 use Rattle.html_types.specs.declared.word.Word.TheVariants.{Base, Basefont, Bgsound, Body, Br, Frameset, Head, Html, Link, Meta, Noframes, Noscript, Script, Style, Template, Title}

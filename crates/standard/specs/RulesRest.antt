@@ -1,5 +1,7 @@
--- The rows of tree construction in "in select" to "in template" (13.2.6.4.16 to 13.2.6.4.18), "in frameset" (13.2.6.4.20),
--- "after frameset" (13.2.6.4.21) and "after after frameset" (13.2.6.4.23): what is done at each token.
+-- The rows of tree construction in "in select" to "in template" (13.2.6.4.16 #parsing-main-inselect
+-- to 13.2.6.4.18 #parsing-main-intemplate), "in frameset" (13.2.6.4.20 #parsing-main-inframeset),
+-- "after frameset" (13.2.6.4.21 #parsing-main-afterframeset) and "after after frameset"
+-- (13.2.6.4.23 #the-after-after-frameset-insertion-mode): what is done at each token.
 use Rattle.std.specs.Prelude.{List, [], ◌∷◌}
 use Rattle.html_types.specs.declared.word.Word.{Word}
 use Rattle.html_types.specs.declared.word.Word.TheVariants.{Base, Basefont, Bgsound, Caption, Col, Colgroup, Frame, Frameset, Hr, Html, Input, Keygen, Link, Meta, Noframes, Optgroup, Option, Script, Select, Style, Table, Tbody, Td, Template, Textarea, Tfoot, Th, Thead, Title, Tr}

@@ -1,4 +1,5 @@
--- The rows of tree construction from "in table" to "in cell" (13.2.6.4.9 to 13.2.6.4.15): what is done at each token.
+-- The rows of tree construction from "in table" to "in cell" (13.2.6.4.9 #parsing-main-intable to
+-- 13.2.6.4.15 #parsing-main-intd): what is done at each token.
 use Rattle.std.specs.Prelude.{List, [], ◌∷◌}
 use Rattle.html_types.specs.declared.word.Word.{Word}
 use Rattle.html_types.specs.declared.word.Word.TheVariants.{Body, Caption, Col, Colgroup, Form, Html, Input, Script, Style, Table, Tbody, Td, Template, Tfoot, Th, Thead, Tr}

@@ -1,5 +1,6 @@
--- The stack of open elements (13.2.4.2), as a list that begins with the current node. It grows downwards, as in the standard: the html
--- element is at the top, and the current node, the first of the list, at the bottom.
+-- The stack of open elements (13.2.4.2 #the-stack-of-open-elements), as a list that begins with the
+-- current node. It grows downwards, as in the standard: the html element is at the top, and the
+-- current node, the first of the list, at the bottom.
 use Rattle.std.specs.Prelude.{Bool, true, false, not, ◌&&◌, ◌||◌, if◌then◌else◌, List, [], ◌∷◌, ◌++◌, Option, Some, None}
 use Rattle.html_types.specs.declared.word.Word.{Word}
 use Rattle.html_types.specs.declared.word.Word.TheVariants as word

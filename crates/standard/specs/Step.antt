@@ -1,4 +1,5 @@
--- What a row of the tokenizer (13.2.5) gives: tokens, the next state, and whether the character is read again there.
+-- What a row of the tokenizer (13.2.5 #tokenization) gives: tokens, the next state, and whether the
+-- character is read again there.
 use Rattle.std.specs.Prelude.{ℕ, Bool, true, false, List, [], ◌∷◌}
 use Rattle.html_types.specs.Names.{name_of}
 use Rattle.html_types.specs.declared.token.Tag.{Tag}

@@ -1,4 +1,5 @@
--- The states of tags (13.2.5.6 to 13.2.5.8) and of attributes (13.2.5.32 to 13.2.5.40).
+-- The states of tags (13.2.5.6 #tag-open-state to 13.2.5.8 #tag-name-state) and of attributes
+-- (13.2.5.32 #before-attribute-name-state to 13.2.5.40 #self-closing-start-tag-state).
 use Rattle.std.specs.Prelude.{ℕ, true, List, [], ◌∷◌, ◌++◌, Option, Some, None, if◌then◌else◌}
 use Rattle.html_types.specs.Attributes.{has_name}
 use Rattle.html_types.specs.declared.attributes.Attribute.{Attribute}

@@ -1,5 +1,8 @@
--- The states of text (13.2.5.1 to 13.2.5.5), escaped script data (13.2.5.20), and the states in which the end tag of RCDATA,
--- RAWTEXT and script data is sought (13.2.5.9 to 13.2.5.17, 13.2.5.23 to 13.2.5.25).
+-- The states of text (13.2.5.1 #data-state to 13.2.5.5 #plaintext-state), escaped script data
+-- (13.2.5.20 #script-data-escaped-state), and the states in which the end tag of RCDATA, RAWTEXT
+-- and script data is sought (13.2.5.9 #rcdata-less-than-sign-state to
+-- 13.2.5.17 #script-data-end-tag-name-state, 13.2.5.23 #script-data-escaped-less-than-sign-state to
+-- 13.2.5.25 #script-data-escaped-end-tag-name-state).
 use Rattle.std.specs.Prelude.{ℕ, Bool, false, List, [], ◌∷◌, ◌++◌, Option, Some, None, if◌then◌else◌, map}
 use Rattle.std.specs.Char.{to_ascii_lowercase}
 use Rattle.html_types.specs.Text.{same_text}

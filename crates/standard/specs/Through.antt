@@ -1,5 +1,6 @@
--- A text that is read through, as a fragment is (13.4) and as a page is whose scripts don't run: at the end tag of a script nothing
--- runs, and the parser goes on behind it. The scripting flag is on.
+-- A text that is read through, as a fragment is (13.4 #parsing-html-fragments) and as a page is
+-- whose scripts don't run: at the end tag of a script nothing runs, and the parser goes on behind
+-- it. The scripting flag is on.
 use Rattle.std.specs.Prelude.{ℕ, List, [], ◌∷◌, ◌++◌, Option, Some, None}
 use Rattle.html_types.specs.declared.instruction.Stop.TheVariants as stop
 use Rattle.html_types.specs.declared.instruction.Finish.{Finish}

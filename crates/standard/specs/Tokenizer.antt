@@ -1,4 +1,4 @@
--- The tokenizer (13.2.5): its rows, closed under reconsuming, and folded over a text.
+-- The tokenizer (13.2.5 #tokenization): its rows, closed under reconsuming, and folded over a text.
 use Rattle.std.specs.Prelude.{ℕ, Bool, List, [], ◌∷◌, ◌++◌, if◌then◌else◌}
 use Rattle.std.proofs.Common.{zero, suc}
 use Rattle.html_types.specs.declared.token.Token.{Token}
@@ -15,7 +15,7 @@ use Rattle.standard.specs.MarkStates.{mark_row}
 use Rattle.standard.specs.ReferenceStates.{reference_row}
 
 -- The table: the row of a state for a class of characters, or for the end of the input. The flag says that there is an adjusted current
--- node (13.2.4.2) that isn't an HTML element.
+-- node (13.2.4.2 #the-stack-of-open-elements) that isn't an HTML element.
 abbrev pub row : Entities → Bool → TokState → Class → ℕ → Step
 row es f (group.Text s) k c = text_row s k c
 row es f (group.Tag s) k c = tag_row s k c

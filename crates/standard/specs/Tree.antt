@@ -1,5 +1,6 @@
--- A tree (DOM 4.2, 4.4) as the list of its nodes. A node is named by its number, its place in that list; the Document is
--- number 0, and no node is ever removed from the list.
+-- A tree (DOM 4.2 #node-trees, 4.4 #interface-node) as the list of its nodes. A node is named by
+-- its number, its place in that list; the Document is number 0, and no node is ever removed from
+-- the list.
 use Rattle.std.specs.Prelude.{◌≡◌, ℕ, ◌+◌, ◌-◌, ◌<◌, ◌≤◌, zero, suc, Bool, true, false, cond, not, ◌==◌, ◌||◌, ◌&&◌, if◌then◌else◌, nat_lt, List, [], ◌∷◌, ◌++◌, length, map, drop, insert, find, slice_index, slice_index_or, slice_set, codes, Option, Some, None, is_some, option_and_then, unwrap_or}
 use Rattle.std.specs.Option.{option_map, option_or}
 use Rattle.std.specs.List.{list_any, concat}
@@ -108,7 +109,8 @@ lone kind = record { kind = kind; parent = None; children = []; host = None; con
 abbrev pub new_tree : Nodes
 new_tree = lone Document ∷ []
 
--- ---- taking a node out and putting it somewhere (DOM 4.2.3, remove and insert)
+-- ---- taking a node out and putting it somewhere (DOM 4.2.3 #mutation-algorithms, remove and
+-- insert)
 
 abbrev pub with_kind : Nodes → ℕ → Kind → Nodes
 with_kind t n kind = slice_set t n (record (node_at t n) { kind = kind })
@@ -193,14 +195,16 @@ all_out t (c ∷ cs) = all_out (detached t c) cs
 unfoldable pub emptied : Nodes → ℕ → Nodes
 emptied t p = all_out t (children_of t p)
 
--- The tree with the second node last among the first one's children (DOM 4.2.6, append): none where either isn't there, or
--- where the first is the second or stands under it.
+-- The tree with the second node last among the first one's children
+-- (DOM 4.2.6 #interface-parentnode, append): none where either isn't there, or where the first is
+-- the second or stands under it.
 abbrev pub appended : Nodes → Option ℕ → Option ℕ → Option Nodes
 appended t (Some p) (Some n) = if lies_in t p n then None else Some (moved t n p None)
 appended t (Some p) None = None
 appended t None n = None
 
--- ---- new nodes, and text that joins a Text (13.2.6.1, insert a character and insert a comment)
+-- ---- new nodes, and text that joins a Text (13.2.6.1 #creating-and-inserting-nodes, insert a
+-- character and insert a comment)
 
 -- n, which has no parent, put at a place among p's children
 abbrev pub inserted : Nodes → ℕ → ℕ → ℕ → Nodes
@@ -231,7 +235,8 @@ abbrev pub text_added : Nodes → ℕ → ℕ → List ℕ → Nodes
 text_added t p place [] = t
 text_added t p place (c ∷ cs) = if is_document (kind_of t p) then t else text_put t p place (c ∷ cs) (text_before t p place)
 
--- ---- attributes that an element lacks (13.2.6.4.7, the start tags html and body)
+-- ---- attributes that an element lacks (13.2.6.4.7 #parsing-main-inbody, the start tags html and
+-- body)
 
 -- the attributes with those of the second list whose names they lack, in order
 abbrev pub add_attributes : List Attribute → List Attribute → List Attribute
@@ -288,11 +293,11 @@ previous_of t n (Some p) =
     let place = place_of (children_of t p) (Some n) in
     if nat_lt 0 place then Some (slice_index (children_of t p) (place - 1)) else None
 
--- whether n is in the Document (DOM 4.2.2, connected)
+-- whether n is in the Document (DOM 4.2.2 #shadow-trees, connected)
 unfoldable pub is_connected : Nodes → ℕ → Bool
 is_connected t n = stands_in (parent_of t) (length t) n 0
 
--- the Document's element (DOM 4.5, documentElement)
+-- the Document's element (DOM 4.5 #interface-document, documentElement)
 unfoldable pub first_element : Nodes → Option ℕ
 first_element t = find (is_element_at t) (children_of t 0)
 
@@ -304,12 +309,13 @@ is_value text (Some value) = same_text value text
 abbrev pub has_id : Nodes → List ℕ → ℕ → Bool
 has_id t text n = is_value text (attribute (codes "id") (attributes_of (kind_of t n)))
 
--- the first element of the Document, in tree order, with that `id`, which isn't empty (DOM 4.2.4, getElementById)
+-- the first element of the Document, in tree order, with that `id`, which isn't empty
+-- (DOM 4.2.4 #interface-nonelementparentnode, getElementById)
 unfoldable pub find_id : Nodes → List ℕ → Option ℕ
 find_id t [] = None
 find_id t (c ∷ cs) = find (has_id t (c ∷ cs)) (order t 0)
 
--- the texts of n's Text children, joined (DOM 4.4, child text content)
+-- the texts of n's Text children, joined (DOM 4.4 #interface-node, child text content)
 unfoldable pub script_text : Nodes → ℕ → List ℕ
 script_text t n = concat (map (λ c. text_of (kind_of t c)) (children_of t n))
 

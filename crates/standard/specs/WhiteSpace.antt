@@ -1,4 +1,5 @@
--- White space among characters, as the rules of tree construction name it (13.2.6.4).
+-- White space among characters, as the rules of tree construction name it
+-- (13.2.6.4 #parsing-main-inhtml).
 use Rattle.std.specs.Prelude.{ℕ, Bool, ◌==◌, ◌||◌}
 
 -- TAB, LF, FF, CR, SPACE

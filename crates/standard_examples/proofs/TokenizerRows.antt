@@ -93,7 +93,7 @@ no_name : (es : Entities) → feed es false data_state (codes "</>") ≡ record 
 unfolding feed settle
 no_name es = refl
 
--- ---- comments (13.2.5.43 to 13.2.5.52)
+-- ---- comments (13.2.5.43 #comment-start-state to 13.2.5.52 #comment-end-bang-state)
 
 -- a comment, and a character
 comment : (es : Entities) → feed es false data_state (codes "<!--a-->b") ≡ record { tokens = Comment (codes "a") ∷ Character 98 ∷ []; state = data_state }
@@ -134,7 +134,8 @@ comment_cut : (es : Entities) → (read_end es false (feed es false data_state (
 unfolding feed settle
 comment_cut es = refl
 
--- ---- markup declarations and bogus comments (13.2.5.41, 13.2.5.42)
+-- ---- markup declarations and bogus comments (13.2.5.41 #bogus-comment-state,
+-- 13.2.5.42 #markup-declaration-open-state)
 
 -- what was held is part of the comment
 docx : (es : Entities) → (feed es false data_state (codes "<!docx><!-x><!>")).tokens ≡ Comment (codes "docx") ∷ Comment (codes "-x") ∷ Comment [] ∷ []
@@ -159,7 +160,7 @@ declaration_cut : (es : Entities) → (read_end es false (feed es false data_sta
 unfolding feed settle
 declaration_cut es = refl
 
--- ---- doctypes (13.2.5.53 to 13.2.5.68)
+-- ---- doctypes (13.2.5.53 #doctype-state to 13.2.5.68 #bogus-doctype-state)
 
 doctype : (es : Entities) → (feed es false data_state (codes "<!DOCTYPE html>")).tokens ≡ Doctype (codes "html") false ∷ []
 unfolding feed settle
@@ -203,7 +204,8 @@ bogus_doctype_cut : (es : Entities) → (read_end es false (feed es false data_s
 unfolding feed settle
 bogus_doctype_cut es = refl
 
--- ---- script escapes (13.2.5.18 to 13.2.5.31)
+-- ---- script escapes (13.2.5.18 #script-data-escape-start-state to
+-- 13.2.5.31 #script-data-double-escape-end-state)
 
 abbrev script_end : Token
 script_end = EndTag (record { name = Known word.Script; attributes = []; self_closing = false })
@@ -239,7 +241,8 @@ nul_in_escapes : (es : Entities) → (feed es false script_data_state (codes "<!
 unfolding feed settle
 nul_in_escapes es = refl
 
--- ---- character references (13.2.5.72 to 13.2.5.80)
+-- ---- character references (13.2.5.72 #character-reference-state to
+-- 13.2.5.80 #numeric-character-reference-end-state)
 
 -- some names
 abbrev pub some_names : Entities
@@ -350,7 +353,8 @@ number_in_an_attribute : (es : Entities) → (feed es false data_state (codes "<
 unfolding feed settle
 number_in_an_attribute es = refl
 
--- ---- CDATA sections (13.2.5.69 to 13.2.5.71), in foreign content
+-- ---- CDATA sections (13.2.5.69 #cdata-section-state to 13.2.5.71 #cdata-section-end-state), in
+-- foreign content
 
 -- nothing in one is a tag or a reference
 cdata : feed some_names true data_state (codes "<![CDATA[<p>&amp;]]>") ≡ record { tokens = map Character (codes "<p>&amp;"); state = data_state }

@@ -1,5 +1,6 @@
 -- Nested scripts as a list of frames, in the form in which a program holds them: what they still come to, and one law for
--- each step. (8.4.3, document.write(); 13.2.6.4.8, the end tag "script")
+-- each step. (8.4.3 #document.write(), document.write(); 13.2.6.4.8 #parsing-main-incdata, the end
+-- tag "script")
 --
 -- A frame is a script that was begun: its number, its statements that are left, and the text that it wrote and that isn't
 -- parsed yet, which stands before its insertion point. The innermost frame is the first. The input of the parse is the texts

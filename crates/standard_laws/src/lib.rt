@@ -5,9 +5,19 @@
 //! `specs/Quiet` texts that are read through, and pages none of whose scripts runs.
 #![tactic(auto)]
 
-ghost use Rattle.standard_laws.specs.Laws.{HasOneOutcome, ParsesInPieces, AdvancesByParse, BatchesLead, WholeBatchesLead, LeavesNothing, EndLeads, FinishLeads, OverIsSerial};
-ghost use Rattle.standard_laws.specs.Laws.{ScriptLeads, ScriptRefuses, StillScripts, ExternalScripts, SyntaxErrors, AwaitsMissing, AwaitsFault, AwaitsGot, AwaitsRefuses, FileSyntaxErrors, LinesBegin, OutputBegins};
-ghost use Rattle.standard_laws.specs.Frames.{FramesEnd, ScriptsEnter, FilesEnter, StillTags, ExternalTags, InlineTags, OutsideTexts, TextsBegin, RestsEnd, RestsStop, RestsRefuse, FrameEnds, WritesFit, WritesRefuse, LinesFit, LinesRefuse, Removes, Appends, Fills, FillsRefuse, ReadsById, ReadsRoot, Throws};
+ghost use Rattle.standard_laws.specs.Laws.{HasOneOutcome, ParsesInPieces, AdvancesByParse};
+ghost use Rattle.standard_laws.specs.Laws.{BatchesLead, WholeBatchesLead, LeavesNothing, EndLeads};
+ghost use Rattle.standard_laws.specs.Laws.{FinishLeads, OverIsSerial};
+ghost use Rattle.standard_laws.specs.Laws.{ScriptLeads, ScriptRefuses, StillScripts};
+ghost use Rattle.standard_laws.specs.Laws.{ExternalScripts, SyntaxErrors, AwaitsMissing};
+ghost use Rattle.standard_laws.specs.Laws.{AwaitsFault, AwaitsGot, AwaitsRefuses, FileSyntaxErrors};
+ghost use Rattle.standard_laws.specs.Laws.{LinesBegin, OutputBegins};
+ghost use Rattle.standard_laws.specs.Frames.{FramesEnd, ScriptsEnter, FilesEnter, StillTags};
+ghost use Rattle.standard_laws.specs.Frames.{ExternalTags, InlineTags, OutsideTexts, TextsBegin};
+ghost use Rattle.standard_laws.specs.Frames.{RestsEnd, RestsStop, RestsRefuse, FrameEnds};
+ghost use Rattle.standard_laws.specs.Frames.{WritesFit, WritesRefuse, LinesFit, LinesRefuse};
+ghost use Rattle.standard_laws.specs.Frames.{Removes, Appends, Fills, FillsRefuse, ReadsById};
+ghost use Rattle.standard_laws.specs.Frames.{ReadsRoot, Throws};
 ghost use Rattle.standard_laws.specs.Quiet.{ThroughByParse, ThroughInPieces, QuietIsSerial};
 
 /// Every page has exactly one outcome.
@@ -15,18 +25,20 @@ pub fn has_one_outcome()
     ensures { HasOneOutcome }
 {}
 
-/// A text may come in two pieces: it is parsed as the first and then the second, unless the parser stops in the first.
+/// A text may come in two pieces: it is parsed as the first and then the second, unless the parser
+/// stops in the first.
 pub fn parse_of_a_cut_text()
     ensures { ParsesInPieces }
 {}
 
-/// Characters one by one, each operation done at once, come to the operations of the whole text done after it.
+/// Characters one by one, each operation done at once, come to the operations of the whole text
+/// done after it.
 pub fn advance_by_parse()
     ensures { AdvancesByParse }
 {}
 
-/// What is parsed of a front of the input leads from one moment of the serial parse to another: over the front, or to a stop
-/// in it.
+/// What is parsed of a front of the input leads from one moment of the serial parse to another:
+/// over the front, or to a stop in it.
 pub fn batch_leads()
     ensures leads { BatchesLead }
     ensures whole { WholeBatchesLead }
@@ -46,7 +58,8 @@ pub fn script_leads()
     ensures refuses { ScriptRefuses }
 {}
 
-/// What a script whose end tag was met at level 0 comes to, by how it was prepared. One that runs is begun as a list of frames.
+/// What a script whose end tag was met at level 0 comes to, by how it was prepared. One that runs
+/// is begun as a list of frames.
 pub fn script_begins()
     ensures still { StillScripts }
     ensures external { ExternalScripts }
@@ -68,7 +81,8 @@ pub fn file_begins()
     ensures enters { FilesEnter }
 {}
 
-/// Nested scripts as a list of frames (specs/Frames): the end tag of a script, by how the script was prepared.
+/// Nested scripts as a list of frames (specs/Frames): the end tag of a script, by how the script
+/// was prepared.
 pub fn nested_script_begins()
     ensures still { StillTags }
     ensures external { ExternalTags }
@@ -105,8 +119,8 @@ pub fn statements_run()
     ensures last { FramesEnd }
 {}
 
-/// The lines of every moment that a parse passes through begin those of its outcome, and what is written for them begins
-/// what is written for the page, with the dump of the tree or without.
+/// The lines of every moment that a parse passes through begin those of its outcome, and what is
+/// written for them begins what is written for the page, with the dump of the tree or without.
 pub fn lines_begin()
     ensures lines { LinesBegin }
     ensures output { OutputBegins }

@@ -1,4 +1,5 @@
-//! Attributes that tree construction looks at (13.2.6, 13.2.6.4.7).
+//! Attributes that tree construction looks at (13.2.6 #tree-construction,
+//! 13.2.6.4.7 #parsing-main-inbody).
 
 ghost use Rattle.std.specs.Prelude.{◌≡◌, codes, false, Some, IsTrue, map, nat_lt};
 ghost use Rattle.std.specs.List.{list_all};
@@ -27,7 +28,8 @@ pub fn value_of<'a>(attributes: &'a [Attribute], name: &str) -> Option<&'a Text>
 /// Whether the text is that name of ASCII characters, in any ASCII case.
 pub fn is_spelled(text: &Text, name: &str) -> bool
     requires { IsTrue (list_all (λ b. nat_lt b 128) name.now) }
-    ensures { result ≡ same_text (map to_ascii_lowercase text.now) (map to_ascii_lowercase name.now) }
+    ensures { result
+        ≡ same_text (map to_ascii_lowercase text.now) (map to_ascii_lowercase name.now) }
 {
     text.as_str().eq_ignore_ascii_case(name)
 }
@@ -52,11 +54,13 @@ fn has_html_encoding(attributes: &[Attribute]) -> bool
 }
 
 /// Whether an element of that name with those attributes is an annotation-xml of MathML that is
-/// an HTML integration point (13.2.6).
+/// an HTML integration point (13.2.6 #tree-construction).
 #[tactic(auto, unfolding(standard::specs::Foreign::is_html_annotation))]
 #[inline]
 pub fn is_html_annotation(name: &Name, attributes: &[Attribute]) -> bool
-    ensures { result ≡ definition.is_html_annotation (record { name = name.now; attributes = attributes.now; self_closing = false }) }
+    ensures { result
+        ≡ definition.is_html_annotation
+        (record { name = name.now; attributes = attributes.now; self_closing = false }) }
 {
     is_annotation(name) && has_html_encoding(attributes)
 }

@@ -30,7 +30,8 @@ pub fn is_any(group: Group, name: &Name) -> bool
     }
 }
 
-/// Whether an element of that name ends the search of "has an element in scope" (13.2.4.2).
+/// Whether an element of that name ends the search of "has an element in scope"
+/// (13.2.4.2 #the-stack-of-open-elements).
 pub fn ends(scope: Scope, name: &Name) -> bool
     ensures { result ≡ ends_scope scope name.now }
 {

@@ -1,5 +1,6 @@
-//! The sets of element names that tree construction speaks of (13.2.4.2, 13.2.6.1, 13.2.6.3), as exact tests of words
-//! and of names.
+//! The sets of element names that tree construction speaks of
+//! (13.2.4.2 #the-stack-of-open-elements, 13.2.6.1 #creating-and-inserting-nodes,
+//! 13.2.6.3 #closing-elements-that-have-implied-end-tags), as exact tests of words and of names.
 #![tactic(auto)]
 
 mod attributes;

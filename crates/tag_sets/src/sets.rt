@@ -28,7 +28,8 @@ pub fn is_in(group: Group, word: Word) -> bool
     }
 }
 
-/// Whether an element of that name ends the search of "has an element in scope" (13.2.4.2).
+/// Whether an element of that name ends the search of "has an element in scope"
+/// (13.2.4.2 #the-stack-of-open-elements).
 pub fn stops_at(scope: Scope, word: Word) -> bool
     ensures { result ≡ stops scope word }
 {

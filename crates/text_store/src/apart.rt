@@ -55,7 +55,9 @@ impl Store {
     fn lengthen(&mut self, run: Run, more: &Attributes) -> Result<Kept, NoMemory>
         requires held { HoldsKind self.old (kept.ElementApart run) }
         requires whole { run.size ≡ length (element_at self.old.apart.items run.from).list }
-        ensures ok { IfOk result (λ k. MeansKind self.new k (with_lacking (kind_at self.old (kept.ElementApart run)) more.now)) }
+        ensures ok { IfOk result
+            (λ k. MeansKind self.new k
+            (with_lacking (kind_at self.old (kept.ElementApart run)) more.now)) }
         ensures kept { KeepsAll self.old self.new }
     {
         let apart = &mut self.apart[run.from as usize];
@@ -71,7 +73,8 @@ impl Store {
     fn set_apart(&mut self, kept: Kept, more: &Attributes) -> Result<Kept, NoMemory>
         requires held { HoldsKind self.old kept }
         requires element { is_element (kind_at self.old kept) ≡ true }
-        ensures ok { IfOk result (λ k. MeansKind self.new k (with_lacking (kind_at self.old kept) more.now)) }
+        ensures ok { IfOk result
+            (λ k. MeansKind self.new k (with_lacking (kind_at self.old kept) more.now)) }
         ensures kept { KeepsAll self.old self.new }
     {
         let name = self.name_in(kept)?;
@@ -84,7 +87,8 @@ impl Store {
     #[tactic(auto, using(std::proofs::lemmas::Grind::common_steps, crate::proofs::ListLemmas::all_not))]
     fn longer(&mut self, kept: Kept, more: &Attributes) -> Result<Kept, NoMemory>
         requires { HoldsKind self.old kept }
-        ensures ok { IfOk result (λ k. MeansKind self.new k (with_lacking (kind_at self.old kept) more.now)) }
+        ensures ok { IfOk result
+            (λ k. MeansKind self.new k (with_lacking (kind_at self.old kept) more.now)) }
         ensures kept { KeepsAll self.old self.new }
     {
         if kept.is_element() {
@@ -97,7 +101,9 @@ impl Store {
     // The same of an element whose attributes stand apart.
     fn apart_longer(&mut self, run: Run, more: &Attributes) -> Result<Kept, NoMemory>
         requires { HoldsKind self.old (kept.ElementApart run) }
-        ensures ok { IfOk result (λ k. MeansKind self.new k (with_lacking (kind_at self.old (kept.ElementApart run)) more.now)) }
+        ensures ok { IfOk result
+            (λ k. MeansKind self.new k
+            (with_lacking (kind_at self.old (kept.ElementApart run)) more.now)) }
         ensures kept { KeepsAll self.old self.new }
     {
         if self.count(run) == run.size as usize {
@@ -107,11 +113,13 @@ impl Store {
         }
     }
 
-    /// An element with those of the attributes that it lacks. Where it gets more again and again, only what is new is added.
+    /// An element with those of the attributes that it lacks. Where it gets more again and again,
+    /// only what is new is added.
     #[tactic(auto, using(std::proofs::lemmas::Grind::common_steps, crate::proofs::ListLemmas::all_not))]
     pub fn more_attributes(&mut self, kept: Kept, more: &Attributes) -> Result<Kept, NoMemory>
         requires { HoldsKind self.old kept }
-        ensures ok { IfOk result (λ k. MeansKind self.new k (with_lacking (kind_at self.old kept) more.now)) }
+        ensures ok { IfOk result
+            (λ k. MeansKind self.new k (with_lacking (kind_at self.old kept) more.now)) }
         ensures kept { KeepsAll self.old self.new }
     {
         if are_none(more) {

@@ -33,7 +33,8 @@ pub enum Kept {
     Known(Word, Run),
     /// Any other element: its name is that of the run's first mark.
     Other(Space, Run),
-    /// An element whose attributes are no marks: its number among those, and how many of its attributes it has.
+    /// An element whose attributes are no marks: its number among those, and how many of its
+    /// attributes it has.
     ElementApart(Run),
 }
 
@@ -118,7 +119,8 @@ impl Store {
         self.texts.push(text)
     }
 
-    // Adds what an element of any name is: a mark with its name and no value stands before those of its attributes.
+    // Adds what an element of any name is: a mark with its name and no value stands before those of
+    // its attributes.
     #[tactic(auto, using(std::proofs::lemmas::Grind::common_steps, crate::proofs::ListLemmas::all_not, crate::proofs::ListLemmas::all_then))]
     fn push_other(
         &mut self,
@@ -126,7 +128,9 @@ impl Store {
         name: &str,
         attributes: &[Attribute],
     ) -> Result<Kept, NoMemory>
-        ensures ok { IfOk result (λ k. MeansKind self.new k (kind.Element (Other space (chars name.now)) attributes.now)) }
+        ensures ok { IfOk result
+            (λ k. MeansKind self.new k
+            (kind.Element (Other space (chars name.now)) attributes.now)) }
         ensures kept { KeepsAll self.old self.new }
     {
         let from = self.marks.len();
@@ -139,7 +143,8 @@ impl Store {
     // Adds what an element is whose attributes are few and short.
     #[tactic(auto, using(std::proofs::lemmas::Grind::common_steps, crate::proofs::ListLemmas::all_not, crate::proofs::KindLemmas::known_means))]
     fn push_short(&mut self, name: &Name, attributes: &[Attribute]) -> Result<Kept, NoMemory>
-        ensures ok { IfOk result (λ k. MeansKind self.new k (kind.Element name.now attributes.now)) }
+        ensures ok { IfOk result
+            (λ k. MeansKind self.new k (kind.Element name.now attributes.now)) }
         ensures kept { KeepsAll self.old self.new }
     {
         match name {
@@ -154,7 +159,8 @@ impl Store {
     // Adds what an element is whose name or attributes are long: they stay shared.
     #[tactic(auto, using(std::proofs::lemmas::Grind::common_steps, crate::proofs::ListLemmas::all_not))]
     fn push_long(&mut self, name: &Name, attributes: &Attributes) -> Result<Kept, NoMemory>
-        ensures ok { IfOk result (λ k. MeansKind self.new k (kind.Element name.now attributes.now)) }
+        ensures ok { IfOk result
+            (λ k. MeansKind self.new k (kind.Element name.now attributes.now)) }
         ensures kept { KeepsAll self.old self.new }
     {
         let own_name = name.copy()?;
@@ -164,7 +170,8 @@ impl Store {
 
     /// Adds what an element is.
     pub fn push_element(&mut self, name: &Name, attributes: &Attributes) -> Result<Kept, NoMemory>
-        ensures ok { IfOk result (λ k. MeansKind self.new k (kind.Element name.now attributes.now)) }
+        ensures ok { IfOk result
+            (λ k. MeansKind self.new k (kind.Element name.now attributes.now)) }
         ensures kept { KeepsAll self.old self.new }
     {
         let list = attributes.as_slice();
@@ -172,25 +179,6 @@ impl Store {
             self.push_long(name, attributes)
         } else {
             self.push_short(name, list)
-        }
-    }
-
-    /// Adds what an element is for a while: its attributes stay as they are, since they are copied when they are read.
-    #[inline]
-    pub(crate) fn push_tag(
-        &mut self,
-        name: &Name,
-        attributes: &Attributes,
-    ) -> Result<Kept, NoMemory>
-        ensures ok { IfOk result (λ k. MeansKind self.new k (kind.Element name.now attributes.now)) }
-        ensures kept { KeepsAll self.old self.new }
-    {
-        let list = attributes.as_slice();
-        let short = list.len() == 0 && name_size(name) <= MOST_COPIED;
-        if short {
-            self.push_short(name, list)
-        } else {
-            self.push_long(name, attributes)
         }
     }
 
@@ -216,7 +204,8 @@ impl Store {
         name: &str,
         list: &Listed<'_>,
     ) -> Result<Kept, NoMemory>
-        ensures ok { IfOk result (λ k. MeansKind self.new k (kind.Element (Other space (chars name.now)) list.now)) }
+        ensures ok { IfOk result
+            (λ k. MeansKind self.new k (kind.Element (Other space (chars name.now)) list.now)) }
         ensures kept { KeepsAll self.old self.new }
     {
         let from = self.marks.len();
@@ -246,7 +235,8 @@ impl Store {
     #[inline]
     #[tactic(auto, using(std::proofs::lemmas::Grind::common_steps, crate::proofs::ListLemmas::all_not, crate::proofs::KindLemmas::known_means))]
     fn push_seen_short(&mut self, name: SeenName<'_>, list: &Listed<'_>) -> Result<Kept, NoMemory>
-        ensures ok { IfOk result (λ k. MeansKind self.new k (kind.Element (seen_name name.entry) list.now)) }
+        ensures ok { IfOk result
+            (λ k. MeansKind self.new k (kind.Element (seen_name name.entry) list.now)) }
         ensures kept { KeepsAll self.old self.new }
     {
         match name {
@@ -261,7 +251,8 @@ impl Store {
     // Adds what an element is that is read from another store, with its attributes as they are.
     #[tactic(auto, using(std::proofs::lemmas::Grind::common_steps, crate::proofs::ListLemmas::all_not))]
     fn push_shared(&mut self, name: SeenName<'_>, list: Attributes) -> Result<Kept, NoMemory>
-        ensures ok { IfOk result (λ k. MeansKind self.new k (kind.Element (seen_name name.entry) list)) }
+        ensures ok { IfOk result
+            (λ k. MeansKind self.new k (kind.Element (seen_name name.entry) list)) }
         ensures kept { KeepsAll self.old self.new }
     {
         let own = name.to_name(self.alloc)?;
@@ -272,7 +263,8 @@ impl Store {
     #[inline]
     #[tactic(auto, using(std::proofs::lemmas::Grind::common_steps, crate::proofs::ListLemmas::all_not))]
     pub fn push_seen(&mut self, name: SeenName<'_>, list: &Listed<'_>) -> Result<Kept, NoMemory>
-        ensures ok { IfOk result (λ k. MeansKind self.new k (kind.Element (seen_name name.entry) list.now)) }
+        ensures ok { IfOk result
+            (λ k. MeansKind self.new k (kind.Element (seen_name name.entry) list.now)) }
         ensures kept { KeepsAll self.old self.new }
     {
         if list.is_shared() && is_long(name, list) {
@@ -286,7 +278,8 @@ impl Store {
     #[inline(never)]
     #[tactic(auto, using(std::proofs::lemmas::Grind::common_steps, crate::proofs::ListLemmas::all_not))]
     fn push_long_seen(&mut self, name: SeenName<'_>, list: &Listed<'_>) -> Result<Kept, NoMemory>
-        ensures ok { IfOk result (λ k. MeansKind self.new k (kind.Element (seen_name name.entry) list.now)) }
+        ensures ok { IfOk result
+            (λ k. MeansKind self.new k (kind.Element (seen_name name.entry) list.now)) }
         ensures kept { KeepsAll self.old self.new }
     {
         let shared = list.shared(self.alloc)?;
@@ -325,7 +318,9 @@ impl Store {
     #[tactic(auto, using(std::proofs::lemmas::Grind::common_steps, crate::proofs::ListLemmas::texts_kept))]
     fn extend(&mut self, spot: Spot, more: &str) -> Result<Kept, NoMemory>
         requires { Holds self.old.texts spot }
-        ensures ok { IfOk result (λ k. MeansKind self.new k (kind.Text (text_at self.old.texts spot ++ chars more.now))) }
+        ensures ok { IfOk result
+            (λ k. MeansKind self.new k
+            (kind.Text (text_at self.old.texts spot ++ chars more.now))) }
         ensures kept { KeepsAll self.old self.new }
     {
         let longer = self.texts.extend(spot, more)?;
@@ -339,7 +334,8 @@ impl Store {
     #[tactic(auto, using(std::proofs::lemmas::Grind::common_steps, crate::proofs::ListLemmas::all_not))]
     pub fn more_text(&mut self, kept: Kept, text: &str) -> Result<Kept, NoMemory>
         requires { HoldsKind self.old kept }
-        ensures ok { IfOk result (λ k. MeansKind self.new k (with_more (kind_at self.old kept) (chars text.now))) }
+        ensures ok { IfOk result
+            (λ k. MeansKind self.new k (with_more (kind_at self.old kept) (chars text.now))) }
         ensures kept { KeepsAll self.old self.new }
     {
         match kept {

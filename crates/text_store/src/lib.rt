@@ -1,4 +1,5 @@
-//! Texts and lists of attributes in a few buffers, named by where they lie. What a name once named it names for good.
+//! Texts and lists of attributes in a few buffers, named by where they lie. What a name once named
+//! it names for good.
 #![tactic(auto)]
 
 mod apart;

@@ -35,8 +35,10 @@ impl<'a> Model for Listed<'a> {
 
     ghost view = { λ l. map (mark_at l.texts.now) l.marks.now ++ l.more.now };
 
-    ghost invariant = { λ l. HoldsMarks l.texts.now l.marks.now × (length l.marks.now + length l.more.now < 2 ^ 64)
-        × IfSome l.whole (λ whole. whole.now ≡ map (mark_at l.texts.now) l.marks.now ++ l.more.now) };
+    ghost invariant = { λ l. HoldsMarks l.texts.now l.marks.now
+        × (length l.marks.now + length l.more.now < 2 ^ 64)
+        × IfSome l.whole
+        (λ whole. whole.now ≡ map (mark_at l.texts.now) l.marks.now ++ l.more.now) };
 }
 
 /// An attribute, as it is read.
@@ -88,7 +90,8 @@ fn attribute_in(attributes: &[Attribute], index: usize) -> SeenAttribute<'_>
 // The value of the mark with that name.
 fn value_among<'a>(texts: &'a TextStore, marks: &'a [Mark], name: &str) -> Option<&'a str>
     requires { HoldsMarks texts.now marks.now }
-    ensures { option_map (λ text. chars text.now) result ≡ attribute (chars name.now) (map (mark_at texts.now) marks.now) }
+    ensures { option_map (λ text. chars text.now) result
+        ≡ attribute (chars name.now) (map (mark_at texts.now) marks.now) }
 {
     for mark in marks {
         if texts.text(Spot::Inside(mark.name)) == name {
@@ -100,7 +103,8 @@ fn value_among<'a>(texts: &'a TextStore, marks: &'a [Mark], name: &str) -> Optio
 
 // The value of the attribute with that name.
 fn value_in<'a>(attributes: &'a [Attribute], name: &str) -> Option<&'a str>
-    ensures { option_map (λ text. chars text.now) result ≡ attribute (chars name.now) attributes.now }
+    ensures { option_map (λ text. chars text.now) result
+        ≡ attribute (chars name.now) attributes.now }
 {
     for attribute in attributes {
         if attribute.name.is(name) {

@@ -22,7 +22,8 @@ pub struct Run {
     pub(crate) size: u32,
 }
 
-/// An element whose attributes are no marks: they are long, and shared with copies of it, or they got more.
+/// An element whose attributes are no marks: they are long, and shared with copies of it, or they
+/// got more.
 #[derive(Drop)]
 pub struct ElementApart {
     pub(crate) name: Name,
@@ -59,7 +60,9 @@ impl Store {
     /// Adds an attribute.
     #[tactic(auto, using(std::proofs::lemmas::Grind::common_steps, crate::proofs::ListLemmas::keeps_then, crate::proofs::ListLemmas::texts_kept, crate::proofs::ListLemmas::mark_kept))]
     pub(crate) fn push_mark(&mut self, name: &str, value: &str) -> Result<(), NoMemory>
-        ensures ok { OnOk result (GetsMarks self.old self.new ((record { name = chars name.now; value = chars value.now }) ∷ [])) }
+        ensures ok { OnOk result
+            (GetsMarks self.old self.new
+            ((record { name = chars name.now; value = chars value.now }) ∷ [])) }
         ensures kept { KeepsAll self.old self.new }
     {
         let first = self.texts.push(name)?;

@@ -1,6 +1,7 @@
 //! Operations whose texts and attributes lie in one store.
 
-ghost use Rattle.std.specs.Prelude.{◌≡◌, ◌<◌, ◌++◌, ◌∷◌, [], length, slice_get, Some, IsTrue, IsFalse, IfOk, IfSome, OnOk, OnErr};
+ghost use Rattle.std.specs.Prelude.{◌≡◌, ◌<◌, ◌++◌, ◌∷◌, [], length, slice_get, Some, IsTrue};
+ghost use Rattle.std.specs.Prelude.{IsFalse, IfOk, IfSome, OnOk, OnErr};
 ghost use Rattle.std.specs.Str.{chars};
 ghost use Rattle.html_types.specs.Operations.{spelled, spelled_one};
 ghost use Rattle.html_types.specs.declared.name.Name.TheVariants.{Known};
@@ -11,7 +12,8 @@ ghost use Rattle.text_store.specs.declared.ops.Record.TheVariants as record_of;
 ghost use Rattle.text_store.specs.Stores.{text_at, Holds};
 ghost use Rattle.text_store.specs.Kinds.{MeansKind};
 ghost use Rattle.text_store.specs.Lists.{KeepsAll};
-ghost use Rattle.text_store.specs.Records.{op_at, ops_at, seen_op, HoldsRecord, HoldsRecords, MeansRecord};
+ghost use Rattle.text_store.specs.Records.{op_at, ops_at, seen_op, HoldsRecord, HoldsRecords};
+ghost use Rattle.text_store.specs.Records.{MeansRecord};
 
 use crate::kinds::Kept;
 use crate::listed::Listed;
@@ -74,7 +76,8 @@ pub enum SeenOp<'a> {
     },
 }
 
-/// Operations in order. A contract sees the list of them with each text spelled out, an operation a character.
+/// Operations in order. A contract sees the list of them with each text spelled out, an operation a
+/// character.
 #[derive(Drop)]
 pub struct Ops {
     records: Vec<Record>,
@@ -256,7 +259,8 @@ impl Store {
 // The text that an operation inserts at that place.
 fn text_spot(last: Record, place: Place) -> Option<Spot>
     ensures held { (s : Store) → HoldsRecord s last → IfSome result (λ spot. Holds s.texts spot) }
-    ensures is { (s : Store) → IfSome result (λ spot. op_at s last ≡ op.Text place (text_at s.texts spot)) }
+    ensures is { (s : Store)
+        → IfSome result (λ spot. op_at s last ≡ op.Text place (text_at s.texts spot)) }
 {
     match last {
         Record::Text(at, piece) if at.same(place) => Some(Spot::Inside(piece)),
@@ -293,7 +297,8 @@ fn join_last(
     requires { HoldsRecords store.old records.old.items }
     ensures held { HoldsRecords store.new records.new.items }
     ensures joined { IfOk result (λ r. IsTrue r → spelled (ops_at store.new records.new.items)
-        ≡ spelled (ops_at store.old records.old.items) ++ spelled_one (op.Text place (chars added.now))) }
+        ≡ spelled (ops_at store.old records.old.items)
+        ++ spelled_one (op.Text place (chars added.now))) }
     ensures other { IfOk result (λ r. IsFalse r → spelled (ops_at store.new records.new.items)
         ≡ spelled (ops_at store.old records.old.items)) }
     ensures err { OnErr result (spelled (ops_at store.new records.new.items)
@@ -354,7 +359,7 @@ impl Ops {
         ensures ok { OnOk result (self.new ≡ self.old ++ op.Make id name.now attributes.now ∷ []) }
         ensures err { OnErr result (self.new ≡ self.old) }
     {
-        let kept = self.store.push_tag(name, attributes)?;
+        let kept = self.store.push_element(name, attributes)?;
         self.records.push(Record::Make(id, kept))?;
         Ok(())
     }
@@ -385,19 +390,22 @@ impl Ops {
         Ok(())
     }
 
-    /// Adds the insertion of a character at the end: it joins the text that the last operation inserts at that place.
+    /// Adds the insertion of a character at the end: it joins the text that the last operation
+    /// inserts at that place.
     pub fn push_character(&mut self, alloc: Global, place: Place, c: char) -> Result<(), NoMemory>
         ensures ok { OnOk result (self.new ≡ self.old ++ op.Text place (c ∷ []) ∷ []) }
         ensures err { OnErr result (self.new ≡ self.old) }
     {
         let mut text = Text::new(alloc);
         text.push(c)?;
-        self.push_text(alloc, place, text.as_str())
+        self.push_text(place, text.as_str())
     }
 
-    /// Adds the insertions of a text's characters at the end, in order: they join the text that the last operation inserts at that place.
-    pub fn push_text(&mut self, _alloc: Global, place: Place, added: &str) -> Result<(), NoMemory>
-        ensures ok { OnOk result (self.new ≡ self.old ++ spelled_one (op.Text place (chars added.now))) }
+    /// Adds the insertions of a text's characters at the end, in order: they join the text that the
+    /// last operation inserts at that place.
+    pub fn push_text(&mut self, place: Place, added: &str) -> Result<(), NoMemory>
+        ensures ok { OnOk result
+            (self.new ≡ self.old ++ spelled_one (op.Text place (chars added.now))) }
         ensures err { OnErr result (self.new ≡ self.old) }
     {
         if join_last(&mut self.store, &mut self.records, place, added)? {

@@ -34,7 +34,8 @@ fn to_cdata(state: CdataState, out: &mut Tokens) -> Result<Transition, NoMemory>
 
 /// Emits a character, and switches to a state of CDATA sections.
 fn emit_in_cdata(c: char, state: CdataState, out: &mut Tokens) -> Result<Transition, NoMemory>
-    ensures { IfOk result (Follows (steps.emit (Character c ∷ []) (rows.in_cdata state)) out.old out.new) }
+    ensures { IfOk result
+        (Follows (steps.emit (Character c ∷ []) (rows.in_cdata state)) out.old out.new) }
 {
     out.push(Token::Character(c))?;
     to_cdata(state, out)
@@ -42,7 +43,8 @@ fn emit_in_cdata(c: char, state: CdataState, out: &mut Tokens) -> Result<Transit
 
 /// Reconsumes the character in the CDATA section state.
 fn again_in_section(out: &mut Tokens) -> Result<Transition, NoMemory>
-    ensures { IfOk result (Follows (steps.again (rows.in_cdata CdataState.Section)) out.old out.new) }
+    ensures { IfOk result
+        (Follows (steps.again (rows.in_cdata CdataState.Section)) out.old out.new) }
 {
     again(TokState::Mark(MarkState::Cdata(CdataState::Section)), out)
 }

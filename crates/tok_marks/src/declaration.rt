@@ -17,8 +17,8 @@ use html_types::{
 use std::alloc::Global;
 use tok_rows::next::{Transition, again, emit_comment, finish_after, to};
 
-/// One row: the next state, and the tokens that are emitted, added to `out`. `foreign` says that the adjusted current node
-/// isn't an HTML element. After NoMemory `out` holds any tokens.
+/// One row: the next state, and the tokens that are emitted, added to `out`. `foreign` says that
+/// the adjusted current node isn't an HTML element. After NoMemory `out` holds any tokens.
 pub fn step(
     alloc: Global,
     foreign: bool,
@@ -66,16 +66,19 @@ pub(crate) fn begins(text: &Text, word: &str) -> bool
     word.starts_with(text.as_str())
 }
 
-/// Whether `--` begins with what was read, or `doctype` with the same in lower case, or, in foreign content, `[CDATA[`.
+/// Whether `--` begins with what was read, or `doctype` with the same in lower case, or, in foreign
+/// content, `[CDATA[`.
 #[tactic(auto, using(crate::proofs::Fronts::chars_dashes, crate::proofs::Fronts::chars_doctype, crate::proofs::Fronts::chars_cdata))]
 fn begins_declaration(foreign: bool, seen: &Text, lower: &Text) -> bool
-    ensures { result ≡ (is_front seen.now (codes "--") || is_front lower.now (codes "doctype") || (foreign && is_front seen.now (codes "[CDATA["))) }
+    ensures { result
+        ≡ (is_front seen.now (codes "--") || is_front lower.now (codes "doctype")
+        || (foreign && is_front seen.now (codes "[CDATA["))) }
 {
     begins(seen, "--") || begins(lower, "doctype") || (foreign && begins(seen, "[CDATA["))
 }
 
-/// Behind what is held and one character more, which are `seen`: `--` begins a comment, `doctype` in any case a doctype,
-/// and, in foreign content, `[CDATA[` a CDATA section.
+/// Behind what is held and one character more, which are `seen`: `--` begins a comment, `doctype`
+/// in any case a doctype, and, in foreign content, `[CDATA[` a CDATA section.
 #[tactic(auto, using(crate::proofs::Fronts::chars_dashes, crate::proofs::Fronts::chars_doctype, crate::proofs::Fronts::chars_cdata))]
 fn declaration_step(
     alloc: Global,
@@ -113,7 +116,8 @@ fn markup_declaration_open_row(
     c: char,
     out: &mut Tokens,
 ) -> Result<Transition, NoMemory>
-    ensures { IfOk result (Follows (rows.markup_declaration_open_row foreign held class c) out.old out.new) }
+    ensures { IfOk result
+        (Follows (rows.markup_declaration_open_row foreign held class c) out.old out.new) }
 {
     match class {
         Class::InputEnd => again(TokState::Mark(MarkState::BogusComment(held)), out),

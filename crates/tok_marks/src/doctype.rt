@@ -234,7 +234,8 @@ fn public_identifier_row(
     c: char,
     out: &mut Tokens,
 ) -> Result<Transition, NoMemory>
-    ensures { IfOk result (Follows (rows.public_identifier_row name quote class c) out.old out.new) }
+    ensures { IfOk result
+        (Follows (rows.public_identifier_row name quote class c) out.old out.new) }
 {
     match (quote, class) {
         (Quote::Double, Class::DoubleQuote) | (Quote::Single, Class::SingleQuote) => {
@@ -255,7 +256,8 @@ fn after_public_identifier_row(
     c: char,
     out: &mut Tokens,
 ) -> Result<Transition, NoMemory>
-    ensures { IfOk result (Follows (rows.after_public_identifier_row name class c) out.old out.new) }
+    ensures { IfOk result
+        (Follows (rows.after_public_identifier_row name class c) out.old out.new) }
 {
     match class {
         Class::Space => to_doctype(DoctypeState::AfterPublicIdentifier(name), out),
@@ -297,7 +299,8 @@ fn system_identifier_row(
     c: char,
     out: &mut Tokens,
 ) -> Result<Transition, NoMemory>
-    ensures { IfOk result (Follows (rows.system_identifier_row name quote class c) out.old out.new) }
+    ensures { IfOk result
+        (Follows (rows.system_identifier_row name quote class c) out.old out.new) }
 {
     match (quote, class) {
         (Quote::Double, Class::DoubleQuote) | (Quote::Single, Class::SingleQuote) => {
@@ -316,7 +319,8 @@ fn after_system_identifier_row(
     c: char,
     out: &mut Tokens,
 ) -> Result<Transition, NoMemory>
-    ensures { IfOk result (Follows (rows.after_system_identifier_row name class c) out.old out.new) }
+    ensures { IfOk result
+        (Follows (rows.after_system_identifier_row name class c) out.old out.new) }
 {
     match class {
         Class::Space => to_doctype(DoctypeState::AfterSystemIdentifier(name), out),
@@ -334,7 +338,8 @@ fn bogus_doctype_row(
     c: char,
     out: &mut Tokens,
 ) -> Result<Transition, NoMemory>
-    ensures { IfOk result (Follows (rows.bogus_doctype_row name force_quirks class c) out.old out.new) }
+    ensures { IfOk result
+        (Follows (rows.bogus_doctype_row name force_quirks class c) out.old out.new) }
 {
     match class {
         Class::Greater => emit_doctype(name, force_quirks, out),

@@ -8,12 +8,13 @@ ghost use Rattle.standard.specs.DoctypeStates as doctypes;
 use char_class::{name_char, shown};
 use html_types::{Class, CommentState, DoctypeState, MarkState, NoMemory, Quote};
 
-/// Does the row where it only adds a character to what the state holds, and says whether it did. Where it says no, the state
-/// is as before, though the row may be of this kind all the same.
+/// Does the row where it only adds a character to what the state holds, and says whether it did.
+/// Where it says no, the state is as before, though the row may be of this kind all the same.
 pub fn add_in_place(state: &mut MarkState, class: Class, c: char) -> Result<bool, NoMemory>
     ensures { IfOk result
         (λ done. MatchBool done
-        ((foreign : Bool) → rows.mark_row foreign state.old class c ≡ steps.to (steps.in_mark state.new))
+        ((foreign : Bool)
+        → rows.mark_row foreign state.old class c ≡ steps.to (steps.in_mark state.new))
         (state.new ≡ state.old)) }
 {
     match state {

@@ -1,4 +1,5 @@
-//! The tokenizer's states of markup declarations, comments, doctypes and CDATA sections (13.2.5.41 to 13.2.5.71).
+//! The tokenizer's states of markup declarations, comments, doctypes and CDATA sections
+//! (13.2.5.41 #bogus-comment-state to 13.2.5.71 #cdata-section-end-state).
 #![tactic(auto)]
 
 pub mod cdata;

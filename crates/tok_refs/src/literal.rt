@@ -1,4 +1,5 @@
-//! What a reference comes to: characters for the text, or for the attribute's value, in which it stands.
+//! What a reference comes to: characters for the text, or for the attribute's value, in which it
+//! stands.
 
 ghost use Rattle.std.specs.Prelude.{◌≡◌, ◌++◌, map, true, IfOk, OnOk};
 ghost use Rattle.std.specs.Str.{chars};
@@ -34,15 +35,16 @@ fn append(held: Option<Attribute>, text: &str) -> Result<Option<Attribute>, NoMe
     }
 }
 
-/// Returns from a reference with the characters of this text: they are emitted, or added to the value. The character at hand
-/// may be reconsumed there.
+/// Returns from a reference with the characters of this text: they are emitted, or added to the
+/// value. The character at hand may be reconsumed there.
 pub fn put(
     back: ReturnState,
     text: &str,
     reconsumes: bool,
     out: &mut Tokens,
 ) -> Result<Transition, NoMemory>
-    ensures { IfOk result (Follows (rows.literally back (chars text.now) reconsumes) out.old out.new) }
+    ensures { IfOk result
+        (Follows (rows.literally back (chars text.now) reconsumes) out.old out.new) }
 {
     let state = match back {
         ReturnState::Data => {

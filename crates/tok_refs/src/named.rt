@@ -88,7 +88,8 @@ fn end_of_match(
     out: &mut Tokens,
 ) -> Result<Transition, NoMemory>
     ensures { (e : Entity) → IsMatch e found
-        → IfOk result (Follows (rows.named_step back held.now (Option.Some e) class) out.old out.new) }
+        → IfOk result
+        (Follows (rows.named_step back held.now (Option.Some e) class) out.old out.new) }
 {
     let rest = skip(held.as_str(), found.length);
     if is_in_attribute(&back) && is_kept(found, rest, class) {
@@ -124,16 +125,20 @@ fn is_in_attribute(back: &ReturnState) -> bool
     }
 }
 
-/// Whether a name stays as it was written in an attribute's value: it has no `;`, and what is behind it, in the rest of what was held or else the character of a
-/// class, is a `=`, a letter or a digit, for historical reasons.
+/// Whether a name stays as it was written in an attribute's value: it has no `;`, and what is
+/// behind it, in the rest of what was held or else the character of a class, is a `=`, a letter or
+/// a digit, for historical reasons.
 pub fn is_kept(found: Match, rest: &str, class: Class) -> bool
     ensures { (e : Entity) → IsMatch e found
-        → result ≡ (not (ends_in_semicolon e.name) && rows.goes_on (rows.class_behind (chars rest.now) class)) }
+        → result
+        ≡ (not (ends_in_semicolon e.name)
+        && rows.goes_on (rows.class_behind (chars rest.now) class)) }
 {
     !found.ends_in_semicolon && goes_on(class_behind(rest, class))
 }
 
-// The class of the character next behind a name: of the rest of what was held, or else of the one at hand.
+// The class of the character next behind a name: of the rest of what was held, or else of the one
+// at hand.
 fn class_behind(rest: &str, class: Class) -> Class
     ensures { result ≡ rows.class_behind (chars rest.now) class }
 {

@@ -1,6 +1,7 @@
 //! References by the number of a character.
 
-ghost use Rattle.std.specs.Prelude.{◌≡◌, ◌+◌, ◌*◌, ◌≤◌, [], ◌∷◌, min, true, false, MatchOption, IfOk};
+ghost use Rattle.std.specs.Prelude.{◌≡◌, ◌+◌, ◌*◌, ◌≤◌, [], ◌∷◌, min, true, false, MatchOption};
+ghost use Rattle.std.specs.Prelude.{IfOk};
 ghost use Rattle.std.specs.Char.{is_digit};
 ghost use Rattle.tok_rows.specs.Steps.{Follows};
 ghost use Rattle.standard.specs.ReferenceStates as rows;
@@ -127,7 +128,8 @@ pub fn decimal_row(
     }
 }
 
-/// The code with one more digit, where the character is one. 110000 (hexadecimal) stands for all codes beyond the last character.
+/// The code with one more digit, where the character is one. 110000 (hexadecimal) stands for all
+/// codes beyond the last character.
 pub fn with_digit(code: u32, radix: u32, c: char) -> Option<u32>
     requires low { 2 ≤ radix }
     requires high { radix ≤ 36 }
@@ -145,7 +147,8 @@ fn longer_code(code: u32, radix: u32, digit: u32) -> u32
     code.saturating_mul(radix).saturating_add(digit).min(BEYOND)
 }
 
-// Behind the digits. The character at hand is a `;`, which belongs to the reference, or it is reconsumed.
+// Behind the digits. The character at hand is a `;`, which belongs to the reference, or it is
+// reconsumed.
 fn end_of_digits(
     alloc: Global,
     back: ReturnState,

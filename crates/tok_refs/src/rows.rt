@@ -1,4 +1,5 @@
-//! The rows of these states: what each does with a character of each class, or at the end of the input.
+//! The rows of these states: what each does with a character of each class, or at the end of the
+//! input.
 
 ghost use Rattle.std.specs.Prelude.{IfOk};
 ghost use Rattle.tok_rows.specs.Steps.{Follows};
@@ -12,7 +13,8 @@ use html_types::{Class, NoMemory, ReferenceState, ReturnState, Text, TokState, T
 use std::alloc::Global;
 use tok_rows::next::{Transition, again, to};
 
-/// One row: the next state, and the tokens that are emitted, added to `out`. After NoMemory `out` holds any tokens.
+/// One row: the next state, and the tokens that are emitted, added to `out`. After NoMemory `out`
+/// holds any tokens.
 pub fn step(
     alloc: Global,
     table: &Table,

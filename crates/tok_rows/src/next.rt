@@ -1,4 +1,5 @@
-//! What a row's function answers, and the ways in which rows end. The tokens that it emits are added to a queue.
+//! What a row's function answers, and the ways in which rows end. The tokens that it emits are
+//! added to a queue.
 
 ghost use Rattle.std.specs.Prelude.{◌≡◌, [], ◌∷◌, IfOk};
 ghost use Rattle.standard.specs.Step as steps;
@@ -34,9 +35,11 @@ pub fn again(state: TokState, out: &mut Tokens) -> Result<Transition, NoMemory>
     Ok(Transition { state, again: true })
 }
 
-/// Emits a token and switches to a state of text, where all rows go that emit one, but those of CDATA sections.
+/// Emits a token and switches to a state of text, where all rows go that emit one, but those of
+/// CDATA sections.
 pub fn emit(token: Token, state: TextState, out: &mut Tokens) -> Result<Transition, NoMemory>
-    ensures { IfOk result (Follows (steps.emit (token ∷ []) (steps.in_text state)) out.old out.new) }
+    ensures { IfOk result
+        (Follows (steps.emit (token ∷ []) (steps.in_text state)) out.old out.new) }
 {
     out.push(token)?;
     to(TokState::Text(state), out)
@@ -44,7 +47,8 @@ pub fn emit(token: Token, state: TextState, out: &mut Tokens) -> Result<Transiti
 
 /// Emits a token and reconsumes the character in a state of text.
 pub fn emit_again(token: Token, state: TextState, out: &mut Tokens) -> Result<Transition, NoMemory>
-    ensures { IfOk result (Follows (steps.emit_again (token ∷ []) (steps.in_text state)) out.old out.new) }
+    ensures { IfOk result
+        (Follows (steps.emit_again (token ∷ []) (steps.in_text state)) out.old out.new) }
 {
     out.push(token)?;
     again(TokState::Text(state), out)
@@ -66,7 +70,8 @@ pub fn finish(out: &mut Tokens) -> Result<Transition, NoMemory>
 
 /// Emits a token, and then the end-of-file token.
 pub fn finish_after(token: Token, out: &mut Tokens) -> Result<Transition, NoMemory>
-    ensures { IfOk result (Follows (steps.emit (token ∷ EndOfFile ∷ []) steps.data_state) out.old out.new) }
+    ensures { IfOk result
+        (Follows (steps.emit (token ∷ EndOfFile ∷ []) steps.data_state) out.old out.new) }
 {
     out.push(token)?;
     finish(out)
@@ -74,7 +79,8 @@ pub fn finish_after(token: Token, out: &mut Tokens) -> Result<Transition, NoMemo
 
 /// Emits a comment, and switches to the data state.
 pub fn emit_comment(text: Text, out: &mut Tokens) -> Result<Transition, NoMemory>
-    ensures { IfOk result (Follows (steps.emit (Comment text ∷ []) steps.data_state) out.old out.new) }
+    ensures { IfOk result
+        (Follows (steps.emit (Comment text ∷ []) steps.data_state) out.old out.new) }
 {
     emit(Token::Comment(text), TextState::Data, out)
 }

@@ -7,8 +7,8 @@ ghost use Rattle.standard.specs.TagStates as rows;
 use char_class::{name_char, shown};
 use html_types::{Class, NoMemory, Quote, TagState};
 
-/// Does the row where it only adds a character to what the state holds, and says whether it did. Where it says no, the state
-/// is as before, though the row may be of this kind all the same.
+/// Does the row where it only adds a character to what the state holds, and says whether it did.
+/// Where it says no, the state is as before, though the row may be of this kind all the same.
 pub fn add_in_place(state: &mut TagState, class: Class, c: char) -> Result<bool, NoMemory>
     ensures { IfOk result
         (λ done. MatchBool done

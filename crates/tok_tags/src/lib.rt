@@ -1,4 +1,6 @@
-//! The tokenizer's states of tags and their attributes (13.2.5.6 to 13.2.5.8, 13.2.5.32 to 13.2.5.40).
+//! The tokenizer's states of tags and their attributes (13.2.5.6 #tag-open-state to
+//! 13.2.5.8 #tag-name-state, 13.2.5.32 #before-attribute-name-state to
+//! 13.2.5.40 #self-closing-start-tag-state).
 #![tactic(auto)]
 
 pub mod in_place;

@@ -1,4 +1,5 @@
-//! The rows of these states: what each does with a character of each class, or at the end of the input.
+//! The rows of these states: what each does with a character of each class, or at the end of the
+//! input.
 
 ghost use Rattle.std.specs.Prelude.{IfOk};
 ghost use Rattle.standard.specs.TagStates as rows;
@@ -16,7 +17,8 @@ use tok_rows::next::{
     new_tag, to,
 };
 
-/// One row: the next state, and the tokens that are emitted, added to `out`. After NoMemory `out` holds any tokens.
+/// One row: the next state, and the tokens that are emitted, added to `out`. After NoMemory `out`
+/// holds any tokens.
 pub fn step(
     alloc: Global,
     state: TagState,
@@ -187,7 +189,8 @@ fn after_attribute_name_row(
     c: char,
     out: &mut Tokens,
 ) -> Result<Transition, NoMemory>
-    ensures { IfOk result (Follows (rows.after_attribute_name_row tag held class c) out.old out.new) }
+    ensures { IfOk result
+        (Follows (rows.after_attribute_name_row tag held class c) out.old out.new) }
 {
     match class {
         Class::Space => to(TokState::Tag(TagState::AfterAttributeName(tag, held)), out),
@@ -218,7 +221,8 @@ fn before_attribute_value_row(
     c: char,
     out: &mut Tokens,
 ) -> Result<Transition, NoMemory>
-    ensures { IfOk result (Follows (rows.before_attribute_value_row tag held class c) out.old out.new) }
+    ensures { IfOk result
+        (Follows (rows.before_attribute_value_row tag held class c) out.old out.new) }
 {
     match class {
         Class::Space => to(

@@ -116,7 +116,8 @@ pub fn double_escape_start_row(
     c: char,
     out: &mut Tokens,
 ) -> Result<Transition, NoMemory>
-    ensures { IfOk result (Follows (rows.double_escape_start_row last name class c) out.old out.new) }
+    ensures { IfOk result
+        (Follows (rows.double_escape_start_row last name class c) out.old out.new) }
 {
     match class {
         Class::Space | Class::Slash | Class::Greater => {
@@ -203,7 +204,8 @@ pub fn double_escaped_dash_dash_row(
     c: char,
     out: &mut Tokens,
 ) -> Result<Transition, NoMemory>
-    ensures { IfOk result (Follows (rows.double_escaped_dash_dash_row last class c) out.old out.new) }
+    ensures { IfOk result
+        (Follows (rows.double_escaped_dash_dash_row last class c) out.old out.new) }
 {
     match class {
         Class::Hyphen => emit(
@@ -239,7 +241,8 @@ pub fn double_escaped_less_than_row(
     c: char,
     out: &mut Tokens,
 ) -> Result<Transition, NoMemory>
-    ensures { IfOk result (Follows (rows.double_escaped_less_than_row last class c) out.old out.new) }
+    ensures { IfOk result
+        (Follows (rows.double_escaped_less_than_row last class c) out.old out.new) }
 {
     match class {
         Class::Slash => emit(

@@ -1,4 +1,5 @@
-//! The rows of these states: what each does with a character of each class, or at the end of the input.
+//! The rows of these states: what each does with a character of each class, or at the end of the
+//! input.
 
 ghost use Rattle.std.specs.Prelude.{◌≡◌, IfOk, MatchOption, true, false};
 ghost use Rattle.standard.specs.TextStates as rows;
@@ -17,7 +18,8 @@ use html_types::{
 use std::alloc::Global;
 use tok_rows::next::{Transition, again, emit, emit_again, emit_tag, finish, new_tag, to};
 
-/// One row: the next state, and the tokens that are emitted, added to `out`. After NoMemory `out` holds any tokens.
+/// One row: the next state, and the tokens that are emitted, added to `out`. After NoMemory `out`
+/// holds any tokens.
 pub fn step(
     alloc: Global,
     state: TextState,
@@ -169,7 +171,8 @@ fn raw_end_tag_open_row(
     }
 }
 
-/// Whether an end tag of this name, in lower case, is appropriate: it has the last start tag's name.
+/// Whether an end tag of this name, in lower case, is appropriate: it has the last start tag's
+/// name.
 fn is_appropriate(last: Option<Word>, name: &Text) -> bool
     ensures { result ≡ rows.is_appropriate last name.now }
 {
@@ -226,7 +229,8 @@ fn raw_end_tag_name_row(
     c: char,
     out: &mut Tokens,
 ) -> Result<Transition, NoMemory>
-    ensures { IfOk result (Follows (rows.raw_end_tag_name_row raw last written class c) out.old out.new) }
+    ensures { IfOk result
+        (Follows (rows.raw_end_tag_name_row raw last written class c) out.old out.new) }
 {
     match class {
         Class::Space => match appropriate_tag(alloc, last, &written)? {

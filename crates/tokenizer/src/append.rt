@@ -52,7 +52,8 @@ fn append_in_tag(state: &mut TagState, text: &str, from: usize) -> Result<usize,
     requires { IsCharBoundary text.now from }
     ensures boundary { IfOk result (λ end. IsCharBoundary text.now end) }
     ensures onward { IfOk result (λ end. from ≤ end) }
-    ensures led { IfOk result (λ end. LeadsTo (in_tag state.old) (piece text.now from end) (in_tag state.new)) }
+    ensures led { IfOk result
+        (λ end. LeadsTo (in_tag state.old) (piece text.now from end) (in_tag state.new)) }
     ensures no_cr { IfOk result (λ end. has_cr (piece text.now from end) ≡ false) }
 {
     match state {
@@ -71,7 +72,8 @@ fn append_in_doctype(state: &mut DoctypeState, text: &str, from: usize) -> Resul
     requires { IsCharBoundary text.now from }
     ensures boundary { IfOk result (λ end. IsCharBoundary text.now end) }
     ensures onward { IfOk result (λ end. from ≤ end) }
-    ensures led { IfOk result (λ end. LeadsTo (in_doctype state.old) (piece text.now from end) (in_doctype state.new)) }
+    ensures led { IfOk result
+        (λ end. LeadsTo (in_doctype state.old) (piece text.now from end) (in_doctype state.new)) }
     ensures no_cr { IfOk result (λ end. has_cr (piece text.now from end) ≡ false) }
 {
     match state {
@@ -92,7 +94,8 @@ fn append_in_comment(state: &mut CommentState, text: &str, from: usize) -> Resul
     requires { IsCharBoundary text.now from }
     ensures boundary { IfOk result (λ end. IsCharBoundary text.now end) }
     ensures onward { IfOk result (λ end. from ≤ end) }
-    ensures led { IfOk result (λ end. LeadsTo (in_comment state.old) (piece text.now from end) (in_comment state.new)) }
+    ensures led { IfOk result
+        (λ end. LeadsTo (in_comment state.old) (piece text.now from end) (in_comment state.new)) }
     ensures no_cr { IfOk result (λ end. has_cr (piece text.now from end) ≡ false) }
 {
     match state {
@@ -106,7 +109,8 @@ fn append_in_mark(state: &mut MarkState, text: &str, from: usize) -> Result<usiz
     requires { IsCharBoundary text.now from }
     ensures boundary { IfOk result (λ end. IsCharBoundary text.now end) }
     ensures onward { IfOk result (λ end. from ≤ end) }
-    ensures led { IfOk result (λ end. LeadsTo (in_mark state.old) (piece text.now from end) (in_mark state.new)) }
+    ensures led { IfOk result
+        (λ end. LeadsTo (in_mark state.old) (piece text.now from end) (in_mark state.new)) }
     ensures no_cr { IfOk result (λ end. has_cr (piece text.now from end) ≡ false) }
 {
     match state {
@@ -117,8 +121,9 @@ fn append_in_mark(state: &mut MarkState, text: &str, from: usize) -> Result<usiz
     }
 }
 
-/// Takes the characters from a place of a text on that the state only adds to what it holds, or drops, and gives the place behind them. It may
-/// end before all of them are taken. A CR would be read as a line feed (13.2.3.5), so it is left to the rows.
+/// Takes the characters from a place of a text on that the state only adds to what it holds, or
+/// drops, and gives the place behind them. It may end before all of them are taken. A CR would be
+/// read as a line feed (13.2.3.5 #preprocessing-the-input-stream), so it is left to the rows.
 pub fn append(state: &mut TokState, text: &str, from: usize) -> Result<usize, NoMemory>
     requires { IsCharBoundary text.now from }
     ensures boundary { IfOk result (λ end. IsCharBoundary text.now end) }

@@ -141,7 +141,8 @@ fn comment_closes(text: &str, from: usize) -> Option<usize>
     Some(end)
 }
 
-/// The comment that begins at a place; none where the text has none there, or where it is not read so.
+/// The comment that begins at a place; none where the text has none there, or where it is not read
+/// so.
 pub fn whole_comment(
     alloc: Global,
     text: &str,
@@ -150,7 +151,9 @@ pub fn whole_comment(
     requires { IsCharBoundary text.now from }
     ensures boundary { IfOk result (λ o. IfSome o (λ w. IsCharBoundary text.now w.end)) }
     ensures onward { IfOk result (λ o. IfSome o (λ w. from < w.end)) }
-    ensures alone { IfOk result (λ o. IfSome o (λ w. (es : Entities) → MakesAlone es (piece text.now from w.end) (Comment w.text))) }
+    ensures alone { IfOk result
+        (λ o. IfSome o
+        (λ w. (es : Entities) → MakesAlone es (piece text.now from w.end) (Comment w.text))) }
     ensures no_cr { IfOk result (λ o. IfSome o (λ w. has_cr (piece text.now from w.end) ≡ false)) }
 {
     let Some(start) = comment_opens(text, from) else {

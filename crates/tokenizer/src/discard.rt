@@ -1,5 +1,5 @@
-//! States that are let go, each group in a function of its own: a state has many shapes, and code that lets one go is as long
-//! as they are many.
+//! States that are let go, each group in a function of its own: a state has many shapes, and code
+//! that lets one go is as long as they are many.
 
 use html_types::{MarkState, ReferenceState, TagState, TextState, TokState};
 

@@ -1,4 +1,4 @@
-//! The tokenizer (13.2.5) over a text that comes in pieces.
+//! The tokenizer (13.2.5 #tokenization) over a text that comes in pieces.
 #![tactic(auto)]
 
 pub mod append;

@@ -49,7 +49,8 @@ pub fn settle(
     c: char,
     out: &mut Tokens,
 ) -> Result<TokState, NoMemory>
-    ensures { IfOk result (Adds (rows.settle table.now foreign readings state class c) out.old out.new) }
+    ensures { IfOk result
+        (Adds (rows.settle table.now foreign readings state class c) out.old out.new) }
 {
     if readings == 0 {
         return Ok(state);
@@ -71,7 +72,8 @@ pub fn settle(
     }
 }
 
-/// Whether the state emits a character of this class as it is, and stays. Where the answer is no, it may do so all the same.
+/// Whether the state emits a character of this class as it is, and stays. Where the answer is no,
+/// it may do so all the same.
 pub fn is_plain(state: &TokState, class: Class) -> bool
     ensures { IsTrue result
         → (es : Entities) (foreign : Bool) (c : ℕ)
@@ -84,12 +86,13 @@ pub fn is_plain(state: &TokState, class: Class) -> bool
     }
 }
 
-/// Does the row where it only adds a character to what the state holds, and says whether it did. Where it says no, the state
-/// is as before, though the row may be of this kind all the same.
+/// Does the row where it only adds a character to what the state holds, and says whether it did.
+/// Where it says no, the state is as before, though the row may be of this kind all the same.
 pub fn add_in_place(state: &mut TokState, class: Class, c: char) -> Result<bool, NoMemory>
     ensures { IfOk result
         (λ done. MatchBool done
-        ((es : Entities) (foreign : Bool) → rows.row es foreign state.old class c ≡ steps.to state.new)
+        ((es : Entities) (foreign : Bool)
+        → rows.row es foreign state.old class c ≡ steps.to state.new)
         (state.new ≡ state.old)) }
 {
     match state {

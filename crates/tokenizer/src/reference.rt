@@ -1,6 +1,8 @@
-//! A character reference that stands whole in a text: a name is looked up once, and a number is read at once.
+//! A character reference that stands whole in a text: a name is looked up once, and a number is
+//! read at once.
 
-ghost use Rattle.std.specs.Prelude.{◌≡◌, ◌++◌, ◌<◌, ◌≤◌, ◌==◌, ◌||◌, ℕ, [], ◌∷◌, false, drop, length, Option, IfSome};
+ghost use Rattle.std.specs.Prelude.{◌≡◌, ◌++◌, ◌<◌, ◌≤◌, ◌==◌, ◌||◌, ℕ, [], ◌∷◌, false, drop};
+ghost use Rattle.std.specs.Prelude.{length, Option, IfSome};
 ghost use Rattle.std.specs.Char.{is_ascii_alphanumeric};
 ghost use Rattle.std.specs.Str.{chars, IsCharBoundary};
 ghost use Rattle.html_types.specs.declared.token.Token.TheVariants.{Character};
@@ -10,7 +12,9 @@ ghost use Rattle.entity_table.specs.Held.{Holds};
 ghost use Rattle.entity_table.specs.Matches.{Tells};
 ghost use Rattle.entity_table.specs.View.{characters_in};
 ghost use Rattle.tokenizer.specs.Reference as parts;
-ghost use Rattle.tokenizer.specs.Reference.{Refers, Means, IsDigit, OpensNumber, Counts, IsFirst, IsHeld, MeansIn, RefersIn, has_nul, standing_for, open_characters};
+ghost use Rattle.tokenizer.specs.Reference.{Refers, Means, IsDigit, OpensNumber, Counts, IsFirst};
+ghost use Rattle.tokenizer.specs.Reference.{IsHeld, MeansIn, RefersIn, has_nul, standing_for};
+ghost use Rattle.tokenizer.specs.Reference.{open_characters};
 ghost use Rattle.tokenizer.specs.Whole.{has_cr, piece, MakesAlone};
 
 use crate::place::{ascii_at, lacks_cr, past};
@@ -49,15 +53,17 @@ fn name_end(text: &str, from: usize) -> Option<usize>
     None
 }
 
-/// The named character reference that begins at a place and ends with a `;`, where another character follows; none where the text has none there, or where it is not
-/// read so.
+/// The named character reference that begins at a place and ends with a `;`, where another
+/// character follows; none where the text has none there, or where it is not read so.
 pub fn whole_reference(table: &Table, text: &str, from: usize) -> Option<Reference>
     requires { IsCharBoundary text.now from }
     ensures boundary { IfSome result (λ r. IsCharBoundary text.now r.end) }
     ensures onward { IfSome result (λ r. from < r.end) }
     ensures within { IfSome result (λ r. r.end < length text.now) }
-    ensures refers { IfSome result (λ r. Refers table.now (piece text.now from r.end) (characters_in r.characters)) }
-    ensures means { IfSome result (λ r. Means table.now (piece text.now from r.end) (characters_in r.characters)) }
+    ensures refers { IfSome result
+        (λ r. Refers table.now (piece text.now from r.end) (characters_in r.characters)) }
+    ensures means { IfSome result
+        (λ r. Means table.now (piece text.now from r.end) (characters_in r.characters)) }
     ensures no_cr { IfSome result (λ r. has_cr (piece text.now from r.end) ≡ false) }
 {
     let Some(end) = name_end(text, from) else {
@@ -115,8 +121,9 @@ fn walk_begins(table: &Table, text: &str, from: usize) -> Option<Walk>
     }
 }
 
-/// A named character reference that ends at a place, before a character with which no name goes on: what the longest name stands for, and the rest of the text; or
-/// all of it, where it begins with no name.
+/// A named character reference that ends at a place, before a character with which no name goes on:
+/// what the longest name stands for, and the rest of the text; or all of it, where it begins with
+/// no name.
 #[derive(Clone, Copy)]
 pub struct OpenReference<'t> {
     pub characters: Option<Characters>,
@@ -127,7 +134,8 @@ pub struct OpenReference<'t> {
 // What is held up to a place, where this is the longest name in it.
 fn resolved<'t>(held: &'t str, best: Option<Match>, end: usize) -> OpenReference<'t>
     ensures ends { result.end ≡ end }
-    ensures stands_for { (found : Option Entity) → Tells found best → open_characters result ≡ standing_for (chars held.now) found }
+    ensures stands_for { (found : Option Entity) → Tells found best
+        → open_characters result ≡ standing_for (chars held.now) found }
     ensures no_nul { has_nul (chars held.now) ≡ false → has_nul (chars result.rest.now) ≡ false }
 {
     match best {
@@ -158,7 +166,8 @@ fn as_read(c: char) -> char
     if c == '\r' { '\n' } else { c }
 }
 
-// What is held of a name up to a place, where a character stands with which no name goes on: the longest name in it.
+// What is held of a name up to a place, where a character stands with which no name goes on: the
+// longest name in it.
 #[derive(Clone, Copy)]
 struct HeldName {
     best: Option<Match>,
@@ -166,16 +175,21 @@ struct HeldName {
     next: char,
 }
 
-// The name that begins at a place, where such a character stands behind it in the text; none where it is not read so.
+// The name that begins at a place, where such a character stands behind it in the text; none where
+// it is not read so.
 fn held_name(table: &Table, text: &str, from: usize) -> Option<HeldName>
     requires { IsCharBoundary text.now from }
     ensures boundary { IfSome result (λ n. IsCharBoundary text.now n.end) }
     ensures onward { IfSome result (λ n. from < n.end) }
     ensures within { IfSome result (λ n. n.end < length text.now) }
     ensures held { IfSome result (λ n. IsHeld table.now (piece text.now from n.end)) }
-    ensures stops { IfSome result (λ n. begins_some (piece text.now from n.end ++ parts.as_read n.next ∷ []) table.now ≡ false) }
-    ensures longest { IfSome result (λ n. Tells (longest (piece text.now from n.end) table.now) n.best) }
-    ensures next { IfSome result (λ n. (c : ℕ) → IsFirst c (chars (drop n.end text.now)) → n.next ≡ c) }
+    ensures stops { IfSome result
+        (λ n. begins_some (piece text.now from n.end ++ parts.as_read n.next ∷ []) table.now
+        ≡ false) }
+    ensures longest { IfSome result
+        (λ n. Tells (longest (piece text.now from n.end) table.now) n.best) }
+    ensures next { IfSome result
+        (λ n. (c : ℕ) → IsFirst c (chars (drop n.end text.now)) → n.next ≡ c) }
 {
     let Some(begun) = walk_begins(table, text, from) else {
         return None;
@@ -200,14 +214,16 @@ fn held_name(table: &Table, text: &str, from: usize) -> Option<HeldName>
     None
 }
 
-/// The named character reference that begins at a place, up to the first character with which no name goes on, where that stands in the text; none at the end of the
-/// text, where the text has none there, or where it is not read so.
+/// The named character reference that begins at a place, up to the first character with which no
+/// name goes on, where that stands in the text; none at the end of the text, where the text has
+/// none there, or where it is not read so.
 pub fn open_reference<'t>(table: &Table, text: &'t str, from: usize) -> Option<OpenReference<'t>>
     requires { IsCharBoundary text.now from }
     ensures boundary { IfSome result (λ r. IsCharBoundary text.now r.end) }
     ensures onward { IfSome result (λ r. from < r.end) }
     ensures within { IfSome result (λ r. r.end < length text.now) }
-    ensures refers { IfSome result (λ r. RefersIn table.now text.now from r.end (open_characters r)) }
+    ensures refers { IfSome result
+        (λ r. RefersIn table.now text.now from r.end (open_characters r)) }
     ensures no_cr { IfSome result (λ r. has_cr (piece text.now from r.end) ≡ false) }
     ensures no_nul { IfSome result (λ r. has_nul (chars r.rest.now) ≡ false) }
 {
@@ -217,9 +233,11 @@ pub fn open_reference<'t>(table: &Table, text: &'t str, from: usize) -> Option<O
     Some(resolved(&text[from..name.end], name.best, name.end))
 }
 
-// Whether what is held stays as it was written in an attribute's value, before a character of this class.
+// Whether what is held stays as it was written in an attribute's value, before a character of this
+// class.
 fn is_kept(held: &str, best: Option<Match>, next: Class) -> bool
-    ensures { (found : Option Entity) → Tells found best → result ≡ parts.is_kept (chars held.now) found next }
+    ensures { (found : Option Entity) → Tells found best
+        → result ≡ parts.is_kept (chars held.now) found next }
 {
     match best {
         None => false,
@@ -247,7 +265,8 @@ fn resolved_in_value<'t>(
     next: Class,
 ) -> OpenReference<'t>
     ensures ends { result.end ≡ end }
-    ensures stands_for { (found : Option Entity) → Tells found best → open_characters result ≡ parts.in_value (chars held.now) found next }
+    ensures stands_for { (found : Option Entity) → Tells found best
+        → open_characters result ≡ parts.in_value (chars held.now) found next }
 {
     if is_kept(held, best, next) {
         as_written(held, end)
@@ -268,7 +287,8 @@ fn lone_ampersand<'t>(text: &'t str, from: usize) -> Option<OpenReference<'t>>
     requires { IsCharBoundary text.now from }
     ensures boundary { IfSome result (λ r. IsCharBoundary text.now r.end) }
     ensures onward { IfSome result (λ r. from < r.end) }
-    ensures means { IfSome result (λ r. (es : Entities) → MeansIn es text.now from r.end (open_characters r)) }
+    ensures means { IfSome result
+        (λ r. (es : Entities) → MeansIn es text.now from r.end (open_characters r)) }
 {
     let Some(end) = past(text, from, '&') else {
         return None;
@@ -283,8 +303,9 @@ fn lone_ampersand<'t>(text: &'t str, from: usize) -> Option<OpenReference<'t>>
     }
 }
 
-/// What a `&` at a place in an attribute's value comes to with the characters behind it, up to the first with which no name goes on, where that stands in the text; none
-/// at the end of the text, where the text has no `&` there, or where it is not read so.
+/// What a `&` at a place in an attribute's value comes to with the characters behind it, up to the
+/// first with which no name goes on, where that stands in the text; none at the end of the text,
+/// where the text has no `&` there, or where it is not read so.
 pub fn open_reference_in_value<'t>(
     table: &Table,
     text: &'t str,
@@ -412,8 +433,10 @@ fn number_at(text: &str, from: usize, number: Counted, end: usize) -> Option<Num
     requires semicolon { piece text.now number.at end ≡ 59 ∷ [] }
     requires counts { Counts number.hexadecimal (piece text.now from number.at) number.code }
     ensures end_is { IfSome result (λ n. n.end ≡ end) }
-    ensures alone { IfSome result (λ n. (es : Entities) → MakesAlone es (piece text.now from end) (Character n.character)) }
-    ensures means { IfSome result (λ n. (es : Entities) → Means es (piece text.now from end) (n.character ∷ [])) }
+    ensures alone { IfSome result
+        (λ n. (es : Entities) → MakesAlone es (piece text.now from end) (Character n.character)) }
+    ensures means { IfSome result
+        (λ n. (es : Entities) → Means es (piece text.now from end) (n.character ∷ [])) }
     ensures no_cr { IfSome result (λ n. has_cr (piece text.now from end) ≡ false) }
 {
     if lacks_cr(&text[from..end]) {
@@ -433,14 +456,16 @@ pub struct Number {
     pub end: usize,
 }
 
-/// The numeric character reference that begins at a place and ends with a `;`; none where the text has none there, or where it
-/// is not read so.
+/// The numeric character reference that begins at a place and ends with a `;`; none where the text
+/// has none there, or where it is not read so.
 pub fn whole_number(text: &str, from: usize) -> Option<Number>
     requires { IsCharBoundary text.now from }
     ensures boundary { IfSome result (λ n. IsCharBoundary text.now n.end) }
     ensures onward { IfSome result (λ n. from < n.end) }
-    ensures alone { IfSome result (λ n. (es : Entities) → MakesAlone es (piece text.now from n.end) (Character n.character)) }
-    ensures means { IfSome result (λ n. (es : Entities) → Means es (piece text.now from n.end) (n.character ∷ [])) }
+    ensures alone { IfSome result
+        (λ n. (es : Entities) → MakesAlone es (piece text.now from n.end) (Character n.character)) }
+    ensures means { IfSome result
+        (λ n. (es : Entities) → Means es (piece text.now from n.end) (n.character ∷ [])) }
     ensures no_cr { IfSome result (λ n. has_cr (piece text.now from n.end) ≡ false) }
 {
     let Some(begun) = number_begins(text, from) else {
@@ -471,14 +496,15 @@ pub fn whole_number(text: &str, from: usize) -> Option<Number>
     None
 }
 
-/// The reference that begins at a place and ends with a `;`, by a name or a number; none where the text has none there, or where
-/// it is not read so.
+/// The reference that begins at a place and ends with a `;`, by a name or a number; none where the
+/// text has none there, or where it is not read so.
 #[inline]
 pub(crate) fn reference_at(table: &Table, text: &str, from: usize) -> Option<Reference>
     requires { IsCharBoundary text.now from }
     ensures boundary { IfSome result (λ r. IsCharBoundary text.now r.end) }
     ensures onward { IfSome result (λ r. from < r.end) }
-    ensures means { IfSome result (λ r. Means table.now (piece text.now from r.end) (characters_in r.characters)) }
+    ensures means { IfSome result
+        (λ r. Means table.now (piece text.now from r.end) (characters_in r.characters)) }
 {
     if text.as_bytes().get(from) != Some(&b'&') {
         return None;

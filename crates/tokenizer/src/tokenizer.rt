@@ -1,6 +1,7 @@
 //! The tokenizer: its state, and the tokens that it has made and not yet given.
 
-ghost use Rattle.std.specs.Prelude.{◌≡◌, ◌↔◌, ◌≤◌, false, [], ◌∷◌, IfOk, OnOk, IfSome, IfNone, IsTrue};
+ghost use Rattle.std.specs.Prelude.{◌≡◌, ◌↔◌, ◌≤◌, false, [], ◌∷◌, IfOk, OnOk, IfSome, IfNone};
+ghost use Rattle.std.specs.Prelude.{IsTrue};
 ghost use Rattle.std.specs.Str.{IsCharBoundary};
 ghost use Rattle.standard.specs.Step.{data_state};
 ghost use Rattle.standard.specs.Tokenizer.{read, reading, read_end, after_tokens};
@@ -17,8 +18,8 @@ use std::alloc::Global;
 use std::marker::Model;
 use std::mem;
 
-/// A tokenizer: a contract sees the tokens that it has made and not yet given, and its state. After a call that answers
-/// NoMemory it is some tokenizer, of use for nothing but to be dropped.
+/// A tokenizer: a contract sees the tokens that it has made and not yet given, and its state. After
+/// a call that answers NoMemory it is some tokenizer, of use for nothing but to be dropped.
 pub struct Tokenizer {
     waiting: Tokens,
     state: TokState,
@@ -90,8 +91,9 @@ impl Tokenizer {
         self.waiting.same(&other.waiting) && eq_state(&self.state, &other.state)
     }
 
-    /// Reads a character, with the named character references of `table`; `foreign` says that the adjusted current node isn't
-    /// an HTML element. The tokens that it makes wait behind those that wait already.
+    /// Reads a character, with the named character references of `table`; `foreign` says that the
+    /// adjusted current node isn't an HTML element. The tokens that it makes wait behind those that
+    /// wait already.
     pub fn read_character(
         &mut self,
         alloc: Global,
@@ -99,7 +101,8 @@ impl Tokenizer {
         foreign: bool,
         c: char,
     ) -> Result<(), NoMemory>
-        ensures { OnOk result (self.new ≡ after_tokens self.old.tokens (read table.now foreign self.old.state c)) }
+        ensures { OnOk result
+            (self.new ≡ after_tokens self.old.tokens (read table.now foreign self.old.state c)) }
     {
         let class = class_of(c);
         if add_in_place(&mut self.state, class, c)? {
@@ -108,21 +111,25 @@ impl Tokenizer {
         self.settle_in(alloc, table, foreign, class, c)
     }
 
-    /// Reads the end of the input, with the named character references of `table`; `foreign` says that the adjusted current
-    /// node isn't an HTML element. The tokens that it makes wait behind those that wait already.
+    /// Reads the end of the input, with the named character references of `table`; `foreign` says
+    /// that the adjusted current node isn't an HTML element. The tokens that it makes wait behind
+    /// those that wait already.
     pub fn finish(&mut self, alloc: Global, table: &Table, foreign: bool) -> Result<(), NoMemory>
-        ensures { OnOk result (self.new ≡ after_tokens self.old.tokens (read_end table.now foreign self.old.state)) }
+        ensures { OnOk result
+            (self.new ≡ after_tokens self.old.tokens (read_end table.now foreign self.old.state)) }
     {
         self.settle_in(alloc, table, foreign, Class::InputEnd, '\0')
     }
 
-    /// Takes the characters from a place of a text on that the state only adds to what it holds, or drops, and gives the place behind them.
-    /// It may end before all of them are taken. A CR ends them.
+    /// Takes the characters from a place of a text on that the state only adds to what it holds, or
+    /// drops, and gives the place behind them. It may end before all of them are taken. A CR ends
+    /// them.
     pub fn append(&mut self, text: &str, from: usize) -> Result<usize, NoMemory>
         requires { IsCharBoundary text.now from }
         ensures boundary { IfOk result (λ end. IsCharBoundary text.now end) }
         ensures onward { IfOk result (λ end. from ≤ end) }
-        ensures led { IfOk result (λ end. LeadsTo self.old.state (piece text.now from end) self.new.state) }
+        ensures led { IfOk result
+            (λ end. LeadsTo self.old.state (piece text.now from end) self.new.state) }
         ensures no_cr { IfOk result (λ end. has_cr (piece text.now from end) ≡ false) }
         ensures waiting { self.new.tokens ≡ self.old.tokens }
     {
@@ -148,7 +155,9 @@ impl Tokenizer {
         class: Class,
         c: char,
     ) -> Result<(), NoMemory>
-        ensures { OnOk result (self.new ≡ after_tokens self.old.tokens (reading table.now foreign self.old.state class c)) }
+        ensures { OnOk result
+            (self.new
+            ≡ after_tokens self.old.tokens (reading table.now foreign self.old.state class c)) }
     {
         let state = mem::replace(&mut self.state, TokState::Text(TextState::Data));
         let now = settle(

@@ -1,11 +1,14 @@
 //! A tag that stands whole in a text, read at once in the data state.
 
-ghost use Rattle.std.specs.Prelude.{◌≡◌, ◌+◌, ◌<◌, ◌≤◌, [], ◌∷◌, ◌++◌, true, false, length, IfOk, OnOk, IfSome};
+ghost use Rattle.std.specs.Prelude.{◌≡◌, ◌+◌, ◌<◌, ◌≤◌, [], ◌∷◌, ◌++◌, true, false, length, IfOk};
+ghost use Rattle.std.specs.Prelude.{OnOk, IfSome};
 ghost use Rattle.std.specs.Str.{chars, IsCharBoundary};
 ghost use Rattle.entity_table.specs.View.{characters_in};
 ghost use Rattle.standard.specs.Entities.{Entities};
 ghost use Rattle.standard.specs.Step.{finished, tag_token};
-ghost use Rattle.tokenizer.specs.Whole.{all_of, is_gap, begins_name, begins_with, has_cr, quote_mark, close_text, may_close, piece, Opens, Reads, ReadsOn, Gives, HasValue, MakesAlone};
+ghost use Rattle.tokenizer.specs.Whole.{all_of, is_gap, begins_name, begins_with, has_cr};
+ghost use Rattle.tokenizer.specs.Whole.{quote_mark, close_text, may_close, piece, Opens, Reads};
+ghost use Rattle.tokenizer.specs.Whole.{ReadsOn, Gives, HasValue, MakesAlone};
 ghost use Rattle.tokenizer.specs.Whole as parts;
 ghost use Rattle.tokenizer.specs.Reference.{open_characters};
 ghost use Rattle.tokenizer.specs.declared.part.Part.TheVariants as part;
@@ -33,7 +36,8 @@ pub enum Behind {
     Space,
     /// Nothing: the end may follow, with a slash or without.
     Nothing,
-    /// Nothing, and the part is a value without quotes, to which a slash would belong: only `>` may follow.
+    /// Nothing, and the part is a value without quotes, to which a slash would belong: only `>` may
+    /// follow.
     Value,
 }
 
@@ -174,7 +178,8 @@ fn no_value(alloc: Global, text: &str, from: usize) -> Value
     requires { IsCharBoundary text.now from }
     ensures boundary { IsCharBoundary text.now result.gap.at }
     ensures onward { from ≤ result.gap.at }
-    ensures value { (es : Entities) → HasValue es result.gap.behind (piece text.now from result.gap.at) result.value }
+    ensures value { (es : Entities)
+        → HasValue es result.gap.behind (piece text.now from result.gap.at) result.value }
 {
     Value {
         value: Text::new(alloc),
@@ -219,8 +224,8 @@ fn push_open(value: &mut Text, reference: OpenReference<'_>) -> Result<(), NoMem
     value.push_str(reference.rest)
 }
 
-// Adds what a `&` in a value, which begins no reference that ends with a `;`, comes to with what stands behind it, and gives the place behind that; none where it is
-// not read so.
+// Adds what a `&` in a value, which begins no reference that ends with a `;`, comes to with what
+// stands behind it, and gives the place behind that; none where it is not read so.
 fn push_open_reference(
     table: &Table,
     text: &str,
@@ -231,7 +236,9 @@ fn push_open_reference(
     requires { IsCharBoundary text.now from }
     ensures boundary { IfOk result (λ o. IfSome o (λ end. IsCharBoundary text.now end)) }
     ensures onward { IfOk result (λ o. IfSome o (λ end. from < end)) }
-    ensures reads { IfOk result (λ o. IfSome o (λ end. ReadsOn table.now quoting (piece text.now from end) value.old value.new)) }
+    ensures reads { IfOk result
+        (λ o. IfSome o
+        (λ end. ReadsOn table.now quoting (piece text.now from end) value.old value.new)) }
     ensures none { IfOk result (λ o. o ≡ None → value.new ≡ value.old) }
 {
     let Some(reference) = open_reference_in_value(table, text, from) else {
@@ -246,7 +253,8 @@ fn push_open_reference(
     Ok(Some(behind))
 }
 
-// Adds what the reference at a place in a value comes to and what stands behind it up to the next, and gives that place; none where no reference is read so.
+// Adds what the reference at a place in a value comes to and what stands behind it up to the next,
+// and gives that place; none where no reference is read so.
 fn push_reference(
     table: &Table,
     text: &str,
@@ -257,7 +265,9 @@ fn push_reference(
     requires { IsCharBoundary text.now from }
     ensures boundary { IfOk result (λ o. IfSome o (λ end. IsCharBoundary text.now end)) }
     ensures onward { IfOk result (λ o. IfSome o (λ end. from < end)) }
-    ensures reads { IfOk result (λ o. IfSome o (λ end. ReadsOn table.now quoting (piece text.now from end) value.old value.new)) }
+    ensures reads { IfOk result
+        (λ o. IfSome o
+        (λ end. ReadsOn table.now quoting (piece text.now from end) value.old value.new)) }
     ensures none { IfOk result (λ o. o ≡ None → value.new ≡ value.old) }
 {
     if text.as_bytes().get(from) != Some(&b'&') {
@@ -308,7 +318,9 @@ fn quoted_value(
     requires opens { piece text.now from start ≡ 61 ∷ quote_mark quote ∷ [] }
     ensures boundary { IfOk result (λ o. IfSome o (λ v. IsCharBoundary text.now v.gap.at)) }
     ensures onward { IfOk result (λ o. IfSome o (λ v. from ≤ v.gap.at)) }
-    ensures value { IfOk result (λ o. IfSome o (λ v. HasValue table.now v.gap.behind (piece text.now from v.gap.at) v.value)) }
+    ensures value { IfOk result
+        (λ o. IfSome o
+        (λ v. HasValue table.now v.gap.behind (piece text.now from v.gap.at) v.value)) }
 {
     let held = value_from(alloc, table, text, start, Some(quote))?;
     let Some(close) = past(text, held.end, mark_of(quote)) else {
@@ -334,7 +346,9 @@ fn unquoted_value(
     requires opens { piece text.now from start ≡ 61 ∷ [] }
     ensures boundary { IfOk result (λ o. IfSome o (λ v. IsCharBoundary text.now v.gap.at)) }
     ensures onward { IfOk result (λ o. IfSome o (λ v. from ≤ v.gap.at)) }
-    ensures value { IfOk result (λ o. IfSome o (λ v. HasValue table.now v.gap.behind (piece text.now from v.gap.at) v.value)) }
+    ensures value { IfOk result
+        (λ o. IfSome o
+        (λ v. HasValue table.now v.gap.behind (piece text.now from v.gap.at) v.value)) }
 {
     let Some(c) = ascii_at(text, start) else {
         return Ok(None);
@@ -363,7 +377,9 @@ fn value_at(
     requires { IsCharBoundary text.now from }
     ensures boundary { IfOk result (λ o. IfSome o (λ v. IsCharBoundary text.now v.gap.at)) }
     ensures onward { IfOk result (λ o. IfSome o (λ v. from ≤ v.gap.at)) }
-    ensures value { IfOk result (λ o. IfSome o (λ v. HasValue table.now v.gap.behind (piece text.now from v.gap.at) v.value)) }
+    ensures value { IfOk result
+        (λ o. IfSome o
+        (λ v. HasValue table.now v.gap.behind (piece text.now from v.gap.at) v.value)) }
 {
     let Some(equals) = past(text, from, '=') else {
         return Ok(Some(no_value(alloc, text, from)));
@@ -391,8 +407,12 @@ fn attribute_at(
     requires { IsCharBoundary text.now from }
     ensures boundary { IfOk result (λ o. IfSome o (λ f. IsCharBoundary text.now f.gap.at)) }
     ensures onward { IfOk result (λ o. IfSome o (λ f. from < f.gap.at)) }
-    ensures begins { IfOk result (λ o. IfSome o (λ f. begins_with part.AttributeName (piece text.now from f.gap.at) ≡ true)) }
-    ensures gives { IfOk result (λ o. IfSome o (λ f. Gives table.now f.gap.behind (piece text.now from f.gap.at) f.attribute)) }
+    ensures begins { IfOk result
+        (λ o. IfSome o
+        (λ f. begins_with part.AttributeName (piece text.now from f.gap.at) ≡ true)) }
+    ensures gives { IfOk result
+        (λ o. IfSome o
+        (λ f. Gives table.now f.gap.behind (piece text.now from f.gap.at) f.attribute)) }
 {
     let Some(end) = part_end(text, from, Part::AttributeName) else {
         return Ok(None);
@@ -418,7 +438,10 @@ fn tag_of(
     attributes: Attributes,
     self_closing: bool,
 ) -> Result<Token, NoMemory>
-    ensures { IfOk result (λ t. t ≡ tag_token kind (finished self_closing (record { kind = kind; name = chars name.now; attributes = attributes }))) }
+    ensures { IfOk result
+        (λ t. t ≡ tag_token kind
+        (finished self_closing
+        (record { kind = kind; name = chars name.now; attributes = attributes }))) }
 {
     let tag = Tag {
         name: Name::of(alloc, name)?,
@@ -472,7 +495,8 @@ fn tag_at(alloc: Global, table: &Table, text: &str, from: usize) -> Result<Optio
     requires { IsCharBoundary text.now from }
     ensures boundary { IfOk result (λ o. IfSome o (λ w. IsCharBoundary text.now w.end)) }
     ensures onward { IfOk result (λ o. IfSome o (λ w. from < w.end)) }
-    ensures alone { IfOk result (λ o. IfSome o (λ w. MakesAlone table.now (piece text.now from w.end) w.token)) }
+    ensures alone { IfOk result
+        (λ o. IfSome o (λ w. MakesAlone table.now (piece text.now from w.end) w.token)) }
 {
     let Some(head) = head_at(text, from) else {
         return Ok(None);
@@ -505,8 +529,9 @@ fn tag_at(alloc: Global, table: &Table, text: &str, from: usize) -> Result<Optio
     }
 }
 
-/// The tag that begins at a place, and the place behind it; none where the text has none there, or where it is not read so.
-/// A CR would be read as a line feed (13.2.3.5), so a tag with one is left to the tokenizer.
+/// The tag that begins at a place, and the place behind it; none where the text has none there, or
+/// where it is not read so. A CR would be read as a line feed (13.2.3.5
+/// #preprocessing-the-input-stream), so a tag with one is left to the tokenizer.
 pub fn whole_tag(
     alloc: Global,
     table: &Table,
@@ -516,7 +541,8 @@ pub fn whole_tag(
     requires { IsCharBoundary text.now from }
     ensures boundary { IfOk result (λ o. IfSome o (λ w. IsCharBoundary text.now w.end)) }
     ensures onward { IfOk result (λ o. IfSome o (λ w. from < w.end)) }
-    ensures alone { IfOk result (λ o. IfSome o (λ w. MakesAlone table.now (piece text.now from w.end) w.token)) }
+    ensures alone { IfOk result
+        (λ o. IfSome o (λ w. MakesAlone table.now (piece text.now from w.end) w.token)) }
     ensures no_cr { IfOk result (λ o. IfSome o (λ w. has_cr (piece text.now from w.end) ≡ false)) }
 {
     let Some(whole) = tag_at(alloc, table, text, from)? else {
@@ -539,7 +565,8 @@ fn comment_or_tag(
     requires { IsCharBoundary text.now from }
     ensures boundary { IfOk result (λ o. IfSome o (λ w. IsCharBoundary text.now w.end)) }
     ensures onward { IfOk result (λ o. IfSome o (λ w. from < w.end)) }
-    ensures alone { IfOk result (λ o. IfSome o (λ w. MakesAlone table.now (piece text.now from w.end) w.token)) }
+    ensures alone { IfOk result
+        (λ o. IfSome o (λ w. MakesAlone table.now (piece text.now from w.end) w.token)) }
     ensures no_cr { IfOk result (λ o. IfSome o (λ w. has_cr (piece text.now from w.end) ≡ false)) }
 {
     if text.as_bytes().get(from.saturating_add(1)) != Some(&b'!') {
@@ -559,7 +586,8 @@ fn number_token(text: &str, from: usize) -> Option<Whole>
     requires { IsCharBoundary text.now from }
     ensures boundary { IfSome result (λ w. IsCharBoundary text.now w.end) }
     ensures onward { IfSome result (λ w. from < w.end) }
-    ensures alone { IfSome result (λ w. (es : Entities) → MakesAlone es (piece text.now from w.end) w.token) }
+    ensures alone { IfSome result
+        (λ w. (es : Entities) → MakesAlone es (piece text.now from w.end) w.token) }
     ensures no_cr { IfSome result (λ w. has_cr (piece text.now from w.end) ≡ false) }
 {
     let Some(number) = whole_number(text, from) else {
@@ -572,8 +600,8 @@ fn number_token(text: &str, from: usize) -> Option<Whole>
     })
 }
 
-/// The tag, the comment or the numeric reference that begins at a place, and the place behind it; none where the text has none there, or where it
-/// is not read so.
+/// The tag, the comment or the numeric reference that begins at a place, and the place behind it;
+/// none where the text has none there, or where it is not read so.
 pub fn whole_token(
     alloc: Global,
     table: &Table,
@@ -583,7 +611,8 @@ pub fn whole_token(
     requires { IsCharBoundary text.now from }
     ensures boundary { IfOk result (λ o. IfSome o (λ w. IsCharBoundary text.now w.end)) }
     ensures onward { IfOk result (λ o. IfSome o (λ w. from < w.end)) }
-    ensures alone { IfOk result (λ o. IfSome o (λ w. MakesAlone table.now (piece text.now from w.end) w.token)) }
+    ensures alone { IfOk result
+        (λ o. IfSome o (λ w. MakesAlone table.now (piece text.now from w.end) w.token)) }
     ensures no_cr { IfOk result (λ o. IfSome o (λ w. has_cr (piece text.now from w.end) ≡ false)) }
 {
     if text.as_bytes().get(from) == Some(&b'&') {

@@ -1,4 +1,4 @@
--- Laws of the tokenizer's rows (13.2.5), over texts and over reconsuming.
+-- Laws of the tokenizer's rows (13.2.5 #tokenization), over texts and over reconsuming.
 use Rattle.std.specs.Prelude.{◌≡◌, ℕ, Bool, true, false, not, ◌&&◌, List, [], ◌∷◌, ◌++◌, map, if◌then◌else◌, codes}
 use Rattle.std.proofs.Common.{zero, suc}
 use Rattle.html_types.specs.declared.token.Token.{Token}

@@ -1,7 +1,9 @@
-//! Laws of the tokenizer's rows (13.2.5), each proved for all texts and states, on functions that do nothing.
+//! Laws of the tokenizer's rows (13.2.5 #tokenization), each proved for all texts and states, on
+//! functions that do nothing.
 #![tactic(auto)]
 
-ghost use Rattle.tokenizer_laws.specs.TokenizerLaws.{CutAnywhere, EndsAlways, EndsInEndOfFile, AsksAtDeclarations, CdataIsText};
+ghost use Rattle.tokenizer_laws.specs.TokenizerLaws.{CutAnywhere, EndsAlways, EndsInEndOfFile};
+ghost use Rattle.tokenizer_laws.specs.TokenizerLaws.{AsksAtDeclarations, CdataIsText};
 
 /// A text may be cut anywhere: its parts, one after the other, come to what it comes to.
 pub fn cut_anywhere()
@@ -18,13 +20,14 @@ pub fn ends_in_end_of_file()
     ensures { EndsInEndOfFile }
 {}
 
-/// `foreign`, whether the adjusted current node isn't an HTML element, is read where a markup declaration begins, and nowhere
-/// else.
+/// `foreign`, whether the adjusted current node isn't an HTML element, is read where a markup
+/// declaration begins, and nowhere else.
 pub fn asks_at_declarations()
     ensures { AsksAtDeclarations }
 {}
 
-/// A CDATA section emits its characters as they are, up to the first `]]>`, and the data state follows.
+/// A CDATA section emits its characters as they are, up to the first `]]>`, and the data state
+/// follows.
 pub fn cdata_is_text()
     ensures { CdataIsText }
 {}

@@ -1,6 +1,7 @@
 //! The board: the one who makes the document publishes it there.
 
-ghost use Rattle.std.specs.Prelude.{◌≡◌, ◌<◌, ◌≤◌, ◌^◌, ◌++◌, ◌∷◌, [], length, true, false, All, IfOk, OnOk, OnErr};
+ghost use Rattle.std.specs.Prelude.{◌≡◌, ◌<◌, ◌≤◌, ◌^◌, ◌++◌, ◌∷◌, [], length, true, false, All};
+ghost use Rattle.std.specs.Prelude.{IfOk, OnOk, OnErr};
 ghost use Rattle.tree_watch.specs.Boards.{Begins, IsNew, HasPublished, HasNotPublished};
 ghost use Rattle.tree_watch.specs.Seeing.{IsSeen};
 

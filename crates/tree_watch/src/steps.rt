@@ -1,6 +1,7 @@
 //! The steps of the one who publishes.
 
-ghost use Rattle.std.specs.Prelude.{◌≡◌, ◌<◌, ◌^◌, ◌++◌, ◌∷◌, [], fold, drop, true, false, IfOk, OnOk, OnErr};
+ghost use Rattle.std.specs.Prelude.{◌≡◌, ◌<◌, ◌^◌, ◌++◌, ◌∷◌, [], fold, drop, true, false, IfOk};
+ghost use Rattle.std.specs.Prelude.{OnOk, OnErr};
 ghost use Rattle.two_copies.specs.Sides.{view};
 ghost use Rattle.tree_watch.specs.Notes.{noted, start};
 ghost use Rattle.tree_watch.specs.Rule.{latest};

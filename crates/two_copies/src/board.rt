@@ -1,7 +1,7 @@
-//! The table that the readers and the writer share.
-//! Word 0 is the side that readers take, 0 or 1, or 2 for none.
-//! Word 16 r + 16 is the epoch of reader r, which is odd while it reads, and word 16 r + 17 is 1 while a handle has that reader.
-//! Slot 8 r + k holds its part of side k. The factors keep each reader's words and slots 128 bytes from the next one's.
+//! The table that the readers and the writer share. Word 0 is the side that readers take, 0 or 1,
+//! or 2 for none. Word 16 r + 16 is the epoch of reader r, which is odd while it reads, and word 16
+//! r + 17 is 1 while a handle has that reader. Slot 8 r + k holds its part of side k. The factors
+//! keep each reader's words and slots 128 bytes from the next one's.
 use crate::part::Part;
 use atomic_table::{Seat, Table, TableRule};
 use crossbeam_utils::rule::Protocol;
@@ -21,7 +21,8 @@ pub struct Plan<T> {
     pub hand: u64,
     /// 1 until the first side is shown.
     pub fresh: u64,
-    /// The epochs that were read after the last change of side. A clause reads an array as a list, of any length.
+    /// The epochs that were read after the last change of side. A clause reads an array as a list,
+    /// of any length.
     pub last: [u64; 0],
     pub shown: Part<T>,
     pub spare: Part<T>,

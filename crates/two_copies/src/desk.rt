@@ -21,8 +21,10 @@ pub struct Open<T: Drop, V, P: Protocol<T, V>, A: Allocator> {
     deed: Deed<T, A>,
     pub shown: Part<T>,
     ghost seated: { place.table_id ≡ (arc_value from.board).shared.table_id },
-    ghost sized: { (8 * length last.items ≡ place.table_id.slots) × (0 < length last.items) × (side < 2) },
-    ghost whole: { (shown.round ≡ deed.round) × (shown.value ≡ deed.value) × (shown.count + length last.items ≡ 2 ^ 63) },
+    ghost sized: { (8 * length last.items ≡ place.table_id.slots) × (0 < length last.items)
+        × (side < 2) },
+    ghost whole: { (shown.round ≡ deed.round) × (shown.value ≡ deed.value)
+        × (shown.count + length last.items ≡ 2 ^ 63) },
     ghost planned: { place ≡ posed place (Writer (resting side 0 shown (plan_of place shown))) [] },
 }
 
@@ -38,9 +40,14 @@ pub struct Desk<T: Drop, V, P: Protocol<T, V>, A: Allocator> {
     spare_deed: Deed<T, A>,
     pub spare: Part<T>,
     ghost seated: { place.table_id ≡ (arc_value from.board).shared.table_id },
-    ghost sized: { (8 * length last.items ≡ place.table_id.slots) × (0 < length last.items) × (side < 2) × (left ≤ length last.items) },
-    ghost whole: { (shown.round ≡ deed.round) × (shown.value ≡ deed.value) × (shown.count + length last.items ≡ 2 ^ 63) },
-    ghost spare_whole: { (spare.round ≡ spare_deed.round) × (spare.value ≡ spare_deed.value) × (spare.count + left ≡ 2 ^ 63) },
-    ghost planned: { place ≡ posed place (Writer (resting side left shown (plan_of place shown))) [] },
-    ghost lent: { 0 < left → ((plan_of place shown).last ≡ last.items) × ((plan_of place shown).spare ≡ unit spare) },
+    ghost sized: { (8 * length last.items ≡ place.table_id.slots) × (0 < length last.items)
+        × (side < 2) × (left ≤ length last.items) },
+    ghost whole: { (shown.round ≡ deed.round) × (shown.value ≡ deed.value)
+        × (shown.count + length last.items ≡ 2 ^ 63) },
+    ghost spare_whole: { (spare.round ≡ spare_deed.round) × (spare.value ≡ spare_deed.value)
+        × (spare.count + left ≡ 2 ^ 63) },
+    ghost planned: { place
+        ≡ posed place (Writer (resting side left shown (plan_of place shown))) [] },
+    ghost lent: { 0 < left → ((plan_of place shown).last ≡ last.items)
+        × ((plan_of place shown).spare ≡ unit spare) },
 }

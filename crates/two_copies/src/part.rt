@@ -5,7 +5,8 @@ ghost use Rattle.two_copies.specs.Parted.{part_owns, part_shares, deed_owns};
 use std::alloc::Allocator;
 use std::marker::Model;
 
-/// The right to read the value, for as long as this is held. A value has 2^63 parts, and this is `count` of them.
+/// The right to read the value, for as long as this is held. A value has 2^63 parts, and this is
+/// `count` of them.
 #[derive(Drop)]
 pub struct Part<T> {
     ptr: *const T,
@@ -33,7 +34,8 @@ impl<T, A: Allocator> Model for Deed<T, A> {
 }
 
 pub fn freeze<T: Drop, A: Allocator>(whole: Box<T, A>) -> (Deed<T, A>, Part<T>)
-    ensures { (result.0.value ≡ whole.value) × (result.1.value ≡ whole.value) × (result.1.round ≡ result.0.round) × (result.1.count ≡ 2 ^ 63) }
+    ensures { (result.0.value ≡ whole.value) × (result.1.value ≡ whole.value)
+        × (result.1.round ≡ result.0.round) × (result.1.count ≡ 2 ^ 63) }
 {
     let (ptr, alloc) = Box::into_raw_with_allocator(whole);
     (Deed { ptr, alloc }, Part { ptr })
@@ -57,13 +59,15 @@ impl<T> Part<T> {
 
     pub fn split_one(&mut self) -> Part<T>
         requires { (1 < self.old.count) × (self.old.count ≤ 2 ^ 63) }
-        ensures { (self.new ≡ record self.old { count = self.old.count - 1 }) × (result ≡ record self.old { count = 1 }) }
+        ensures { (self.new ≡ record self.old { count = self.old.count - 1 })
+            × (result ≡ record self.old { count = 1 }) }
     {
         Part { ptr: self.ptr }
     }
 
     pub fn join(&mut self, other: Part<T>)
-        requires { (other.round ≡ self.old.round) × (0 < self.old.count) × (self.old.count + other.count ≤ 2 ^ 63) }
+        requires { (other.round ≡ self.old.round) × (0 < self.old.count)
+            × (self.old.count + other.count ≤ 2 ^ 63) }
         ensures { self.new ≡ record self.old { count = self.old.count + other.count } }
     {
         let Part { ptr: _ } = other;

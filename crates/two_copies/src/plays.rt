@@ -1,5 +1,7 @@
 //! What each step on the table tells.
-ghost use Rattle.two_copies.specs.Sides.{doing, sat, claimed, entered, looked, backed_out, left, recorded, gathered, emptied, reached, filled, turned, began, ended};
+ghost use Rattle.two_copies.specs.Sides.{doing, sat, claimed, entered, looked, backed_out, left};
+ghost use Rattle.two_copies.specs.Sides.{recorded, gathered, emptied, reached, filled, turned};
+ghost use Rattle.two_copies.specs.Sides.{began, ended};
 ghost use Rattle.two_copies.specs.declared.board.Role.TheVariants.{Idle};
 
 use crate::board::Doing;

@@ -1,4 +1,5 @@
-//! The writer, under a rule of the caller's: the two copies, and the operations that one of them lacks.
+//! The writer, under a rule of the caller's: the two copies, and the operations that one of them
+//! lacks.
 ghost use Rattle.two_copies.specs.Log.{InStep};
 
 use crate::Absorb;
@@ -17,5 +18,6 @@ pub struct Writer<T: Absorb<O> + Drop, O: Drop, V, P: Protocol<T, V>, A: Allocat
     behind: usize,
     /// So many after those are in the spare copy alone.
     ahead: usize,
-    ghost in_step: { ∥ InStep T.applied (T.state desk.shown.value) (T.state desk.spare.value) log.items behind ahead ∥₁ },
+    ghost in_step: { ∥ InStep T.applied (T.state desk.shown.value) (T.state desk.spare.value)
+        log.items behind ahead ∥₁ },
 }

@@ -1,5 +1,6 @@
 // The text at the front of some bytes.
-ghost use Rattle.std.specs.Prelude.{◌≡◌, ◌≤◌, ◌++◌, IfOk, if◌then◌else◌, length, take, nat_lt, Some, None};
+ghost use Rattle.std.specs.Prelude.{◌≡◌, ◌≤◌, ◌++◌, IfOk, if◌then◌else◌, length, take, nat_lt};
+ghost use Rattle.std.specs.Prelude.{Some, None};
 ghost use Rattle.std.specs.Str.{chars};
 ghost use Rattle.serial.specs.Page.{front, without_mark, is_text_so_far};
 ghost use Rattle.html_types.specs.declared.ending.Ending.TheVariants.{Bad, Long};
@@ -37,12 +38,14 @@ pub(crate) fn longest_text(bytes: &[u8]) -> &str
     }
 }
 
-// The longest front that is text, and the ending that all the bytes show. In the usual case, where they are text and
-// all of them count, they are looked at once.
+// The longest front that is text, and the ending that all the bytes show. In the usual case, where
+// they are text and all of them count, they are looked at once.
 pub(crate) fn text_and_ending(seen: &[u8], counted: usize) -> (&str, Option<Ending>)
     requires { counted ≤ length seen.now }
     ensures text { result.0.now ≡ front (take counted seen.now) }
-    ensures ending { result.1 ≡ (if is_text_so_far seen.now then (if nat_lt counted (length seen.now) then Some Long else None) else Some Bad) }
+    ensures ending { result.1
+        ≡ (if is_text_so_far seen.now then
+        (if nat_lt counted (length seen.now) then Some Long else None) else Some Bad) }
 {
     if counted < seen.len() {
         let ending = if is_text_so_far(seen) {
@@ -79,7 +82,8 @@ pub fn without_mark(text: &str) -> &str
 
 // A text without a byte order mark at the page's start.
 pub(crate) fn shown_text(text: &str, at_start: bool) -> &str
-    ensures { chars result.now ≡ (if at_start then without_mark (chars text.now) else chars text.now) }
+    ensures { chars result.now
+        ≡ (if at_start then without_mark (chars text.now) else chars text.now) }
 {
     if at_start { without_mark(text) } else { text }
 }

@@ -23,7 +23,9 @@ pub struct Decoder {
 }
 
 impl Decoder {
-    ghost use Rattle.std.specs.Prelude.{◌≡◌, ◌+◌, ◌-◌, ◌^◌, ◌≤◌, ◌++◌, [], List, ℕ, IfOk, OnErr, Bool, None, if◌then◌else◌, is_some, length, take, min, string_bytes};
+    ghost use Rattle.std.specs.Prelude.{◌≡◌, ◌+◌, ◌-◌, ◌^◌, ◌≤◌, ◌++◌, [], List, ℕ, IfOk, OnErr};
+    ghost use Rattle.std.specs.Prelude.{Bool, None, if◌then◌else◌, is_some, length, take, min};
+    ghost use Rattle.std.specs.Prelude.{string_bytes};
     ghost use Rattle.std.specs.Str.{chars};
     ghost use Rattle.serial.specs.Page.{text_of, shown, ending_of};
     ghost use Rattle.utf8_pieces.specs.Decoder.{HasRead, Looked};
@@ -40,16 +42,18 @@ impl Decoder {
         }
     }
 
-    /// Takes the next piece. `Bad` and `Long` come exactly where the bytes so far show them; behind an ending it gives
-    /// no text and that ending again.
+    /// Takes the next piece. `Bad` and `Long` come exactly where the bytes so far show them; behind
+    /// an ending it gives no text and that ending again.
     pub fn feed(&mut self, alloc: Global, piece: &[u8]) -> Result<Fed, NoMemory>
         ensures read { IfOk result (λ _. (limit : ℕ) (read : List ℕ) → HasRead limit self.old read
             → HasRead limit self.new (read ++ piece.now)) }
 
         // The texts joined are the page's text.
         ensures text { IfOk result (λ fed. (limit : ℕ) (read : List ℕ) → HasRead limit self.old read
-            → text_of limit (read ++ piece.now) ≡ text_of limit read ++ chars (string_bytes fed.text)) }
-        ensures ending { IfOk result (λ fed. (limit : ℕ) (read : List ℕ) → HasRead limit self.old read
+            → text_of limit (read ++ piece.now) ≡ text_of limit read
+            ++ chars (string_bytes fed.text)) }
+        ensures ending { IfOk result
+            (λ fed. (limit : ℕ) (read : List ℕ) → HasRead limit self.old read
             → fed.ending ≡ shown limit (read ++ piece.now)) }
         ensures err { OnErr result (self.new ≡ self.old) }
     {
@@ -66,10 +70,11 @@ impl Decoder {
         Ok(fed)
     }
 
-    /// The ending, where no more bytes come: because of a fault, or because the file ends. A fault inside a character
-    /// is a fault.
+    /// The ending, where no more bytes come: because of a fault, or because the file ends. A fault
+    /// inside a character is a fault.
     pub fn close(&self, fault: bool) -> Ending
-        ensures { (limit : ℕ) (read : List ℕ) → HasRead limit self.now read → result ≡ ending_of limit read fault }
+        ensures { (limit : ℕ) (read : List ℕ) → HasRead limit self.now read
+            → result ≡ ending_of limit read fault }
     {
         match self.shown {
             Some(ending) => ending,
@@ -79,8 +84,8 @@ impl Decoder {
         }
     }
 
-    // Reads on by these bytes, of which the first ones count. A piece is copied once more only where some bytes of a
-    // character were held.
+    // Reads on by these bytes, of which the first ones count. A piece is copied once more only
+    // where some bytes of a character were held.
     fn look(&mut self, alloc: Global, looked: &[u8], counted: usize) -> Result<Fed, NoMemory>
         requires { counted ≤ length looked.now }
         ensures ok { IfOk result (λ fed. Looked self.old self.new

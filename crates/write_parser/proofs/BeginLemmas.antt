@@ -1,5 +1,5 @@
 -- How a script begins: at its end tag, and by its text.
-use Rattle.std.proofs.Common.{◌≡◌, ℕ, suc, Bool, true, false, ◌||◌, if◌then◌else◌, codes, List, [], ◌∷◌, ◌++◌, Option, Some, None, refl, sym, ap, ◌∙◌, subst, append_assoc}
+use Rattle.std.proofs.Common.{◌≡◌, ℕ, suc, Bool, true, false, ◌||◌, if◌then◌else◌, codes, List, [], ◌∷◌, ◌++◌, drop, Option, Some, None, refl, sym, ap, ◌∙◌, subst, append_assoc}
 use Rattle.html_types.specs.declared.operation.NodeId.{NodeId}
 use Rattle.serial.specs.declared.script.Line.{Line}
 use Rattle.serial.specs.declared.script.Line.TheVariants as line
@@ -14,7 +14,9 @@ use Rattle.op_exec.specs.Scripts.{script_kind}
 use Rattle.op_exec.specs.declared.script.ScriptKind.TheVariants.{Still, Inline, External}
 use Rattle.write_parser.specs.declared.nesting.Begun.{Begun}
 use Rattle.write_parser.specs.declared.live.Live.{Live}
-use Rattle.write_parser.specs.Steps.{nest_of, Begins, Prepares}
+use Rattle.serial.specs.declared.script.Statement.{Statement}
+use Rattle.write_parser.specs.Made.{BeginsBy, IsPreparedBy}
+use Rattle.write_parser.specs.Steps.{at_of, framed, frame_of, with_begun, nest_of, Begins, Prepares}
 use Rattle.standard_laws.proofs.Frames.{still-tag, external-tag, inline-tag, outside-text, text-begins}
 
 -- ---- by its text
@@ -30,6 +32,7 @@ begins-outside text old new is none = subst (λ n. Begins text old None n) (sym 
   keeps = refl;
   pending = refl;
   wrote = tt;
+  begins = λ fs. subst (λ (t : Option (List Statement)). BeginsBy t (at_of old fs) (at_of old fs)) (sym none) refl;
 })
 
 -- one in the language
@@ -40,12 +43,18 @@ begins-inside text old new b is number done rest some = subst (λ n. Begins text
   keeps = refl;
   pending = refl;
   wrote = rest;
+  begins = λ fs. subst (λ (t : Option (List Statement)). BeginsBy t (at_of old fs) (at_of old (frame_of b ∷ fs))) (sym some) (b.number, begun fs);
 })
   where
     by_begun : (w : World) (fs : List Frame) (before : List Line) (page : List ℕ) (g : Course)
         → NestComesTo w (nest_of (record old { executed = suc old.executed }) (record { number = suc old.executed; list = b.script; rest = [] } ∷ fs) before page) g
         → TextComesTo w (statements text) (nest_of old fs before page) g
     by_begun w fs before page g come = text-begins w (statements text) b.script (nest_of old fs before page) g some come
+
+    begun : (fs : List Frame) → at_of old (frame_of b ∷ fs) ≡ at_of old (framed b.number b.script [] ∷ fs)
+    begun fs =
+        ap (λ (n : ℕ). at_of old (framed b.number (drop n b.script) b.rest ∷ fs)) done
+        ∙ ap (λ (r : List ℕ). at_of old (framed b.number b.script r ∷ fs)) rest
 
 -- ---- how it was prepared
 
@@ -107,6 +116,7 @@ prepares-still id l kind = record {
   comes = λ w fs before page g come. still-tag w id (nest_of l fs before page) g (is_still _ (sym kind)) come;
   keeps = refl;
   wrote = tt;
+  prepared = λ fs. subst (λ (p : Prepared). IsPreparedBy p (at_of l fs) (at_of l fs)) (sym (is_still (prepare l.doc.tree (node_of l.doc.bound id)) (sym kind))) refl;
 }
 
 pub prepares-external : (id : NodeId) (old new : Live) (src : Option (List ℕ)) → External ≡ script_kind (prepare old.doc.tree (node_of old.doc.bound id)) →
@@ -114,17 +124,21 @@ pub prepares-external : (id : NodeId) (old new : Live) (src : Option (List ℕ))
 prepares-external id old new src kind named is = by_name (is_external old.doc.tree (node_of old.doc.bound id) (sym kind))
   where
     by_name : IsExternal (prepare old.doc.tree (node_of old.doc.bound id)) (attribute (codes "src") (attributes_of (kind_of old.doc.tree (node_of old.doc.bound id)))) → Prepares id old None new
-    by_name (name, prepared, src-is) = subst (λ n. Prepares id old None n) (sym (is ∙ ap (λ p. record old { pending = p }) (named ∙ src-is))) (record {
-      comes = λ w fs before page g come. external-tag w id (nest_of old fs before page) name g prepared come;
+    by_name (name, named-so, src-is) = subst (λ n. Prepares id old None n) (sym (is ∙ ap (λ p. record old { pending = p }) (named ∙ src-is))) (record {
+      comes = λ w fs before page g come. external-tag w id (nest_of old fs before page) name g named-so come;
       keeps = refl;
       wrote = tt;
+      prepared = λ fs. subst (λ (p : Prepared). IsPreparedBy p (at_of old fs) (at_of old fs)) (sym named-so) refl;
     })
 
 pub prepares-inline : (id : NodeId) (old new : Live) (text read : List ℕ) (b : Option Begun) → Inline ≡ script_kind (prepare old.doc.tree (node_of old.doc.bound id)) →
     text ≡ script_text old.doc.tree (node_of old.doc.bound id) → read ≡ text → Begins read old b new → Prepares id old b new
 prepares-inline id old new text read b kind whole same begins = record {
-  comes = λ w fs before page g come. inline-tag w id (nest_of old fs before page) read g (is_inline old.doc.tree (node_of old.doc.bound id) (sym kind) ∙ ap inline (sym (same ∙ whole)))
-      (begins.comes w fs before page g come);
+  comes = λ w fs before page g come. inline-tag w id (nest_of old fs before page) read g is (begins.comes w fs before page g come);
   keeps = begins.keeps;
   wrote = begins.wrote;
+  prepared = λ fs. subst (λ (p : Prepared). IsPreparedBy p (at_of old fs) (at_of new (with_begun b fs))) (sym is) (begins.begins fs);
 }
+  where
+    is : prepare old.doc.tree (node_of old.doc.bound id) ≡ inline read
+    is = is_inline old.doc.tree (node_of old.doc.bound id) (sym kind) ∙ ap inline (sym (same ∙ whole))

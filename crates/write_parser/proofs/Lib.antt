@@ -4,3 +4,4 @@ pub mod StatementLemmas
 pub mod RestLemmas
 pub mod NestingLemmas
 pub mod LevelLemmas
+pub mod MadeLemmas

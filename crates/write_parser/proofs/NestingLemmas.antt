@@ -23,7 +23,8 @@ use Rattle.write_parser.specs.declared.live.Progress.{Progress}
 use Rattle.write_parser.specs.declared.live.Progress.TheVariants as turn
 use Rattle.write_parser.specs.Parsing.{IsServed, RestParsed}
 use Rattle.write_parser.specs.Writing.{scripts_awaited}
-use Rattle.write_parser.specs.Steps.{Steps, IsGoing, framed, frame_of, frames_of, nest_of, ThenBy, Then, weight, steps_of, Moves, frames_at, Prepares, Nests, left_by, IsLight, Does, RunsOn, Continues, ParsesOn}
+use Rattle.write_parser.specs.Made.{IsPrepared}
+use Rattle.write_parser.specs.Steps.{Steps, IsGoing, at_of, framed, frame_of, frames_of, nest_of, ThenBy, Then, weight, steps_of, Moves, frames_at, Prepares, Nests, left_by, IsLight, Does, RunsOn, Continues, ParsesOn}
 use Rattle.standard_laws.proofs.Passing.{parse-left}
 use Rattle.standard_laws.proofs.Frames.{frame-ends, rest-ends, rest-stops, rest-refuses}
 use Rattle.write_parser.proofs.StatementLemmas.{then-on, on-then}
@@ -182,6 +183,7 @@ nests-none id old new n prepares = record {
   comes = λ w before page g come. prepares.comes w (frames_of n) before page g come;
   keeps = prepares.keeps;
   rests = refl;
+  prepared = prepares.prepared (frames_of n);
 }
 
 pub nests-begun : (id : NodeId) (old new : Live) (n n' : Nesting) (b : Begun) → Prepares id old (Some b) new → n'.top ≡ b → n'.below.items ≡ n.below.items ++ n.top ∷ [] → Nests id old n new n'
@@ -190,6 +192,7 @@ nests-begun id old new n n' b prepares top below = record {
       prepares.comes w (frames_of n) before page g (subst (λ fs. NestComesTo w (nest_of new fs before page) g) frames come);
   keeps = prepares.keeps;
   rests = ap rests frames ∙ ap (λ r. r ++ rests (frames_of n)) prepares.wrote;
+  prepared = subst (λ (fs : List Frame). IsPrepared id (at_of old (frames_of n)) (at_of new fs)) (sym frames) (prepares.prepared (frames_of n));
 }
   where
     frames : frames_of n' ≡ frame_of b ∷ frames_of n

@@ -27,7 +27,7 @@ pub ops-bound : (es : Entities) (p : Parser) (d : Doc) (now : Parser) (before op
 ops-bound es p d now before ops ran text served none run =
     subst (AreOpsBound (is_bound d.bound)) (sym (run.ops ∙ ap (λ l. l ++ (parse es p (chars text)).ops) none)) (texts-served AreFresh fresh-follows d es p (chars text) served).0.0
 
-ops-are : (before ops more : List Op) → before ≡ [] → ops ≡ before ++ more → ops ≡ more
+pub ops-are : (before ops more : List Op) → before ≡ [] → ops ≡ before ++ more → ops ≡ more
 ops-are before ops more none is = is ∙ ap (λ l. l ++ more) none
 
 pub text-parsed : (es : Entities) (p p' : Parser) (d d' : Doc) (before ops : List Op) (ran : Ran) (text : List ℕ) → IsUtf8 text → IsServed p d → before ≡ [] →

@@ -1,5 +1,6 @@
 -- Statements of the innermost script.
-use Rattle.std.proofs.Common.{◌≡◌, ◌<◌, ◌≤◌, ◌+◌, ℕ, suc, true, false, get_or, drop, drop-cons, add-one, Result, Ok, Err, IfOk, OnOk, List, [], ◌∷◌, ◌++◌, length, Option, Some, None, Bool, if◌then◌else◌, refl, sym, ap, ◌∙◌, subst, append_assoc, length-append, arith, ◌⊎◌, inl, inr}
+use Rattle.std.proofs.Common.{◌≡◌, ◌<◌, ◌≤◌, ◌+◌, ℕ, suc, true, false, get_or, drop, drop-cons, add-one, Result, Ok, Err, IfOk, OnOk, List, [], ◌∷◌, ◌++◌, length, Option, Some, None, Bool, if◌then◌else◌, refl, sym, ap, ◌∙◌, subst, append_assoc, append-nil, length-append, arith, ◌⊎◌, inl, inr, fold}
+use Rattle.std.specs.Prelude.{unwrap_or}
 use Rattle.std.specs.Option.{is_some}
 use Rattle.std.proofs.lemmas.Bool.{cases_lt}
 use Rattle.serial.specs.declared.script.Line.{Line}
@@ -21,7 +22,10 @@ use Rattle.standard_laws.specs.Frames.{Frame, Nest, state_of, NestComesTo, Waits
 use Rattle.write_parser.specs.declared.live.Live.{Live}
 use Rattle.write_parser.specs.declared.live.Did.{Did}
 use Rattle.write_parser.specs.declared.live.Did.TheVariants as did
-use Rattle.write_parser.specs.Steps.{IsGoing, framed, nest_of, ThenBy, Then, HasWritten, HasRemoved, HasAppended, HasSet, HasRead, DoesMost, Does}
+use Rattle.doc_changes.specs.declared.change.Change.TheVariants.{Moved}
+use Rattle.doc_changes.specs.Changes.{changed}
+use Rattle.write_parser.specs.Made.{of_removal, of_move, of_fragment, of_setting, of_statement, written_by}
+use Rattle.write_parser.specs.Steps.{changed_by, IsGoing, framed, nest_of, ThenBy, Then, HasWritten, HasRemoved, HasAppended, HasSet, HasRead, DoesMost, Does}
 use Rattle.standard_laws.proofs.Frames.{write-fits, write-refuses, line-fits, line-refuses, removes, appends, fills, fill-refuses, reads_by_id, reads_root, throws}
 
 -- ---- where the page isn't refused, and where it is
@@ -33,6 +37,79 @@ then-on w Of new fs before page on each = subst (λ h. ThenBy h w Of new fs befo
 pub on-then : (w : World) (Of : Course → Type 0) (new : Live) (fs : List Frame) (before : List Line) (page : List ℕ) → new.halted ≡ None → Then w Of new fs before page →
     (g : Course) → NestComesTo w (nest_of new fs before page) g → Of g
 on-then w Of new fs before page on each = subst (λ h. ThenBy h w Of new fs before page) on each
+
+-- ---- what a statement makes of the document
+
+-- nothing
+changed-none : (es : Entities) (a : Statement) (l : Live) → of_statement es l.machine.open_state.quirks l.doc.tree a ≡ [] → l.doc ≡ changed_by es a l
+changed-none es a l none = sym (ap (fold changed l.doc) none)
+
+-- nor where its element isn't there
+lacks-move : (t : Nodes) (first second : Option ℕ) → appended t first second ≡ None → of_move t first second ≡ []
+lacks-move t None second is = refl
+lacks-move t (Some first) None is = refl
+lacks-move t (Some first) (Some second) is = by (lies_in t first second) is
+  where
+    by : (b : Bool) → (if b then None else Some (moved t second first None)) ≡ None → (if b then [] else Moved first second ∷ []) ≡ []
+    by true is = refl
+    by false is = absurd (cc is)
+
+lacks-changes : (es : Entities) (quirks : Bool) (t : Nodes) (a : Statement) → LacksElement t a → of_statement es quirks t a ≡ []
+lacks-changes es quirks t (statement.Write v) lacks = absurd lacks
+lacks-changes es quirks t (statement.WriteLine v) lacks = absurd lacks
+lacks-changes es quirks t (statement.Remove v) lacks = ap of_removal lacks
+lacks-changes es quirks t (statement.Append v c) lacks = lacks-move t (find_id t v) (find_id t c) lacks
+lacks-changes es quirks t (statement.SetInner v text) lacks = ap (λ (f : Option ℕ). of_setting es quirks t f text) lacks
+lacks-changes es quirks t (statement.LogById v) lacks = refl
+lacks-changes es quirks t statement.LogRoot lacks = refl
+
+lacks-writes : (t : Nodes) (a : Statement) → LacksElement t a → written_by a ≡ []
+lacks-writes t (statement.Write v) lacks = absurd lacks
+lacks-writes t (statement.WriteLine v) lacks = absurd lacks
+lacks-writes t (statement.Remove v) lacks = refl
+lacks-writes t (statement.Append v c) lacks = refl
+lacks-writes t (statement.SetInner v text) lacks = refl
+lacks-writes t (statement.LogById v) lacks = refl
+lacks-writes t statement.LogRoot lacks = refl
+
+-- so what was written stays
+stays-written : (rest text : List ℕ) → text ≡ [] → rest ≡ rest ++ text
+stays-written rest text none = sym (ap (λ (t : List ℕ). rest ++ t) none ∙ append-nil rest)
+
+-- a move that left this tree
+moved-doc : (d : Doc) (first second : Option ℕ) (t : Nodes) → appended d.tree first second ≡ Some t → record d { tree = t } ≡ fold changed d (of_move d.tree first second)
+moved-doc d None second t is = absurd (cc is)
+moved-doc d (Some first) None t is = absurd (cc is)
+moved-doc d (Some first) (Some second) t is = by (lies_in d.tree first second) is
+  where
+    by : (b : Bool) → (if b then None else Some (moved d.tree second first None)) ≡ Some t → record d { tree = t } ≡ fold changed d (if b then [] else Moved first second ∷ [])
+    by true is = absurd (cc is)
+    by false is = ap (λ (o : Option Nodes). record d { tree = unwrap_or o t }) (sym is)
+
+abbrev tree_in : Setting → Nodes → Nodes
+tree_in (setting t) other = t
+tree_in _ other = other
+
+-- a fragment that left this tree
+set-doc : (es : Entities) (quirks : Bool) (d : Doc) (found : Option ℕ) (text : List ℕ) (t : Nodes) → inner_set es quirks d.tree found text ≡ setting t →
+    record d { tree = t } ≡ fold changed d (of_setting es quirks d.tree found text)
+unfolding inner_set filled
+set-doc es quirks d None text t is = absurd (cc is)
+set-doc es quirks d (Some n) text t is = let c : Context = context_at d.tree n quirks in by c.form (fragment es c text) is
+  where
+    by : (form : Bool) (ops : Option (List Op)) → set_by d.tree n form ops ≡ setting t → record d { tree = t } ≡ fold changed d (of_fragment n form ops)
+    by form None is = absurd (cc is)
+    by form (Some ops) is = ap (λ (s : Setting). record d { tree = tree_in s t }) (sym is)
+
+-- or is too deep
+deep-none : (es : Entities) (quirks : Bool) (t : Nodes) (found : Option ℕ) (text : List ℕ) → inner_set es quirks t found text ≡ too_deep → of_setting es quirks t found text ≡ []
+unfolding inner_set
+deep-none es quirks t None text is = refl
+deep-none es quirks t (Some n) text is = let c : Context = context_at t n quirks in by c.form (fragment es c text) is
+  where
+    by : (form : Bool) (ops : Option (List Op)) → set_by t n form ops ≡ too_deep → of_fragment n form ops ≡ []
+    by form None is = refl
+    by form (Some ops) is = absurd (cc is)
 
 -- ---- a write
 
@@ -48,7 +125,8 @@ Overruns a t =
     (w : World) (x : Nest) (f : Frame) (fs : List Frame) (list : List Statement) →
     x.frames ≡ f ∷ fs → f.list ≡ a ∷ list → Waits x.pending f.rest → write_limit < x.written + length t → NestComesTo w x (refuses why.Writes (state_of x))
 
-module _ (es : Entities) (k : ℕ) (a : Statement) (t : List ℕ) (old : Live) (rest : List ℕ) (going : IsGoing old) (waits : Waits old.pending rest) where
+module _ (es : Entities) (k : ℕ) (a : Statement) (t : List ℕ) (old : Live) (rest : List ℕ) (going : IsGoing old) (waits : Waits old.pending rest)
+    (none : of_statement es old.machine.open_state.quirks old.doc.tree a ≡ []) (there : LacksElement old.doc.tree a → ⊥) (text : written_by a ≡ t) where
   wrote-fits : Writes a t → old.written + length t ≤ write_limit → DoesMost es k a old rest (record old { written = old.written + length t }) (rest ++ t) did.All
   wrote-fits writes fits = record {
     done = λ list fs. record {
@@ -59,6 +137,10 @@ module _ (es : Entities) (k : ℕ) (a : Statement) (t : List ℕ) (old : Live) (
     };
     served = going.served;
     light = record { light = omega (arith, length-append rest t); behind = refl; pending = refl };
+    lacks = there;
+    writes = λ on. ap (λ (u : List ℕ). rest ++ u) (sym text);
+    doc = changed-none es a old none;
+    machine = refl;
   }
 
   wrote-long : Overruns a t → write_limit < old.written + length t → DoesMost es k a old rest (record old { halted = Some why.Writes }) rest did.All
@@ -72,6 +154,10 @@ module _ (es : Entities) (k : ℕ) (a : Statement) (t : List ℕ) (old : Live) (
     };
     served = going.served;
     light = record { light = omega arith; behind = refl; pending = refl };
+    lacks = there;
+    writes = λ on. absurd (cc on);
+    doc = changed-none es a old none;
+    machine = refl;
   }
 
   does-write_of : Writes a t → Overruns a t → (new : Live) (rest' : List ℕ) (d : Did) → HasWritten old rest t new rest' d → DoesMost es k a old rest new rest' d
@@ -90,13 +176,13 @@ module _ (es : Entities) (k : ℕ) (a : Statement) (t : List ℕ) (old : Live) (
 pub does-write : (es : Entities) (k : ℕ) (t : List ℕ) (old : Live) (rest : List ℕ) (new : Live) (rest' : List ℕ) (d : Did) → IsGoing old → Waits old.pending rest →
     HasWritten old rest t new rest' d → DoesMost es k (statement.Write t) old rest new rest' d
 does-write es k t old rest new rest' d going waits has =
-    does-write_of es k (statement.Write t) t old rest going waits
+    does-write_of es k (statement.Write t) t old rest going waits refl (λ none. none) refl
     (λ w x f fs list g. write-fits w x f fs t list g) (λ w x f fs list. write-refuses w x f fs t list) new rest' d has
 
 pub does-write_line : (es : Entities) (k : ℕ) (t : List ℕ) (old : Live) (rest : List ℕ) (new : Live) (rest' : List ℕ) (d : Did) → IsGoing old → Waits old.pending rest →
     HasWritten old rest (with_line_feed t) new rest' d → DoesMost es k (statement.WriteLine t) old rest new rest' d
 does-write_line es k t old rest new rest' d going waits has =
-    does-write_of es k (statement.WriteLine t) (with_line_feed t) old rest going waits
+    does-write_of es k (statement.WriteLine t) (with_line_feed t) old rest going waits refl (λ none. none) refl
     (λ w x f fs list g. line-fits w x f fs t list g) (λ w x f fs list. line-refuses w x f fs t list) new rest' d has
 
 -- ---- an element that isn't there
@@ -107,7 +193,15 @@ lacks es k a old rest new rest' d going absent same (is, nothing) =
     subst (λ d'. DoesMost es k a old rest new rest' d') (sym nothing)
     (subst (λ r. DoesMost es k a old rest new r did.Nothing) (sym same)
     (subst (λ n. DoesMost es k a old rest n rest did.Nothing) (sym is)
-    (record { done = (refl, refl, absent); served = going.served; light = record { light = omega arith; behind = refl; pending = refl } })))
+    (record {
+      done = (refl, refl, absent);
+      served = going.served;
+      light = record { light = omega arith; behind = refl; pending = refl };
+      lacks = absent;
+      writes = λ on. stays-written rest (written_by a) (lacks-writes old.doc.tree a absent);
+      doc = changed-none es a old (lacks-changes es old.machine.open_state.quirks old.doc.tree a absent);
+      machine = refl;
+    })))
 
 -- ---- a removal
 
@@ -123,6 +217,10 @@ removed-there es k v old rest e going waits there = record {
   };
   served = going.served;
   light = record { light = omega arith; behind = refl; pending = refl };
+  lacks = λ none. absurd (cc (sym there ∙ none));
+  writes = λ on. sym (append-nil rest);
+  doc = sym (ap (λ (f : Option ℕ). fold changed old.doc (of_removal f)) there);
+  machine = refl;
 }
 
 pub does-remove : (es : Entities) (k : ℕ) (v : List ℕ) (old : Live) (rest : List ℕ) (new : Live) (rest' : List ℕ) (d : Did) → IsGoing old → Waits old.pending rest → rest' ≡ rest →
@@ -178,6 +276,10 @@ moved-there es k v w old rest t going waits there = record {
   };
   served = going.served;
   light = record { light = omega arith; behind = refl; pending = refl };
+  lacks = λ none. absurd (cc (sym there ∙ none));
+  writes = λ on. sym (append-nil rest);
+  doc = moved-doc old.doc (find_id old.doc.tree v) (find_id old.doc.tree w) t there;
+  machine = refl;
 }
 
 pub does-append : (es : Entities) (k : ℕ) (v w : List ℕ) (old : Live) (rest : List ℕ) (new : Live) (rest' : List ℕ) (d : Did) → IsGoing old → Waits old.pending rest → rest' ≡ rest →
@@ -215,6 +317,10 @@ module _ (es : Entities) (quirks : Bool) (old : Live) (found : Option ℕ) (text
     set-filled ops doc some done =
         subst (λ (s : Setting). HasSet s old (record old { doc = doc }) did.All) (sym (set-as (Some ops) some)) (ap (λ (d : Doc). record old { doc = d }) done, refl)
 
+none-lacking : (es : Entities) (quirks : Bool) (t : Nodes) (found : Option ℕ) (text : List ℕ) → found ≡ None → inner_set es quirks t found text ≡ lacking
+unfolding inner_set
+none-lacking es quirks t found text is = subst (λ (f : Option ℕ). inner_set es quirks t f text ≡ lacking) (sym is) refl
+
 lacking-none : (es : Entities) (quirks : Bool) (t : Nodes) (found : Option ℕ) (text : List ℕ) → inner_set es quirks t found text ≡ lacking → found ≡ None
 unfolding inner_set
 lacking-none es quirks t None text is = refl
@@ -234,6 +340,10 @@ module _ (es : Entities) (k : ℕ) (v text : List ℕ) (old : Live) (rest : List
   in_world : (w : World) → w.entities ≡ es → (s : Setting) → set ≡ s → inner_set w.entities old.machine.open_state.quirks old.doc.tree (find_id old.doc.tree v) text ≡ s
   in_world w is s there = ap (λ e. inner_set e old.machine.open_state.quirks old.doc.tree (find_id old.doc.tree v) text) is ∙ there
 
+  -- where its element isn't there
+  set-none : find_id old.doc.tree v ≡ None → set ≡ lacking
+  set-none none = none-lacking es old.machine.open_state.quirks old.doc.tree (find_id old.doc.tree v) text none
+
   filled-there : (t : Nodes) → set ≡ setting t → DoesMost es k this old rest (record old { doc = record old.doc { tree = t } }) rest did.All
   filled-there t there = record {
     done = λ list fs. record {
@@ -245,6 +355,10 @@ module _ (es : Entities) (k : ℕ) (v text : List ℕ) (old : Live) (rest : List
     };
     served = going.served;
     light = record { light = omega arith; behind = refl; pending = refl };
+    lacks = λ none. absurd (cc (sym there ∙ set-none none));
+    writes = λ on. sym (append-nil rest);
+    doc = set-doc es old.machine.open_state.quirks old.doc (find_id old.doc.tree v) text t there;
+    machine = refl;
   }
 
   filled-deep : set ≡ too_deep → DoesMost es k this old rest (record old { halted = Some why.Depth }) rest did.All
@@ -258,6 +372,10 @@ module _ (es : Entities) (k : ℕ) (v text : List ℕ) (old : Live) (rest : List
     };
     served = going.served;
     light = record { light = omega arith; behind = refl; pending = refl };
+    lacks = λ none. absurd (cc (sym there ∙ set-none none));
+    writes = λ on. absurd (cc on);
+    doc = changed-none es this old (deep-none es old.machine.open_state.quirks old.doc.tree (find_id old.doc.tree v) text there);
+    machine = refl;
   }
 
   pub does-set_inner : (new : Live) (rest' : List ℕ) (d : Did) → rest' ≡ rest → HasSet set old new d → DoesMost es k this old rest new rest' d
@@ -284,8 +402,8 @@ Reads a old rest e =
     NestComesTo w (nest_of old (framed k (a ∷ list) rest ∷ fs) before page) g
 
 reads-there : (es : Entities) (k : ℕ) (a : Statement) (old : Live) (rest : List ℕ) (new : Live) (rest' : List ℕ) (d : Did) (e : ℕ) → IsGoing old → rest' ≡ rest → Reads a old rest e →
-    HasRead k (Some e) old new d → DoesMost es k a old rest new rest' d
-reads-there es k a old rest new rest' d e going same reads (is, all) =
+    of_statement es old.machine.open_state.quirks old.doc.tree a ≡ [] → (LacksElement old.doc.tree a → ⊥) → written_by a ≡ [] → HasRead k (Some e) old new d → DoesMost es k a old rest new rest' d
+reads-there es k a old rest new rest' d e going same reads none there text (is, all) =
     subst (λ d'. DoesMost es k a old rest new rest' d') (sym all)
     (subst (λ r. DoesMost es k a old rest new r did.All) (sym same)
     (subst (λ n. DoesMost es k a old rest n rest did.All) (sym is) (record {
@@ -299,6 +417,10 @@ reads-there es k a old rest new rest' d e going same reads (is, all) =
       };
       served = going.served;
       light = record { light = omega arith; behind = refl; pending = refl };
+      lacks = there;
+      writes = λ on. stays-written rest (written_by a) text;
+      doc = changed-none es a old none;
+      machine = refl;
     })))
 
 pub does-read-by_id : (es : Entities) (k : ℕ) (v : List ℕ) (old : Live) (rest : List ℕ) (new : Live) (rest' : List ℕ) (d : Did) → IsGoing old → Waits old.pending rest → rest' ≡ rest →
@@ -310,7 +432,7 @@ does-read-by_id es k v old rest new rest' d going waits same = by_found (find_id
     by_found (Some e) there has =
         reads-there es k (statement.LogById v) old rest new rest' d e going same
         (λ w j list fs before page g come. reads_by_id w (nest_of old (framed j (statement.LogById v ∷ list) rest ∷ fs) before page) (framed j (statement.LogById v ∷ list) rest) fs v list e g
-        refl refl waits there come) has
+        refl refl waits there come) refl (λ none. absurd (cc (sym there ∙ none))) refl has
 
 pub does-read-root : (es : Entities) (k : ℕ) (old : Live) (rest : List ℕ) (new : Live) (rest' : List ℕ) (d : Did) → IsGoing old → Waits old.pending rest → rest' ≡ rest →
     HasRead k (first_element old.doc.tree) old new d → DoesMost es k statement.LogRoot old rest new rest' d
@@ -321,13 +443,13 @@ does-read-root es k old rest new rest' d going waits same = by_found (first_elem
     by_found (Some e) there has =
         reads-there es k statement.LogRoot old rest new rest' d e going same
         (λ w j list fs before page g come. reads_root w (nest_of old (framed j (statement.LogRoot ∷ list) rest ∷ fs) before page) (framed j (statement.LogRoot ∷ list) rest) fs list e g
-        refl refl waits there come) has
+        refl refl waits there come) refl (λ none. absurd (cc (sym there ∙ none))) refl has
 
 -- ---- all of a statement
 
 pub does-all : (es : Entities) (k : ℕ) (a : Statement) (old : Live) (rest : List ℕ) (new : Live) (rest' : List ℕ) (d : Did) → (d ≡ did.Nothing → ⊥) → DoesMost es k a old rest new rest' d →
     Does es k a old rest new rest' d
-does-all es k a old rest new rest' did.All there does = record { turns = does.done; served = does.served; light = does.light }
+does-all es k a old rest new rest' did.All there does = record { turns = does.done; served = does.served; light = does.light; lacks = does.lacks; writes = does.writes; doc = does.doc; machine = does.machine }
 does-all es k a old rest new rest' did.Nothing there does = absurd (there refl)
 
 pub does-throw : (es : Entities) (k : ℕ) (a : Statement) (old : Live) (rest : List ℕ) (mid new : Live) (rest' : List ℕ) (d : Did) → IsGoing old → Waits old.pending rest → d ≡ did.Nothing →
@@ -346,6 +468,10 @@ does-throw es k a old rest mid new rest' did.Nothing going waits there does is =
       };
       served = going.served;
       light = record { light = omega arith; behind = refl; pending = refl };
+      lacks = does.done.2;
+      writes = λ on. stays-written rest (written_by a) (lacks-writes old.doc.tree a does.done.2);
+      doc = changed-none es a old (lacks-changes es old.machine.open_state.quirks old.doc.tree a does.done.2);
+      machine = refl;
     }))
 
 -- a call's answer says more than it owes
@@ -373,16 +499,3 @@ on_ok (Err e) P Q more has = tt
 pub ok_if : {T E : Type 0} (r : Result T E) (P : T → Type 0) (Q : Type 0) → ((x : T) → P x → Q) → IfOk r P → OnOk r Q
 ok_if (Ok x) P Q more has = more x has
 ok_if (Err e) P Q more has = tt
-
--- ---- the document stays where a text is written or an element is read
-
-pub written-doc : (old : Live) (rest text : List ℕ) (new : Live) (rest' : List ℕ) (d : Did) → HasWritten old rest text new rest' d → new.doc ≡ old.doc
-written-doc old rest text new rest' d has = by (cases_lt write_limit (old.written + length text))
-  where
-    by : (write_limit < old.written + length text) ⊎ (old.written + length text ≤ write_limit) → new.doc ≡ old.doc
-    by (inl long) = ap (λ (l : Live). l.doc) (has.long long).0
-    by (inr fits) = ap (λ (l : Live). l.doc) (has.fits fits).0
-
-pub read-doc : (k : ℕ) (node : Option ℕ) (old new : Live) (d : Did) → HasRead k node old new d → new.doc ≡ old.doc
-read-doc k None old new d has = ap (λ (l : Live). l.doc) has.0
-read-doc k (Some e) old new d has = ap (λ (l : Live). l.doc) has.0

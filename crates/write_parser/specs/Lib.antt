@@ -1,3 +1,4 @@
 pub mod Parsing
 pub mod Writing
 pub mod Steps
+pub mod Made

@@ -1,6 +1,6 @@
 -- The steps of a writer, while memory lasts: what it holds as the nested scripts of the definitions, and what each part of a
 -- call does to them.
-use Rattle.std.specs.Prelude.{◌≡◌, ◌≢◌, ◌<◌, ◌≤◌, ◌+◌, ◌*◌, ◌-◌, ⊤, ℕ, suc, Bool, false, List, [], ◌∷◌, ◌++◌, length, map, reverse, drop, Option, Some, None}
+use Rattle.std.specs.Prelude.{◌≡◌, ◌≢◌, ◌<◌, ◌≤◌, ◌+◌, ◌*◌, ◌-◌, ⊤, ℕ, suc, Bool, false, List, [], ◌∷◌, ◌++◌, length, map, reverse, drop, fold, Option, Some, None}
 use Rattle.html_types.specs.declared.operation.NodeId.{NodeId}
 use Rattle.serial.specs.declared.script.Statement.{Statement}
 use Rattle.html_types.specs.declared.ending.Why.{Why}
@@ -9,6 +9,7 @@ use Rattle.serial.specs.declared.script.Line.{Line}
 use Rattle.serial.specs.declared.script.Line.TheVariants as line
 use Rattle.standard.specs.Entities.{Entities}
 use Rattle.standard.specs.Tree.{Nodes, detached}
+use Rattle.standard.specs.Act.{Doc}
 use Rattle.standard.specs.Fragment.{Setting, lacking, too_deep, setting}
 use Rattle.standard.specs.Outer.{outer_text}
 use Rattle.serial.specs.Statements.{statements}
@@ -23,6 +24,9 @@ use Rattle.write_parser.specs.declared.live.Progress.{Progress}
 use Rattle.write_parser.specs.declared.live.Progress.TheVariants as turn
 use Rattle.write_parser.specs.Parsing.{IsServed}
 use Rattle.write_parser.specs.Writing.{View, first_view, IsRefusal, LeadsTo, Stands, left_to_do}
+use Rattle.doc_changes.specs.Changes.{changed}
+use Rattle.doc_changes.specs.Logs.{LogView}
+use Rattle.write_parser.specs.Made.{of_statement, written_by, At, BeginsBy, IsPrepared, Made, LogsBy}
 
 -- ---- what it holds
 
@@ -77,6 +81,14 @@ nest_of l fs before page = record {
   behind = l.rest ++ page;
 }
 
+-- where the parse stands with them
+abbrev pub at_of : Live → List Frame → At
+at_of l fs = record { parser = l.machine; doc = l.doc; rest = l.rest; frames = fs; halted = l.halted }
+
+-- The log gained the changes that were made from nested scripts to nested scripts.
+abbrev pub LogsMade : Entities → Live → List Frame → Live → List Frame → LogView → LogView → Type 0
+LogsMade es old fs new fs' log log' = LogsBy (λ more. Made es (at_of old fs) more (at_of new fs')) log log'
+
 -- ---- what comes of them
 
 -- What comes of the new state is `Of` the old; where the page is refused, that is.
@@ -129,6 +141,7 @@ pub record Begins (text : List ℕ) (old : Live) (begun : Option Begun) (new : L
   pub keeps : Keeps old new
   pub pending : new.pending ≡ old.pending
   pub wrote : WroteNothing begun
+  pub begins : (fs : List Frame) → BeginsBy (statements text) (at_of old fs) (at_of new (with_begun begun fs))
 
 -- A script was prepared at its end tag.
 pub record Prepares (id : NodeId) (old : Live) (begun : Option Begun) (new : Live) : Type 0 where
@@ -136,6 +149,7 @@ pub record Prepares (id : NodeId) (old : Live) (begun : Option Begun) (new : Liv
       NestComesTo w (nest_of new (with_begun begun fs) before page) g → TagComesTo w id (nest_of old fs before page) g
   pub keeps : Keeps old new
   pub wrote : WroteNothing begun
+  pub prepared : (fs : List Frame) → IsPrepared id (at_of old fs) (at_of new (with_begun begun fs))
 
 -- ---- statements
 
@@ -187,16 +201,33 @@ pub record IsLight (old : Live) (rest : List ℕ) (new : Live) (rest' : List ℕ
   pub behind : new.rest ≡ old.rest
   pub pending : new.pending ≡ old.pending
 
+-- where the element of a statement isn't there the script ends, and nowhere else
+abbrev pub LacksBy : Did → Nodes → Statement → Type 0
+LacksBy did.All t a = LacksElement t a → ⊥
+LacksBy did.Nothing t a = LacksElement t a
+
+-- the document, behind the changes of a statement
+abbrev pub changed_by : Entities → Statement → Live → Doc
+changed_by es a l = fold changed l.doc (of_statement es l.machine.open_state.quirks l.doc.tree a)
+
 pub record DoesMost (es : Entities) (k : ℕ) (a : Statement) (old : Live) (rest : List ℕ) (new : Live) (rest' : List ℕ) (d : Did) : Type 0 where
   pub done : DoneBy es d k a old rest new rest'
   pub served : IsServed new.machine new.doc
   pub light : IsLight old rest new rest'
+  pub lacks : LacksBy d old.doc.tree a
+  pub writes : new.halted ≡ None → rest' ≡ rest ++ written_by a
+  pub doc : new.doc ≡ changed_by es a old
+  pub machine : new.machine ≡ old.machine
 
 -- The same with that line, behind which the script has no statement left.
 pub record Does (es : Entities) (k : ℕ) (a : Statement) (old : Live) (rest : List ℕ) (new : Live) (rest' : List ℕ) (d : Did) : Type 0 where
   pub turns : (list : List Statement) (fs : List Frame) → Turns es old (framed k (a ∷ list) rest ∷ fs) new (framed k (left_by d list) rest' ∷ fs)
   pub served : IsServed new.machine new.doc
   pub light : IsLight old rest new rest'
+  pub lacks : LacksBy d old.doc.tree a
+  pub writes : new.halted ≡ None → rest' ≡ rest ++ written_by a
+  pub doc : new.doc ≡ changed_by es a old
+  pub machine : new.machine ≡ old.machine
 
 -- One step of the innermost script.
 pub record Steps (es : Entities) (old : Live) (n : Nesting) (new : Live) (n' : Nesting) (t : Progress) : Type 0 where
@@ -219,6 +250,7 @@ pub record Nests (id : NodeId) (old : Live) (n : Nesting) (new : Live) (n' : Nes
       NestComesTo w (nest_of new (frames_of n') before page) g → TagComesTo w id (nest_of old (frames_of n) before page) g
   pub keeps : Keeps old new
   pub rests : rests (frames_of n') ≡ rests (frames_of n)
+  pub prepared : IsPrepared id (at_of old (frames_of n)) (at_of new (frames_of n'))
 
 -- ---- whole scripts at level 0
 

@@ -1,5 +1,6 @@
-//! Text that scripts write (8.4.3, document.write()), and the parse of a page's text between scripts: a parser and a document,
-//! the scripts that run, and what they wrote that isn't parsed yet.
+//! Text that scripts write (8.4.3 #document.write(), document.write()), and the parse of a page's
+//! text between scripts: a parser and a document, the scripts that run, and what they wrote that
+//! isn't parsed yet.
 #![tactic(auto)]
 
 mod left;

@@ -1,6 +1,7 @@
 //! The parser, the document and what scripts wrote, while memory lasts.
 
-ghost use Rattle.std.specs.Prelude.{◌≡◌, ◌++◌, ◌<◌, ◌≤◌, length, suc, false, [], None, Some, IfOk, OnOk, IsTrue, IsFalse};
+ghost use Rattle.std.specs.Prelude.{◌≡◌, ◌++◌, ◌<◌, ◌≤◌, length, suc, false, [], None, Some, IfOk};
+ghost use Rattle.std.specs.Prelude.{OnOk, IsTrue, IsFalse};
 ghost use Rattle.std.specs.Option.{ForSome};
 ghost use Rattle.std.specs.Str.{chars};
 ghost use Rattle.standard.specs.Act.{is_bound};
@@ -8,10 +9,17 @@ ghost use Rattle.standard.specs.Tree.{find_id, appended};
 ghost use Rattle.standard.specs.Entities.{Entities};
 ghost use Rattle.standard.specs.Fragment.{inner_set};
 ghost use Rattle.serial.specs.Serial.{with_line_feed};
+ghost use Rattle.serial.specs.Statements.{statements};
 ghost use Rattle.standard_laws.specs.Frames.{Waits};
-ghost use Rattle.doc_changes.specs.Logs.{Logs};
+ghost use Rattle.doc_changes.specs.Logs.{with_more};
 ghost use Rattle.write_parser.specs.Parsing.{IsServed, TextParsed, EndParsed};
-ghost use Rattle.write_parser.specs.Steps.{view_of, IsGoing, IsFirst, Begins, Prepares, Continues, HasWritten, HasRemoved, HasAppended, HasSet, HasRead, DoesMost, Does, Steps, RunsOn, ParsesOn, Moves, frames_of, with_begun, Nests, EndsTag, RunsText, Misses, FeedsOn, IsFed, Fed};
+ghost use Rattle.write_parser.specs.Made.{of_text, of_ending, of_removal, of_move, of_setting};
+ghost use Rattle.write_parser.specs.Made.{of_statement, EndsScript, MadeAtTag, MadeByText, LogsBy};
+ghost use Rattle.write_parser.specs.Steps.{at_of, LogsMade, frames_at, view_of, IsGoing, IsFirst};
+ghost use Rattle.write_parser.specs.Steps.{Begins, Prepares, Continues, HasWritten, HasRemoved};
+ghost use Rattle.write_parser.specs.Steps.{HasAppended, HasSet, HasRead, DoesMost, Does, Steps};
+ghost use Rattle.write_parser.specs.Steps.{RunsOn, ParsesOn, Moves, frames_of, with_begun, Nests};
+ghost use Rattle.write_parser.specs.Steps.{EndsTag, RunsText, Misses, FeedsOn, IsFed, Fed};
 ghost use Rattle.write_parser.specs.Writing.{LeftIs};
 
 use crate::left::Left;
@@ -90,9 +98,13 @@ impl Live {
     /// Parses a text up to the first stop, and does the operations.
     pub fn parse(&mut self, log: &mut Log, table: &Table, text: &str) -> Result<Ran, NoMemory>
         requires { IsServed self.old.machine self.old.doc }
-        ensures parsed { IfOk result (λ ran. TextParsed table.now self.old.machine self.old.doc text.now self.new.machine self.new.doc ran) }
-        ensures others { OnOk result (self.new ≡ record self.old { machine = self.new.machine; doc = self.new.doc }) }
-        ensures logged { OnOk result (Logs log.old self.old.doc log.new self.new.doc) }
+        ensures parsed { IfOk result
+            (λ ran. TextParsed table.now self.old.machine self.old.doc text.now self.new.machine
+            self.new.doc ran) }
+        ensures others { OnOk result
+            (self.new ≡ record self.old { machine = self.new.machine; doc = self.new.doc }) }
+        ensures logged { OnOk result (log.new ≡ with_more
+            (of_text table.now self.old.machine (chars text.now)) log.old) }
     {
         parse_text(
             self.alloc,
@@ -104,12 +116,17 @@ impl Live {
         )
     }
 
-    /// Takes the page's ending, and does the operations. Where it refuses the page, nothing changes.
+    /// Takes the page's ending, and does the operations. Where it refuses the page, nothing
+    /// changes.
     pub fn finish(&mut self, log: &mut Log, table: &Table, ending: Ending) -> Result<End, NoMemory>
         requires { IsServed self.old.machine self.old.doc }
-        ensures parsed { IfOk result (λ end. EndParsed table.now ending self.old.machine self.old.doc self.new.machine self.new.doc end) }
-        ensures others { OnOk result (self.new ≡ record self.old { machine = self.new.machine; doc = self.new.doc }) }
-        ensures logged { OnOk result (Logs log.old self.old.doc log.new self.new.doc) }
+        ensures parsed { IfOk result
+            (λ end. EndParsed table.now ending self.old.machine self.old.doc self.new.machine
+            self.new.doc end) }
+        ensures others { OnOk result
+            (self.new ≡ record self.old { machine = self.new.machine; doc = self.new.doc }) }
+        ensures logged { OnOk result (log.new ≡ with_more
+            (of_ending table.now ending self.old.machine) log.old) }
     {
         let mut ops = Ops::new(self.alloc);
         let end = self.machine.finish(self.alloc, table, ending, &mut ops)?;
@@ -128,7 +145,8 @@ impl Live {
 
 // How a script begins.
 impl Live {
-    // The text of a script, one level up. A text that isn't in the language gives a line, and nothing runs.
+    // The text of a script, one level up. A text that isn't in the language gives a line, and
+    // nothing runs.
     fn begin(&mut self, text: &str) -> Result<Option<Begun>, NoMemory>
         ensures { IfOk result (λ begun. Begins (chars text.now) self.old begun self.new) }
     {
@@ -148,7 +166,7 @@ impl Live {
         }
     }
 
-    // Prepares the script whose end tag was met (4.12.1.1).
+    // Prepares the script whose end tag was met (4.12.1.1 #script-processing-model).
     fn prepare(&mut self, id: NodeId) -> Result<Option<Begun>, NoMemory>
         requires { IsTrue (is_bound self.old.doc.bound id) }
         ensures { IfOk result (λ begun. Prepares id self.old begun self.new) }
@@ -169,7 +187,8 @@ impl Live {
 
 // Statements.
 impl Live {
-    // `document.write()` (8.4.3): the text stands just before the insertion point, unless it is too long.
+    // `document.write()` (8.4.3 #document.write()): the text stands just before the insertion
+    // point, unless it is too long.
     fn write(&mut self, text: &Text, rest: &mut Rest) -> Result<Did, NoMemory>
         ensures { IfOk result (λ did. HasWritten self.old rest.old text.now self.new rest.new did) }
     {
@@ -185,7 +204,8 @@ impl Live {
 
     // `document.writeln()`: one write of the text and a line feed.
     fn write_line(&mut self, text: &Text, rest: &mut Rest) -> Result<Did, NoMemory>
-        ensures { IfOk result (λ did. HasWritten self.old rest.old (with_line_feed text.now) self.new rest.new did) }
+        ensures { IfOk result
+            (λ did. HasWritten self.old rest.old (with_line_feed text.now) self.new rest.new did) }
     {
         let mut line = text.copy(self.alloc)?;
         line.push('\n')?;
@@ -193,10 +213,11 @@ impl Live {
     }
 
     // Takes the element with that id out of its parent.
-    #[tactic(auto, using(std::proofs::lemmas::Grind::common_steps, doc_changes::proofs::Logs::none_logged))]
     fn remove(&mut self, log: &mut Log, id: &Text) -> Result<Did, NoMemory>
-        ensures does { IfOk result (λ did. HasRemoved (find_id self.old.doc.tree id.now) self.old self.new did) }
-        ensures logged { OnOk result (Logs log.old self.old.doc log.new self.new.doc) }
+        ensures does { IfOk result
+            (λ did. HasRemoved (find_id self.old.doc.tree id.now) self.old self.new did) }
+        ensures logged { OnOk result (log.new ≡ with_more
+            (of_removal (find_id self.old.doc.tree id.now)) log.old) }
     {
         match self.doc.find_id(id.as_str()) {
             None => Ok(Did::Nothing),
@@ -207,11 +228,15 @@ impl Live {
         }
     }
 
-    // Puts the second element last among the first one's children (DOM 4.2.6, append).
-    #[tactic(auto, using(std::proofs::lemmas::Grind::common_steps, doc_changes::proofs::Logs::none_logged))]
+    // Puts the second element last among the first one's children (DOM 4.2.6 #interface-parentnode,
+    // append).
     fn append(&mut self, log: &mut Log, first: &Text, second: &Text) -> Result<Did, NoMemory>
-        ensures does { IfOk result (λ did. HasAppended (appended self.old.doc.tree (find_id self.old.doc.tree first.now) (find_id self.old.doc.tree second.now)) self.old self.new did) }
-        ensures logged { OnOk result (Logs log.old self.old.doc log.new self.new.doc) }
+        ensures does { IfOk result
+            (λ did. HasAppended
+            (appended self.old.doc.tree (find_id self.old.doc.tree first.now)
+            (find_id self.old.doc.tree second.now)) self.old self.new did) }
+        ensures logged { OnOk result (log.new ≡ with_more (of_move self.old.doc.tree
+            (find_id self.old.doc.tree first.now) (find_id self.old.doc.tree second.now)) log.old) }
     {
         let Some(first) = self.doc.find_id(first.as_str()) else {
             return Ok(Did::Nothing);
@@ -225,9 +250,9 @@ impl Live {
         }
     }
 
-    // Takes the children of that element out, and puts the fragment of that text there (13.4). A
-    // fragment that is too deep refuses the page, and changes nothing else.
-    #[tactic(auto, using(std::proofs::lemmas::Grind::common_steps, doc_changes::proofs::Logs::none_logged))]
+    // Takes the children of that element out, and puts the fragment of that text there
+    // (13.4 #parsing-html-fragments). A fragment that is too deep refuses the page, and changes
+    // nothing else.
     fn fill(
         &mut self,
         log: &mut Log,
@@ -236,8 +261,12 @@ impl Live {
         text: &Text,
     ) -> Result<Did, NoMemory>
         requires { target < length self.old.doc.tree }
-        ensures does { IfOk result (λ did. HasSet (inner_set table.now self.old.machine.open_state.quirks self.old.doc.tree (Some target) text.now) self.old self.new did) }
-        ensures logged { OnOk result (Logs log.old self.old.doc log.new self.new.doc) }
+        ensures does { IfOk result
+            (λ did. HasSet
+            (inner_set table.now self.old.machine.open_state.quirks self.old.doc.tree (Some target)
+            text.now) self.old self.new did) }
+        ensures logged { OnOk result (log.new ≡ with_more (of_setting table.now
+            self.old.machine.open_state.quirks self.old.doc.tree (Some target) text.now) log.old) }
     {
         let context = self.doc.context_of(target, self.machine.is_quirky())?;
         let form = context.form;
@@ -255,7 +284,6 @@ impl Live {
     }
 
     // The same with the element that has that id, if one has.
-    #[tactic(auto, using(std::proofs::lemmas::Grind::common_steps, doc_changes::proofs::Logs::none_logged))]
     fn set_inner(
         &mut self,
         log: &mut Log,
@@ -263,8 +291,13 @@ impl Live {
         id: &Text,
         text: &Text,
     ) -> Result<Did, NoMemory>
-        ensures does { IfOk result (λ did. HasSet (inner_set table.now self.old.machine.open_state.quirks self.old.doc.tree (find_id self.old.doc.tree id.now) text.now) self.old self.new did) }
-        ensures logged { OnOk result (Logs log.old self.old.doc log.new self.new.doc) }
+        ensures does { IfOk result
+            (λ did. HasSet
+            (inner_set table.now self.old.machine.open_state.quirks self.old.doc.tree
+            (find_id self.old.doc.tree id.now) text.now) self.old self.new did) }
+        ensures logged { OnOk result (log.new ≡ with_more (of_setting table.now
+            self.old.machine.open_state.quirks self.old.doc.tree
+            (find_id self.old.doc.tree id.now) text.now) log.old) }
     {
         match self.doc.find_id(id.as_str()) {
             None => Ok(Did::Nothing),
@@ -298,8 +331,11 @@ impl Live {
     ) -> Result<Did, NoMemory>
         requires going { IsGoing self.old }
         requires waits { Waits self.old.pending rest.old }
-        ensures does { IfOk result (λ did. DoesMost table.now number statement.now self.old rest.old self.new rest.new did) }
-        ensures logged { OnOk result (Logs log.old self.old.doc log.new self.new.doc) }
+        ensures does { IfOk result
+            (λ did. DoesMost table.now number statement.now self.old rest.old self.new rest.new
+            did) }
+        ensures logged { OnOk result (log.new ≡ with_more (of_statement table.now
+            self.old.machine.open_state.quirks self.old.doc.tree statement.now) log.old) }
     {
         match statement {
             Statement::Write(text) => self.write(text, rest),
@@ -329,8 +365,10 @@ impl Live {
     ) -> Result<Did, NoMemory>
         requires going { IsGoing self.old }
         requires waits { Waits self.old.pending rest.old }
-        ensures does { IfOk result (λ did. Does table.now number statement.now self.old rest.old self.new rest.new did) }
-        ensures logged { OnOk result (Logs log.old self.old.doc log.new self.new.doc) }
+        ensures does { IfOk result
+            (λ did. Does table.now number statement.now self.old rest.old self.new rest.new did) }
+        ensures logged { OnOk result (log.new ≡ with_more (of_statement table.now
+            self.old.machine.open_state.quirks self.old.doc.tree statement.now) log.old) }
     {
         let did = self.try_statement(log, table, number, statement, rest)?;
         if did == Did::Nothing {
@@ -342,13 +380,16 @@ impl Live {
 
 // Nested scripts.
 impl Live {
-    // The innermost script ends: what it wrote and isn't parsed stands before what the script around it wrote, or at level 0.
+    // The innermost script ends: what it wrote and isn't parsed stands before what the script
+    // around it wrote, or at level 0.
     fn end_script(&mut self, nesting: &mut Nesting) -> Result<Progress, NoMemory>
         requires going { IsGoing self.old }
         requires waits { Waits self.old.pending nesting.old.top.rest }
         requires ended { length nesting.old.top.script ≤ nesting.old.top.done }
-        ensures steps { IfOk result (λ turn. (es : Entities) → Steps es self.old nesting.old self.new nesting.new turn) }
-        ensures doc { OnOk result (self.new.doc ≡ self.old.doc) }
+        ensures steps { IfOk result
+            (λ turn. (es : Entities) → Steps es self.old nesting.old self.new nesting.new turn) }
+        ensures ends { IfOk result (λ turn. EndsScript (at_of self.old (frames_of nesting.old))
+            (at_of self.new (frames_at turn nesting.new))) }
     {
         let rest = mem::replace(&mut nesting.top.rest, Rest::new(self.alloc));
         match nesting.below.pop() {
@@ -373,8 +414,10 @@ impl Live {
     ) -> Result<Progress, NoMemory>
         requires going { IsGoing self.old }
         requires waits { Waits self.old.pending nesting.old.top.rest }
-        ensures does { IfOk result (λ turn. Steps table.now self.old nesting.old self.new nesting.new turn) }
-        ensures logged { OnOk result (Logs log.old self.old.doc log.new self.new.doc) }
+        ensures does { IfOk result
+            (λ turn. Steps table.now self.old nesting.old self.new nesting.new turn) }
+        ensures logged { IfOk result (λ turn. LogsMade table.now self.old (frames_of nesting.old)
+            self.new (frames_at turn nesting.new) log.old log.new) }
     {
         let statements = nesting.top.script.as_slice();
         let Some(statement) = statements.get(nesting.top.done) else {
@@ -404,8 +447,10 @@ impl Live {
         nesting: &mut Nesting,
     ) -> Result<Progress, NoMemory>
         requires { IsGoing self.old }
-        ensures does { IfOk result (λ turn. RunsOn table.now self.old nesting.old self.new nesting.new turn) }
-        ensures logged { OnOk result (Logs log.old self.old.doc log.new self.new.doc) }
+        ensures does { IfOk result
+            (λ turn. RunsOn table.now self.old nesting.old self.new nesting.new turn) }
+        ensures logged { IfOk result (λ turn. LogsMade table.now self.old (frames_of nesting.old)
+            self.new (frames_at turn nesting.new) log.old log.new) }
     {
         'steps: while !self.goes_on(&nesting.top.rest) {
             if self.step(log, table, nesting)? == Progress::Over {
@@ -436,8 +481,10 @@ impl Live {
     ) -> Result<Progress, NoMemory>
         requires going { IsGoing self.old }
         requires goes { Continues self.old.pending nesting.old.top.rest }
-        ensures does { IfOk result (λ turn. ParsesOn table.now self.old nesting.old self.new nesting.new turn) }
-        ensures logged { OnOk result (Logs log.old self.old.doc log.new self.new.doc) }
+        ensures does { IfOk result
+            (λ turn. ParsesOn table.now self.old nesting.old self.new nesting.new turn) }
+        ensures logged { IfOk result (λ turn. LogsMade table.now self.old (frames_of nesting.old)
+            self.new (frames_at turn nesting.new) log.old log.new) }
     {
         let rest = &mut nesting.top.rest;
         match rest.parse(self.alloc, table, &mut self.machine, &mut self.doc, log)? {
@@ -457,7 +504,8 @@ impl Live {
     fn run(&mut self, log: &mut Log, table: &Table, nesting: &mut Nesting) -> Result<(), NoMemory>
         requires { IsGoing self.old }
         ensures does { OnOk result (Moves table.now self.old (frames_of nesting.old) self.new []) }
-        ensures logged { OnOk result (Logs log.old self.old.doc log.new self.new.doc) }
+        ensures logged { OnOk result (LogsMade table.now self.old (frames_of nesting.old)
+            self.new [] log.old log.new) }
     {
         'texts: loop {
             if self.run_statements(log, table, nesting)? == Progress::Over {
@@ -470,7 +518,6 @@ impl Live {
     }
 
     // Runs a script to its end, if one was begun.
-    #[tactic(auto, using(std::proofs::lemmas::Grind::common_steps, doc_changes::proofs::Logs::none_logged))]
     fn run_begun(
         &mut self,
         log: &mut Log,
@@ -479,7 +526,8 @@ impl Live {
     ) -> Result<(), NoMemory>
         requires { IsGoing self.old }
         ensures does { OnOk result (Moves table.now self.old (with_begun begun []) self.new []) }
-        ensures logged { OnOk result (Logs log.old self.old.doc log.new self.new.doc) }
+        ensures logged { OnOk result (LogsMade table.now self.old (with_begun begun [])
+            self.new [] log.old log.new) }
     {
         let Some(top) = begun else {
             return Ok(());
@@ -499,7 +547,8 @@ impl Live {
         requires going { IsGoing self.old }
         requires bound { IsTrue (is_bound self.old.doc.bound id) }
         ensures does { OnOk result (EndsTag table.now id self.old self.new) }
-        ensures logged { OnOk result (Logs log.old self.old.doc log.new self.new.doc) }
+        ensures logged { OnOk result (LogsBy (λ more. MadeAtTag table.now id
+            (at_of self.old []) more (at_of self.new [])) log.old log.new) }
     {
         let begun = self.prepare(id)?;
         self.run_begun(log, table, begun)
@@ -509,7 +558,9 @@ impl Live {
     pub fn run_text(&mut self, log: &mut Log, table: &Table, text: &str) -> Result<(), NoMemory>
         requires { IsGoing self.old }
         ensures does { OnOk result (RunsText table.now (chars text.now) self.old self.new) }
-        ensures logged { OnOk result (Logs log.old self.old.doc log.new self.new.doc) }
+        ensures logged { OnOk result (LogsBy (λ more. MadeByText table.now
+            (statements (chars text.now)) (at_of self.old []) more (at_of self.new [])) log.old
+            log.new) }
     {
         self.pending = None;
         let begun = self.begin(text)?;
@@ -521,7 +572,7 @@ impl Live {
         requires going { IsGoing self.old }
         requires goes { Continues self.old.pending self.old.rest }
         ensures does { OnOk result (FeedsOn table.now self.old self.new) }
-        ensures logged { OnOk result (Logs log.old self.old.doc log.new self.new.doc) }
+        ensures logged { OnOk result (LogsMade table.now self.old [] self.new [] log.old log.new) }
     {
         match self
             .rest
@@ -545,11 +596,12 @@ impl Live {
         self.halted.is_none() && self.goes_on(&self.rest)
     }
 
-    /// Parses written text and runs its scripts, until all is used, a script is awaited, or the page is refused.
+    /// Parses written text and runs its scripts, until all is used, a script is awaited, or the
+    /// page is refused.
     pub fn feed(&mut self, log: &mut Log, table: &Table) -> Result<(), NoMemory>
         requires { IsServed self.old.machine self.old.doc }
         ensures does { OnOk result (Fed table.now self.old self.new) }
-        ensures logged { OnOk result (Logs log.old self.old.doc log.new self.new.doc) }
+        ensures logged { OnOk result (LogsMade table.now self.old [] self.new [] log.old log.new) }
     {
         'scripts: while self.feeds() {
             self.feed_once(log, table)?;

@@ -2,7 +2,8 @@
 
 ghost use Rattle.std.specs.Prelude.{◌≡◌, ◌↔◌, ◌++◌, [], IsTrue, OnOk, IfOk};
 ghost use Rattle.std.specs.Str.{chars, IsCharBoundary};
-ghost use Rattle.doc_changes.specs.Logs.{Logs};
+ghost use Rattle.doc_changes.specs.Logs.{with_more};
+ghost use Rattle.write_parser.specs.Made.{of_text};
 ghost use Rattle.write_parser.specs.Parsing.{IsServed, TextParsed, RestParsed};
 
 use doc_changes::Log;
@@ -42,8 +43,10 @@ pub(crate) fn parse_text(
     text: &str,
 ) -> Result<Ran, NoMemory>
     requires { IsServed machine.old doc.old }
-    ensures parsed { IfOk result (λ ran. TextParsed table.now machine.old doc.old text.now machine.new doc.new ran) }
-    ensures logged { OnOk result (Logs log.old doc.old log.new doc.new) }
+    ensures parsed { IfOk result
+        (λ ran. TextParsed table.now machine.old doc.old text.now machine.new doc.new ran) }
+    ensures logged { OnOk result (log.new ≡ with_more
+        (of_text table.now machine.old (chars text.now)) log.old) }
 {
     let mut ops = Ops::new(alloc);
     let ran = machine.run(alloc, table, text, &mut ops)?;
@@ -106,8 +109,11 @@ impl Rest {
         log: &mut Log,
     ) -> Result<Stop, NoMemory>
         requires { IsServed machine.old doc.old }
-        ensures parsed { IfOk result (λ stop. RestParsed table.now machine.old doc.old self.old machine.new doc.new self.new stop) }
-        ensures logged { OnOk result (Logs log.old doc.old log.new doc.new) }
+        ensures parsed { IfOk result
+            (λ stop. RestParsed table.now machine.old doc.old self.old machine.new doc.new self.new
+            stop) }
+        ensures logged { OnOk result (log.new ≡ with_more
+            (of_text table.now machine.old self.old) log.old) }
     {
         let ran = parse_text(alloc, table, machine, doc, log, &self.string[self.used..])?;
         self.used += ran.used;

@@ -1,14 +1,19 @@
 //! The writer.
 
-ghost use Rattle.std.specs.Prelude.{◌≡◌, ◌≢◌, ◌<◌, ◌≤◌, ◌+◌, true, false, [], None, IfOk, OnOk, OnErr, IsErr, IsTrue};
+ghost use Rattle.std.specs.Prelude.{◌≡◌, ◌≢◌, ◌<◌, ◌≤◌, ◌+◌, true, false, [], ◌∷◌, None, IfOk};
+ghost use Rattle.std.specs.Prelude.{OnOk, OnErr, IsErr, IsTrue};
 ghost use Rattle.std.specs.Str.{chars};
 ghost use Rattle.standard.specs.Act.{acts, is_bound, AreOpsBound};
-ghost use Rattle.doc_changes.specs.Logs.{Logs};
+ghost use Rattle.doc_changes.specs.declared.change.Change.TheVariants as change;
+ghost use Rattle.doc_changes.specs.Logs.{with_more};
 ghost use Rattle.serial.specs.Statements.{statements};
 ghost use Rattle.core_definitions.specs.Desk.{renewed};
 ghost use Rattle.moment_laws.specs.Served.{AreBelow};
 ghost use Rattle.write_parser.specs.Parsing.{IsServed};
-ghost use Rattle.write_parser.specs.Writing.{first_view, Parses, Finishes, AtTag, LeadsTo, HasRun, HasMissed, Feeds, left_to_do};
+ghost use Rattle.write_parser.specs.Made.{of_text, of_ending, at_view, Made, MadeAtTag, MadeUnless};
+ghost use Rattle.write_parser.specs.Made.{LogsBy};
+ghost use Rattle.write_parser.specs.Writing.{first_view, Parses, Finishes, AtTag, LeadsTo, HasRun};
+ghost use Rattle.write_parser.specs.Writing.{HasMissed, Feeds, left_to_do};
 
 use crate::left::Left;
 use crate::live::Live;
@@ -23,8 +28,8 @@ use std::marker::Model;
 use std::mem;
 use text_store::Ops;
 
-/// A parser and its document, the scripts that run between the characters of a page, and the text that they wrote. A contract
-/// sees it as a view, which stands for a moment of the serial parse.
+/// A parser and its document, the scripts that run between the characters of a page, and the text
+/// that they wrote. A contract sees it as a view, which stands for a moment of the serial parse.
 ///
 /// After want of memory it is spent: each call that takes memory then answers want of memory.
 #[derive(Drop)]
@@ -48,7 +53,8 @@ impl Model for Writer {
 }
 
 impl Writer {
-    /// At the beginning of a page, with an empty document. The elements that it makes have the ids of that realm.
+    /// At the beginning of a page, with an empty document. The elements that it makes have the ids
+    /// of that realm.
     pub fn new(alloc: Global, realm: u32) -> Result<Writer, NoMemory>
         ensures { IfOk result (λ w. w ≡ first_view realm) }
     {
@@ -99,7 +105,8 @@ impl Writer {
         ensures kept { OnOk result (self.new.spent ≡ false) }
         ensures err { OnErr result (self.new.spent ≡ true) }
         ensures parsed { IfOk result (λ ran. Parses table.now self.old self.new text.now ran) }
-        ensures logged { OnOk result (Logs log.old self.old.doc log.new self.new.doc) }
+        ensures logged { OnOk result (log.new ≡ with_more
+            (of_text table.now self.old.parser (chars text.now)) log.old) }
     {
         if self.spent {
             return Err(NoMemory);
@@ -110,13 +117,15 @@ impl Writer {
         Ok(ran)
     }
 
-    /// Takes the page's ending, and does the operations. Where it refuses the page, nothing changes.
+    /// Takes the page's ending, and does the operations. Where it refuses the page, nothing
+    /// changes.
     pub fn finish(&mut self, log: &mut Log, table: &Table, ending: Ending) -> Result<End, NoMemory>
         ensures spent { self.old.spent ≡ true → IsErr result }
         ensures kept { OnOk result (self.new.spent ≡ false) }
         ensures err { OnErr result (self.new.spent ≡ true) }
         ensures finished { IfOk result (λ end. Finishes table.now ending self.old self.new end) }
-        ensures logged { OnOk result (Logs log.old self.old.doc log.new self.new.doc) }
+        ensures logged { OnOk result (log.new ≡ with_more
+            (of_ending table.now ending self.old.parser) log.old) }
     {
         if self.spent {
             return Err(NoMemory);
@@ -127,8 +136,9 @@ impl Writer {
         Ok(end)
     }
 
-    /// The script whose end tag the page's characters have just ended (13.2.6.4.8): it is prepared on the tree as it is, and then
-    /// runs, is awaited, or does nothing.
+    /// The script whose end tag the page's characters have just ended
+    /// (13.2.6.4.8 #parsing-main-incdata): it is prepared on the tree as it is, and then runs, is
+    /// awaited, or does nothing.
     pub fn end_tag(&mut self, log: &mut Log, table: &Table, id: NodeId) -> Result<(), NoMemory>
         requires bound { IsTrue (is_bound self.old.doc.bound id) }
         requires none_awaited { self.old.pending ≡ None }
@@ -136,11 +146,14 @@ impl Writer {
         ensures spent { self.old.spent ≡ true → IsErr result }
         ensures kept { OnOk result (self.new.spent ≡ false) }
         ensures err { OnErr result (self.new.spent ≡ true) }
-        // From that end tag the parse leads to a moment for which the writer then stands, and to no settled one before that.
+        // From that end tag the parse leads to a moment for which the writer then stands, and to no
+        // settled one before that.
         ensures leads { OnOk result (LeadsTo table.now (AtTag id self.old) self.new) }
         // What is left to do grows by one at most: the script may be awaited.
         ensures one_more { OnOk result (left_to_do self.new ≤ left_to_do self.old + 1) }
-        ensures logged { OnOk result (Logs log.old self.old.doc log.new self.new.doc) }
+        // The log gains the changes that the parse makes from there.
+        ensures logged { OnOk result (LogsBy (λ more. MadeAtTag table.now id
+            (at_view self.old) more (at_view self.new)) log.old log.new) }
     {
         if self.spent {
             return Err(NoMemory);
@@ -151,17 +164,22 @@ impl Writer {
         Ok(())
     }
 
-    /// Runs the text of a script: of the script that is awaited, which is awaited no more, or of an inline script whose end tag
-    /// was met. Once the page is refused, nothing changes.
+    /// Runs the text of a script: of the script that is awaited, which is awaited no more, or of an
+    /// inline script whose end tag was met. Once the page is refused, nothing changes.
     pub fn run_script(&mut self, log: &mut Log, table: &Table, text: &str) -> Result<(), NoMemory>
         ensures spent { self.old.spent ≡ true → IsErr result }
         ensures kept { OnOk result (self.new.spent ≡ false) }
         ensures err { OnErr result (self.new.spent ≡ true) }
-        ensures run { OnOk result (HasRun table.now self.old.halted self.old self.new (statements (chars text.now))) }
+        ensures run { OnOk result
+            (HasRun table.now self.old.halted self.old self.new (statements (chars text.now))) }
         // What is left to do doesn't grow, and is less where a script was awaited.
         ensures no_more { OnOk result (left_to_do self.new ≤ left_to_do self.old) }
-        ensures less { OnOk result (self.old.halted ≡ None → self.old.pending ≢ None → left_to_do self.new < left_to_do self.old) }
-        ensures logged { OnOk result (Logs log.old self.old.doc log.new self.new.doc) }
+        ensures less { OnOk result
+            (self.old.halted ≡ None → self.old.pending ≢ None
+            → left_to_do self.new < left_to_do self.old) }
+        ensures logged { OnOk result (LogsBy (λ more. MadeUnless self.old.halted table.now
+            (statements (chars text.now)) (at_view self.old) more (at_view self.new)) log.old
+            log.new) }
     {
         if self.spent {
             return Err(NoMemory);
@@ -175,16 +193,19 @@ impl Writer {
         Ok(())
     }
 
-    /// The script that is awaited is missing: that gives a line, and it is awaited no more. Once the page is refused, nothing
-    /// changes.
+    /// The script that is awaited is missing: that gives a line, and it is awaited no more. Once
+    /// the page is refused, nothing changes.
     pub fn miss(&mut self) -> Result<(), NoMemory>
         ensures spent { self.old.spent ≡ true → IsErr result }
         ensures kept { OnOk result (self.new.spent ≡ false) }
         ensures err { OnErr result (self.new.spent ≡ true) }
-        ensures missed { OnOk result (HasMissed self.old.halted self.old.pending self.old self.new) }
+        ensures missed { OnOk result
+            (HasMissed self.old.halted self.old.pending self.old self.new) }
         // What is left to do doesn't grow, and is less where a script was awaited.
         ensures no_more { OnOk result (left_to_do self.new ≤ left_to_do self.old) }
-        ensures less { OnOk result (self.old.halted ≡ None → self.old.pending ≢ None → left_to_do self.new < left_to_do self.old) }
+        ensures less { OnOk result
+            (self.old.halted ≡ None → self.old.pending ≢ None
+            → left_to_do self.new < left_to_do self.old) }
     {
         if self.spent {
             return Err(NoMemory);
@@ -198,15 +219,17 @@ impl Writer {
         Ok(())
     }
 
-    /// Parses what was written at level 0 and isn't used, and runs the scripts in it, until all is used, a script is awaited, or
-    /// the page is refused. Where a script is awaited, or the page is refused, it answers that, and nothing changes.
+    /// Parses what was written at level 0 and isn't used, and runs the scripts in it, until all is
+    /// used, a script is awaited, or the page is refused. Where a script is awaited, or the page is
+    /// refused, it answers that, and nothing changes.
     pub fn feed_left(&mut self, log: &mut Log, table: &Table) -> Result<Left, NoMemory>
         ensures spent { self.old.spent ≡ true → IsErr result }
         ensures kept { OnOk result (self.new.spent ≡ false) }
         ensures err { OnErr result (self.new.spent ≡ true) }
         ensures feeds { IfOk result (λ left. Feeds table.now self.old self.new left) }
         ensures no_more { OnOk result (left_to_do self.new ≤ left_to_do self.old) }
-        ensures logged { OnOk result (Logs log.old self.old.doc log.new self.new.doc) }
+        ensures logged { OnOk result (LogsBy (λ more. Made table.now
+            (at_view self.old) more (at_view self.new)) log.old log.new) }
     {
         if self.spent {
             return Err(NoMemory);
@@ -235,15 +258,17 @@ impl Writer {
         self.live.machine.share(self.live.alloc)
     }
 
-    /// Does operations that were made of a text ahead of the document. The parser then stands in the state `end`, behind that text.
+    /// Does operations that were made of a text ahead of the document. The parser then stands in
+    /// the state `end`, behind that text.
     pub fn execute(&mut self, log: &mut Log, ops: Ops, end: Machine) -> Result<(), NoMemory>
         requires bound { AreOpsBound (is_bound self.old.doc.bound) ops }
         requires served { IsServed end (acts self.old.doc ops) }
         ensures spent { self.old.spent ≡ true → IsErr result }
         ensures kept { OnOk result (self.new.spent ≡ false) }
         ensures err { OnErr result (self.new.spent ≡ true) }
-        ensures executed { OnOk result (self.new ≡ record self.old { parser = end; doc = acts self.old.doc ops }) }
-        ensures logged { OnOk result (Logs log.old self.old.doc log.new self.new.doc) }
+        ensures executed { OnOk result
+            (self.new ≡ record self.old { parser = end; doc = acts self.old.doc ops }) }
+        ensures logged { OnOk result (log.new ≡ with_more (change.Did ops ∷ []) log.old) }
     {
         if self.spent {
             return Err(NoMemory);
@@ -255,8 +280,8 @@ impl Writer {
         Ok(())
     }
 
-    /// The elements that are made from now on have the ids of that realm, from its first on. No element has an id of it yet, nor of a later
-    /// one. It takes no memory.
+    /// The elements that are made from now on have the ids of that realm, from its first on. No
+    /// element has an id of it yet, nor of a later one. It takes no memory.
     pub fn renew(&mut self, realm: u32)
         requires below { AreBelow realm (is_bound self.old.doc.bound) }
         ensures { self.new ≡ record self.old { parser = renewed realm self.old.parser } }
@@ -264,7 +289,8 @@ impl Writer {
         self.live.machine.renew(realm);
     }
 
-    /// Puts the parser into another state, as one that was held while a script ran. It takes no memory.
+    /// Puts the parser into another state, as one that was held while a script ran. It takes no
+    /// memory.
     pub fn load(&mut self, machine: Machine)
         requires served { IsServed machine self.old.doc }
         ensures { self.new ≡ record self.old { parser = machine } }

@@ -22,7 +22,10 @@ fn lay<T: Drop, V, P: Protocol<T, V>, A: Allocator + Clone>(
     part: &Part<T>,
 ) -> Result<(Factory<T, V, P, A>, Place<T, V>), AllocError>
     requires { (readers < 2 ^ 32) × P.holds part.now.value (P.first ∷ []) }
-    ensures { IfOk result (λ t. (t.1.table_id ≡ (arc_value t.0.board).shared.table_id) × (t.1.table_id.slots ≡ 8 * readers) × IsPlanned t.1 (first_plan part.now) × (view t.1 ≡ P.first)) }
+    ensures { IfOk result
+        (λ t. (t.1.table_id ≡ (arc_value t.0.board).shared.table_id)
+        × (t.1.table_id.slots ≡ 8 * readers) × IsPlanned t.1 (first_plan part.now)
+        × (view t.1 ≡ P.first)) }
 {
     let mut words = Vec::from_elem(alloc.clone()?, 0u64, 16 * readers + 16)?;
     words[0] = 2;
@@ -64,7 +67,8 @@ impl<T: Drop, V, P: Protocol<T, V>, A: Allocator> Open<T, V, P, A> {
 
     /// Keeps the spare copy, and shows it to no one.
     pub fn shelve(self, spare: Box<T, A>) -> Desk<T, V, P, A>
-        ensures { (result.shown ≡ self.shown) × (result.spare.value ≡ spare.value) × (result.place ≡ self.place) }
+        ensures { (result.shown ≡ self.shown) × (result.spare.value ≡ spare.value)
+            × (result.place ≡ self.place) }
     {
         let Open {
             from,
@@ -90,10 +94,13 @@ impl<T: Drop, V, P: Protocol<T, V>, A: Allocator> Open<T, V, P, A> {
 
     /// Readers take `next` from now on.
     pub fn show_as<M: Outcome<T, V>>(self, next: Box<T, A>) -> Desk<T, V, P, A>
-        requires { TurnsAt P.holds self.place.id (view self.place) self.shown.value next.value M.then }
-        ensures values { (result.shown.value ≡ next.value) × (result.spare.value ≡ self.shown.value) }
+        requires { TurnsAt P.holds self.place.id (view self.place) self.shown.value next.value
+            M.then }
+        ensures values { (result.shown.value ≡ next.value)
+            × (result.spare.value ≡ self.shown.value) }
         ensures table { result.place.table_id ≡ self.place.table_id }
-        ensures rule { (result.place.id ≡ self.place.id) × M.then (view self.place) self.shown.value next.value (view result.place) }
+        ensures rule { (result.place.id ≡ self.place.id)
+            × M.then (view self.place) self.shown.value next.value (view result.place) }
     {
         let Open {
             from,
@@ -153,10 +160,14 @@ impl<T: Drop, V, P: Protocol<T, V>, A: Allocator> Open<T, V, P, A> {
 
 impl<T: Drop, V, P: Protocol<T, V>, A: Allocator> Desk<T, V, P, A> {
     pub fn tell<M: Split<V>>(&mut self) -> Place<T, V>
-        requires { Forks P.holds self.old.place.id (view self.old.place) (M.left (view self.old.place)) (M.right (view self.old.place)) }
-        ensures kept { (self.new.shown ≡ self.old.shown) × (self.new.spare ≡ self.old.spare) × (self.new.from ≡ self.old.from) × (self.new.place.id ≡ self.old.place.id) × (view self.new.place ≡ M.left (view self.old.place)) }
+        requires { Forks P.holds self.old.place.id (view self.old.place)
+            (M.left (view self.old.place)) (M.right (view self.old.place)) }
+        ensures kept { (self.new.shown ≡ self.old.shown) × (self.new.spare ≡ self.old.spare)
+            × (self.new.from ≡ self.old.from) × (self.new.place.id ≡ self.old.place.id)
+            × (view self.new.place ≡ M.left (view self.old.place)) }
         ensures table { self.new.place.table_id ≡ self.old.place.table_id }
-        ensures given { (result.table_id ≡ self.old.place.table_id) × (view result ≡ M.right (view self.old.place)) × (result.me.1 ≡ []) }
+        ensures given { (result.table_id ≡ self.old.place.table_id)
+            × (view result ≡ M.right (view self.old.place)) × (result.me.1 ≡ []) }
     {
         let from = &self.from;
         let shared = &from.board.shared;
@@ -166,7 +177,8 @@ impl<T: Drop, V, P: Protocol<T, V>, A: Allocator> Desk<T, V, P, A> {
     /// Waits until each reader has left the spare copy, and takes it.
     pub fn open<R: Wait>(self, rt: &R) -> (Open<T, V, P, A>, Box<T, A>)
         ensures values { (result.0.shown ≡ self.shown) × (result.1.value ≡ self.spare.value) }
-        ensures seat { (result.0.place.id ≡ self.place.id) × (view result.0.place ≡ view self.place) }
+        ensures seat { (result.0.place.id ≡ self.place.id)
+            × (view result.0.place ≡ view self.place) }
         ensures table { result.0.place.table_id ≡ self.place.table_id }
     {
         let Desk {

@@ -28,11 +28,13 @@ impl<T: Drop, V, P: Protocol<T, V>, A: Allocator> Factory<T, V, P, A> {
         })
     }
 
-    /// Returns `Err` if it finds each place in use, as may happen while readers come and go, or the count of owners is full.
+    /// Returns `Err` if it finds each place in use, as may happen while readers come and go, or the
+    /// count of owners is full.
     pub fn reader(&self) -> Result<Reader<T, V, P, A>, AllocError>
         requires { Admits P.holds P.first }
         ensures view { IfOk result (λ r. view r.place ≡ P.first) }
-        ensures table { IfOk result (λ r. r.place.table_id ≡ (arc_value self.now.board).shared.table_id) }
+        ensures table { IfOk result
+            (λ r. r.place.table_id ≡ (arc_value self.now.board).shared.table_id) }
     {
         let from = self.another()?;
         let mut place = from.board.shared.load_new_seat::<Sit>(0).1;
@@ -58,9 +60,11 @@ impl<T: Drop, V, P: Protocol<T, V>, A: Allocator> Reader<T, V, P, A> {
     /// Takes in what the writer told.
     pub fn learn<M: Join<V>>(&mut self, note: Place<T, V>)
         requires own { (note.table_id ≡ self.old.place.table_id) × (note.me.1 ≡ []) }
-        requires rule { Merges P.holds self.old.place.id (view self.old.place) note.id (view note) (M.both (view self.old.place) (view note)) M.spent }
+        requires rule { Merges P.holds self.old.place.id (view self.old.place) note.id (view note)
+            (M.both (view self.old.place) (view note)) M.spent }
         ensures table { self.new.place.table_id ≡ self.old.place.table_id }
-        ensures learned { (self.new.place.id ≡ self.old.place.id) × (view self.new.place ≡ M.both (view self.old.place) (view note)) }
+        ensures learned { (self.new.place.id ≡ self.old.place.id)
+            × (view self.new.place ≡ M.both (view self.old.place) (view note)) }
     {
         let from = &self.from;
         let shared = &from.board.shared;
@@ -70,8 +74,12 @@ impl<T: Drop, V, P: Protocol<T, V>, A: Allocator> Reader<T, V, P, A> {
     /// Takes the value that was published last. The reader comes back where the writer is gone.
     pub fn enter_as<M: Outcome<T, V>>(self) -> Result<Reading<T, V, P, A>, Reader<T, V, P, A>>
         requires { Turns P.holds self.place.id (view self.place) (λ x. x) M.then }
-        ensures table { MatchResult result (λ r. r.place.table_id ≡ self.place.table_id) (λ r. r.place.table_id ≡ self.place.table_id) }
-        ensures turned { MatchResult result (λ r. (r.place.id ≡ self.place.id) × M.then (view self.place) r.part.value r.part.value (view r.place)) (λ r. (r.place.id ≡ self.place.id) × (view r.place ≡ view self.place)) }
+        ensures table { MatchResult result (λ r. r.place.table_id ≡ self.place.table_id)
+            (λ r. r.place.table_id ≡ self.place.table_id) }
+        ensures turned { MatchResult result
+            (λ r. (r.place.id ≡ self.place.id)
+            × M.then (view self.place) r.part.value r.part.value (view r.place))
+            (λ r. (r.place.id ≡ self.place.id) × (view r.place ≡ view self.place)) }
     {
         let Self {
             from,

@@ -1,5 +1,6 @@
 //! What the writer does.
-ghost use Rattle.std.specs.Prelude.{◌≡◌, ◌^◌, ◌<◌, [], ◌∷◌, ◌++◌, length, drop, fold, ◌↔◌, IsTrue, IsOk, IfOk, MatchResult};
+ghost use Rattle.std.specs.Prelude.{◌≡◌, ◌^◌, ◌<◌, [], ◌∷◌, ◌++◌, length, drop, fold, ◌↔◌, IsTrue};
+ghost use Rattle.std.specs.Prelude.{IsOk, IfOk, MatchResult};
 ghost use Rattle.std.specs.Arc.{arc_value};
 ghost use Rattle.crossbeam_utils.specs.Register.{TurnsAt, Forks};
 ghost use Rattle.two_copies.specs.Log.{InStep};
@@ -16,7 +17,8 @@ use std::alloc::{AllocError, Allocator};
 use std::collections::VecDeque;
 use std::sync::Wait;
 
-// Applies what the spare copy lacks of the copy that is shown. It returns how many operations are left of those.
+// Applies what the spare copy lacks of the copy that is shown. It returns how many operations are
+// left of those.
 fn catch_up<T: Absorb<O>, O: Drop, A: Allocator>(
     spare: &mut T,
     shown: &T,
@@ -25,7 +27,8 @@ fn catch_up<T: Absorb<O>, O: Drop, A: Allocator>(
     ahead: usize,
 ) -> usize
     requires { InStep T.applied (T.state shown.now) (T.state spare.old) log.old.items behind ahead }
-    ensures in_step { InStep T.applied (T.state shown.now) (T.state spare.new) log.new.items result ahead }
+    ensures in_step { InStep T.applied (T.state shown.now) (T.state spare.new) log.new.items result
+        ahead }
     ensures pending { drop result log.new.items ≡ drop behind log.old.items }
     ensures succeeds { T.never_fails → result ≡ 0 }
 {
@@ -49,7 +52,8 @@ fn go_ahead<T: Absorb<O>, O: Drop, A: Allocator>(
     ahead: usize,
 ) -> usize
     requires { InStep T.applied (T.state shown.now) (T.state spare.old) log.now.items 0 ahead }
-    ensures in_step { InStep T.applied (T.state shown.now) (T.state spare.new) log.now.items 0 result }
+    ensures in_step { InStep T.applied (T.state shown.now) (T.state spare.new) log.now.items 0
+        result }
     ensures succeeds { T.never_fails → result ≡ length log.now.items }
 {
     let mut ahead = ahead;
@@ -71,7 +75,8 @@ fn bring_up<T: Absorb<O>, O: Drop, A: Allocator>(
     ahead: usize,
 ) -> (usize, usize)
     requires { InStep T.applied (T.state shown.now) (T.state spare.old) log.old.items behind ahead }
-    ensures in_step { InStep T.applied (T.state shown.now) (T.state spare.new) log.new.items result.0 result.1 }
+    ensures in_step { InStep T.applied (T.state shown.now) (T.state spare.new) log.new.items
+        result.0 result.1 }
     ensures pending { drop result.0 log.new.items ≡ drop behind log.old.items }
     ensures succeeds { T.never_fails → (result.0 ≡ 0) × (result.1 ≡ length log.new.items) }
 {
@@ -95,7 +100,9 @@ impl<T: Absorb<O> + Drop, O: Drop, V, P: Protocol<T, V>, A: Allocator> Writer<T,
         requires readers { (0 < readers) × (readers < 2 ^ 32) }
         requires alike { T.state first ≡ T.state second }
         requires rule { P.holds first (P.first ∷ []) }
-        ensures { IfOk result (λ w. (w.desk.shown.value ≡ first) × (drop w.behind w.log.items ≡ []) × (view w.desk.place ≡ P.first)) }
+        ensures { IfOk result
+            (λ w. (w.desk.shown.value ≡ first) × (drop w.behind w.log.items ≡ [])
+            × (view w.desk.place ≡ P.first)) }
     {
         let log = VecDeque::new(alloc.clone()?);
         let spare = Box::new(alloc.clone()?, second)?;
@@ -116,10 +123,14 @@ impl<T: Absorb<O> + Drop, O: Drop, V, P: Protocol<T, V>, A: Allocator> Writer<T,
 
     /// Cuts off a part of the writer's view, for a reader to `learn`. It has no bytes.
     pub fn tell<M: Split<V>>(&mut self) -> Place<T, V>
-        requires { Forks P.holds self.old.desk.place.id (view self.old.desk.place) (M.left (view self.old.desk.place)) (M.right (view self.old.desk.place)) }
-        ensures kept { (self.new.desk.shown ≡ self.old.desk.shown) × (self.new.log ≡ self.old.log) × (self.new.behind ≡ self.old.behind) × (view self.new.desk.place ≡ M.left (view self.old.desk.place)) }
+        requires { Forks P.holds self.old.desk.place.id (view self.old.desk.place)
+            (M.left (view self.old.desk.place)) (M.right (view self.old.desk.place)) }
+        ensures kept { (self.new.desk.shown ≡ self.old.desk.shown) × (self.new.log ≡ self.old.log)
+            × (self.new.behind ≡ self.old.behind)
+            × (view self.new.desk.place ≡ M.left (view self.old.desk.place)) }
         ensures table { self.new.desk.place.table_id ≡ self.old.desk.place.table_id }
-        ensures given { (result.table_id ≡ self.old.desk.place.table_id) × (view result ≡ M.right (view self.old.desk.place)) × (result.me.1 ≡ []) }
+        ensures given { (result.table_id ≡ self.old.desk.place.table_id)
+            × (view result ≡ M.right (view self.old.desk.place)) × (result.me.1 ≡ []) }
     {
         self.desk.tell::<M>()
     }
@@ -140,7 +151,11 @@ impl<T: Absorb<O> + Drop, O: Drop, V, P: Protocol<T, V>, A: Allocator> Writer<T,
     /// The operation comes back where there is no memory.
     pub fn append(&mut self, op: O) -> Result<(), O>
         ensures desk { self.new.desk ≡ self.old.desk }
-        ensures pending { MatchResult result (λ _. drop self.new.behind self.new.log.items ≡ drop self.old.behind self.old.log.items ++ op ∷ []) (λ x. (x ≡ op) × (drop self.new.behind self.new.log.items ≡ drop self.old.behind self.old.log.items)) }
+        ensures pending { MatchResult result
+            (λ _. drop self.new.behind self.new.log.items ≡ drop self.old.behind self.old.log.items
+            ++ op ∷ [])
+            (λ x. (x ≡ op)
+            × (drop self.new.behind self.new.log.items ≡ drop self.old.behind self.old.log.items)) }
     {
         match self.log.push_back(op) {
             Ok(()) => Ok(()),
@@ -154,12 +169,23 @@ impl<T: Absorb<O> + Drop, O: Drop, V, P: Protocol<T, V>, A: Allocator> Writer<T,
         self,
         rt: &R,
     ) -> (Writer<T, O, V, P, A>, Result<(), AllocError>)
-        requires { (next : T) → T.state next ≡ fold T.applied (T.state self.desk.shown.value) (drop self.behind self.log.items) → TurnsAt P.holds self.desk.place.id (view self.desk.place) self.desk.shown.value next M.then }
+        requires { (next : T)
+            → T.state next
+            ≡ fold T.applied (T.state self.desk.shown.value) (drop self.behind self.log.items)
+            → TurnsAt P.holds self.desk.place.id (view self.desk.place) self.desk.shown.value next
+            M.then }
         ensures seat { result.0.desk.place.id ≡ self.desk.place.id }
         ensures table { result.0.desk.place.table_id ≡ self.desk.place.table_id }
         ensures succeeds { T.never_fails → IsOk result.1 }
-        ensures values { MatchResult result.1 (λ _. (T.state result.0.desk.shown.value ≡ fold T.applied (T.state self.desk.shown.value) (drop self.behind self.log.items)) × (drop result.0.behind result.0.log.items ≡ [])) (λ _. (result.0.desk.shown.value ≡ self.desk.shown.value) × (drop result.0.behind result.0.log.items ≡ drop self.behind self.log.items)) }
-        ensures rule { MatchResult result.1 (λ _. M.then (view self.desk.place) self.desk.shown.value result.0.desk.shown.value (view result.0.desk.place)) (λ _. view result.0.desk.place ≡ view self.desk.place) }
+        ensures values { MatchResult result.1
+            (λ _. (T.state result.0.desk.shown.value
+            ≡ fold T.applied (T.state self.desk.shown.value) (drop self.behind self.log.items))
+            × (drop result.0.behind result.0.log.items ≡ []))
+            (λ _. (result.0.desk.shown.value ≡ self.desk.shown.value)
+            × (drop result.0.behind result.0.log.items ≡ drop self.behind self.log.items)) }
+        ensures rule { MatchResult result.1
+            (λ _. M.then (view self.desk.place) self.desk.shown.value result.0.desk.shown.value
+            (view result.0.desk.place)) (λ _. view result.0.desk.place ≡ view self.desk.place) }
     {
         let Writer {
             desk,
@@ -187,7 +213,8 @@ impl<T: Absorb<O> + Drop, O: Drop, V, P: Protocol<T, V>, A: Allocator> Writer<T,
         (writer, Err(AllocError))
     }
 
-    /// Waits for the readers, and returns what was published last. Operations that are pending are dropped.
+    /// Waits for the readers, and returns what was published last. Operations that are pending are
+    /// dropped.
     pub fn take<R: Wait>(self, rt: &R) -> Box<T, A>
         ensures { result.value ≡ self.desk.shown.value }
     {

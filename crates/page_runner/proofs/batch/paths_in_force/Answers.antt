@@ -5,30 +5,29 @@ use Rattle.page_runner.proofs.RunLemmas.{failure_unfinished}
 use Rattle.page_runner.proofs.BatchRuns.{paths-all, paths-part, reads-batched, answers_at, reads_at}
 use Rattle.page_runner.proofs.batch.paths_in_force.Goals as goal
 
-pub returns-in-Err-clause-answer : goal.returns-in-Err-clause-answer
-returns-in-Err-clause-answer g c =
+pub returns-in-Err : goal.returns-in-Err
+returns-in-Err g c =
     let at = g.F.Outside.seen in
-    rw c.status_for.ensures
-    (answers_at c.args.table.now _ (string_bytes c.args.words.now.dir) (map string_bytes c.args.paths.now) (at c.args.files.now) (at c.run_list.new.files) _ _ _ _ _ c.as_str.ensures.value
-    (paths-part c.args.table.now _ (map string_bytes c.args.paths.now) (at c.args.files.now) (at c.run_list.new.files) _ _ _ _ c.in-Err.failure c.in-Err.ensures.in_part (λ is. c.run_list.ensures.write (c.in-Err.is ∙ ap Err is))))
+    let dir = string_bytes c.args.words.now.dir in
+    let paths = map string_bytes c.args.paths.now in
+    record {
+      answer = rw c.status_for.ensures
+          (answers_at c.args.table.now _ dir paths (at c.args.files.now) (at c.run_list.new.files) _ _ _ _ _ c.as_str.ensures.value
+          (paths-part c.args.table.now _ paths (at c.args.files.now) (at c.run_list.new.files) _ _ _ _ c.in-Err.failure c.in-Err.ensures.in_part (λ is. c.run_list.ensures.write (c.in-Err.is ∙ ap Err is))));
+      reads = reads_at _ dir paths (at c.args.files.now) (at c.run_list.new.files) c.as_str.ensures.value
+          (reads-batched c.args.table.now _ paths (at c.args.files.now) (at c.run_list.new.files) 0 0 None None c.in-Err.ensures.in_part.0);
+      clean = λ e. absurd (failure_unfinished c.in-Err.failure (subst (λ s. IsTrue (is_finished s)) c.status_for.ensures e));
+    }
 
-pub returns-in-Err-clause-reads : goal.returns-in-Err-clause-reads
-returns-in-Err-clause-reads g c =
+pub returns-in-Ok : goal.returns-in-Ok
+returns-in-Ok g c =
     let at = g.F.Outside.seen in
-    reads_at _ (string_bytes c.args.words.now.dir) (map string_bytes c.args.paths.now) (at c.args.files.now) (at c.run_list.new.files) c.as_str.ensures.value
-    (reads-batched c.args.table.now _ (map string_bytes c.args.paths.now) (at c.args.files.now) (at c.run_list.new.files) 0 0 None None c.in-Err.ensures.in_part.0)
-
-pub returns-in-Err-clause-clean : goal.returns-in-Err-clause-clean
-returns-in-Err-clause-clean g c e = absurd (failure_unfinished c.in-Err.failure (subst (λ s. IsTrue (is_finished s)) c.status_for.ensures e))
-
-pub returns-in-Ok-clause-answer : goal.returns-in-Ok-clause-answer
-returns-in-Ok-clause-answer g c =
-    let at = g.F.Outside.seen in
-    answers_at c.args.table.now _ (string_bytes c.args.words.now.dir) (map string_bytes c.args.paths.now) (at c.args.files.now) (at c.run_list.new.files) _ _ _ _ _ c.as_str.ensures.value
-    (paths-all c.args.table.now _ (map string_bytes c.args.paths.now) (at c.args.files.now) (at c.run_list.new.files) _ _ _ _ c.in-Ok.ensures.all)
-
-pub returns-in-Ok-clause-reads : goal.returns-in-Ok-clause-reads
-returns-in-Ok-clause-reads g c =
-    let at = g.F.Outside.seen in
-    reads_at _ (string_bytes c.args.words.now.dir) (map string_bytes c.args.paths.now) (at c.args.files.now) (at c.run_list.new.files) c.as_str.ensures.value
-    (reads-batched c.args.table.now _ (map string_bytes c.args.paths.now) (at c.args.files.now) (at c.run_list.new.files) 0 0 None None c.in-Ok.ensures.all.0)
+    let dir = string_bytes c.args.words.now.dir in
+    let paths = map string_bytes c.args.paths.now in
+    record {
+      answer = answers_at c.args.table.now _ dir paths (at c.args.files.now) (at c.run_list.new.files) _ _ _ _ _ c.as_str.ensures.value
+          (paths-all c.args.table.now _ paths (at c.args.files.now) (at c.run_list.new.files) _ _ _ _ c.in-Ok.ensures.all);
+      reads = reads_at _ dir paths (at c.args.files.now) (at c.run_list.new.files) c.as_str.ensures.value
+          (reads-batched c.args.table.now _ paths (at c.args.files.now) (at c.run_list.new.files) 0 0 None None c.in-Ok.ensures.all.0);
+      clean = λ e. c.in-Ok.ensures.clean;
+    }

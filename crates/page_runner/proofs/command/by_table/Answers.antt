@@ -4,11 +4,8 @@ use Rattle.page_runner.proofs.HelpLemmas.{helped_back, helpers_stay}
 use Rattle.page_runner.proofs.RunLemmas.{page_no_memory}
 use Rattle.page_runner.proofs.command.by_table.Goals as goal
 
-pub returns-in_default-clause-answer : goal.returns-in_default-clause-answer
-returns-in_default-clause-answer g c = page_no_memory _ _ _ _ _ _ _
-
-pub returns-in_default-clause-reads : goal.returns-in_default-clause-reads
-returns-in_default-clause-reads g c = inr refl
+pub returns-in_default-clause-runs : goal.returns-in_default-clause-runs
+returns-in_default-clause-runs g c = record { answer = page_no_memory _ _ _ _ _ _ _; reads = inr refl; clean = λ e. absurd (cc e) }
 
 pub returns-in_default-clause-helpers : goal.returns-in_default-clause-helpers
 returns-in_default-clause-helpers g c = helpers_stay c.args.job.now.preload _

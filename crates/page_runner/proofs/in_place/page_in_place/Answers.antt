@@ -28,14 +28,14 @@ returns-in-None-clause-answer g c =
     let b = c.in-None.ensures.begins in
     rw (sym c.in-None.ensures.untouched)
     (page_since c.args.job.now.table.now (manner c.args.job.now.dump 0) (string_bytes c.args.job.now.page) (folder_with (string_bytes c.args.job.now.dir) [])
-    (at c.args.files.now) (at c.begin_page.new.files) (at c.run_begun-outcome.new.files) _ _ _ _ _ (string_bytes c.args.job.now.page) (Ok true) b.others b.no_fault b.calls c.run_begun-outcome.ensures.answer)
+    (at c.args.files.now) (at c.begin_page.new.files) (at c.run_begun-outcome.new.files) _ _ _ _ _ (string_bytes c.args.job.now.page) (Ok true) b.others b.no_fault b.calls c.run_begun-outcome.ensures.runs.answer)
 
 pub returns-in-None-clause-reads : goal.returns-in-None-clause-reads
 returns-in-None-clause-reads g c =
     let at = g.F.Outside.seen in
     let b = c.in-None.ensures.begins in
     reads_since (string_bytes c.args.job.now.page) (string_bytes c.args.job.now.dir) (string_bytes c.args.job.now.page) (at c.args.files.now) (at c.begin_page.new.files) (at c.run_begun-outcome.new.files) refl b.others
-    b.begun (Ok true) b.calls b.found c.run_begun-outcome.ensures.reads
+    b.begun (Ok true) b.calls b.found c.run_begun-outcome.ensures.runs.reads
 
 pub returns-in-None-clause-reports : goal.returns-in-None-clause-reports
 returns-in-None-clause-reports g c =

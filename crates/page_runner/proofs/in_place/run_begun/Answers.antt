@@ -4,11 +4,8 @@ use Rattle.page_runner.proofs.ReportLemmas.{cut_as_asked}
 use Rattle.page_runner.proofs.OnTwoLemmas.{is_looking_ahead, is_fetching_awaited}
 use Rattle.page_runner.proofs.in_place.run_begun.Goals as goal
 
-pub returns-in-Err-clause-answer : goal.returns-in-Err-clause-answer
-returns-in-Err-clause-answer g c = page_no_memory _ _ _ _ _ _ _
-
-pub returns-in-Err-clause-reads : goal.returns-in-Err-clause-reads
-returns-in-Err-clause-reads g c = reads_nothing _ _ _
+pub returns-in-Err-clause-runs : goal.returns-in-Err-clause-runs
+returns-in-Err-clause-runs g c = record { answer = page_no_memory _ _ _ _ _ _ _; reads = reads_nothing _ _ _; clean = λ e. absurd (cc e) }
 
 pub returns-clause-looks_ahead : goal.returns-clause-looks_ahead
 returns-clause-looks_ahead g c =

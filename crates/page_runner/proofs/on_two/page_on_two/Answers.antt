@@ -3,6 +3,7 @@ use Rattle.std.specs.String.{string_bytes}
 use Rattle.page_runner.specs.Manner.{manner}
 use Rattle.page_runner.proofs.RunLemmas.{page_since, first_begun, reads_since}
 use Rattle.page_turns.proofs.LineLemmas.{if_some}
+use Rattle.page_runner.proofs.WatchingLemmas.{none_watched}
 use Rattle.page_runner.proofs.ReportLemmas.{reports_since, cut_since, side_since, no_side}
 use Rattle.page_runner.proofs.on_two.page_on_two.Goals as goal
 
@@ -27,14 +28,14 @@ returns-in-None-clause-answer g c =
     let b = c.in-None.ensures.begins in
     rw (sym c.in-None.ensures.untouched)
     (page_since c.args.job.now.table.now (manner c.args.job.now.dump 0) (string_bytes c.args.job.now.page) _
-    (at c.args.files.now) (at c.begin_page.new.files) (at c.run_on_two.new.files) _ _ _ _ _ (string_bytes c.args.job.now.page) (Ok true) b.others b.no_fault b.calls c.run_on_two.ensures.answer)
+    (at c.args.files.now) (at c.begin_page.new.files) (at c.run_on_two.new.files) _ _ _ _ _ (string_bytes c.args.job.now.page) (Ok true) b.others b.no_fault b.calls c.run_on_two.ensures.runs.answer)
 
 pub returns-in-None-clause-reads : goal.returns-in-None-clause-reads
 returns-in-None-clause-reads g c =
     let at = g.F.Outside.seen in
     let b = c.in-None.ensures.begins in
     reads_since (string_bytes c.args.job.now.page) (string_bytes c.args.job.now.dir) (string_bytes c.args.job.now.page) (at c.args.files.now) (at c.begin_page.new.files) (at c.run_on_two.new.files) refl b.others
-    b.begun (Ok true) b.calls b.found c.run_on_two.ensures.reads
+    b.begun (Ok true) b.calls b.found c.run_on_two.ensures.runs.reads
 
 pub returns-in-None-clause-reports : goal.returns-in-None-clause-reports
 returns-in-None-clause-reports g c =
@@ -59,3 +60,6 @@ returns-in-None-clause-cut g c =
     if_some c.run_on_two.result.side
     (λ side cut. cut_since c.args.job.now.piece (string_bytes c.args.job.now.page) (string_bytes c.args.job.now.page) (Ok true) (at c.args.files.now) (at c.begin_page.new.files) (at c.run_on_two.new.files) _ _ refl refl b.others b.calls b.found cut)
     c.run_on_two.ensures.cut
+
+pub returns-in-None-clause-unseen : goal.returns-in-None-clause-unseen
+returns-in-None-clause-unseen g c = none_watched _ c.run_on_two.ensures.few

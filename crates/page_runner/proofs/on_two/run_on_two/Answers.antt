@@ -1,4 +1,5 @@
 use Rattle.std.proofs.Common.{length, map, [], Some, ap, ◌∙◌}
+use Rattle.page_turns.proofs.WatchLemmas.{few_none}
 use Rattle.page_runner.proofs.RunLemmas.{reads_nothing, page_no_memory}
 use Rattle.page_runner.proofs.ReportLemmas.{cut_as_asked}
 use Rattle.preload.specs.Teams.{crew_of}
@@ -30,22 +31,23 @@ returns-clause-fetches g c =
 pub returns-clause-cut : goal.returns-clause-cut
 returns-clause-cut g c = cut_as_asked _ _ _ _ _ _ (ap length c.deref_mut.ensures.value ∙ c.in-Ok.ensures.room) c.run_with-outcome.ensures.cut
 
-pub returns-in_default-clause-reads : goal.returns-in_default-clause-reads
-returns-in_default-clause-reads g c = reads_nothing _ _ _
+pub returns-in_default-clause-runs : goal.returns-in_default-clause-runs
+returns-in_default-clause-runs g c = rw c.without_memory.ensures.outcome (record { answer = page_no_memory _ _ _ _ _ _ _; reads = reads_nothing _ _ _; clean = λ e. absurd (cc e) })
 
-pub returns-in_default-start-clause-reads : goal.returns-in_default-start-clause-reads
-returns-in_default-start-clause-reads g c = reads_nothing _ _ _
-
-pub returns-in_default-start-clause-answer : goal.returns-in_default-start-clause-answer
-returns-in_default-start-clause-answer g c = rw c.without_fetchers.ensures.outcome (page_no_memory _ _ _ _ _ _ _)
+pub returns-in_default-start-clause-runs : goal.returns-in_default-start-clause-runs
+returns-in_default-start-clause-runs g c = rw c.without_fetchers.ensures.outcome (record { answer = page_no_memory _ _ _ _ _ _ _; reads = reads_nothing _ _ _; clean = λ e. absurd (cc e) })
 
 -- ---- what was given early came of the helpers
 
-pub returns-clause-answer : goal.returns-clause-answer
-returns-clause-answer g c =
+pub returns-clause-runs : goal.returns-clause-runs
+returns-clause-runs g c =
     let ran = c.run_with-outcome in
-    answers_in (crew_of g.F.Outside c.in-Ok-start.early) (crew_of g.F.Outside ran.new.early) ran.new.early.given _ _ _ _ _ [] c.in-Ok-start.ensures.dir (ap (map g.F.Outside.seen) c.in-Ok-start.ensures.was) c.in-Ok-start.ensures.used ran.ensures.crew c.as_str.ensures.value
-    c.finish-helped.ensures.given _ _ _ _ _ _ _ _ _ _ ran.ensures.answer
+    record {
+      answer = answers_in (crew_of g.F.Outside c.in-Ok-start.early) (crew_of g.F.Outside ran.new.early) ran.new.early.given _ _ _ _ _ [] c.in-Ok-start.ensures.dir (ap (map g.F.Outside.seen) c.in-Ok-start.ensures.was) c.in-Ok-start.ensures.used ran.ensures.crew c.as_str.ensures.value
+          c.finish-helped.ensures.given _ _ _ _ _ _ _ _ _ _ ran.ensures.runs.answer;
+      reads = ran.ensures.runs.reads;
+      clean = ran.ensures.runs.clean;
+    }
 
 pub returns-clause-reports : goal.returns-clause-reports
 returns-clause-reports g c =
@@ -58,3 +60,23 @@ returns-clause-helped g c =
     let ran = c.run_with-outcome in
     helped_in (crew_of g.F.Outside c.in-Ok-start.early) (crew_of g.F.Outside ran.new.early) ran.new.early.given _ _ _ _ _ _ c.in-Ok-start.ensures.dir (ap (map g.F.Outside.seen) c.in-Ok-start.ensures.was) c.in-Ok-start.ensures.used ran.ensures.crew c.as_str.ensures.value
     c.finish-helped.ensures.back
+
+-- ---- what those who watched saw last: no more than watched
+
+pub returns-clause-few : goal.returns-clause-few
+returns-clause-few g c = c.run_with-outcome.ensures.few
+
+pub returns-in_default-clause-few : goal.returns-in_default-clause-few
+returns-in_default-clause-few g c = few_none _ _ c.without_memory.ensures.seen
+
+pub returns-in_default-start-clause-few : goal.returns-in_default-start-clause-few
+returns-in_default-start-clause-few g c = few_none _ _ c.without_fetchers.ensures.seen
+
+pub returns-clause-unbegun : goal.returns-clause-unbegun
+returns-clause-unbegun g c = λ none. absurd (cc none)
+
+pub returns-in_default-clause-unbegun : goal.returns-in_default-clause-unbegun
+returns-in_default-clause-unbegun g c = λ _. c.without_memory.ensures.seen
+
+pub returns-in_default-start-clause-unbegun : goal.returns-in_default-start-clause-unbegun
+returns-in_default-start-clause-unbegun g c = λ _. c.without_fetchers.ensures.seen

@@ -15,3 +15,6 @@ returns-clause-seen g c =
     let m = c.meet-met.ensures in
     let all = all_told p.words c.args.put.put c.meet-met.result.taken c.meet-met.result.put c.requires.did m.prefix (m.taken ∙ p.ended) (m.put ∙ (c.end.ensures.1 ∙ c.put.ensures.put)) in
     subst (λ (ws : List ToPublisher). AreLast (shows_behind ws).doc c.join-seen.result.seen.items) all p.last
+
+pub returns-clause-few : goal.returns-clause-few
+returns-clause-few g c = c.join-seen.ensures.few

@@ -1,7 +1,7 @@
-use Rattle.std.proofs.Common.{[], sym, ap, subst, ◌∙◌}
+use Rattle.std.proofs.Common.{◌≤◌, length, sym, ap, subst, ◌∙◌}
 use Rattle.page_turns.specs.Watched.{AreLast}
+use Rattle.page_turns.proofs.WatchLemmas.{none_seen, few_none}
 use Rattle.page_runner.specs.Publishing.{Shows, IsSeated, shows_of}
-use Rattle.page_runner.proofs.PublishingLemmas.{none_behind}
 use Rattle.page_runner.proofs.publisher.end_seat.Goals as goal
 
 pub call_back-requires-clause-lane : goal.call_back-requires-clause-lane
@@ -23,4 +23,13 @@ pub returns-in-Here-clause-count : goal.returns-in-Here-clause-count
 returns-in-Here-clause-count g c = λ all. c.finish.ensures.count all ∙ subst (IsSeated c.args.count) c.in-Here.is c.requires
 
 pub returns-in-Ended-clause-seen : goal.returns-in-Ended-clause-seen
-returns-in-Ended-clause-seen g c = subst (λ (s : Shows). AreLast s.doc c.none_seen.result.items) (sym (ap shows_of c.in-Ended.is)) (none_behind [] _ c.none_seen.ensures)
+returns-in-Ended-clause-seen g c = none_seen _ _ c.none_seen.ensures
+
+pub returns-in-There-clause-few : goal.returns-in-There-clause-few
+returns-in-There-clause-few g c = subst (λ n. length c.call_back.result.0.items ≤ n) (subst (IsSeated c.args.count) c.in-There.is c.requires).1 c.call_back.ensures.few
+
+pub returns-in-Here-clause-few : goal.returns-in-Here-clause-few
+returns-in-Here-clause-few g c = subst (λ n. length c.finish.result.0.items ≤ n) (subst (IsSeated c.args.count) c.in-Here.is c.requires) c.finish.ensures.few
+
+pub returns-in-Ended-clause-few : goal.returns-in-Ended-clause-few
+returns-in-Ended-clause-few g c = few_none _ _ c.none_seen.ensures

@@ -1,8 +1,11 @@
-use Rattle.std.proofs.Common.{◌≡◌, ◌∙◌, ap, sym, subst, IfSome}
-use Rattle.std.proofs.lemmas.List.Elements.{All-head, All-tail}
+use Rattle.std.proofs.Common.{◌≡◌, ◌∙◌, List, ap, sym, subst, IfSome}
+use Rattle.std.specs.List.{All}
+use Rattle.std.proofs.lemmas.List.Elements.{All-head, All-tail, All-nil}
 use Rattle.std.specs.Vec.Iter.{into_iter_items}
 use Rattle.tree_watch.specs.Boards.{BoardView}
 use Rattle.tree_watch.specs.Seeing.{IsSeen}
+use Rattle.tree_watch.specs.declared.watcher.Seen.{Seen}
+use Rattle.page_turns.proofs.WatchLemmas.{few_none}
 use Rattle.page_runner.specs.declared.watchers.Post.{Post}
 use Rattle.page_runner.specs.Watching.{table_at, AreAtPosts}
 use Rattle.page_runner.proofs.WatchingLemmas.{met_last}
@@ -29,3 +32,12 @@ pub places-preserved : goal.places-preserved
 places-preserved g c =
     let now = subst (λ (b : BoardView). IfSome c.look_now-last.result (λ s. IsSeen s b.stand)) c.loop-post.invariant.board c.look_now-last.ensures in
     record { seen = c.add_last-all-in-places.ensures c.args.board.now.stand now c.places.invariant.seen }
+
+-- not as many as watched
+
+pub returns-then-not-whole-clause-seen : goal.returns-then-not-whole-clause-seen
+returns-then-not-whole-clause-seen g c =
+    subst (λ (l : List Seen). All (λ s. IsSeen s c.args.board.now.stand) l) (sym c.none_seen.ensures) (All-nil (λ s. IsSeen s c.args.board.now.stand))
+
+pub returns-then-not-whole-clause-few : goal.returns-then-not-whole-clause-few
+returns-then-not-whole-clause-few g c = few_none _ _ c.none_seen.ensures

@@ -1,6 +1,7 @@
-use Rattle.std.proofs.Common.{◌∙◌, ap, subst, flat_map}
+use Rattle.std.proofs.Common.{◌∙◌, ap, sym, subst, flat_map}
 use Rattle.core_steps.specs.Sides.{Shown}
-use Rattle.doc_changes.proofs.Logs.{logged_same}
+use Rattle.core_definitions.specs.Desk.{Desk}
+use Rattle.core_steps.specs.Changing.{LogsDo}
 use Rattle.serial.specs.Output.{line_text}
 use Rattle.core_definitions.specs.declared.event.Event.TheVariants as event
 use Rattle.page_turns.specs.Taken.{Took, TookFront}
@@ -45,4 +46,7 @@ pub returns-clause-did : goal.returns-clause-did
 returns-clause-did g c = did_given _ c.act.new.self _ _ c.in_ok-act.ensures.does c.in_ok-act.ensures.others c.in_ok-lines.ensures.taken
 
 pub returns-clause-logged : goal.returns-clause-logged
-returns-clause-logged g c = on_ok _ _ (logged_same _ _ _ _ _ c.in_ok-act.ensures.logged (ap (λ (z : Shown). z.desk.own.side.doc) c.in_ok-lines.ensures.taken))
+returns-clause-logged g c =
+    let old = c.args.doc.now in
+    on_ok _ _ (subst (λ (d : Desk). LogsDo old.entities old.journal.fetches old.desk d c.args.log.now c.act.new.log) (sym (ap (λ (z : Shown). z.desk) c.in_ok-lines.ensures.taken))
+    c.in_ok-act.ensures.logged)

@@ -1,11 +1,11 @@
 use Rattle.std.proofs.Common.{◌∙◌, sym, ap, subst, refl, arith, IsTrue}
 use Rattle.core_definitions.specs.declared.event.Event.TheVariants as event
-use Rattle.core_definitions.specs.Desk.{Desk, sends}
+use Rattle.core_definitions.specs.Desk.{sends}
 use Rattle.serial.specs.Serial.{Serial}
 use Rattle.core_steps.specs.Sides.{Shown}
 use Rattle.page_turns.specs.Scripts.{folder_with}
 use Rattle.page_turns.specs.Turns.{Brings, BeginsTheAwaited}
-use Rattle.page_turns.specs.Watched.{WasTold, AllPassed}
+use Rattle.page_turns.specs.Watched.{HasTold, AllPassed}
 use Rattle.page_turns.proofs.LineLemmas.{on_err}
 use Rattle.page_turns.proofs.DeskLemmas.{sends-own}
 use Rattle.page_turns.proofs.StepLemmas.{stays_spent, stays_journaled}
@@ -15,7 +15,7 @@ use Rattle.page_turns.proofs.MessageLemmas.{taken_first, taken_kept, taken_same,
 use Rattle.page_turns.proofs.TurnLemmas.{holds_same, holds_first, holds_open, holds_read, holds_answered}
 use Rattle.page_turns.proofs.GiveLemmas.{runs_out, gives_up, gives_up_reading, gives_up_running, awaits_name, none-of, answers-as, stands_reply, read_less, answered_less, after_sent, after_sent_less, sent_so_far, took_sent, goes_may_do, after_took, after_took_less, after_ran, after_ran_less, less_still, less_then}
 use Rattle.page_turns.proofs.BringLemmas.{pieces_brought, ending_brought, taken_brought, after_brought, after_brought_less, goes_brought, goes_failed, gives_up_bringing}
-use Rattle.page_turns.proofs.WatchLemmas.{follows_first, follows_on, journaled_on, hands_on, brought_on, doc_brought, takes-own, passed_as, told_same, told_before, stays_on, did_on}
+use Rattle.page_turns.proofs.WatchLemmas.{follows_first, follows_on, journaled_on, hands_on, stands_rests, stays_rests, journaled_rests, hands_rests, brought_rests, takes-own, passed_as, told_same, told_before, stays_on, did_on}
 use Rattle.page_turns.proofs.CutLemmas.{cut_at, cut_at_same, cut_at_past, cut_first, cut_as, cut_short_as, cuts_read, cuts_read_short}
 use Rattle.page_turns.proofs.page.take_turns.Goals as goal
 
@@ -36,7 +36,7 @@ returns-in_err-ask-clause-err g c =
 
 pub turns-preserved-in-Continue-branch-2 : goal.turns-preserved-in-Continue-branch-2
 turns-preserved-in-Continue-branch-2 g c =
-    record { cuts = cut_at_same _ _ _ _ _ _ _ _ (ap (λ (z : Shown). z.journal.pieces) c.in_ok-request.ensures.sent) (ap (λ (z : Shown). z.journal.ending) c.in_ok-request.ensures.sent) c.turns.invariant.cuts; room = c.turns.invariant.room; crew = c.turns.invariant.crew; holds = after_sent _ _ _ _ _ _ _ _ _ _ c.turns.invariant.holds _ _ (sym (c.can_send.ensures) ∙ c.if-can_send.true) c.in_ok-request.ensures.sent c.in_ok-ask.ensures.load; goes = goes_sent _ _ c.turns.invariant.goes _ c.in_ok-request.request _ c.ask.ensures.put (sym (c.can_send.ensures) ∙ c.if-can_send.true) c.in_ok-request.ensures.request c.in_ok-request.ensures.from c.in_ok-request.ensures.sent; taken = taken_same (g.L.Counterpart.taken c.turns.lanes) (g.L.Counterpart.taken c.ask.new.self) c.turns.doc.journal.events c.send.new.self.journal.events event.Send refl c.ask.ensures.taken (ap (λ (z : Shown). z.journal.events) c.in_ok-request.ensures.sent) c.turns.invariant.taken; tells = tells_then c.turns.invariant.tells c.in_ok-ask.ensures.tells; faults = c.turns.invariant.faults; watches = c.turns.invariant.watches; count = c.turns.invariant.count; follows = λ on. follows_on _ _ _ _ (journaled_on event.Send _ _ _ c.in_ok-request.ensures.sent) (ap (λ (z : Shown). z.desk.own.side.doc) c.in_ok-request.ensures.sent ∙ ap (λ (o : Serial). o.side.doc) (sends-own c.turns.doc.desk)) (c.turns.invariant.follows on) }
+    record { cuts = cut_at_same _ _ _ _ _ _ _ _ (ap (λ (z : Shown). z.journal.pieces) c.in_ok-request.ensures.sent) (ap (λ (z : Shown). z.journal.ending) c.in_ok-request.ensures.sent) c.turns.invariant.cuts; room = c.turns.invariant.room; crew = c.turns.invariant.crew; holds = after_sent _ _ _ _ _ _ _ _ _ _ c.turns.invariant.holds _ _ (sym (c.can_send.ensures) ∙ c.if-can_send.true) c.in_ok-request.ensures.sent c.in_ok-ask.ensures.load; goes = goes_sent _ _ c.turns.invariant.goes _ c.in_ok-request.request _ c.ask.ensures.put (sym (c.can_send.ensures) ∙ c.if-can_send.true) c.in_ok-request.ensures.request c.in_ok-request.ensures.from c.in_ok-request.ensures.sent; taken = taken_same (g.L.Counterpart.taken c.turns.lanes) (g.L.Counterpart.taken c.ask.new.self) c.turns.doc.journal.events c.send.new.self.journal.events event.Send refl c.ask.ensures.taken (ap (λ (z : Shown). z.journal.events) c.in_ok-request.ensures.sent) c.turns.invariant.taken; tells = tells_then c.turns.invariant.tells c.in_ok-ask.ensures.tells; faults = c.turns.invariant.faults; watches = c.turns.invariant.watches; count = c.turns.invariant.count; follows = λ on. follows_on _ _ _ _ (journaled_rests event.Send _ _ _ tt c.in_ok-request.ensures.sent (ap (λ (o : Serial). o.side.doc) (sends-own c.turns.doc.desk))) (c.turns.invariant.follows on) }
 
 pub turns-smaller-in-Continue-branch-2 : goal.turns-smaller-in-Continue-branch-2
 turns-smaller-in-Continue-branch-2 g c =
@@ -48,7 +48,7 @@ read_on-requires-clause-reading g c =
 
 pub turns-preserved-in-Continue-branch-3 : goal.turns-preserved-in-Continue-branch-3
 turns-preserved-in-Continue-branch-3 g c =
-    record { cuts = cuts_read _ _ _ _ _ _ _ _ _ c.turns.invariant.room (none-of _ _ _ c.may_read-may_read.ensures.may c.if-may_read.true) c.in_ok-read_on.ensures.cut c.turns.invariant.cuts; room = c.read_on.auto.room ∙ c.turns.invariant.room; crew = c.turns.invariant.crew; holds = holds_read _ _ _ _ _ _ _ _ _ _ _ _ _ c.in_default.ensures.on (none-of _ _ _ c.may_read-may_read.ensures.may c.if-may_read.true) c.in_ok-read_on.ensures.ok c.read_on.ensures.others c.read_on.ensures.begun c.read_on.ensures.open_at c.turns.invariant.holds; goes = goes_read _ _ c.turns.invariant.goes _ (none-of _ _ _ c.may_read-may_read.ensures.may c.if-may_read.true) c.read_on.ensures.handed; taken = taken_kept (g.L.Counterpart.taken c.turns.lanes) (g.L.Counterpart.taken c.turns.lanes) c.turns.doc.journal.events c.read_on.new.doc.journal.events refl (ap (λ (z : Shown). z.journal.events) c.read_on.ensures.handed.others) c.turns.invariant.taken; tells = c.turns.invariant.tells; faults = c.turns.invariant.faults; watches = c.turns.invariant.watches; count = c.turns.invariant.count; follows = λ on. follows_on _ _ _ _ (hands_on _ _ (none-of _ _ _ c.may_read-may_read.ensures.may c.if-may_read.true) c.read_on.ensures.handed) (ap (λ (d : Desk). d.own.side.doc) c.read_on.ensures.handed.desk) (c.turns.invariant.follows on) }
+    record { cuts = cuts_read _ _ _ _ _ _ _ _ _ c.turns.invariant.room (none-of _ _ _ c.may_read-may_read.ensures.may c.if-may_read.true) c.in_ok-read_on.ensures.cut c.turns.invariant.cuts; room = c.read_on.auto.room ∙ c.turns.invariant.room; crew = c.turns.invariant.crew; holds = holds_read _ _ _ _ _ _ _ _ _ _ _ _ _ c.in_default.ensures.on (none-of _ _ _ c.may_read-may_read.ensures.may c.if-may_read.true) c.in_ok-read_on.ensures.ok c.read_on.ensures.others c.read_on.ensures.begun c.read_on.ensures.open_at c.turns.invariant.holds; goes = goes_read _ _ c.turns.invariant.goes _ (none-of _ _ _ c.may_read-may_read.ensures.may c.if-may_read.true) c.read_on.ensures.handed; taken = taken_kept (g.L.Counterpart.taken c.turns.lanes) (g.L.Counterpart.taken c.turns.lanes) c.turns.doc.journal.events c.read_on.new.doc.journal.events refl (ap (λ (z : Shown). z.journal.events) c.read_on.ensures.handed.others) c.turns.invariant.taken; tells = c.turns.invariant.tells; faults = c.turns.invariant.faults; watches = c.turns.invariant.watches; count = c.turns.invariant.count; follows = λ on. follows_on _ _ _ _ (hands_rests _ _ (none-of _ _ _ c.may_read-may_read.ensures.may c.if-may_read.true) c.read_on.ensures.handed) (c.turns.invariant.follows on) }
 
 pub turns-smaller-in-Continue-branch-3 : goal.turns-smaller-in-Continue-branch-3
 turns-smaller-in-Continue-branch-3 g c =
@@ -76,7 +76,7 @@ take_reply-requires-clause-stands g c =
 
 pub turns-preserved-in-Continue-branch-5 : goal.turns-preserved-in-Continue-branch-5
 turns-preserved-in-Continue-branch-5 g c =
-    record { cuts = cut_at_same _ _ _ _ _ _ _ _ (ap (λ (z : Shown). z.journal.pieces) c.in_ok-take_reply.ensures.took) (ap (λ (z : Shown). z.journal.ending) c.in_ok-take_reply.ensures.took) c.turns.invariant.cuts; room = c.turns.invariant.room; crew = c.take_reply.ensures.crew ∙ c.turns.invariant.crew; holds = holds_same _ _ _ _ _ _ _ _ _ _ _ _ c.take_reply.ensures.given (after_took _ _ _ _ _ _ _ _ _ _ c.turns.invariant.holds _ (answers-as _ _ _ _ c.if-branch.false c.in_ok-answer.ensures.load) _ _ (sym (c.wants_reply.ensures) ∙ c.if-wants_reply.true) c.in_ok-take_reply.ensures.load c.in_ok-take_reply.ensures.took); goes = goes_given _ _ _ _ c.take_reply.ensures.given (goes_same _ _ _ c.take_reply.ensures.put (goes_took _ _ (goes_same _ _ _ c.answer.ensures.put c.turns.invariant.goes) _ (sym (c.wants_reply.ensures) ∙ c.if-wants_reply.true) (took_sent _ _ _ _ _ _ _ _ _ _ c.turns.invariant.holds _ (answers-as _ _ _ _ c.if-branch.false c.in_ok-answer.ensures.load) _ c.in_ok-take_reply.ensures.load) c.in_ok-take_reply.ensures.took)); taken = taken_one (g.L.Counterpart.taken c.answer.new.self) (g.L.Counterpart.taken c.take_reply.new.lanes) c.turns.doc.journal.events c.take_reply.new.doc.journal.events c.in_ok-take_reply.ensures.reply (ap (λ (z : Shown). z.journal.events) c.in_ok-take_reply.ensures.took) (taken_kept (g.L.Counterpart.taken c.turns.lanes) (g.L.Counterpart.taken c.answer.new.self) c.turns.doc.journal.events c.turns.doc.journal.events c.answer.ensures.taken refl c.turns.invariant.taken); tells = tells_then (tells_then c.turns.invariant.tells c.in_ok-answer.ensures.tells) c.in_ok-take_reply.ensures.tells; faults = c.turns.invariant.faults; watches = c.turns.invariant.watches; count = c.turns.invariant.count; follows = λ on. follows_on _ _ _ _ (journaled_on event.Take _ _ _ c.in_ok-take_reply.ensures.took) (ap (λ (z : Shown). z.desk.own.side.doc) c.in_ok-take_reply.ensures.took ∙ ap (λ (o : Serial). o.side.doc) (takes-own c.turns.doc.entities c.turns.doc.desk)) (c.turns.invariant.follows on) }
+    record { cuts = cut_at_same _ _ _ _ _ _ _ _ (ap (λ (z : Shown). z.journal.pieces) c.in_ok-take_reply.ensures.took) (ap (λ (z : Shown). z.journal.ending) c.in_ok-take_reply.ensures.took) c.turns.invariant.cuts; room = c.turns.invariant.room; crew = c.take_reply.ensures.crew ∙ c.turns.invariant.crew; holds = holds_same _ _ _ _ _ _ _ _ _ _ _ _ c.take_reply.ensures.given (after_took _ _ _ _ _ _ _ _ _ _ c.turns.invariant.holds _ (answers-as _ _ _ _ c.if-branch.false c.in_ok-answer.ensures.load) _ _ (sym (c.wants_reply.ensures) ∙ c.if-wants_reply.true) c.in_ok-take_reply.ensures.load c.in_ok-take_reply.ensures.took); goes = goes_given _ _ _ _ c.take_reply.ensures.given (goes_same _ _ _ c.take_reply.ensures.put (goes_took _ _ (goes_same _ _ _ c.answer.ensures.put c.turns.invariant.goes) _ (sym (c.wants_reply.ensures) ∙ c.if-wants_reply.true) (took_sent _ _ _ _ _ _ _ _ _ _ c.turns.invariant.holds _ (answers-as _ _ _ _ c.if-branch.false c.in_ok-answer.ensures.load) _ c.in_ok-take_reply.ensures.load) c.in_ok-take_reply.ensures.took)); taken = taken_one (g.L.Counterpart.taken c.answer.new.self) (g.L.Counterpart.taken c.take_reply.new.lanes) c.turns.doc.journal.events c.take_reply.new.doc.journal.events c.in_ok-take_reply.ensures.reply (ap (λ (z : Shown). z.journal.events) c.in_ok-take_reply.ensures.took) (taken_kept (g.L.Counterpart.taken c.turns.lanes) (g.L.Counterpart.taken c.answer.new.self) c.turns.doc.journal.events c.turns.doc.journal.events c.answer.ensures.taken refl c.turns.invariant.taken); tells = tells_then (tells_then c.turns.invariant.tells c.in_ok-answer.ensures.tells) c.in_ok-take_reply.ensures.tells; faults = c.turns.invariant.faults; watches = c.turns.invariant.watches; count = c.turns.invariant.count; follows = λ on. follows_on _ _ _ _ (journaled_rests event.Take _ _ _ tt c.in_ok-take_reply.ensures.took (ap (λ (o : Serial). o.side.doc) (takes-own c.turns.doc.entities c.turns.doc.desk))) (c.turns.invariant.follows on) }
 
 pub turns-smaller-in-Continue-branch-5 : goal.turns-smaller-in-Continue-branch-5
 turns-smaller-in-Continue-branch-5 g c =
@@ -88,7 +88,7 @@ returns-in_err-take_reply-clause-err g c =
 
 pub turns-preserved-in-Continue-branch-6 : goal.turns-preserved-in-Continue-branch-6
 turns-preserved-in-Continue-branch-6 g c =
-    record { cuts = cut_at_same _ _ _ _ _ _ _ _ (ap (λ (z : Shown). z.journal.pieces) c.in_ok-run_on.ensures.ok.others) (ap (λ (z : Shown). z.journal.ending) c.in_ok-run_on.ensures.ok.others) c.turns.invariant.cuts; room = c.turns.invariant.room; crew = c.turns.invariant.crew; holds = after_ran _ _ _ _ _ _ _ _ _ _ c.turns.invariant.holds _ (answers-as _ _ _ _ c.if-branch.false c.in_ok-answer.ensures.load) _ _ c.may_read-may_read.ensures.replayed (sym (c.can_do.ensures) ∙ c.if-can_do.true) c.in_ok-run_on.ensures.ok; goes = goes_may_do _ _ _ _ _ _ _ _ _ _ c.turns.invariant.holds _ (answers-as _ _ _ _ c.if-branch.false c.in_ok-answer.ensures.load) _ _ (goes_same _ _ _ c.answer.ensures.put c.turns.invariant.goes) (sym (c.can_do.ensures) ∙ c.if-can_do.true) (sent_so_far _ _ _ _ _ _ _ _ _ _ c.turns.invariant.holds c.in_default.ensures.on (sym c.may_read-may_read.ensures.may ∙ c.if-may_read.false) (sym (c.can_send.ensures) ∙ c.if-can_send.false)) c.run_on.ensures.did; taken = taken_did (g.L.Counterpart.taken c.answer.new.self) c.turns.doc c.run_on.new.doc c.run_on.ensures.did (taken_kept (g.L.Counterpart.taken c.turns.lanes) (g.L.Counterpart.taken c.answer.new.self) c.turns.doc.journal.events c.turns.doc.journal.events c.answer.ensures.taken refl c.turns.invariant.taken); tells = tells_then c.turns.invariant.tells c.in_ok-answer.ensures.tells; faults = let first = c.turns.invariant.faults in let second = c.run_on.ensures.faults in omega (arith, first, second); watches = c.run_on.ensures.watches ∙ c.turns.invariant.watches; count = c.run_on.ensures.count ∙ c.turns.invariant.count; follows = λ on. c.in_ok-run_on.ensures.watched (subst IsTrue (sym c.turns.invariant.watches) on) (c.turns.invariant.follows on) }
+    record { cuts = cut_at_same _ _ _ _ _ _ _ _ (ap (λ (z : Shown). z.journal.pieces) c.in_ok-run_on.ensures.ok.others) (ap (λ (z : Shown). z.journal.ending) c.in_ok-run_on.ensures.ok.others) c.turns.invariant.cuts; room = c.turns.invariant.room; crew = c.turns.invariant.crew; holds = after_ran _ _ _ _ _ _ _ _ _ _ c.turns.invariant.holds _ (answers-as _ _ _ _ c.if-branch.false c.in_ok-answer.ensures.load) _ _ c.may_read-may_read.ensures.replayed (sym (c.can_do.ensures) ∙ c.if-can_do.true) c.in_ok-run_on.ensures.ok; goes = goes_may_do _ _ _ _ _ _ _ _ _ _ c.turns.invariant.holds _ (answers-as _ _ _ _ c.if-branch.false c.in_ok-answer.ensures.load) _ _ (goes_same _ _ _ c.answer.ensures.put c.turns.invariant.goes) (sym (c.can_do.ensures) ∙ c.if-can_do.true) (sent_so_far _ _ _ _ _ _ _ _ _ _ c.turns.invariant.holds c.in_default.ensures.on (sym c.may_read-may_read.ensures.may ∙ c.if-may_read.false) (sym (c.can_send.ensures) ∙ c.if-can_send.false)) c.run_on.ensures.did; taken = taken_did (g.L.Counterpart.taken c.answer.new.self) c.turns.doc c.run_on.new.doc c.run_on.ensures.did (taken_kept (g.L.Counterpart.taken c.turns.lanes) (g.L.Counterpart.taken c.answer.new.self) c.turns.doc.journal.events c.turns.doc.journal.events c.answer.ensures.taken refl c.turns.invariant.taken); tells = tells_then c.turns.invariant.tells c.in_ok-answer.ensures.tells; faults = let first = c.turns.invariant.faults in let second = c.run_on.ensures.faults in omega (arith, first, second); watches = c.run_on.ensures.watches ∙ c.turns.invariant.watches; count = c.run_on.ensures.count ∙ c.turns.invariant.count; follows = λ on. c.in_ok-run_on.ensures.watched (subst IsTrue (sym c.turns.invariant.watches) on) c.may_read-may_read.ensures.replayed (c.turns.invariant.follows on) }
 
 pub turns-smaller-in-Continue-branch-6 : goal.turns-smaller-in-Continue-branch-6
 turns-smaller-in-Continue-branch-6 g c =
@@ -119,7 +119,7 @@ turns-preserved g c =
       faults = c.turns.invariant.faults;
       watches = c.turns.invariant.watches;
       count = c.turns.invariant.count;
-      follows = λ on. follows_on _ _ _ _ (brought_on _ _ _ _ _ _ _ _ brings) (doc_brought _ _ _ _ _ _ _ _ brings) (c.turns.invariant.follows on);
+      follows = λ on. follows_on _ _ _ _ (brought_rests _ _ _ _ _ _ _ _ brings) (c.turns.invariant.follows on);
     }
 
 pub turns-smaller : goal.turns-smaller
@@ -270,7 +270,7 @@ returns-in_err-fetch_awaited-clause-write_cut g c =
 -- ---- what those who watch were shown
 
 pub returns-in-Some-clause-watched : goal.returns-in-Some-clause-watched
-returns-in-Some-clause-watched g c = λ on. (c.turns.invariant.follows on).doc_is
+returns-in-Some-clause-watched g c = λ on. c.turns.invariant.follows on
 
 pub returns-in-Some-clause-passed : goal.returns-in-Some-clause-passed
 returns-in-Some-clause-passed g c = λ on. (c.turns.invariant.follows on).passed
@@ -300,24 +300,24 @@ returns-in_err-fetch_awaited-clause-passed g c = passed_as _ _ _ _ _ (stays_on _
 
 pub returns-in_err-request-clause-told : goal.returns-in_err-request-clause-told
 returns-in_err-request-clause-told g c = λ on.
-    on_err _ _ (told_same c.turns.doc c.send.new.self (g.W.Watch.doc c.turns.watch) (g.W.Watch.shown c.turns.watch) (ap (λ (z : Shown). z.desk.own.side.doc) (along.stays_spent c.turns.doc c.send.new.self c.in_err-request.ensures.err)) (c.turns.invariant.follows on))
+    on_err _ _ (told_same c.turns.doc c.send.new.self (g.W.Watch.doc c.turns.watch) (g.W.Watch.shown c.turns.watch) (stays_rests _ _ (along.stays_spent c.turns.doc c.send.new.self c.in_err-request.ensures.err)) (c.turns.invariant.follows on))
 
 pub returns-in_err-ask-clause-told : goal.returns-in_err-ask-clause-told
 returns-in_err-ask-clause-told g c = λ on.
-    on_err _ _ (told_same c.turns.doc c.send.new.self (g.W.Watch.doc c.turns.watch) (g.W.Watch.shown c.turns.watch) (ap (λ (z : Shown). z.desk.own.side.doc) c.in_ok-request.ensures.sent ∙ ap (λ (o : Serial). o.side.doc) (sends-own c.turns.doc.desk)) (c.turns.invariant.follows on))
+    on_err _ _ (told_same c.turns.doc c.send.new.self (g.W.Watch.doc c.turns.watch) (g.W.Watch.shown c.turns.watch) (journaled_rests event.Send _ _ _ tt c.in_ok-request.ensures.sent (ap (λ (o : Serial). o.side.doc) (sends-own c.turns.doc.desk))) (c.turns.invariant.follows on))
 
 pub returns-in_err-read_on-clause-told : goal.returns-in_err-read_on-clause-told
-returns-in_err-read_on-clause-told g c = λ on. on_err _ _ (told_same c.turns.doc c.read_on.new.doc (g.W.Watch.doc c.turns.watch) (g.W.Watch.shown c.turns.watch) (ap (λ (d : Desk). d.own.side.doc) c.read_on.ensures.handed.desk) (c.turns.invariant.follows on))
+returns-in_err-read_on-clause-told g c = λ on. on_err _ _ (told_same c.turns.doc c.read_on.new.doc (g.W.Watch.doc c.turns.watch) (g.W.Watch.shown c.turns.watch) (hands_rests _ _ (none-of _ _ _ c.may_read-may_read.ensures.may c.if-may_read.true) c.read_on.ensures.handed) (c.turns.invariant.follows on))
 
 pub returns-in_err-answer-clause-told : goal.returns-in_err-answer-clause-told
-returns-in_err-answer-clause-told g c = λ on. on_err _ _ (told_same c.turns.doc c.turns.doc (g.W.Watch.doc c.turns.watch) (g.W.Watch.shown c.turns.watch) refl (c.turns.invariant.follows on))
+returns-in_err-answer-clause-told g c = λ on. on_err _ _ (told_same c.turns.doc c.turns.doc (g.W.Watch.doc c.turns.watch) (g.W.Watch.shown c.turns.watch) (stands_rests c.turns.doc) (c.turns.invariant.follows on))
 
 pub returns-in_err-take_reply-clause-told : goal.returns-in_err-take_reply-clause-told
-returns-in_err-take_reply-clause-told g c = λ on. on_err _ _ (told_same c.turns.doc c.take_reply.new.doc (g.W.Watch.doc c.turns.watch) (g.W.Watch.shown c.turns.watch) (ap (λ (z : Shown). z.desk.own.side.doc) c.in_err-take_reply.ensures.stays) (c.turns.invariant.follows on))
+returns-in_err-take_reply-clause-told g c = λ on. on_err _ _ (told_same c.turns.doc c.take_reply.new.doc (g.W.Watch.doc c.turns.watch) (g.W.Watch.shown c.turns.watch) (stays_rests _ _ c.in_err-take_reply.ensures.stays) (c.turns.invariant.follows on))
 
 pub returns-in_err-fetch_awaited-clause-told : goal.returns-in_err-fetch_awaited-clause-told
-returns-in_err-fetch_awaited-clause-told g c = λ on. on_err _ _ (told_same c.turns.doc c.fetch_awaited.new.doc (g.W.Watch.doc c.turns.watch) (g.W.Watch.shown c.turns.watch) (ap (λ (z : Shown). z.desk.own.side.doc) c.in_err-fetch_awaited.ensures.stays) (c.turns.invariant.follows on))
+returns-in_err-fetch_awaited-clause-told g c = λ on. on_err _ _ (told_same c.turns.doc c.fetch_awaited.new.doc (g.W.Watch.doc c.turns.watch) (g.W.Watch.shown c.turns.watch) (stays_rests _ _ c.in_err-fetch_awaited.ensures.stays) (c.turns.invariant.follows on))
 
 pub returns-in_err-run_on-clause-told : goal.returns-in_err-run_on-clause-told
 returns-in_err-run_on-clause-told g c = λ on.
-    on_err _ _ (subst (WasTold c.run_on.new.doc) (sym c.in_err-run_on.ensures.untold) (told_before c.turns.doc c.run_on.new.doc (g.W.Watch.doc c.turns.watch) (g.W.Watch.shown c.turns.watch) c.may_read-may_read.ensures.replayed c.run_on.ensures.did (c.turns.invariant.follows on)))
+    on_err _ _ (subst (HasTold c.run_on.new.doc) (sym c.in_err-run_on.ensures.untold) (told_before c.turns.doc c.run_on.new.doc (g.W.Watch.doc c.turns.watch) (g.W.Watch.shown c.turns.watch) c.may_read-may_read.ensures.replayed c.run_on.ensures.did (c.turns.invariant.follows on)))

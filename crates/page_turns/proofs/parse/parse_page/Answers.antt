@@ -26,9 +26,11 @@ returns-clause-alone g c = left_alone _ _ _ _ _ _ _ _ _ c.take_turns-ended.ensur
 
 pub returns-clause-told : goal.returns-clause-told
 returns-clause-told g c = λ on.
-    told_at c.take_turns-ended.result c.take_turns-ended.new.doc (g.W.Watch.doc c.take_turns-ended.new.watch) (c.take_turns-ended.ensures.watched on) (c.take_turns-ended.ensures.told on)
+    told_at c.take_turns-ended.result c.take_turns-ended.new.doc (g.W.Watch.doc c.take_turns-ended.new.watch) (g.W.Watch.shown c.take_turns-ended.new.watch)
+    (c.take_turns-ended.ensures.watched on) (c.take_turns-ended.ensures.told on)
 
 pub returns-clause-told_passed : goal.returns-clause-told_passed
 returns-clause-told_passed g c = λ on.
     told_passed c.take_turns-ended.new.doc (g.W.Watch.doc c.take_turns-ended.new.watch) c.journal-journal.ensures.replayed
-    (told_at c.take_turns-ended.result c.take_turns-ended.new.doc (g.W.Watch.doc c.take_turns-ended.new.watch) (c.take_turns-ended.ensures.watched on) (c.take_turns-ended.ensures.told on))
+    (told_at c.take_turns-ended.result c.take_turns-ended.new.doc (g.W.Watch.doc c.take_turns-ended.new.watch) (g.W.Watch.shown c.take_turns-ended.new.watch)
+    (c.take_turns-ended.ensures.watched on) (c.take_turns-ended.ensures.told on))

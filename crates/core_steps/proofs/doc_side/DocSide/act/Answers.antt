@@ -1,5 +1,5 @@
 use Rattle.std.proofs.Common.{subst, sym, IsTrue}
-use Rattle.doc_changes.specs.Logs.{Logs}
+use Rattle.core_steps.specs.Changing.{LogsDo}
 use Rattle.core_definitions.specs.Desk.{can_do}
 use Rattle.core_steps.specs.Sides.{Shown, desk_of}
 use Rattle.core_steps.proofs.DocSides.{shown-now, kept-now, kept-failed, told-running, do-kept}
@@ -21,4 +21,4 @@ invariant_of-self-2 c =
 pub returns-clause-logged : goal.returns-clause-logged
 returns-clause-logged c =
     let i = c.self.inside in
-    subst (λ (s : Shown). Logs c.args.log.now s.desk.own.side.doc c.act.new.log c.act.new.self.writer.doc) (sym (shown-now i.side i.before.value i.spent c.args.self.now c.if-self.false c.self.view_is)) c.in_ok-act.ensures.logged
+    subst (λ (s : Shown). LogsDo s.entities s.journal.fetches s.desk (desk_of c.act.new.self) c.args.log.now c.act.new.log) (sym (shown-now i.side i.before.value i.spent c.args.self.now c.if-self.false c.self.view_is)) c.in_ok-act.ensures.logged

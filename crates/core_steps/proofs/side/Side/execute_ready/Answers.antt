@@ -1,6 +1,9 @@
-use Rattle.std.proofs.Common.{◌∙◌, ap, length, refl}
-use Rattle.doc_changes.proofs.Logs.{logged_same}
-use Rattle.core_steps.specs.declared.side.Side.{Side}
+use Rattle.std.proofs.Common.{◌∙◌, List, [], ◌∷◌, ap, length, refl, sym}
+use Rattle.html_types.specs.declared.operation.Op.{Op}
+use Rattle.core_definitions.specs.Batches.{Batch}
+use Rattle.doc_changes.specs.declared.change.Change.TheVariants.{Did}
+use Rattle.doc_changes.specs.Logs.{with_more}
+use Rattle.core_steps.specs.Changing.{of_first}
 use Rattle.core_steps.proofs.Executes.{ready-front, ready-executed}
 use Rattle.core_steps.proofs.Ready.{ops-bound, machine-served, executed-behind}
 use Rattle.core_steps.proofs.side.Side.execute_ready.Goals as goal
@@ -28,4 +31,5 @@ returns-in_ok-execute-in-Some-clause-executed c =
 
 pub returns-in_ok-execute-in-Some-clause-logged : goal.returns-in_ok-execute-in-Some-clause-logged
 returns-in_ok-execute-in-Some-clause-logged c =
-    logged_same _ _ _ _ _ c.in_ok-execute-in-Some.ensures.logged (ap (λ (s : Side). s.writer.doc) c.use_up.ensures.is)
+    c.in_ok-execute-in-Some.ensures.logged ∙ (ap (λ (ops : List Op). with_more (Did ops ∷ []) c.args.log.now) c.into_parts-ops.ensures.ops
+    ∙ ap (λ (bs : List Batch). with_more (of_first bs) c.args.log.now) (sym c.requires.first))

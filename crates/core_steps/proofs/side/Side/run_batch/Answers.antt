@@ -1,10 +1,9 @@
 use Rattle.std.proofs.Common.{◌∙◌, ap, refl}
 use Rattle.html_types.specs.declared.instruction.Stop.TheVariants as stop
 use Rattle.speculation.specs.declared.batch.Halt.TheVariants as halt
-use Rattle.doc_changes.proofs.Logs.{logged_same}
 use Rattle.core_steps.specs.declared.side.Side.{Side}
 use Rattle.core_steps.specs.Acting.{runs_there}
-use Rattle.core_steps.proofs.Logged.{met_doc}
+use Rattle.core_steps.proofs.Logged.{met_doc, executed-made}
 use Rattle.core_steps.proofs.Ready.{runs-batch}
 use Rattle.core_steps.proofs.side.Side.run_batch.Goals as goal
 
@@ -30,14 +29,18 @@ returns-in-Over-clause-runs c =
 
 -- the end of a batch leaves the document as it is
 
+pub returns-in-At-InputEnd-clause-logged : goal.returns-in-At-InputEnd-clause-logged
+returns-in-At-InputEnd-clause-logged c = executed-made c.args.self.now c.execute_batch.new.self c.execute_batch.new.self c.in_ok-execute_batch.field-0 c.args.log.now c.execute_batch.new.log c.in_ok-execute_batch.ensures.executed refl c.in_ok-execute_batch.ensures.logged
+
 pub returns-in_ok-meet_end_tag-in-At-Script-clause-logged : goal.returns-in_ok-meet_end_tag-in-At-Script-clause-logged
 returns-in_ok-meet_end_tag-in-At-Script-clause-logged c =
-    logged_same _ _ _ _ _ c.in_ok-execute_batch.ensures.logged (met_doc (runs_there c.in-At-Script.id c.execute_batch.new.self) c.in-At-Script.id c.execute_batch.new.self c.meet_end_tag.new.self c.in_ok-meet_end_tag-in-At-Script.ensures.met)
+    executed-made c.args.self.now c.execute_batch.new.self c.meet_end_tag.new.self c.in_ok-execute_batch.field-0 c.args.log.now c.execute_batch.new.log c.in_ok-execute_batch.ensures.executed
+    (met_doc (runs_there c.in-At-Script.id c.execute_batch.new.self) c.in-At-Script.id c.execute_batch.new.self c.meet_end_tag.new.self c.in_ok-meet_end_tag-in-At-Script.ensures.met) c.in_ok-execute_batch.ensures.logged
 
 pub returns-in-At-Deep-clause-logged : goal.returns-in-At-Deep-clause-logged
 returns-in-At-Deep-clause-logged c =
-    logged_same _ _ _ _ _ c.in_ok-execute_batch.ensures.logged (ap (λ (s : Side). s.writer.doc) c.end_parse.ensures)
+    executed-made c.args.self.now c.execute_batch.new.self c.end_parse.new.self c.in_ok-execute_batch.field-0 c.args.log.now c.execute_batch.new.log c.in_ok-execute_batch.ensures.executed (ap (λ (s : Side). s.writer.doc) c.end_parse.ensures) c.in_ok-execute_batch.ensures.logged
 
 pub returns-in-Over-clause-logged : goal.returns-in-Over-clause-logged
 returns-in-Over-clause-logged c =
-    logged_same _ _ _ _ _ c.in_ok-execute_batch.ensures.logged (ap (λ (s : Side). s.writer.doc) c.end_parse-in-Over.ensures)
+    executed-made c.args.self.now c.execute_batch.new.self c.end_parse-in-Over.new.self c.in_ok-execute_batch.field-0 c.args.log.now c.execute_batch.new.log c.in_ok-execute_batch.ensures.executed (ap (λ (s : Side). s.writer.doc) c.end_parse-in-Over.ensures) c.in_ok-execute_batch.ensures.logged

@@ -4,7 +4,7 @@ use Rattle.doc_changes.specs.Changes.{changed}
 use Rattle.page_turns.specs.Watched.{shown_with}
 use Rattle.page_runner.specs.declared.publisher.ToPublisher.TheVariants.{Did}
 use Rattle.page_runner.specs.Publishing.{Handed, shows_with, shows_of}
-use Rattle.page_runner.proofs.WatchingLemmas.{none_told}
+use Rattle.page_runner.proofs.WatchingLemmas.{none_told, grown_none}
 use Rattle.page_runner.proofs.PublishingLemmas.{told_doc, told_shown}
 use Rattle.page_runner.proofs.publisher.PublisherWatch.did.Goals as goal
 
@@ -13,14 +13,13 @@ use Rattle.page_runner.proofs.publisher.PublisherWatch.did.Goals as goal
 pub returns-then-is_empty-clause-doc : goal.returns-then-is_empty-clause-doc
 returns-then-is_empty-clause-doc g c =
     let none = none_told _ _ c.args.changes.items c.is_empty.ensures c.args.changes.ok.0 c.if-is_empty.true in
-    let old = c.args.self.now.shows in
-    λ _. subst (λ (cs : List Change). old.doc ≡ fold changed old.doc cs) (sym none) refl
+    λ _. grown_none c.args.self.now.shows.doc c.args.changes.items none
 
 pub returns-then-is_empty-clause-shown : goal.returns-then-is_empty-clause-shown
 returns-then-is_empty-clause-shown g c =
     let none = none_told _ _ c.args.changes.items c.is_empty.ensures c.args.changes.ok.0 c.if-is_empty.true in
     let old = c.args.self.now.shows in
-    λ _. subst (λ (cs : List Change). old.shown ≡ shown_with cs old.shown (fold changed old.doc cs)) (sym none) refl
+    λ _. subst (λ (cs : List Change). old.shown ≡ shown_with cs old.shown (fold changed old.doc.doc cs)) (sym none) refl
 
 -- it is told
 

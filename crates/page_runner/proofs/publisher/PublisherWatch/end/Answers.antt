@@ -1,4 +1,4 @@
-use Rattle.std.proofs.Common.{sym, ap, subst, ◌∙◌}
+use Rattle.std.proofs.Common.{◌≤◌, length, sym, ap, subst, ◌∙◌}
 use Rattle.page_turns.specs.Watched.{AreLast}
 use Rattle.page_runner.specs.Publishing.{Shows, Handed, IsSeated, shows_of}
 use Rattle.page_runner.proofs.publisher.PublisherWatch.end.Goals as goal
@@ -13,6 +13,9 @@ returns-clause-seen g c =
 
 pub returns-clause-count : goal.returns-clause-count
 returns-clause-count g c = λ all. c.end_seat.ensures.count all ∙ ap (λ (h : Handed). h.count) c.self.view_is
+
+pub returns-clause-few : goal.returns-clause-few
+returns-clause-few g c = subst (λ n. length c.end_seat.result.0.items ≤ n) (ap (λ (h : Handed). h.count) c.self.view_is) c.end_seat.ensures.few
 
 -- nobody publishes any more
 

@@ -1,8 +1,9 @@
-use Rattle.std.proofs.Common.{◌≡◌, [], Option, rules, sym, subst, ap, ◌∙◌}
+use Rattle.std.proofs.Common.{◌≡◌, ◌≤◌, [], length, Option, rules, sym, subst, ap, ◌∙◌}
 use Rattle.page_turns.specs.Watched.{AreLast}
+use Rattle.page_turns.proofs.WatchLemmas.{none_seen, few_none}
 use Rattle.page_runner.specs.Watching.{Watched, AreAtPosts, doc_of}
 use Rattle.tree_watch.specs.Boards.{BoardView}
-use Rattle.page_runner.proofs.WatchingLemmas.{none_left, at_work, gone}
+use Rattle.page_runner.proofs.WatchingLemmas.{at_work, gone}
 use Rattle.page_runner.proofs.watching.WatchingWatch.end.Goals as goal
 
 pub end_on-requires-clause-showing : goal.end_on-requires-clause-showing
@@ -29,13 +30,16 @@ returns-clause-seen g c =
 pub returns-clause-count : goal.returns-clause-count
 returns-clause-count g c = λ all. c.end_on.ensures.count all ∙ ap (λ (w : Watched). w.count) c.self.view_is
 
+pub returns-clause-few : goal.returns-clause-few
+returns-clause-few g c = subst (λ n. length c.end_on.result.0.items ≤ n) (ap (λ (w : Watched). w.count) c.self.view_is) c.end_on.ensures.few
+
 -- the run is over
 
+pub returns-in_default-clause-few : goal.returns-in_default-clause-few
+returns-in_default-clause-few g c = few_none _ _ c.none_seen.ensures
+
 pub returns-in_default-clause-seen : goal.returns-in_default-clause-seen
-returns-in_default-clause-seen g c =
-    let i = c.self.inside in
-    subst (λ (w : Watched). AreLast (doc_of w.board) c.none_seen.result.items) c.self.view_is
-    (none_left i.board i.failed i.posts.items c.none_seen.result.items c.self.invariant c.none_seen.ensures)
+returns-in_default-clause-seen g c = none_seen _ c.none_seen.result.items c.none_seen.ensures
 
 -- nobody watches any more
 

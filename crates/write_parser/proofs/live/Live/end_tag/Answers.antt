@@ -1,6 +1,6 @@
-use Rattle.std.proofs.Common.{ap}
-use Rattle.doc_changes.proofs.Logs.{same_first}
-use Rattle.write_parser.specs.declared.live.Live.{Live}
+use Rattle.std.proofs.Common.{[]}
+use Rattle.write_parser.specs.Steps.{at_of}
+use Rattle.write_parser.proofs.MadeLemmas.{tag-made}
 use Rattle.write_parser.proofs.StatementLemmas.{on_ok}
 use Rattle.write_parser.proofs.LevelLemmas.{ends-tag}
 use Rattle.write_parser.proofs.live.Live.end_tag.Goals as goal
@@ -11,4 +11,6 @@ returns-clause-does c =
     (λ moves. ends-tag c.args.table.now c.args.id c.args.self.now c.prepare.new.self c.run_begun.new.self c.in_ok-begun.begun c.in_ok-begun.ensures moves) c.run_begun.ensures.does
 
 pub returns-clause-logged : goal.returns-clause-logged
-returns-clause-logged c = same_first c.run_begun.result _ _ _ _ _ (ap (λ (l : Live). l.doc) c.in_ok-begun.ensures.keeps) c.run_begun.ensures.logged
+returns-clause-logged c =
+    tag-made c.run_begun.result c.args.table.now c.args.id c.args.self.now c.prepare.new.self c.in_ok-begun.begun (at_of c.run_begun.new.self []) c.args.log.now c.run_begun.new.log
+    c.in_ok-begun.ensures c.run_begun.ensures.logged

@@ -1,7 +1,8 @@
-use Rattle.std.proofs.Common.{Some, refl, ap}
+use Rattle.std.proofs.Common.{[], Some, refl}
 use Rattle.html_types.specs.declared.ending.Why.TheVariants as why
-use Rattle.doc_changes.proofs.Logs.{logged_same}
-use Rattle.write_parser.specs.declared.live.Live.{Live}
+use Rattle.html_types.specs.declared.instruction.Stop.TheVariants as stop
+use Rattle.write_parser.specs.Steps.{at_of, frames_of}
+use Rattle.write_parser.proofs.MadeLemmas.{text-made}
 use Rattle.write_parser.proofs.NestingLemmas.{parsed_live, with_rest, parse-ends, parse-deep, parse-nests}
 use Rattle.write_parser.proofs.live.Live.parse_written.Goals as goal
 
@@ -21,5 +22,20 @@ returns-in-Deep-clause-does c =
     parse-deep c.args.table.now c.args.self.now (record (parsed_live c.parse.new.machine c.parse.new.doc c.args.self.now) { halted = Some why.Depth }) c.args.nesting.now
     (with_rest c.parse.new.self c.args.nesting.now) c.parse.new.machine c.parse.new.doc c.parse.new.self c.in_ok-parse.field-0 c.requires.going c.requires.goes c.in_ok-parse.ensures.parsed c.in-Deep.is refl
 
+pub returns-in-InputEnd-clause-logged : goal.returns-in-InputEnd-clause-logged
+returns-in-InputEnd-clause-logged c =
+    text-made c.args.table.now c.args.self.now (frames_of c.args.nesting.now) c.parse.new.machine c.parse.new.doc c.parse.new.self c.in_ok-parse.field-0 c.args.log.now c.parse.new.log c.requires.going.halted c.requires.goes.rest
+    c.in_ok-parse.ensures.parsed.parsed c.in_ok-parse.ensures.logged stop.InputEnd
+    (at_of (parsed_live c.parse.new.machine c.parse.new.doc c.args.self.now) (frames_of (with_rest c.parse.new.self c.args.nesting.now))) c.in-InputEnd.is refl
+
 pub returns-in_ok-nest-in-Script-clause-logged : goal.returns-in_ok-nest-in-Script-clause-logged
-returns-in_ok-nest-in-Script-clause-logged c = logged_same _ _ _ _ _ c.in_ok-parse.ensures.logged (ap (λ (l : Live). l.doc) c.in_ok-nest-in-Script.ensures.keeps)
+returns-in_ok-nest-in-Script-clause-logged c =
+    text-made c.args.table.now c.args.self.now (frames_of c.args.nesting.now) c.parse.new.machine c.parse.new.doc c.parse.new.self c.in_ok-parse.field-0 c.args.log.now c.parse.new.log c.requires.going.halted c.requires.goes.rest
+    c.in_ok-parse.ensures.parsed.parsed c.in_ok-parse.ensures.logged (stop.Script c.in-Script.id)
+    (at_of c.nest.new.self (frames_of c.nest.new.nesting)) c.in-Script.is c.in_ok-nest-in-Script.ensures.prepared
+
+pub returns-in-Deep-clause-logged : goal.returns-in-Deep-clause-logged
+returns-in-Deep-clause-logged c =
+    text-made c.args.table.now c.args.self.now (frames_of c.args.nesting.now) c.parse.new.machine c.parse.new.doc c.parse.new.self c.in_ok-parse.field-0 c.args.log.now c.parse.new.log c.requires.going.halted c.requires.goes.rest
+    c.in_ok-parse.ensures.parsed.parsed c.in_ok-parse.ensures.logged stop.Deep
+    (at_of (record (parsed_live c.parse.new.machine c.parse.new.doc c.args.self.now) { halted = Some why.Depth }) []) c.in-Deep.is refl

@@ -1,12 +1,12 @@
 use Rattle.std.proofs.Common.{rules, ◌≡◌}
-use Rattle.doc_changes.proofs.Logs.{none_logged, then_logged}
 use Rattle.write_parser.specs.declared.live.Progress.TheVariants as turn
-use Rattle.write_parser.specs.Steps.{IsGoing, frames_of, Moves}
+use Rattle.write_parser.specs.Steps.{at_of, IsGoing, frames_of, Moves}
+use Rattle.write_parser.proofs.MadeLemmas.{none_made, turn_made}
 use Rattle.write_parser.proofs.NestingLemmas.{moves-nowhere, turn-on, moves-over, moves-on, runs-going, parses-going, turn-lighter}
 use Rattle.write_parser.proofs.live.Live.run.Goals as goal
 
 pub texts-init : goal.texts-init
-texts-init c = record { going = c.requires; moves = moves-nowhere c.args.table.now c.args.self.now (frames_of c.args.nesting.now) c.requires; logged = none_logged _ _ }
+texts-init c = record { going = c.requires; moves = moves-nowhere c.args.table.now c.args.self.now (frames_of c.args.nesting.now) c.requires; logged = none_made c.args.table.now (at_of c.args.self.now (frames_of c.args.nesting.now)) c.args.log.now }
 
 pub returns-then-eq-clause-does : goal.returns-then-eq-clause-does
 returns-then-eq-clause-does c =
@@ -52,12 +52,25 @@ texts-preserved c =
           c.in_ok-parse_written.ensures.does;
       moves = moves-on c.args.table.now c.args.self.now c.run_statements.new.self c.parse_written.new.self (frames_of c.args.nesting.now) c.run_statements.new.nesting
           c.parse_written.new.nesting c.in_ok-parse_written.field-0 on' going first c.in_ok-parse_written.ensures.does.moves;
-      logged = then_logged _ _ _ _ _ _ c.texts.invariant.logged (then_logged _ _ _ _ _ _ c.in_ok-run_statements.ensures.logged c.in_ok-parse_written.ensures.logged);
+      logged = turn_made c.args.table.now c.args.self.now c.run_statements.new.self c.parse_written.new.self (frames_of c.args.nesting.now) (frames_of c.run_statements.new.nesting)
+          c.parse_written.new.nesting c.in_ok-parse_written.field-0 turn.On c.args.log.now c.run_statements.new.log c.parse_written.new.log on'
+          (turn_made c.args.table.now c.args.self.now c.texts.self c.run_statements.new.self (frames_of c.args.nesting.now) (frames_of c.texts.nesting) c.run_statements.new.nesting
+          c.in_ok-run_statements.field-0 turn.On c.args.log.now c.texts.log c.run_statements.new.log on c.texts.invariant.logged c.in_ok-run_statements.ensures.logged)
+          c.in_ok-parse_written.ensures.logged;
     }
 
 pub returns-then-eq-clause-logged : goal.returns-then-eq-clause-logged
-returns-then-eq-clause-logged c = then_logged _ _ _ _ _ _ c.texts.invariant.logged c.in_ok-run_statements.ensures.logged
+returns-then-eq-clause-logged c =
+    let over : c.in_ok-run_statements.field-0 ≡ turn.Over = search rules in
+    turn_made c.args.table.now c.args.self.now c.texts.self c.run_statements.new.self (frames_of c.args.nesting.now) (frames_of c.texts.nesting) c.run_statements.new.nesting
+    c.in_ok-run_statements.field-0 turn.Over c.args.log.now c.texts.log c.run_statements.new.log over c.texts.invariant.logged c.in_ok-run_statements.ensures.logged
 
 pub returns-then-eq-2-clause-logged : goal.returns-then-eq-2-clause-logged
 returns-then-eq-2-clause-logged c =
-    then_logged _ _ _ _ _ _ c.texts.invariant.logged (then_logged _ _ _ _ _ _ c.in_ok-run_statements.ensures.logged c.in_ok-parse_written.ensures.logged)
+    let on : c.in_ok-run_statements.field-0 ≡ turn.On = turn-on c.in_ok-run_statements.field-0 (search rules) in
+    let over : c.in_ok-parse_written.field-0 ≡ turn.Over = search rules in
+    turn_made c.args.table.now c.args.self.now c.run_statements.new.self c.parse_written.new.self (frames_of c.args.nesting.now) (frames_of c.run_statements.new.nesting)
+    c.parse_written.new.nesting c.in_ok-parse_written.field-0 turn.Over c.args.log.now c.run_statements.new.log c.parse_written.new.log over
+    (turn_made c.args.table.now c.args.self.now c.texts.self c.run_statements.new.self (frames_of c.args.nesting.now) (frames_of c.texts.nesting) c.run_statements.new.nesting
+    c.in_ok-run_statements.field-0 turn.On c.args.log.now c.texts.log c.run_statements.new.log on c.texts.invariant.logged c.in_ok-run_statements.ensures.logged)
+    c.in_ok-parse_written.ensures.logged

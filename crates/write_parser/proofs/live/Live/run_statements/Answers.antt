@@ -1,7 +1,7 @@
 use Rattle.std.proofs.Common.{rules, ◌≡◌, refl, subst}
-use Rattle.doc_changes.proofs.Logs.{none_logged, then_logged}
 use Rattle.write_parser.specs.declared.live.Progress.TheVariants as turn
-use Rattle.write_parser.specs.Steps.{frames_of, Steps}
+use Rattle.write_parser.specs.Steps.{at_of, frames_of, Steps}
+use Rattle.write_parser.proofs.MadeLemmas.{none_made, turn_made}
 use Rattle.write_parser.proofs.NestingLemmas.{moves-nowhere, moves-then, runs-over, turn-on}
 use Rattle.write_parser.proofs.live.Live.run_statements.Goals as goal
 
@@ -12,7 +12,7 @@ returns-then-eq-clause-does c =
     c.in_ok-step.ensures.does
 
 pub steps-init : goal.steps-init
-steps-init c = record { going = c.requires; moves = moves-nowhere c.args.table.now c.args.self.now (frames_of c.args.nesting.now) c.requires; logged = none_logged _ _ }
+steps-init c = record { going = c.requires; moves = moves-nowhere c.args.table.now c.args.self.now (frames_of c.args.nesting.now) c.requires; logged = none_made c.args.table.now (at_of c.args.self.now (frames_of c.args.nesting.now)) c.args.log.now }
 
 pub steps-preserved : goal.steps-preserved
 steps-preserved c =
@@ -23,8 +23,12 @@ steps-preserved c =
       moves =
           moves-then c.args.table.now c.args.self.now c.steps.self c.step.new.self (frames_of c.args.nesting.now) (frames_of c.steps.nesting) (frames_of c.step.new.nesting)
           c.steps.invariant.going.halted c.steps.invariant.moves step.moves;
-      logged = then_logged _ _ _ _ _ _ c.steps.invariant.logged c.in_ok-step.ensures.logged;
+      logged = turn_made c.args.table.now c.args.self.now c.steps.self c.step.new.self (frames_of c.args.nesting.now) (frames_of c.steps.nesting) c.step.new.nesting c.in_ok-step.field-0 turn.On
+          c.args.log.now c.steps.log c.step.new.log on c.steps.invariant.logged c.in_ok-step.ensures.logged;
     }
 
 pub returns-then-eq-clause-logged : goal.returns-then-eq-clause-logged
-returns-then-eq-clause-logged c = then_logged _ _ _ _ _ _ c.steps.invariant.logged c.in_ok-step.ensures.logged
+returns-then-eq-clause-logged c =
+    let over : c.in_ok-step.field-0 ≡ turn.Over = search rules in
+    turn_made c.args.table.now c.args.self.now c.steps.self c.step.new.self (frames_of c.args.nesting.now) (frames_of c.steps.nesting) c.step.new.nesting c.in_ok-step.field-0 turn.Over
+    c.args.log.now c.steps.log c.step.new.log over c.steps.invariant.logged c.in_ok-step.ensures.logged

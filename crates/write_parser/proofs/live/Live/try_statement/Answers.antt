@@ -1,9 +1,12 @@
-use Rattle.std.proofs.Common.{refl, sym, subst, IfOk, ◌≡◌, ◌∙◌, ap}
+use Rattle.std.proofs.Common.{refl, sym, subst, IfOk, OnOk, ◌≡◌, ◌∙◌, ap}
 use Rattle.standard.specs.Tree.{find_id, first_element}
-use Rattle.serial.specs.Serial.{with_line_feed}
-use Rattle.doc_changes.proofs.Logs.{same_logged}
+use Rattle.serial.specs.declared.script.Statement.{Statement}
+use Rattle.serial.specs.declared.script.Statement.TheVariants as statement
+use Rattle.doc_changes.specs.Logs.{with_more}
+use Rattle.write_parser.specs.Made.{of_statement}
+use Rattle.write_parser.proofs.MadeLemmas.{stays-logged}
 use Rattle.write_parser.specs.Steps.{DoesMost, HasRead}
-use Rattle.write_parser.proofs.StatementLemmas.{if_ok, ok_if, does-write, does-write_line, does-remove, does-append, does-set_inner, does-read-by_id, does-read-root, written-doc, read-doc}
+use Rattle.write_parser.proofs.StatementLemmas.{if_ok, does-write, does-write_line, does-remove, does-append, does-set_inner, does-read-by_id, does-read-root}
 use Rattle.write_parser.proofs.live.Live.try_statement.Goals as goal
 
 pub returns-in-Write-clause-does : goal.returns-in-Write-clause-does
@@ -55,24 +58,36 @@ returns-in-LogRoot-clause-does c =
     (subst (λ node. HasRead c.args.number node c.args.self.now c.read-in-LogRoot.new.self d) found has))
     c.read-in-LogRoot.ensures)
 
--- what is written or read leaves the document as it was
-
 pub returns-in-Write-clause-logged : goal.returns-in-Write-clause-logged
 returns-in-Write-clause-logged c =
-    same_logged c.write.result c.args.log.now c.args.self.now.doc c.write.new.self.doc
-    (ok_if c.write.result _ _ (λ d has. written-doc c.args.self.now c.args.rest.now c.in-Write.text c.write.new.self c.write.new.rest d has) c.write.ensures)
+    stays-logged c.write.result c.args.table.now c.args.self.now.machine.open_state.quirks c.args.self.now.doc.tree c.args.statement.now (statement.Write c.in-Write.text) c.args.log.now c.in-Write.is refl
 
 pub returns-in-WriteLine-clause-logged : goal.returns-in-WriteLine-clause-logged
 returns-in-WriteLine-clause-logged c =
-    same_logged c.write_line.result c.args.log.now c.args.self.now.doc c.write_line.new.self.doc
-    (ok_if c.write_line.result _ _ (λ d has. written-doc c.args.self.now c.args.rest.now (with_line_feed c.in-WriteLine.text) c.write_line.new.self c.write_line.new.rest d has) c.write_line.ensures)
+    stays-logged c.write_line.result c.args.table.now c.args.self.now.machine.open_state.quirks c.args.self.now.doc.tree c.args.statement.now (statement.WriteLine c.in-WriteLine.text) c.args.log.now c.in-WriteLine.is refl
 
 pub returns-in-LogById-clause-logged : goal.returns-in-LogById-clause-logged
 returns-in-LogById-clause-logged c =
-    same_logged c.read.result c.args.log.now c.args.self.now.doc c.read.new.self.doc
-    (ok_if c.read.result _ _ (λ d has. read-doc c.args.number c.find_id-node.result c.args.self.now c.read.new.self d has) c.read.ensures)
+    stays-logged c.read.result c.args.table.now c.args.self.now.machine.open_state.quirks c.args.self.now.doc.tree c.args.statement.now (statement.LogById c.in-LogById.id) c.args.log.now c.in-LogById.is refl
 
 pub returns-in-LogRoot-clause-logged : goal.returns-in-LogRoot-clause-logged
 returns-in-LogRoot-clause-logged c =
-    same_logged c.read-in-LogRoot.result c.args.log.now c.args.self.now.doc c.read-in-LogRoot.new.self.doc
-    (ok_if c.read-in-LogRoot.result _ _ (λ d has. read-doc c.args.number c.root-node.result c.args.self.now c.read-in-LogRoot.new.self d has) c.read-in-LogRoot.ensures)
+    stays-logged c.read-in-LogRoot.result c.args.table.now c.args.self.now.machine.open_state.quirks c.args.self.now.doc.tree c.args.statement.now statement.LogRoot c.args.log.now c.in-LogRoot.is refl
+
+pub returns-in-Remove-clause-logged : goal.returns-in-Remove-clause-logged
+returns-in-Remove-clause-logged c =
+    let old = c.args.self.now in
+    subst (λ (a : Statement). OnOk c.remove.result (c.remove.new.log ≡ with_more (of_statement c.args.table.now old.machine.open_state.quirks old.doc.tree a) c.args.log.now)) (sym c.in-Remove.is)
+    c.remove.ensures.logged
+
+pub returns-in-Append-clause-logged : goal.returns-in-Append-clause-logged
+returns-in-Append-clause-logged c =
+    let old = c.args.self.now in
+    subst (λ (a : Statement). OnOk c.append.result (c.append.new.log ≡ with_more (of_statement c.args.table.now old.machine.open_state.quirks old.doc.tree a) c.args.log.now)) (sym c.in-Append.is)
+    c.append.ensures.logged
+
+pub returns-in-SetInner-clause-logged : goal.returns-in-SetInner-clause-logged
+returns-in-SetInner-clause-logged c =
+    let old = c.args.self.now in
+    subst (λ (a : Statement). OnOk c.set_inner.result (c.set_inner.new.log ≡ with_more (of_statement c.args.table.now old.machine.open_state.quirks old.doc.tree a) c.args.log.now)) (sym c.in-SetInner.is)
+    c.set_inner.ensures.logged

@@ -1,5 +1,5 @@
 use Rattle.std.proofs.Common.{false, subst, ap, ◌∙◌}
-use Rattle.doc_changes.specs.Logs.{Logs}
+use Rattle.write_parser.specs.Made.{at_view, MadeAtTag, LogsBy}
 use Rattle.write_parser.specs.Writing.{View, AtTag, LeadsTo}
 use Rattle.write_parser.specs.Steps.{view_of}
 use Rattle.write_parser.proofs.LevelLemmas.{tag-leads-to}
@@ -11,4 +11,4 @@ returns-clause-leads c =
     (tag-leads-to c.args.table.now c.args.id c.self.inside.live c.end_tag.new.self (ap (λ (v : View). v.pending) c.self.view_is ∙ c.requires.none_awaited) c.in_ok-end_tag.ensures.does)
 
 pub returns-clause-logged : goal.returns-clause-logged
-returns-clause-logged c = subst (λ (v : View). Logs c.args.log.now v.doc c.end_tag.new.log c.end_tag.new.self.doc) c.self.view_is c.in_ok-end_tag.ensures.logged
+returns-clause-logged c = subst (λ (v : View). LogsBy (λ more. MadeAtTag c.args.table.now c.args.id (at_view v) more (at_view (view_of c.end_tag.new.self false))) c.args.log.now c.end_tag.new.log) c.self.view_is c.in_ok-end_tag.ensures.logged

@@ -1,7 +1,0 @@
-use Rattle.std.proofs.Common.{subst}
-use Rattle.doc_changes.specs.Logs.{Logs}
-use Rattle.write_parser.specs.Writing.{View}
-use Rattle.write_parser.proofs.writer.Writer.execute.Goals as goal
-
-pub returns-clause-logged : goal.returns-clause-logged
-returns-clause-logged c = subst (λ (v : View). Logs c.args.log.now v.doc c.apply_all.new.self c.apply_all.new.doc) c.self.view_is c.in_ok-apply_all.ensures.logged
