@@ -19,9 +19,10 @@ extern "C" {
 
 #define SP_NONE UINT32_MAX /* no node */
 
-/* What a call answers: it is done; there is no such context, or no such script; the bytes are no
-   list of entities; the page isn't UTF-8; it passes a limit (512 open elements, 1,073,741,824 bytes
-   of a page, 1,048,576 characters that its scripts write); want of memory; a room is too small. */
+/* What a call answers: it is done; there is no such context, or the scripts or flags of a run
+   aren't in order; the bytes are no list of entities; the page isn't UTF-8; it passes a limit (512
+   open elements, 1,073,741,824 bytes of a page, 1,048,576 characters that its scripts write); want
+   of memory; a room is too small. */
 enum {
     SP_DONE = 0, SP_CONTEXT = 2, SP_ENTITIES = 3, SP_BAD_UTF8 = 4, SP_LIMIT = 5,
     SP_NO_MEMORY = 12, SP_NO_ROOM = 13

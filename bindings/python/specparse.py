@@ -16,12 +16,12 @@ _HERE = os.path.dirname(os.path.abspath(__file__))
 _NONE = 0xFFFFFFFF
 _KINDS = ("document", "element", "text", "comment", "doctype", "contents")
 _SPACES = ("html", "mathml", "svg")
-_REFUSED = {2: "no such context", 4: "not UTF-8", 5: "a limit is passed"}
+_REFUSED = {2: "no such context, or a name that isn't UTF-8", 4: "not UTF-8", 5: "a limit is passed"}
 
 
 class Refused(ValueError):
-    """There is no tree: the page isn't UTF-8, or passes a limit. `status` says which, and `printed`
-    what a run printed up to there."""
+    """There is no tree: the page isn't UTF-8, passes a limit, or there is no such context, or a
+    script's name isn't UTF-8. `status` says which, and `printed` what a run printed up to there."""
 
     def __init__(self, status, printed=""):
         super().__init__(_REFUSED.get(status, "status %d" % status))

@@ -1,7 +1,7 @@
 //! Tests of the crates below the parser, each through its public calls: `shared_stack`, `op_queue`,
 //! `page_maker`, `command_words`, `outside`, `utf8_pieces`, `entity_table`, `script_lang`,
-//! `char_class`, `tokenizer`, `doc_tree`, `op_exec`, `serialiser` and `tree_watch`. They stand in a
-//! crate of their own, since a crate that has tests is proved twice.
+//! `char_class`, `tokenizer`, `doc_tree`, `doc_changes`, `op_exec`, `serialiser` and `tree_watch`.
+//! They stand in a crate of their own, since a crate that has tests is proved twice.
 #![tactic(auto)]
 
 #[cfg(test)]

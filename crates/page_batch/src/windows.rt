@@ -194,8 +194,7 @@ fn run_window<R: Threads + Sync, E: InForce + Send, F: Outside, K: Sink>(
 }
 
 /// Runs the pages of the list: each is read, they are parsed side by side, with scripts that are
-/// fetched once each, and their parts are written in the list's
-/// order. Then the sink is finished.
+/// fetched once each, and their parts are written in the list's order. Then the sink is finished.
 pub fn run_list<R: Threads + Sync, E: InForce + Send, F: Outside, K: Sink>(
     rt: &R,
     alloc: Global,

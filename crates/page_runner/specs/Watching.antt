@@ -95,7 +95,7 @@ IsLeftFrom (Some old) now = (new : BoardView) × (now ≡ Some new) × HasKept o
 -- ---- what is reported of it
 
 -- What the watchers saw last, with the mark, is a document that the run passed through, and as its number that of the changes which the run made up to
--- there, each of them once: it is the document after the journal's events, or after those before the last, which was refused; where the parse came to
+-- there, each of them once: it is the document after the journal's events, or after those before the last, a Do; where the parse came to
 -- an end, it is the document, and the changes are all. All saw it, or memory ran out.
 pub record IsWatched (s : Shown) (outcome : Status) (count : ℕ) (seen : List Seen) : Type 0 where
   pub doc : Doc

@@ -448,8 +448,8 @@ pub fn run<
     ensures no_further { StopsAtLimits (asked (map string_bytes words.now)) (F.seen files.old)
         (F.seen files.new) }
 
-    // Where the outside tells what was begun: entities, page and each script once at most, and
-    // nothing else ever.
+    // Where the outside tells what was begun: entities, page or list, and each script once at most,
+    // a list's pages in its order, and nothing else ever.
     ensures begins { BeginsOnce (asked (map string_bytes words.now)) (F.seen files.old)
         (F.seen files.new) }
 

@@ -32,8 +32,8 @@ pub struct Report<E: InForce> {
     /// Of each helper that might be used, in their order, what went through its lanes: none where
     /// no memory for its thread was to be had. There are none where the page wasn't begun.
     pub helped: Vec<Option<HelperLanes>>,
-    /// What the watchers saw last, in their order: there are none where nobody watched, or the page
-    /// wasn't begun.
+    /// What the watchers saw last, in their order: none where nobody watched, or the page wasn't
+    /// begun. At want of memory what a look at the end found may stand in a watcher's place.
     pub seen: Vec<Seen>,
 }
 

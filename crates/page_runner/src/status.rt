@@ -30,7 +30,7 @@ pub enum Status {
     ReadFault,
     /// Writing failed.
     WriteFault,
-    /// There is no such page, or no such entities file.
+    /// There is no such page, list of pages or entities file.
     Absent,
     /// The list of pages isn't one.
     List,

@@ -43,7 +43,7 @@ impl Promise<Parting> for OfWatcher {
 pub(crate) enum Post {
     /// In a thread of its own.
     There(PromisedHandle<Parting, OfWatcher>),
-    /// No thread could be made: it looks once, at the end, in the calling thread.
+    /// No thread could be made: the thread that publishes looks for it once, at the end.
     Here(Watcher),
 }
 

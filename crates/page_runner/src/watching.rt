@@ -143,8 +143,8 @@ fn add_last(seen: &mut Vec<Seen>, last: Option<Seen>, all: bool) -> bool
     }
 }
 
-// Waits for each watcher: what they saw last, or nothing where that isn't as many as watched. Those
-// that found no place look here. False where one ended without the mark.
+// Waits for each watcher: what they saw last, and what is seen here for those that are missing.
+// Nothing where that isn't as many as watched. False where one ended without the mark.
 fn call_in<R: Threads + Wait>(
     rt: &R,
     alloc: Global,

@@ -85,7 +85,7 @@ pub data RunMade : Shown → List Change → Type 0 where
 -- ---- what who watches was told of it
 
 -- Who watches was told of the changes that the journal's events made, which lead to the document, or of those before the last event, where that is
--- a Do that was refused.
+-- a Do: one that was refused ends the run before any is told of it.
 pub data WasTold (s : Shown) (changes : List Change) (d : Doc) : Type 0 where
   of_all : RunMade s changes → d ≡ s.desk.own.side.doc → WasTold s changes d
   of_earlier : (earlier : Shown) → IsReplayed earlier → GoesOn earlier s → s.journal.events ≡ earlier.journal.events ++ Do ∷ []

@@ -10,7 +10,7 @@ use html_types::{NoMemory, Why};
 /// Why a call gives nothing.
 #[derive(Clone, Copy)]
 pub enum Failure {
-    /// There is no such context.
+    /// The words name no element that a fragment could be parsed inside.
     Context,
     Entities,
     BadUtf8,

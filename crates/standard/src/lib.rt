@@ -1,5 +1,6 @@
 //! The definitions of the parser, in the terms of the WHATWG HTML Standard. Their laws stand in
-//! `tokenizer_laws`, `rule_laws` and `standard_laws`, worked pages in `standard_examples`.
+//! `tokenizer_laws`, `rule_laws`, `stack_laws`, `act_laws`, `fragment_laws` and `standard_laws`,
+//! worked pages in `standard_examples`.
 //!
 //! Reading order of `specs/`: Class, Step, TextStates, EscapeStates, TagStates, CommentStates,
 //! DoctypeStates, CdataStates, MarkStates, Entities, ReferenceStates, Tokenizer (13.2.5

@@ -231,7 +231,7 @@ impl Store {
         Ok(place)
     }
 
-    // Adds what an element is that is read from another store, whose attributes aren't shared.
+    // Adds what an element is that is read from another store, with its attributes copied.
     #[inline]
     #[tactic(auto, using(std::proofs::lemmas::Grind::common_steps, crate::proofs::ListLemmas::all_not, crate::proofs::KindLemmas::known_means))]
     fn push_seen_short(&mut self, name: SeenName<'_>, list: &Listed<'_>) -> Result<Kept, NoMemory>
@@ -259,7 +259,8 @@ impl Store {
         self.push_apart(own, list)
     }
 
-    /// Adds what an element is that is read from another store. Attributes that are shared stay so.
+    /// Adds what an element is that is read from another store. Long attributes that are shared
+    /// stay so.
     #[inline]
     #[tactic(auto, using(std::proofs::lemmas::Grind::common_steps, crate::proofs::ListLemmas::all_not))]
     pub fn push_seen(&mut self, name: SeenName<'_>, list: &Listed<'_>) -> Result<Kept, NoMemory>
@@ -274,7 +275,7 @@ impl Store {
         }
     }
 
-    // The same where the attributes are shared.
+    // The same where the attributes are shared and long.
     #[inline(never)]
     #[tactic(auto, using(std::proofs::lemmas::Grind::common_steps, crate::proofs::ListLemmas::all_not))]
     fn push_long_seen(&mut self, name: SeenName<'_>, list: &Listed<'_>) -> Result<Kept, NoMemory>

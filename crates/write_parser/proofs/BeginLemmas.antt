@@ -128,7 +128,7 @@ prepares-external id old new src kind named is = by_name (is_external old.doc.tr
       comes = λ w fs before page g come. external-tag w id (nest_of old fs before page) name g named-so come;
       keeps = refl;
       wrote = tt;
-      prepared = λ fs. subst (λ (p : Prepared). IsPreparedBy p (at_of old fs) (at_of old fs)) (sym named-so) refl;
+      prepared = λ fs. subst (λ (p : Prepared). IsPreparedBy p (at_of old fs) (at_of (record old { pending = Some name }) fs)) (sym named-so) refl;
     })
 
 pub prepares-inline : (id : NodeId) (old new : Live) (text read : List ℕ) (b : Option Begun) → Inline ≡ script_kind (prepare old.doc.tree (node_of old.doc.bound id)) →

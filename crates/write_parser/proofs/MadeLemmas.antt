@@ -15,7 +15,7 @@ use Rattle.standard.specs.Act.{Doc, node_of}
 use Rattle.standard.specs.Parser.{Parser}
 use Rattle.standard.specs.Prepare.{Prepared, still, inline, external, prepare}
 use Rattle.serial.specs.Statements.{statements}
-use Rattle.standard_laws.specs.Frames.{Frame, LacksElement}
+use Rattle.standard_laws.specs.Frames.{Frame, Waits, LacksElement}
 use Rattle.standard_laws.specs.Laws.{HasParsed}
 use Rattle.doc_changes.specs.declared.change.Change.{Change}
 use Rattle.doc_changes.specs.declared.change.Change.TheVariants.{Moved}
@@ -123,23 +123,25 @@ script_ended es a b log ended = record { more = []; adds = none-more log; made =
 framed-end : (b : Begun) (fs : List Frame) → drop b.done b.script ≡ [] → frame_of b ∷ fs ≡ framed b.number [] b.rest ∷ fs
 framed-end b fs ended = ap (λ (list : List Statement). framed b.number list b.rest ∷ fs) ended
 
-pub outermost-ends : (old new : Live) (n : Nesting) → drop n.top.done n.top.script ≡ [] → n.below.items ≡ [] → new ≡ record old { rest = n.top.rest ++ old.rest } →
+pub outermost-ends : (old new : Live) (n : Nesting) → Waits old.pending n.top.rest → drop n.top.done n.top.script ≡ [] → n.below.items ≡ [] → new ≡ record old { rest = n.top.rest ++ old.rest } →
     EndsScript (at_of old (frames_of n)) (at_of new [])
-outermost-ends old new n ended none is = record {
+outermost-ends old new n waits ended none is = record {
   number = n.top.number;
   rest = n.top.rest;
   around = [];
   frames = ap (λ (items : List Begun). frame_of n.top ∷ map frame_of (reverse items)) none ∙ framed-end n.top [] ended;
+  waits = waits;
   is = ap (λ (l : Live). at_of l []) is;
 }
 
-pub inner-ends : (old : Live) (n n' : Nesting) (around : Begun) → drop n.top.done n.top.script ≡ [] → n.below.items ≡ n'.below.items ++ around ∷ [] →
+pub inner-ends : (old : Live) (n n' : Nesting) (around : Begun) → Waits old.pending n.top.rest → drop n.top.done n.top.script ≡ [] → n.below.items ≡ n'.below.items ++ around ∷ [] →
     n'.top ≡ record around { rest = n.top.rest ++ around.rest } → EndsScript (at_of old (frames_of n)) (at_of old (frames_of n'))
-inner-ends old n n' around ended below is = record {
+inner-ends old n n' around waits ended below is = record {
   number = n.top.number;
   rest = n.top.rest;
   around = frame_of around ∷ map frame_of (reverse n'.below.items);
   frames = ap (λ (fs : List Frame). frame_of n.top ∷ fs) (frames-below n.below.items n'.below.items around below) ∙ framed-end n.top (frame_of around ∷ map frame_of (reverse n'.below.items)) ended;
+  waits = waits;
   is = ap (λ (b : Begun). at_of old (frame_of b ∷ map frame_of (reverse n'.below.items))) is;
 }
 
@@ -155,8 +157,8 @@ abbrev pub AddsOf : Entities → Statement → Live → LogView → LogView → 
 AddsOf es a l log log' = log' ≡ with_more (of_statement es l.machine.open_state.quirks l.doc.tree a) log
 
 statement-made : (es : Entities) (k : ℕ) (a : Statement) (list : List Statement) (fs : List Frame) (old new : Live) (rest rest' : List ℕ) (d : Did) (log log' : LogView) →
-    old.halted ≡ None → Does es k a old rest new rest' d → AddsOf es a old log log' → LogsMade es old (framed k (a ∷ list) rest ∷ fs) new (framed k (left_by d list) rest' ∷ fs) log log'
-statement-made es k a list fs old new rest rest' d log log' going done adds = record {
+    old.halted ≡ None → Waits old.pending rest → Does es k a old rest new rest' d → AddsOf es a old log log' → LogsMade es old (framed k (a ∷ list) rest ∷ fs) new (framed k (left_by d list) rest' ∷ fs) log log'
+statement-made es k a list fs old new rest rest' d log log' going waits done adds = record {
   more = of_statement es old.machine.open_state.quirks old.doc.tree a;
   adds = adds;
   made = does (at_of old (framed k (a ∷ list) rest ∷ fs)) (at_of new (framed k (left_by d list) rest' ∷ fs)) (of_statement es old.machine.open_state.quirks old.doc.tree a) (record {
@@ -169,17 +171,19 @@ statement-made es k a list fs old new rest rest' d log log' going done adds = re
     wrote = rest';
     going = going;
     frames = refl;
+    waits = waits;
     changes = refl;
     left = left-as d old.doc.tree a list done.lacks;
     writes = done.writes;
     doc = done.doc;
     others =
-        ap (λ (m : Parser). record { parser = m; doc = new.doc; rest = new.rest; frames = framed k (left_by d list) rest' ∷ fs; halted = new.halted }) done.machine
-        ∙ ap (λ (r : List ℕ). record { parser = old.machine; doc = new.doc; rest = r; frames = framed k (left_by d list) rest' ∷ fs; halted = new.halted }) done.light.behind;
+        ap (λ (m : Parser). record (at_of new (framed k (left_by d list) rest' ∷ fs)) { parser = m }) done.machine
+        ∙ (ap (λ (r : List ℕ). record (at_of new (framed k (left_by d list) rest' ∷ fs)) { parser = old.machine; rest = r }) done.light.behind
+        ∙ ap (λ (p : Option (List ℕ)). record (at_of new (framed k (left_by d list) rest' ∷ fs)) { parser = old.machine; rest = old.rest; pending = p }) done.light.pending);
   });
 }
 
-module _ (es : Entities) (old new : Live) (n : Nesting) (a : Statement) (rest' : List ℕ) (d : Did) (log log' : LogView) (going : old.halted ≡ None) (next : NextIs n.top a)
+module _ (es : Entities) (old new : Live) (n : Nesting) (a : Statement) (rest' : List ℕ) (d : Did) (log log' : LogView) (going : old.halted ≡ None) (waits : Waits old.pending n.top.rest) (next : NextIs n.top a)
     (done : Does es n.top.number a old n.top.rest new rest' d) (adds : AddsOf es a old log log') where
   abbrev around : List Frame
   around = map frame_of (reverse n.below.items)
@@ -192,19 +196,19 @@ module _ (es : Entities) (old new : Live) (n : Nesting) (a : Statement) (rest' :
       subst (λ (m : Nesting). LogsMade es old (frames_of n) new (frames_of m) log log') (sym is)
       (subst (λ (list : List Statement). LogsMade es old (framed n.top.number list n.top.rest ∷ around) new (framed n.top.number (drop count n.top.script) rest' ∷ around) log log') (sym next)
       (subst (λ (list : List Statement). LogsMade es old (framed n.top.number (a ∷ later) n.top.rest ∷ around) new (framed n.top.number list rest' ∷ around) log log') (sym left)
-      (statement-made es n.top.number a later around old new n.top.rest rest' d log log' going done adds)))
+      (statement-made es n.top.number a later around old new n.top.rest rest' d log log' going waits done adds)))
 
   -- which refused the page
   pub refused-made : (r : Why) → new.halted ≡ Some r → LogsMade es old (frames_of n) new [] log log'
   refused-made r halted =
       subst (λ (list : List Statement). LogsMade es old (framed n.top.number list n.top.rest ∷ around) new [] log log') (sym next)
       (then_made es (at_of old (framed n.top.number (a ∷ later) n.top.rest ∷ around)) (at_of new (framed n.top.number (left_by d later) rest' ∷ around)) (at_of new []) log log' log'
-      (statement-made es n.top.number a later around old new n.top.rest rest' d log log' going done adds)
+      (statement-made es n.top.number a later around old new n.top.rest rest' d log log' going waits done adds)
       (given_up es new (framed n.top.number (left_by d later) rest' ∷ around) r log' halted))
 
 -- ---- a text
 
-module _ (es : Entities) (old : Live) (fs : List Frame) (p : Parser) (d : Doc) (left : List ℕ) (s : Stop) (log log' : LogView) (going : old.halted ≡ None) (some : text_at (at_of old fs) ≢ [])
+module _ (es : Entities) (old : Live) (fs : List Frame) (p : Parser) (d : Doc) (left : List ℕ) (s : Stop) (log log' : LogView) (going : old.halted ≡ None) (idle : old.pending ≡ None) (some : text_at (at_of old fs) ≢ [])
     (parsed : HasParsed es old.machine old.doc (text_at (at_of old fs)) p d left s) (adds : log' ≡ with_more (of_text es old.machine (text_at (at_of old fs))) log) where
   -- where the parser stopped
   abbrev stopped : At
@@ -217,6 +221,7 @@ module _ (es : Entities) (old : Live) (fs : List Frame) (p : Parser) (d : Doc) (
     left = left;
     stops = s;
     going = going;
+    pending = idle;
     some = some;
     parsed = parsed;
     changes = refl;
@@ -301,4 +306,4 @@ tag_leads es id a b more tag =
 
 pub text_leads : (es : Entities) (text : Option (List Statement)) (a b : At) (more : List Change) → MadeByText es text a more b → fold changed a.doc more ≡ b.doc
 text_leads es text a b more script =
-    ap (λ (d : Doc). fold changed d more) (sym (begun-doc text a script.begun script.begins)) ∙ made_leads es script.begun b more script.made
+    ap (λ (d : Doc). fold changed d more) (sym (begun-doc text (record a { pending = None }) script.begun script.begins)) ∙ made_leads es script.begun b more script.made

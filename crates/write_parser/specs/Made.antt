@@ -19,7 +19,7 @@ use Rattle.standard.specs.Prepare.{Prepared, still, inline, external, prepare}
 use Rattle.serial.specs.Serial.{with_line_feed}
 use Rattle.serial.specs.Statements.{statements}
 use Rattle.core_definitions.specs.Batches.{end_batch}
-use Rattle.standard_laws.specs.Frames.{Frame, LacksElement}
+use Rattle.standard_laws.specs.Frames.{Frame, Waits, LacksElement}
 use Rattle.standard_laws.specs.Laws.{HasParsed}
 use Rattle.doc_changes.specs.declared.change.Change.{Change}
 use Rattle.doc_changes.specs.declared.change.Change.TheVariants.{Did, Removed, Moved, Filled}
@@ -79,12 +79,14 @@ pub record At : Type 0 where
   pub rest : List ℕ
   -- the scripts that were begun, the innermost first
   pub frames : List Frame
+  -- the `src` of the script that is pending
+  pub pending : Option (List ℕ)
   -- why the page is refused
   pub halted : Option Why
 
 -- at level 0
 abbrev pub at_view : View → At
-at_view v = record { parser = v.parser; doc = v.doc; rest = v.rest; frames = []; halted = v.halted }
+at_view v = record { parser = v.parser; doc = v.doc; rest = v.rest; frames = []; pending = v.pending; halted = v.halted }
 
 abbrev pub text_by : List Frame → List ℕ → List ℕ
 text_by [] rest = rest
@@ -112,7 +114,7 @@ BeginsBy (Some list) a b =
 
 abbrev pub IsPreparedBy : Prepared → At → At → Type 0
 IsPreparedBy still a b = b ≡ a
-IsPreparedBy (external name) a b = b ≡ a
+IsPreparedBy (external name) a b = b ≡ record a { pending = Some name }
 IsPreparedBy (inline text) a b = BeginsBy (statements text) a b
 
 -- the script of that id, prepared on the tree as it is
@@ -126,20 +128,21 @@ StopsBy stop.InputEnd a b = b ≡ a
 StopsBy (stop.Script id) a b = IsPrepared id a b
 StopsBy stop.Deep a b = b ≡ record a { frames = []; halted = Some why.Depth }
 
--- Written text was parsed up to a stop, which is one batch.
+-- Written text was parsed up to a stop, which is one batch. No script is pending.
 pub record ParsesText (es : Entities) (a : At) (more : List Change) (b : At) : Type 0 where
   pub parser : Parser
   pub doc : Doc
   pub left : List ℕ
   pub stops : Stop
   pub going : a.halted ≡ None
+  pub pending : a.pending ≡ None
   pub some : text_at a ≢ []
   pub parsed : HasParsed es a.parser a.doc (text_at a) parser doc left stops
   pub changes : more ≡ of_text es a.parser (text_at a)
   pub comes : StopsBy stops (record (with_left left a) { parser = parser; doc = doc }) b
 
--- The next statement of the innermost script was done; behind one whose element isn't there none is left. What it writes stands behind what was
--- written and isn't used, unless that refuses the page.
+-- The next statement of the innermost script was done; behind one whose element isn't there, or whose move is impossible, none is left. What was
+-- written before is used up, or a script is pending. What it writes stands behind what isn't used, unless that refuses the page.
 pub record DoesStatement (es : Entities) (a : At) (more : List Change) (b : At) : Type 0 where
   pub number : ℕ
   pub first : Statement
@@ -150,6 +153,7 @@ pub record DoesStatement (es : Entities) (a : At) (more : List Change) (b : At) 
   pub wrote : List ℕ
   pub going : a.halted ≡ None
   pub frames : a.frames ≡ record { number = number; list = first ∷ list; rest = rest } ∷ around
+  pub waits : Waits a.pending rest
   pub changes : more ≡ of_statement es a.parser.open_state.quirks a.doc.tree first
   pub left : ((LacksElement a.doc.tree first → ⊥) × (behind ≡ list)) ⊎ (LacksElement a.doc.tree first × (behind ≡ []))
   pub writes : b.halted ≡ None → wrote ≡ rest ++ written_by first
@@ -165,12 +169,13 @@ abbrev pub ended_in : List ℕ → List Frame → At → At
 ended_in rest [] a = record a { frames = []; rest = rest ++ a.rest }
 ended_in rest (f ∷ fs) a = record a { frames = record f { rest = rest ++ f.rest } ∷ fs }
 
--- The innermost script, of which no statement is left, ended.
+-- The innermost script, of which no statement is left, ended. What it wrote is used up, or a script is pending.
 pub record EndsScript (a b : At) : Type 0 where
   pub number : ℕ
   pub rest : List ℕ
   pub around : List Frame
   pub frames : a.frames ≡ record { number = number; list = []; rest = rest } ∷ around
+  pub waits : Waits a.pending rest
   pub is : b ≡ ended_in rest around a
 
 -- From the one to the other these changes were made, in this order, and no others.
@@ -190,10 +195,10 @@ pub record MadeAtTag (es : Entities) (id : NodeId) (a : At) (more : List Change)
   pub prepared : IsPrepared id a begun
   pub made : Made es begun more b
 
--- and from the beginning of a script's text
+-- and from the beginning of a script's text; no script is pending then
 pub record MadeByText (es : Entities) (text : Option (List Statement)) (a : At) (more : List Change) (b : At) : Type 0 where
   pub begun : At
-  pub begins : BeginsBy text a begun
+  pub begins : BeginsBy text (record a { pending = None }) begun
   pub made : Made es begun more b
 
 -- nothing runs once the page is refused

@@ -83,7 +83,7 @@ nest_of l fs before page = record {
 
 -- where the parse stands with them
 abbrev pub at_of : Live → List Frame → At
-at_of l fs = record { parser = l.machine; doc = l.doc; rest = l.rest; frames = fs; halted = l.halted }
+at_of l fs = record { parser = l.machine; doc = l.doc; rest = l.rest; frames = fs; pending = l.pending; halted = l.halted }
 
 -- The log gained the changes that were made from nested scripts to nested scripts.
 abbrev pub LogsMade : Entities → Live → List Frame → Live → List Frame → LogView → LogView → Type 0

@@ -42,10 +42,10 @@ returns-in_ok-miss-in-None-clause-logged c =
     elim c.in-None-1.branch [
       | in-None-16 w ↦
           file-made c.settle-in-None.result c.args.name.now old missing c.settle-in-None.new.self.writer c.args.log.now c.settle-in-None.new.log (search rules)
-          (missed-made c.settle-in-None.result _ old c.miss.new.self c.settle-in-None.new.self.writer c.args.log.now c.settle-in-None.new.log w.self-is
+          (missed-made c.settle-in-None.result c.args.name.now _ old c.miss.new.self c.settle-in-None.new.self.writer c.args.log.now c.settle-in-None.new.log w.self-is c.requires.halted c.requires.pending
           c.in_ok-miss-in-None.ensures.missed c.settle-in-None.ensures.logged)
       | in-Some+in-Missing-1 w ↦
           file-made c.settle-in-None.result c.args.name.now old missing c.settle-in-None.new.self.writer c.args.log.now c.settle-in-None.new.log (search rules)
-          (missed-made c.settle-in-None.result _ old c.miss.new.self c.settle-in-None.new.self.writer c.args.log.now c.settle-in-None.new.log w.self-is
+          (missed-made c.settle-in-None.result c.args.name.now _ old c.miss.new.self c.settle-in-None.new.self.writer c.args.log.now c.settle-in-None.new.log w.self-is c.requires.halted c.requires.pending
           c.in_ok-miss-in-None.ensures.missed c.settle-in-None.ensures.logged)
     ]

@@ -29,13 +29,13 @@ returns-in_ok-put_front-in-None-clause-ends c =
     let old : Live = c.args.self.now in
     let n : Nesting = c.args.nesting.now in
     let none : n.below.items ≡ [] = c.in-None.ensures.items ∙ ap (λ l. l ++ []) (c.in-None.ensures.rest ∙ ap (λ k. take (k - 1) n.below.items) c.in-None.ensures.cases.0) in
-    outermost-ends old (record old { rest = c.put_front.new.self }) n (drop_all n.top.done n.top.script c.requires.ended) none
+    outermost-ends old (record old { rest = c.put_front.new.self }) n c.requires.waits (drop_all n.top.done n.top.script c.requires.ended) none
     (ap (λ r. record old { rest = r }) (c.in_ok-put_front-in-None.ensures ∙ ap (λ r. r ++ old.rest) c.replace-rest.ensures.value))
 
 pub returns-in_ok-put_front-in-Some-clause-ends : goal.returns-in_ok-put_front-in-Some-clause-ends
 returns-in_ok-put_front-in-Some-clause-ends c =
     let old : Live = c.args.self.now in
     let n : Nesting = c.args.nesting.now in
-    inner-ends old n (record { top = record c.in-Some.around { rest = c.put_front-in-Some.new.self }; below = c.pop.new.self }) c.in-Some.around
+    inner-ends old n (record { top = record c.in-Some.around { rest = c.put_front-in-Some.new.self }; below = c.pop.new.self }) c.in-Some.around c.requires.waits
     (drop_all n.top.done n.top.script c.requires.ended) c.in-Some.ensures.items
     (ap (λ r. record c.in-Some.around { rest = r }) (c.in_ok-put_front-in-Some.ensures ∙ ap (λ r. r ++ c.in-Some.around.rest) c.replace-rest.ensures.value))

@@ -26,18 +26,18 @@ returns-in-Deep-clause-does c =
 
 pub returns-in-InputEnd-clause-logged : goal.returns-in-InputEnd-clause-logged
 returns-in-InputEnd-clause-logged c =
-    text-made c.args.table.now c.args.self.now [] c.parse.new.machine c.parse.new.doc c.parse.new.self c.in_ok-parse.field-0 c.args.log.now c.parse.new.log c.requires.going.halted c.requires.goes.rest
-    c.in_ok-parse.ensures.parsed.parsed c.in_ok-parse.ensures.logged stop.InputEnd
+    text-made c.args.table.now c.args.self.now [] c.parse.new.machine c.parse.new.doc c.parse.new.self c.in_ok-parse.field-0 c.args.log.now c.parse.new.log
+    c.requires.going.halted c.requires.goes.pending c.requires.goes.rest c.in_ok-parse.ensures.parsed.parsed c.in_ok-parse.ensures.logged stop.InputEnd
     (at_of (fed c.parse.new.machine c.parse.new.doc c.parse.new.self c.args.self.now) []) c.in-InputEnd.is refl
 
 pub returns-in-Script-clause-logged : goal.returns-in-Script-clause-logged
 returns-in-Script-clause-logged c =
-    text-tag-made c.args.table.now c.args.self.now [] c.parse.new.machine c.parse.new.doc c.parse.new.self c.in_ok-parse.field-0 c.args.log.now c.parse.new.log c.requires.going.halted c.requires.goes.rest
-    c.in_ok-parse.ensures.parsed.parsed c.in_ok-parse.ensures.logged c.end_tag.result c.in-Script.id
+    text-tag-made c.args.table.now c.args.self.now [] c.parse.new.machine c.parse.new.doc c.parse.new.self c.in_ok-parse.field-0 c.args.log.now c.parse.new.log
+    c.requires.going.halted c.requires.goes.pending c.requires.goes.rest c.in_ok-parse.ensures.parsed.parsed c.in_ok-parse.ensures.logged c.end_tag.result c.in-Script.id
     (at_of c.end_tag.new.self []) c.end_tag.new.log c.in-Script.is c.end_tag.ensures.logged
 
 pub returns-in-Deep-clause-logged : goal.returns-in-Deep-clause-logged
 returns-in-Deep-clause-logged c =
-    text-made c.args.table.now c.args.self.now [] c.parse.new.machine c.parse.new.doc c.parse.new.self c.in_ok-parse.field-0 c.args.log.now c.parse.new.log c.requires.going.halted c.requires.goes.rest
-    c.in_ok-parse.ensures.parsed.parsed c.in_ok-parse.ensures.logged stop.Deep
+    text-made c.args.table.now c.args.self.now [] c.parse.new.machine c.parse.new.doc c.parse.new.self c.in_ok-parse.field-0 c.args.log.now c.parse.new.log
+    c.requires.going.halted c.requires.goes.pending c.requires.goes.rest c.in_ok-parse.ensures.parsed.parsed c.in_ok-parse.ensures.logged stop.Deep
     (at_of (record (fed c.parse.new.machine c.parse.new.doc c.parse.new.self c.args.self.now) { halted = Some why.Depth }) []) c.in-Deep.is refl

@@ -24,18 +24,18 @@ returns-in-Deep-clause-does c =
 
 pub returns-in-InputEnd-clause-logged : goal.returns-in-InputEnd-clause-logged
 returns-in-InputEnd-clause-logged c =
-    text-made c.args.table.now c.args.self.now (frames_of c.args.nesting.now) c.parse.new.machine c.parse.new.doc c.parse.new.self c.in_ok-parse.field-0 c.args.log.now c.parse.new.log c.requires.going.halted c.requires.goes.rest
-    c.in_ok-parse.ensures.parsed.parsed c.in_ok-parse.ensures.logged stop.InputEnd
+    text-made c.args.table.now c.args.self.now (frames_of c.args.nesting.now) c.parse.new.machine c.parse.new.doc c.parse.new.self c.in_ok-parse.field-0 c.args.log.now c.parse.new.log
+    c.requires.going.halted c.requires.goes.pending c.requires.goes.rest c.in_ok-parse.ensures.parsed.parsed c.in_ok-parse.ensures.logged stop.InputEnd
     (at_of (parsed_live c.parse.new.machine c.parse.new.doc c.args.self.now) (frames_of (with_rest c.parse.new.self c.args.nesting.now))) c.in-InputEnd.is refl
 
 pub returns-in_ok-nest-in-Script-clause-logged : goal.returns-in_ok-nest-in-Script-clause-logged
 returns-in_ok-nest-in-Script-clause-logged c =
-    text-made c.args.table.now c.args.self.now (frames_of c.args.nesting.now) c.parse.new.machine c.parse.new.doc c.parse.new.self c.in_ok-parse.field-0 c.args.log.now c.parse.new.log c.requires.going.halted c.requires.goes.rest
-    c.in_ok-parse.ensures.parsed.parsed c.in_ok-parse.ensures.logged (stop.Script c.in-Script.id)
+    text-made c.args.table.now c.args.self.now (frames_of c.args.nesting.now) c.parse.new.machine c.parse.new.doc c.parse.new.self c.in_ok-parse.field-0 c.args.log.now c.parse.new.log
+    c.requires.going.halted c.requires.goes.pending c.requires.goes.rest c.in_ok-parse.ensures.parsed.parsed c.in_ok-parse.ensures.logged (stop.Script c.in-Script.id)
     (at_of c.nest.new.self (frames_of c.nest.new.nesting)) c.in-Script.is c.in_ok-nest-in-Script.ensures.prepared
 
 pub returns-in-Deep-clause-logged : goal.returns-in-Deep-clause-logged
 returns-in-Deep-clause-logged c =
-    text-made c.args.table.now c.args.self.now (frames_of c.args.nesting.now) c.parse.new.machine c.parse.new.doc c.parse.new.self c.in_ok-parse.field-0 c.args.log.now c.parse.new.log c.requires.going.halted c.requires.goes.rest
-    c.in_ok-parse.ensures.parsed.parsed c.in_ok-parse.ensures.logged stop.Deep
+    text-made c.args.table.now c.args.self.now (frames_of c.args.nesting.now) c.parse.new.machine c.parse.new.doc c.parse.new.self c.in_ok-parse.field-0 c.args.log.now c.parse.new.log
+    c.requires.going.halted c.requires.goes.pending c.requires.goes.rest c.in_ok-parse.ensures.parsed.parsed c.in_ok-parse.ensures.logged stop.Deep
     (at_of (record (parsed_live c.parse.new.machine c.parse.new.doc c.args.self.now) { halted = Some why.Depth }) []) c.in-Deep.is refl

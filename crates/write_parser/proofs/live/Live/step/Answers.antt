@@ -27,7 +27,7 @@ pub returns-then-is_some-clause-logged : goal.returns-then-is_some-clause-logged
 returns-then-is_some-clause-logged c =
     let refused = halted-some c.run_statement.new.self.halted (sym c.is_some.ensures ∙ c.if-is_some.true) in
     refused-made c.args.table.now c.args.self.now c.run_statement.new.self c.args.nesting.now c.in-Some.statement.now c.run_statement.new.rest c.in_ok-run_statement.field-0 c.args.log.now
-    c.run_statement.new.log c.requires.going.halted
+    c.run_statement.new.log c.requires.going.halted c.requires.waits
     (next c.as_slice-statements.result.now c.args.nesting.now.top.script c.args.nesting.now.top.done c.in-Some.statement.now c.as_slice-statements.ensures c.in-Some.ensures.lookup.0
     c.in-Some.ensures.lookup.1) c.in_ok-run_statement.ensures.does c.in_ok-run_statement.ensures.logged refused.0 refused.1
 
@@ -39,11 +39,11 @@ returns-clause-logged c =
     elim c.match-branch-2.branch [
       | in-All w ↦
           step-made c.args.table.now c.args.self.now c.run_statement.new.self c.args.nesting.now c.in-Some.statement.now c.run_statement.new.rest c.in_ok-run_statement.field-0 c.args.log.now
-          c.run_statement.new.log c.requires.going.halted there c.in_ok-run_statement.ensures.does c.in_ok-run_statement.ensures.logged c.match-branch-2.nesting (top.done + 1)
+          c.run_statement.new.log c.requires.going.halted c.requires.waits there c.in_ok-run_statement.ensures.does c.in_ok-run_statement.ensures.logged c.match-branch-2.nesting (top.done + 1)
           (ap (λ d. left_by d (drop (top.done + 1) top.script)) (sym w.in-All.is)) w.nesting-is
       | in-Nothing w ↦
           step-made c.args.table.now c.args.self.now c.run_statement.new.self c.args.nesting.now c.in-Some.statement.now c.run_statement.new.rest c.in_ok-run_statement.field-0 c.args.log.now
-          c.run_statement.new.log c.requires.going.halted there c.in_ok-run_statement.ensures.does c.in_ok-run_statement.ensures.logged c.match-branch-2.nesting (length c.as_slice-statements.result.now)
+          c.run_statement.new.log c.requires.going.halted c.requires.waits there c.in_ok-run_statement.ensures.does c.in_ok-run_statement.ensures.logged c.match-branch-2.nesting (length c.as_slice-statements.result.now)
           (ap (λ l. drop (length l) top.script) c.as_slice-statements.ensures ∙ (all_done top.script ∙ ap (λ d. left_by d (drop (top.done + 1) top.script)) (sym w.in-Nothing.is))) w.nesting-is
     ]
 
