@@ -1,1 +1,0 @@
-document.write("from a file");
